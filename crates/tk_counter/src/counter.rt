@@ -1,0 +1,142 @@
+ghost use Rattle.std.specs.Prelude.{◌≡◌, ℕ, ◌+◌, ◌*◌, ◌/◌, ◌^◌, ◌<◌, MatchResult, Some, None};
+
+mod advance;
+mod gaps;
+mod rates;
+
+use crate::desc_error::DescError;
+use std::marker::Model;
+
+/// The description of a counter: a reading has `bits` bits, and a cycle lasts `mult / 2^shift` nanoseconds.
+///
+/// It is the kernel's `struct clocksource` without its name and its hooks (include/linux/clocksource.h).
+#[derive(Clone, Copy, Debug, PartialEq, Eq)]
+pub struct CounterDesc {
+    bits: u32,
+    mult: u32,
+    shift: u32,
+}
+
+impl Model for CounterDesc {
+    ghost use Rattle.tk_counter.specs.Counter.{Counter, IsCounter};
+
+    ghost Value = { Counter };
+
+    ghost view = { λ a. record { bits = a.bits; mult = a.mult; shift = a.shift } };
+
+    ghost invariant = { λ a. IsCounter (record { bits = a.bits; mult = a.mult; shift = a.shift }) };
+
+    ghost inverse = { λ c. record { bits = c.bits; mult = c.mult; shift = c.shift } };
+}
+
+const NANOS_PER_SECOND: u64 = 1_000_000_000;
+
+impl CounterDesc {
+    ghost use Rattle.tk_counter.specs.Counter.{Counter, IsCounter, mask, half, max_adjustment, max_cycles, fast_span, second};
+    ghost use Rattle.tk_counter.specs.Description.{first_fault};
+
+    /// The counter that these numbers describe, or the first thing that is wrong with them.
+    pub fn new(bits: u32, mult: u32, shift: u32) -> Result<CounterDesc, DescError>
+        ensures { let described : Counter = record { bits = bits; mult = mult; shift = shift } in
+            MatchResult result
+            (λ desc. (desc ≡ described) × (first_fault described ≡ None))
+            (λ fault. first_fault described ≡ Some fault) }
+    {
+        if bits < 8 || bits > 64 {
+            return Err(DescError::Bits);
+        }
+        if shift > 32 {
+            return Err(DescError::Shift);
+        }
+        if mult < 256 {
+            return Err(DescError::Mult);
+        }
+        if fastest(mult) > u64::from(u32::MAX) {
+            return Err(DescError::Adjust);
+        }
+        Ok(CounterDesc { bits, mult, shift })
+    }
+
+    /// How many bits a reading has.
+    pub fn bits(&self) -> u32
+        ensures value { result ≡ self.now.bits }
+        ensures counter { IsCounter self.now }
+    {
+        self.bits
+    }
+
+    /// A cycle, in units of `2^-shift` ns.
+    pub fn mult(&self) -> u32
+        ensures value { result ≡ self.now.mult }
+        ensures counter { IsCounter self.now }
+    {
+        self.mult
+    }
+
+    /// How far an amount is shifted right to make it nanoseconds.
+    pub fn shift(&self) -> u32
+        ensures value { result ≡ self.now.shift }
+        ensures counter { IsCounter self.now }
+    {
+        self.shift
+    }
+
+    /// The greatest reading: `2^bits - 1`.
+    pub fn mask(&self) -> u64
+        ensures value { result ≡ mask self.now }
+        ensures counter { IsCounter self.now }
+    {
+        u64::MAX >> (64 - self.bits)
+    }
+
+    /// The longest gap, in cycles, that still leads forward; a longer one leads back (`clocksource_delta`).
+    pub fn half(&self) -> u64
+        ensures { result ≡ half self.now }
+    {
+        self.mask() >> 1
+    }
+
+    /// How far the multiplier may be raised above `mult`: 11 percent of it (`clocksource_max_adjustment`).
+    pub fn max_adj(&self) -> u32
+        ensures { result ≡ max_adjustment self.now }
+    {
+        adjustment(self.mult) as u32
+    }
+
+    /// The cycles that convert within 64 bits at the fastest multiplier, up to `mask`.
+    pub fn max_cycles(&self) -> u64
+        ensures { result ≡ max_cycles self.now }
+    {
+        (u64::MAX / fastest(self.mult)).min(self.mask())
+    }
+
+    /// The cycles that convert within 63 bits at the fastest multiplier, up to `half`.
+    pub fn fast_span(&self) -> u64
+        ensures { result ≡ fast_span self.now }
+    {
+        ((u64::MAX >> 1) / fastest(self.mult)).min(self.half())
+    }
+
+    /// One second, in units of `2^-shift` ns.
+    pub fn second(&self) -> u64
+        ensures value { result ≡ second self.now }
+        ensures counter { IsCounter self.now }
+    {
+        NANOS_PER_SECOND << self.shift
+    }
+}
+
+/// The room above a mult.
+fn adjustment(mult: u32) -> u64
+    ensures { result ≡ mult * 11 / 100 }
+{
+    u64::from(mult) * 11 / 100
+}
+
+/// The fastest multiplier over a mult.
+fn fastest(mult: u32) -> u64
+    ensures value { result ≡ mult + mult * 11 / 100 }
+    ensures low { result < 2 ^ 33 }
+{
+    u64::from(mult) + adjustment(mult)
+}

@@ -1,0 +1,90 @@
+ghost use Rattle.std.specs.Prelude.{◌≡◌, ℕ, ◌+◌, ◌*◌, ◌/◌, ◌%◌, ◌^◌, ◌<◌, ◌≤◌, MatchOption, SomeIff};
+
+use super::{CounterDesc, NANOS_PER_SECOND};
+
+/// The quotient at which `advance` gives up: no clock reaches so many seconds.
+const SECONDS_LIMIT: u64 = 9_223_372_036;
+
+impl CounterDesc {
+    ghost use Rattle.tk_counter.specs.Counter.{second};
+
+    /// The whole seconds of `frac` and `delta` cycles at `mult`, and what is left, in units of `2^-shift` ns.
+    ///
+    /// Nothing is lost for any `delta`; None exactly from 9,223,372,036 seconds on. A product that fits a word takes
+    /// no more than one division, and none at all below two seconds.
+    pub fn advance(&self, frac: u64, delta: u64, mult: u32) -> Option<(u64, u64)>
+        requires { frac < second self.now }
+        ensures { let units = frac + delta * mult in
+            SomeIff result (units / second self.now < SECONDS_LIMIT) (units / second self.now, units % second self.now) }
+    {
+        let (seconds, rest) = match word_of(frac, delta, mult) {
+            Some(units) => self.split(units),
+            None => self.split_long(frac, delta, mult)?,
+        };
+        if seconds >= SECONDS_LIMIT {
+            return None;
+        }
+        Some((seconds, rest))
+    }
+
+    /// Whole seconds and what is left of an amount.
+    fn split(&self, units: u64) -> (u64, u64)
+        ensures value { result ≡ (units / second self.now, units % second self.now) }
+        ensures few { result.0 ≤ 18446744073 }
+    {
+        let second = self.second();
+        if units < second {
+            return (0, units);
+        }
+        if units - second < second {
+            return (1, units - second);
+        }
+        let seconds = self.seconds_of(units);
+        (seconds, units - seconds * second)
+    }
+
+    /// Whole seconds of an amount.
+    fn seconds_of(&self, units: u64) -> u64
+        ensures { result ≡ units / second self.now }
+    {
+        (units >> self.shift) / NANOS_PER_SECOND
+    }
+
+    /// As `advance`, where the units don't fit a word: a long division by the digits that the upper half of `delta`,
+    /// its lower half, and what those two leave make.
+    ///
+    /// A second is `10^9 * 2^shift` units, and `2^32` units of the upper half are `2^(32 - shift)` seconds a
+    /// nanosecond:
+    ///
+    /// ```text
+    /// upper * 2^32 = (upper / 10^9) * 2^(32 - shift) * second + (upper % 10^9) * 2^32
+    /// ```
+    #[inline(never)]
+    fn split_long(&self, frac: u64, delta: u64, mult: u32) -> Option<(u64, u64)>
+        requires { frac < second self.now }
+        ensures { let units = frac + delta * mult in
+            MatchOption result
+            (SECONDS_LIMIT ≤ units / second self.now)
+            (λ parts. parts ≡ (units / second self.now, units % second self.now)) }
+    {
+        let cycle = u64::from(mult);
+        let upper = (delta >> 32) * cycle;
+        let lower = (delta & 0xffff_ffff) * cycle;
+        let upper_seconds = upper / NANOS_PER_SECOND;
+        let upper_rest = upper % NANOS_PER_SECOND;
+        if upper_seconds >> self.shift >= 4 {
+            return None;
+        }
+        let (lower_seconds, lower_rest) = self.split(lower);
+        let (more_seconds, rest) = self.split((upper_rest << 32) + lower_rest + frac);
+        let seconds = (upper_seconds << (32 - self.shift)) + lower_seconds + more_seconds;
+        Some((seconds, rest))
+    }
+}
+
+/// `frac` and `delta` cycles at `mult`, where they fit a word.
+fn word_of(frac: u64, delta: u64, mult: u32) -> Option<u64>
+    ensures { SomeIff result (frac + delta * mult < 2 ^ 64) (frac + delta * mult) }
+{
+    delta.checked_mul(u64::from(mult))?.checked_add(frac)
+}

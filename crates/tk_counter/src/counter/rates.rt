@@ -1,0 +1,53 @@
+ghost use Rattle.std.specs.Prelude.{◌≡◌, ℕ, ◌+◌, ◌*◌, ◌/◌, ◌≤◌, pos, ◌+ℤ◌, ◌*ℤ◌, ◌≤ℤ◌, unsigned_abs};
+ghost use Rattle.tk_counter.specs.Counter.{clamped};
+
+use super::CounterDesc;
+
+impl CounterDesc {
+    ghost use Rattle.tk_counter.specs.Counter.{fastest, multiplier};
+
+    /// The multiplier at a frequency, in `2^-16` ppm, and the usual tick of 10,000 microseconds.
+    ///
+    /// Beyond 32,768,000 either way the frequency counts as that, as in adjtimex(2).
+    pub fn mult_for(&self, freq: i64) -> u32
+        ensures value { result ≡ multiplier self.now freq (pos 10000) }
+        ensures most { result ≤ fastest self.now }
+    {
+        self.mult_at(freq, 10_000)
+    }
+
+    /// The multiplier at a frequency, in `2^-16` ppm, and a tick, in microseconds.
+    pub fn mult_at(&self, freq: i64, tick: i64) -> u32
+        requires slowest { pos 9000 ≤ℤ tick }
+        requires fastest { tick ≤ℤ pos 11000 }
+        ensures value { result ≡ multiplier self.now freq tick }
+        ensures most { result ≤ fastest self.now }
+    {
+        let mult = u64::from(self.mult);
+        let rate = rate(freq, tick);
+        // the product by 2^-16, of the rate's upper part and of its lower 16 bits
+        let scaled = mult * (rate >> 16) + (mult * (rate & 0xffff) >> 16);
+        (scaled / 1_000_000) as u32
+    }
+}
+
+/// The speed at a frequency and a tick, where 65,536,000,000 is the usual one.
+fn rate(freq: i64, tick: i64) -> u64
+    requires slowest { pos 9000 ≤ℤ tick }
+    requires fastest { tick ≤ℤ pos 11000 }
+    ensures value { result ≡ unsigned_abs (tick *ℤ pos 6553600 +ℤ clamped freq) }
+    ensures most { result ≤ 72122368000 }
+{
+    (rate_of_tick(tick) + freq.clamp(-32_768_000, 32_768_000)) as u64
+}
+
+/// The speed at a tick alone.
+fn rate_of_tick(tick: i64) -> i64
+    requires slowest { pos 9000 ≤ℤ tick }
+    requires fastest { tick ≤ℤ pos 11000 }
+    ensures value { result ≡ tick *ℤ pos 6553600 }
+    ensures least { pos 58982400000 ≤ℤ result }
+    ensures most { result ≤ℤ pos 72089600000 }
+{
+    tick * 6_553_600
+}

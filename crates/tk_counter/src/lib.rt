@@ -1,0 +1,16 @@
+//! A free-running counter: its description, the gap between two readings, and exact cycle arithmetic.
+//!
+//! | Item | What it is |
+//! |---|---|
+//! | `CounterDesc` | how many bits a reading has, and how long a cycle lasts |
+//! | `DescError` | why numbers describe no counter |
+//!
+//! Units: readings and gaps in cycles; amounts of time in `2^-shift` ns; frequencies in `2^-16` ppm; ticks in
+//! microseconds.
+#![tactic(auto)]
+
+mod counter;
+mod desc_error;
+
+pub use counter::CounterDesc;
+pub use desc_error::DescError;
