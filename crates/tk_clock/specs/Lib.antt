@@ -1,0 +1,13 @@
+pub mod Time
+pub mod Command
+pub mod Journal
+pub mod Monotonic
+pub mod Clocks
+pub mod State
+pub mod Limits
+pub mod Refusal
+pub mod Legal
+pub mod Life
+pub mod Honest
+pub mod Run
+pub mod Snapshot

@@ -1,0 +1,78 @@
+-- Why a command or a read is refused: the first test that fails.
+use Rattle.std.specs.Prelude.{◌≡◌, ℕ, ◌-◌, ◌^◌, nat_le, length, ℤ, Bool, true, false, not, ◌&&◌, ◌||◌, nat_lt, int_lt, Option, Some, None, if◌then◌else◌}
+use Rattle.tk_counter.specs.Counter.{Counter, mask, half, gap}
+use Rattle.tk_clock.specs.declared.timespec.Timespec.{Timespec}
+use Rattle.tk_clock.specs.declared.command.Entry.{Entry}
+use Rattle.tk_clock.specs.declared.command.Command.{Command}
+use Rattle.tk_clock.specs.declared.clock_id.ClockId.{ClockId}
+use Rattle.tk_clock.specs.declared.refusal.Refusal.{Refusal}
+use Rattle.tk_clock.specs.declared.refusal.Refusal.TheVariants.{Full, Asleep, Awake, Invalid, Behind, Range, Memory}
+use Rattle.tk_clock.specs.declared.refusal.ReadError.{ReadError}
+use Rattle.tk_clock.specs.declared.refusal.ReadError.TheVariants.{Invalid as InvalidReading, Range as PastLimit}
+use Rattle.tk_clock.specs.Command.{is_resume}
+use Rattle.tk_clock.specs.Journal.{Journal, followed_by, last_reading, is_asleep, accepted_count}
+use Rattle.tk_clock.specs.Clocks.{clock_value}
+use Rattle.tk_clock.specs.State.{ReadBase, State, base_value, effect}
+use Rattle.tk_clock.specs.Limits.{limit, is_settable, is_well_formed, is_past_limit, is_bad_setting}
+
+-- the tests of values, by the clocks at the command's reading before it and after it
+abbrev pub value_refusal : (ClockId → ℤ) → (ClockId → ℤ) → Command → Option Refusal
+value_refusal before after cmd =
+    if is_past_limit after cmd then Some Range
+    else if is_bad_setting before cmd then Some Invalid
+    else None
+
+-- the tests of a command that fits the clock's sleep: its numbers, its place behind the last reading, its values
+abbrev pub number_refusal : Counter → ℕ → (ClockId → ℤ) → (ClockId → ℤ) → ℕ → Command → Option Refusal
+number_refusal counter last before after reading cmd =
+    if nat_lt (mask counter) reading || not (is_well_formed cmd) then Some Invalid
+    else if not (is_resume cmd) && nat_lt (half counter) (gap counter last reading) then Some Behind
+    else value_refusal before after cmd
+
+-- all tests of a command, in their order
+abbrev pub refusal : Counter → Bool → ℕ → (ClockId → ℤ) → (ClockId → ℤ) → ℕ → Command → Option Refusal
+refusal counter asleep last before after reading cmd =
+    if asleep && not (is_resume cmd) then Some Asleep
+    else if not asleep && is_resume cmd then Some Awake
+    else number_refusal counter last before after reading cmd
+
+-- why an entry is refused after a journal, want of room apart
+abbrev pub clock_refusal : Journal → Entry → Option Refusal
+clock_refusal journal entry =
+    refusal journal.opening.counter (is_asleep journal) (last_reading journal)
+        (λ clock. clock_value journal clock entry.reading)
+        (λ clock. clock_value (followed_by journal entry) clock entry.reading)
+        entry.reading entry.cmd
+
+-- why a command is refused in a state
+abbrev pub state_refusal : State → ℕ → Command → Option Refusal
+state_refusal state reading cmd =
+    refusal state.base.counter state.base.asleep state.base.last
+        (λ clock. base_value state.base clock reading)
+        (λ clock. base_value (effect state reading cmd).base clock reading)
+        reading cmd
+
+-- has the journal no room for another entry? It lists at most 1,048,576, and counts at most 2^63 - 1
+abbrev pub is_full : Journal → Bool
+is_full journal = nat_le 1048576 (length journal.entries) || nat_le (2 ^ 63 - 1) (accepted_count journal)
+
+-- why an entry is refused after a journal: want of room first
+abbrev pub first_refusal : Journal → Entry → Option Refusal
+first_refusal journal entry = if is_full journal then Some Full else clock_refusal journal entry
+
+-- is this the answer to a refused entry? Memory is answered only where nothing else is wrong
+abbrev pub IsRefusal : Journal → Entry → Refusal → Type 0
+IsRefusal journal entry Memory = first_refusal journal entry ≡ None
+IsRefusal journal entry refusal = first_refusal journal entry ≡ Some refusal
+
+-- why clocks can't be opened
+abbrev pub opening_refusal : Counter → ℕ → Timespec → Option Refusal
+opening_refusal counter reading real =
+    if nat_lt (mask counter) reading || not (is_settable real) then Some Invalid else None
+
+-- why a clock can't be read
+abbrev pub read_refusal : ReadBase → ClockId → ℕ → Option ReadError
+read_refusal base clock reading =
+    if nat_lt (mask base.counter) reading then Some InvalidReading
+    else if not (int_lt (base_value base clock reading) (limit clock)) then Some PastLimit
+    else None

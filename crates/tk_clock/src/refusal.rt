@@ -1,0 +1,31 @@
+/// Why a command is refused: the first test that fails, in the order of the tests. A refused command changes nothing.
+///
+/// The tests run in this order: `Full`, `Asleep` or `Awake`, `Invalid` for numbers out of range, `Behind`, `Range`,
+/// `Invalid` for a setting that REALTIME can't have, `Memory`.
+#[derive(Clone, Copy, Debug, PartialEq, Eq)]
+pub enum Refusal {
+    /// The journal has no room for another entry.
+    Full,
+    /// The clocks are asleep, and the command is not `Resume`.
+    Asleep,
+    /// The clocks are awake, and the command is `Resume`.
+    Awake,
+    /// The reading is above the mask, a number of the command is out of its range, or REALTIME would fall below
+    /// MONOTONIC or go beyond what may be set.
+    Invalid,
+    /// The reading lies behind that of the last accepted command.
+    Behind,
+    /// A clock would be at its limit or beyond it.
+    Range,
+    /// The memory for the entry was refused.
+    Memory,
+}
+
+/// Why a clock can't be read: the first test that fails.
+#[derive(Clone, Copy, Debug, PartialEq, Eq)]
+pub enum ReadError {
+    /// The reading is above the mask.
+    Invalid,
+    /// The clock is at its limit or beyond it.
+    Range,
+}
