@@ -1,0 +1,174 @@
+-- An accepted entry keeps a journal legal, and its state the one that it comes to.
+use Rattle.std.proofs.Common.{◌≡◌, ℕ, zero, suc, ◌+◌, ◌<◌, ◌≤◌, List, [], ◌∷◌, ◌++◌, length, take, refl, sym, ◌∙◌, ap, subst, arith, Bool, true, false, ◌⊎◌, inl, inr}
+use Rattle.std.specs.Prelude.{ℤ, pos, ◌+ℤ◌, ◌-◌, ◌*◌, nat_le, nat_lt, Option, Some, None, not, ◌&&◌, ◌||◌, if◌then◌else◌, slice_get}
+use Rattle.std.proofs.lemmas.List.{take-append-le, take_all, take_at, length_push}
+use Rattle.std.proofs.lemmas.Bool.{cases_lt}
+use Rattle.std.proofs.lemmas.Option.{slice_get_within}
+use Rattle.tk_clock.specs.declared.command.Entry.{Entry}
+use Rattle.tk_clock.specs.declared.command.Command.{Command}
+use Rattle.tk_clock.specs.declared.refusal.Refusal.{Refusal}
+use Rattle.tk_clock.specs.declared.refusal.Refusal.TheVariants.{Full, Asleep, Awake, Invalid, Behind, Range, Memory}
+use Rattle.tk_clock.specs.Command.{is_resume}
+use Rattle.tk_clock.specs.declared.timespec.Timespec.{Timespec}
+use Rattle.tk_clock.specs.Journal.{Opening, Journal, opened, prefix, followed_by, is_asleep, last_reading}
+use Rattle.tk_clock.specs.Monotonic.{current_multiplier}
+use Rattle.tk_clock.specs.Time.{nanoseconds}
+use Rattle.tk_clock.specs.Clocks.{clock_value}
+use Rattle.tk_counter.specs.Counter.{Counter, IsCounter, mask, half, gap}
+use Rattle.tk_clock.specs.State.{State, state_of, effect}
+use Rattle.tk_clock.specs.Refusal.{clock_refusal, state_refusal, first_refusal, opening_refusal, is_full, IsRefusal}
+use Rattle.tk_clock.specs.Limits.{is_well_formed, is_past_limit, is_bad_setting}
+use Rattle.tk_clock.specs.Legal.{IsLegal, IsAccepted, IsWhole, folded_opening}
+use Rattle.tk_clock.proofs.Ledger.{ledger, clock_refusal-state, no_more}
+
+slice_get-append : {X : Type 0} (xs : List X) (y : X) (k : ℕ) → k < length xs → slice_get (xs ++ y ∷ []) k ≡ slice_get xs k
+slice_get-append [] y k within = absurd (omega arith)
+slice_get-append (x ∷ xs) y zero within = refl
+slice_get-append (x ∷ xs) y (suc k) within = slice_get-append xs y k (omega arith)
+
+slice_get-push : {X : Type 0} (xs : List X) (y : X) → slice_get (xs ++ y ∷ []) (length xs) ≡ Some y
+slice_get-push [] y = refl
+slice_get-push (x ∷ xs) y = slice_get-push xs y
+
+-- an accepted command fits the clock's sleep
+fits_sleep : (asleep resumes : Bool) (later : Option Refusal) →
+    (if asleep && not resumes then Some Asleep else if not asleep && resumes then Some Awake else later) ≡ None → resumes ≡ asleep
+fits_sleep true true later e = refl
+fits_sleep true false later e = cc
+fits_sleep false true later e = cc
+fits_sleep false false later e = refl
+
+-- nor is want of memory ever told by the tests
+tests_never_memory : (a b c d e f : Bool) →
+    (if a then Some Asleep else if b then Some Awake else if c then Some Invalid else if d then Some Behind else if e then Some Range else if f then Some Invalid else None)
+    ≡ Some Memory → ⊥
+tests_never_memory true b c d e f h = cc
+tests_never_memory false true c d e f h = cc
+tests_never_memory false false true d e f h = cc
+tests_never_memory false false false true e f h = cc
+tests_never_memory false false false false true f h = cc
+tests_never_memory false false false false false true h = cc
+tests_never_memory false false false false false false h = cc
+
+never_memory : (journal : Journal) (entry : Entry) → clock_refusal journal entry ≡ Some Memory → ⊥
+never_memory journal entry told =
+    tests_never_memory
+        (is_asleep journal && not (is_resume entry.cmd))
+        (not (is_asleep journal) && is_resume entry.cmd)
+        (nat_lt (mask journal.opening.counter) entry.reading || not (is_well_formed entry.cmd))
+        (not (is_resume entry.cmd) && nat_lt (half journal.opening.counter) (gap journal.opening.counter (last_reading journal) entry.reading))
+        (is_past_limit (λ clock. clock_value (followed_by journal entry) clock entry.reading) entry.cmd)
+        (is_bad_setting (λ clock. clock_value journal clock entry.reading) entry.cmd)
+        told
+
+-- a journal that has room refuses an entry as its state does
+pub first_refusal-state : (journal : Journal) (state : State) (who reading : ℕ) (cmd : Command) (told : Option Refusal) →
+    state ≡ state_of journal → is_full journal ≡ false → state_refusal state reading cmd ≡ told →
+    first_refusal journal (record { who = who; reading = reading; cmd = cmd }) ≡ told
+first_refusal-state journal state who reading cmd told running room e =
+    let entry : Entry = record { who = who; reading = reading; cmd = cmd } in
+    ap (λ (b : Bool). if b then Some Full else clock_refusal journal entry) room
+    ∙ clock_refusal-state journal who reading cmd
+    ∙ ap (λ s. state_refusal s reading cmd) (sym running)
+    ∙ e
+
+-- a full journal refuses every entry
+pub first_refusal-full : (journal : Journal) (entry : Entry) → is_full journal ≡ true → first_refusal journal entry ≡ Some Full
+first_refusal-full journal entry full = ap (λ (b : Bool). if b then Some Full else clock_refusal journal entry) full
+
+-- an accepted command leaves the state that the longer journal comes to
+pub state_of-followed_by : (journal : Journal) (state : State) (who reading : ℕ) (cmd : Command) →
+    state ≡ state_of journal → state_refusal state reading cmd ≡ None →
+    effect state reading cmd ≡ state_of (followed_by journal (record { who = who; reading = reading; cmd = cmd }))
+state_of-followed_by journal state who reading cmd running e =
+    let accepted : clock_refusal journal (record { who = who; reading = reading; cmd = cmd }) ≡ None =
+        clock_refusal-state journal who reading cmd ∙ ap (λ s. state_refusal s reading cmd) (sym running) ∙ e in
+    ap (λ s. effect s reading cmd) running
+    ∙ sym (ledger journal who reading cmd (fits_sleep (is_asleep journal) (is_resume cmd) _ accepted))
+
+earlier_accepted : (journal : Journal) (entry : Entry) → IsAccepted journal → (k : ℕ) (other : Entry) → k < length journal.entries →
+    slice_get (journal.entries ++ entry ∷ []) k ≡ Some other → clock_refusal (prefix k (followed_by journal entry)) other ≡ None
+earlier_accepted journal entry all k other low found =
+    let same : prefix k (followed_by journal entry) ≡ prefix k journal =
+        ap (λ (es : List Entry). record journal { entries = es }) (take-append-le k journal.entries (entry ∷ []) (omega arith)) in
+    ap (λ (j : Journal). clock_refusal j other) same
+    ∙ all k other (sym (slice_get-append journal.entries entry k low) ∙ found)
+
+last_accepted : (journal : Journal) (entry : Entry) → clock_refusal journal entry ≡ None → (k : ℕ) (other : Entry) → length journal.entries ≤ k →
+    slice_get (journal.entries ++ entry ∷ []) k ≡ Some other → clock_refusal (prefix k (followed_by journal entry)) other ≡ None
+last_accepted journal entry accepted k other high found =
+    let within = slice_get_within (journal.entries ++ entry ∷ []) k other found in
+    let last : length journal.entries ≡ k = omega (arith, length_push journal.entries entry) in
+    let same : prefix k (followed_by journal entry) ≡ journal =
+        ap (λ (es : List Entry). record journal { entries = es }) (take_at journal.entries (entry ∷ []) k last) in
+    let told : Some entry ≡ Some other =
+        sym (slice_get-push journal.entries entry) ∙ ap (slice_get (journal.entries ++ entry ∷ [])) last ∙ found in
+    let it : entry ≡ other = cc in
+    ap (λ (j : Journal). clock_refusal j other) same ∙ ap (λ e. clock_refusal journal e) (sym it) ∙ accepted
+
+-- one more accepted entry
+pub IsAccepted-followed_by : (journal : Journal) (entry : Entry) → IsAccepted journal → clock_refusal journal entry ≡ None →
+    IsAccepted (followed_by journal entry)
+IsAccepted-followed_by journal entry all accepted =
+    λ k (other : Entry) found.
+        elim (cases_lt k (length journal.entries))
+            [ inl low ↦ earlier_accepted journal entry all k other low found | inr high ↦ last_accepted journal entry accepted k other high found ]
+
+-- an entry that nothing refuses passes the clock's tests
+not_full : (b : Bool) (told : Option Refusal) → (if b then Some Full else told) ≡ None → told ≡ None
+not_full true told e = cc
+not_full false told e = e
+
+pub IsLegal-followed_by : (journal : Journal) (entry : Entry) → IsLegal journal → first_refusal journal entry ≡ None → IsLegal (followed_by journal entry)
+IsLegal-followed_by journal entry legal accepted = record {
+    past = legal.past;
+    accepted = IsAccepted-followed_by journal entry legal.accepted (not_full (is_full journal) (clock_refusal journal entry) accepted);
+  }
+
+-- a journal without entries comes to its opening
+nothing : (u : ℕ) → 0 + (0 - 0) * u ≡ 0
+nothing u = omega arith
+
+nothing_raw : (u : ℕ) → 0 + 0 * u ≡ 0
+nothing_raw u = omega arith
+
+pub opened-folded : (counter : Counter) (reading : ℕ) (real : Timespec) →
+    (opened counter reading real).opening ≡ folded_opening 0 (state_of (opened counter reading real))
+opened-folded counter reading real =
+    let opening : ℕ → ℕ → ℤ → ℤ → Opening = λ amount raw real boot. record {
+        counter = counter; reading = reading; count = 0; amount = amount; raw_amount = raw; frequency = pos 0; tick = pos 10000;
+        real_offset = real; boot_offset = boot; tai = pos 0; asleep = false } in
+    ap (λ n. opening n 0 (nanoseconds real) (pos 0)) (sym (nothing (current_multiplier (opened counter reading real))))
+    ∙ ap (λ n. opening (0 + (0 - 0) * current_multiplier (opened counter reading real)) n (nanoseconds real) (pos 0)) (sym (nothing_raw counter.mult))
+    ∙ ap (λ z. opening (0 + (0 - 0) * current_multiplier (opened counter reading real)) (0 + 0 * counter.mult) z (pos 0)) (sym (no_more (nanoseconds real)))
+
+none_listed : (k : ℕ) (entry : Entry) → slice_get [] k ≡ Some entry → ⊥
+none_listed k entry e = cc e
+
+pub IsWhole-opened : (counter : Counter) (reading : ℕ) (real : Timespec) → IsCounter counter → opening_refusal counter reading real ≡ None →
+    IsWhole (opened counter reading real)
+IsWhole-opened counter reading real described opens = record {
+    described = described;
+    opens = (reading, real, opens, refl);
+    accepted = λ k entry e. absurd (none_listed k entry e);
+  }
+
+-- clocks that may be opened begin with a legal journal
+pub IsLegal-opened : (counter : Counter) (reading : ℕ) (real : Timespec) → IsCounter counter → opening_refusal counter reading real ≡ None →
+    IsLegal (opened counter reading real)
+IsLegal-opened counter reading real described opens = record {
+    past = (opened counter reading real, IsWhole-opened counter reading real described opens, opened-folded counter reading real);
+    accepted = λ k entry e. absurd (none_listed k entry e);
+  }
+
+-- the answer to a refused entry is told as such
+pub IsRefusal-told : (journal : Journal) (entry : Entry) (refusal : Refusal) → is_full journal ≡ false →
+    first_refusal journal entry ≡ Some refusal → IsRefusal journal entry refusal
+IsRefusal-told journal entry Full room told = told
+IsRefusal-told journal entry Asleep room told = told
+IsRefusal-told journal entry Awake room told = told
+IsRefusal-told journal entry Invalid room told = told
+IsRefusal-told journal entry Behind room told = told
+IsRefusal-told journal entry Range room told = told
+IsRefusal-told journal entry Memory room told =
+    absurd (never_memory journal entry (sym (ap (λ (b : Bool). if b then Some Full else clock_refusal journal entry) room) ∙ told))

@@ -1,0 +1,9 @@
+pub mod Rows
+pub mod Append
+pub mod Stretches
+pub mod Offsets
+pub mod Ledger
+pub mod Legal
+pub mod Monotone
+pub mod Honest
+pub mod Units
