@@ -1,6 +1,6 @@
 -- One more entry changes what a journal comes to by the effect of its command.
 use Rattle.std.proofs.Common.{◌≡◌, ℕ, ◌+◌, ◌*◌, ◌/◌, ◌^◌, refl, sym, ◌∙◌, ap, arith, Bool, true, false}
-use Rattle.std.specs.Prelude.{ℤ, pos, ◌+ℤ◌, ◌-ℤ◌, if◌then◌else◌, Option, Some, not, ◌&&◌}
+use Rattle.std.specs.Prelude.{ℤ, pos, ◌+ℤ◌, ◌-ℤ◌, if◌then◌else◌, Option, Some, None, not, ◌&&◌}
 use Rattle.std.proofs.lemmas.Int.{ints}
 use Rattle.tk_counter.specs.Counter.{Counter, gap}
 use Rattle.tk_clock.specs.declared.command.Entry.{Entry}
@@ -11,7 +11,7 @@ use Rattle.tk_clock.specs.Journal.{Journal, followed_by, is_asleep, last_reading
 use Rattle.tk_clock.specs.Monotonic.{monotonic, monotonic_units, current_multiplier, current_frequency, current_tick}
 use Rattle.tk_clock.specs.State.{ReadBase, State, base_of, state_of, base_value, effect}
 use Rattle.tk_clock.specs.Clocks.{clock_value, raw_units, real_offset, boot_offset, tai_offset}
-use Rattle.tk_clock.specs.Refusal.{number_refusal, clock_refusal, state_refusal}
+use Rattle.tk_clock.specs.Refusal.{first_of, early_refusal, number_refusal, order_refusal, value_refusal, clock_refusal, state_refusal}
 use Rattle.tk_clock.specs.declared.refusal.Refusal.{Refusal}
 use Rattle.tk_clock.specs.declared.refusal.Refusal.TheVariants.{Asleep, Awake}
 use Rattle.tk_clock.specs.Time.{nanoseconds}
@@ -145,22 +145,30 @@ base_value-base_of journal RealtimeCoarse reading = refl
 base_value-base_of journal MonotonicCoarse reading = refl
 base_value-base_of journal MonotonicRaw reading = refl
 
--- where the first test fails, nothing else decides
-by_first_test : (asleep resumes : Bool) (x y : Option Refusal) → (resumes ≡ asleep → x ≡ y) →
-    (if asleep && not resumes then Some Asleep else if not asleep && resumes then Some Awake else x)
-    ≡ (if asleep && not resumes then Some Asleep else if not asleep && resumes then Some Awake else y)
-by_first_test true true x y same = same refl
-by_first_test true false x y same = refl
-by_first_test false true x y same = refl
-by_first_test false false x y same = same refl
+-- an accepted command fits the clock's sleep
+pub fits_sleep : (asleep resumes : Bool) (later : Option Refusal) →
+    first_of (if asleep && not resumes then Some Asleep else if not asleep && resumes then Some Awake else None) later ≡ None →
+    resumes ≡ asleep
+fits_sleep true true later e = refl
+fits_sleep true false later e = cc
+fits_sleep false true later e = cc
+fits_sleep false false later e = refl
+
+-- where an early test fails, no later one decides
+by_first : (early x y : Option Refusal) → (early ≡ None → x ≡ y) → first_of early x ≡ first_of early y
+by_first None x y same = same refl
+by_first (Some refusal) x y same = refl
 
 -- the tests of a journal are those of its state
 pub clock_refusal-state : (journal : Journal) (who reading : ℕ) (cmd : Command) →
     clock_refusal journal (record { who = who; reading = reading; cmd = cmd }) ≡ state_refusal (state_of journal) reading cmd
 clock_refusal-state journal who reading cmd =
+    let counter = journal.opening.counter in
     let by_state : State → Option Refusal = λ s.
-        number_refusal journal.opening.counter (last_reading journal) (λ clock. clock_value journal clock reading) (λ clock. base_value s.base clock reading) reading cmd in
-    by_first_test (is_asleep journal) (is_resume cmd)
+        value_refusal (λ clock. clock_value journal clock reading) (λ clock. base_value s.base clock reading) cmd in
+    by_first (early_refusal counter (is_asleep journal) (last_reading journal) reading cmd)
         (by_state (state_of (followed_by journal (record { who = who; reading = reading; cmd = cmd }))))
         (by_state (effect (state_of journal) reading cmd))
-        (λ fits. ap by_state (ledger journal who reading cmd fits))
+        (λ fits. ap by_state (ledger journal who reading cmd
+            (fits_sleep (is_asleep journal) (is_resume cmd)
+                (first_of (number_refusal counter reading cmd) (order_refusal counter (last_reading journal) reading cmd)) fits)))

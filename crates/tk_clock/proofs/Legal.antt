@@ -16,10 +16,10 @@ use Rattle.tk_clock.specs.Time.{nanoseconds}
 use Rattle.tk_clock.specs.Clocks.{clock_value}
 use Rattle.tk_counter.specs.Counter.{Counter, IsCounter, mask, half, gap}
 use Rattle.tk_clock.specs.State.{State, state_of, effect}
-use Rattle.tk_clock.specs.Refusal.{clock_refusal, state_refusal, first_refusal, opening_refusal, is_full, IsRefusal}
+use Rattle.tk_clock.specs.Refusal.{first_of, clock_refusal, state_refusal, first_refusal, opening_refusal, is_full, IsRefusal}
 use Rattle.tk_clock.specs.Limits.{is_well_formed, is_past_limit, is_bad_setting}
 use Rattle.tk_clock.specs.Legal.{IsLegal, IsAccepted, IsWhole, folded_opening}
-use Rattle.tk_clock.proofs.Ledger.{ledger, clock_refusal-state, no_more}
+use Rattle.tk_clock.proofs.Ledger.{ledger, fits_sleep, clock_refusal-state, no_more}
 
 slice_get-append : {X : Type 0} (xs : List X) (y : X) (k : ℕ) → k < length xs → slice_get (xs ++ y ∷ []) k ≡ slice_get xs k
 slice_get-append [] y k within = absurd (omega arith)
@@ -30,17 +30,16 @@ slice_get-push : {X : Type 0} (xs : List X) (y : X) → slice_get (xs ++ y ∷ [
 slice_get-push [] y = refl
 slice_get-push (x ∷ xs) y = slice_get-push xs y
 
--- an accepted command fits the clock's sleep
-fits_sleep : (asleep resumes : Bool) (later : Option Refusal) →
-    (if asleep && not resumes then Some Asleep else if not asleep && resumes then Some Awake else later) ≡ None → resumes ≡ asleep
-fits_sleep true true later e = refl
-fits_sleep true false later e = cc
-fits_sleep false true later e = cc
-fits_sleep false false later e = refl
+-- an accepted command passes the early tests
+early_none : (early later : Option Refusal) → first_of early later ≡ None → early ≡ None
+early_none None later e = refl
+early_none (Some refusal) later e = e
 
--- nor is want of memory ever told by the tests
+-- want of memory is never told by the tests
 tests_never_memory : (a b c d e f : Bool) →
-    (if a then Some Asleep else if b then Some Awake else if c then Some Invalid else if d then Some Behind else if e then Some Range else if f then Some Invalid else None)
+    first_of (first_of (if a then Some Asleep else if b then Some Awake else None)
+        (first_of (if c then Some Invalid else None) (if d then Some Behind else None)))
+        (if e then Some Range else if f then Some Invalid else None)
     ≡ Some Memory → ⊥
 tests_never_memory true b c d e f h = cc
 tests_never_memory false true c d e f h = cc
@@ -84,7 +83,7 @@ state_of-followed_by journal state who reading cmd running e =
     let accepted : clock_refusal journal (record { who = who; reading = reading; cmd = cmd }) ≡ None =
         clock_refusal-state journal who reading cmd ∙ ap (λ s. state_refusal s reading cmd) (sym running) ∙ e in
     ap (λ s. effect s reading cmd) running
-    ∙ sym (ledger journal who reading cmd (fits_sleep (is_asleep journal) (is_resume cmd) _ accepted))
+    ∙ sym (ledger journal who reading cmd (fits_sleep (is_asleep journal) (is_resume cmd) _ (early_none _ _ accepted)))
 
 earlier_accepted : (journal : Journal) (entry : Entry) → IsAccepted journal → (k : ℕ) (other : Entry) → k < length journal.entries →
     slice_get (journal.entries ++ entry ∷ []) k ≡ Some other → clock_refusal (prefix k (followed_by journal entry)) other ≡ None

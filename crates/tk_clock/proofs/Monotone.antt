@@ -14,7 +14,7 @@ use Rattle.tk_clock.specs.Life.{IsInLife, NeverFalls}
 use Rattle.tk_clock.specs.Command.{is_suspend, is_resume}
 use Rattle.tk_clock.specs.Clocks.{clock_value}
 use Rattle.tk_clock.specs.Limits.{is_well_formed}
-use Rattle.tk_clock.specs.Refusal.{value_refusal, clock_refusal, first_refusal, is_full}
+use Rattle.tk_clock.specs.Refusal.{first_of, value_refusal, clock_refusal, first_refusal, is_full}
 use Rattle.tk_clock.specs.declared.refusal.Refusal.{Refusal}
 use Rattle.tk_clock.specs.declared.refusal.Refusal.TheVariants.{Full, Asleep, Awake, Invalid, Behind}
 use Rattle.tk_clock.proofs.Stretches.{cycles_to, monotonic_units-followed_by, last_reading-followed_by}
@@ -120,15 +120,15 @@ never_falls journal n reading reading' within life =
     shr_mono journal.opening.counter.shift (chain _ _ _ first (chain _ _ _ to_end (units_at-≤ journal reading')))
 
 -- the cycles that an accepted command counts are those that a read at its reading counts
-counted_alike : (asleep resumes behind : Bool) (gap : ℕ) (later : Option Refusal) (invalid : Bool) →
-    (if asleep && not resumes then Some Asleep else if not asleep && resumes then Some Awake
-     else if invalid then Some Invalid else if not resumes && behind then Some Behind else later) ≡ None →
+counted_alike : (asleep resumes invalid behind : Bool) (gap : ℕ) (later : Option Refusal) →
+    first_of (first_of (if asleep && not resumes then Some Asleep else if not asleep && resumes then Some Awake else None)
+        (first_of (if invalid then Some Invalid else None) (if not resumes && behind then Some Behind else None))) later ≡ None →
     (if asleep || behind then 0 else gap) ≡ (if asleep then 0 else gap)
-counted_alike true resumes behind gap later invalid e = refl
-counted_alike false true behind gap later invalid e = cc
-counted_alike false false behind gap later true e = cc
-counted_alike false false true gap later false e = cc
-counted_alike false false false gap later false e = refl
+counted_alike true resumes invalid behind gap later e = refl
+counted_alike false true invalid behind gap later e = cc
+counted_alike false false true behind gap later e = cc
+counted_alike false false false true gap later e = cc
+counted_alike false false false false gap later e = refl
 
 not_full : (b : Bool) (told : Option Refusal) → (if b then Some Full else told) ≡ None → told ≡ None
 not_full true told e = cc
@@ -144,10 +144,10 @@ agrees journal entry accepted =
     let told = not_full (is_full journal) (clock_refusal journal entry) accepted in
     let same : cycles_after journal entry.reading ≡ cycles_to journal entry.reading =
         counted_alike (is_asleep journal) (is_resume entry.cmd)
+            (nat_lt (mask counter) entry.reading || not (is_well_formed entry.cmd))
             (nat_lt (half counter) (gap counter (last_reading journal) entry.reading))
             (gap counter (last_reading journal) entry.reading)
             (value_refusal (λ clock. clock_value journal clock entry.reading) (λ clock. clock_value after clock entry.reading) entry.cmd)
-            (nat_lt (mask counter) entry.reading || not (is_well_formed entry.cmd))
             told in
     ap (λ k. (monotonic_units journal + k * current_multiplier journal) / scale) same
     ∙ ap (λ n. n / scale) (sym (monotonic_units-followed_by journal entry))

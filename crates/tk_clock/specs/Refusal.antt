@@ -15,42 +15,60 @@ use Rattle.tk_clock.specs.Clocks.{clock_value}
 use Rattle.tk_clock.specs.State.{ReadBase, State, base_value, effect}
 use Rattle.tk_clock.specs.Limits.{limit, is_settable, is_well_formed, is_past_limit, is_bad_setting}
 
--- the tests of values, by the clocks at the command's reading before it and after it
+-- the first of two refusals
+abbrev pub first_of : Option Refusal → Option Refusal → Option Refusal
+first_of (Some refusal) later = Some refusal
+first_of None later = later
+
+-- does the command come at the wrong time? Asleep, only a resume is taken, and awake, none
+abbrev pub sleep_refusal : Bool → Command → Option Refusal
+sleep_refusal asleep cmd =
+    if asleep && not (is_resume cmd) then Some Asleep
+    else if not asleep && is_resume cmd then Some Awake
+    else None
+
+-- are the reading or the command's numbers out of range?
+abbrev pub number_refusal : Counter → ℕ → Command → Option Refusal
+number_refusal counter reading cmd =
+    if nat_lt (mask counter) reading || not (is_well_formed cmd) then Some Invalid else None
+
+-- does the reading lie behind the last one?
+abbrev pub order_refusal : Counter → ℕ → ℕ → Command → Option Refusal
+order_refusal counter last reading cmd =
+    if not (is_resume cmd) && nat_lt (half counter) (gap counter last reading) then Some Behind else None
+
+-- would a clock be past its limit, or REALTIME set badly? By the clocks at the reading before the command and after it
 abbrev pub value_refusal : (ClockId → ℤ) → (ClockId → ℤ) → Command → Option Refusal
 value_refusal before after cmd =
     if is_past_limit after cmd then Some Range
     else if is_bad_setting before cmd then Some Invalid
     else None
 
--- the tests of a command that fits the clock's sleep: its numbers, its place behind the last reading, its values
-abbrev pub number_refusal : Counter → ℕ → (ClockId → ℤ) → (ClockId → ℤ) → ℕ → Command → Option Refusal
-number_refusal counter last before after reading cmd =
-    if nat_lt (mask counter) reading || not (is_well_formed cmd) then Some Invalid
-    else if not (is_resume cmd) && nat_lt (half counter) (gap counter last reading) then Some Behind
-    else value_refusal before after cmd
-
--- all tests of a command, in their order
-abbrev pub refusal : Counter → Bool → ℕ → (ClockId → ℤ) → (ClockId → ℤ) → ℕ → Command → Option Refusal
-refusal counter asleep last before after reading cmd =
-    if asleep && not (is_resume cmd) then Some Asleep
-    else if not asleep && is_resume cmd then Some Awake
-    else number_refusal counter last before after reading cmd
+-- the tests that need no clock's value, in their order
+abbrev pub early_refusal : Counter → Bool → ℕ → ℕ → Command → Option Refusal
+early_refusal counter asleep last reading cmd =
+    first_of (sleep_refusal asleep cmd) (first_of (number_refusal counter reading cmd) (order_refusal counter last reading cmd))
 
 -- why an entry is refused after a journal, want of room apart
 abbrev pub clock_refusal : Journal → Entry → Option Refusal
 clock_refusal journal entry =
-    refusal journal.opening.counter (is_asleep journal) (last_reading journal)
-        (λ clock. clock_value journal clock entry.reading)
-        (λ clock. clock_value (followed_by journal entry) clock entry.reading)
-        entry.reading entry.cmd
+    first_of
+        (early_refusal journal.opening.counter (is_asleep journal) (last_reading journal) entry.reading entry.cmd)
+        (value_refusal (λ clock. clock_value journal clock entry.reading)
+            (λ clock. clock_value (followed_by journal entry) clock entry.reading) entry.cmd)
+
+-- the tests of values of a command in a state
+abbrev pub state_value_refusal : State → ℕ → Command → Option Refusal
+state_value_refusal state reading cmd =
+    value_refusal (λ clock. base_value state.base clock reading)
+        (λ clock. base_value (effect state reading cmd).base clock reading) cmd
 
 -- why a command is refused in a state
 abbrev pub state_refusal : State → ℕ → Command → Option Refusal
 state_refusal state reading cmd =
-    refusal state.base.counter state.base.asleep state.base.last
-        (λ clock. base_value state.base clock reading)
-        (λ clock. base_value (effect state reading cmd).base clock reading)
-        reading cmd
+    first_of
+        (early_refusal state.base.counter state.base.asleep state.base.last reading cmd)
+        (state_value_refusal state reading cmd)
 
 -- has the journal no room for another entry? It lists at most 1,048,576, and counts at most 2^63 - 1
 abbrev pub is_full : Journal → Bool
