@@ -14,7 +14,7 @@ use Rattle.tk_clock.specs.Journal.{Journal, opened}
 use Rattle.tk_clock.specs.Monotonic.{monotonic}
 use Rattle.tk_clock.specs.Clocks.{clock_value}
 use Rattle.tk_clock.specs.State.{base_of, state_of}
-use Rattle.tk_clock.specs.Limits.{is_settable, is_well_formed, is_past_limit, is_bad_setting}
+use Rattle.tk_clock.specs.Limits.{is_settable, is_suspension, is_well_formed, is_past_limit, is_bad_setting}
 use Rattle.tk_clock.specs.Refusal.{first_refusal, read_refusal, opening_refusal}
 
 -- one nanosecond a cycle, readings of 32 bits
@@ -175,7 +175,7 @@ abbrev resumed : Journal
 resumed = journal_of (at 1000 Suspend ∷ at 5 (Resume (time (pos 5) 500000000)) ∷ [])
 
 resumed-accepted : first_refusal asleep (at 5 (Resume (time (pos 5) 500000000))) ≡ None
-unfolding is_well_formed is_past_limit is_bad_setting
+unfolding is_suspension is_well_formed is_past_limit is_bad_setting
 resumed-accepted = refl
 
 resumed-monotonic : clock_value resumed Monotonic 15 ≡ pos 1010

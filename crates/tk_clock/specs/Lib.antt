@@ -3,7 +3,9 @@ pub mod Command
 pub mod Journal
 pub mod Monotonic
 pub mod Clocks
+pub mod Amount
 pub mod State
+pub mod Running
 pub mod Limits
 pub mod Refusal
 pub mod Legal

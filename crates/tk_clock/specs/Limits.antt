@@ -21,13 +21,17 @@ limit MonotonicRaw = pos (9223372036 * 10 ^ 9)
 unfoldable pub is_settable : Timespec → Bool
 is_settable time = int_le (pos 0) time.sec && int_lt time.sec (pos 8277292036) && nat_lt time.nsec (10 ^ 9)
 
+-- a suspension is none of negative length, and is shorter than a clock lasts
+unfoldable pub is_suspension : Timespec → Bool
+is_suspension away = int_le (pos 0) away.sec && int_lt away.sec (pos 9223372036) && nat_lt away.nsec (10 ^ 9)
+
 -- are the command's numbers in range?
 unfoldable pub is_well_formed : Command → Bool
 is_well_formed (SetTime time) = is_settable time
 is_well_formed (Step by) = nat_lt by.nsec (10 ^ 9)
 is_well_formed (Tick tick) = int_le (pos 9000) tick && int_le tick (pos 11000)
 is_well_formed (Tai seconds) = int_le (pos 0) seconds && int_le seconds (pos 100000)
-is_well_formed (Resume away) = int_le (pos 0) away.sec && int_lt away.sec (pos 9223372036) && nat_lt away.nsec (10 ^ 9)
+is_well_formed (Resume away) = is_suspension away
 is_well_formed Update = true
 is_well_formed (Freq frequency) = true
 is_well_formed Suspend = true

@@ -12,8 +12,11 @@
 //! ticks in microseconds; the TAI offset in seconds.
 #![tactic(auto)]
 
+mod amount;
 mod clock_id;
 mod command;
+mod limits;
+mod read_base;
 mod refusal;
 mod timespec;
 

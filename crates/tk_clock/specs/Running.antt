@@ -1,0 +1,37 @@
+-- What holds of every state that running clocks are in.
+use Rattle.std.specs.Prelude.{◌≡◌, ℕ, ◌*◌, ◌<◌, ◌≤◌, ℤ, pos, neg_ℤ, ◌<ℤ◌, ◌≤ℤ◌}
+use Rattle.tk_counter.specs.Counter.{Counter, IsCounter, mask, fastest, second, multiplier}
+use Rattle.tk_clock.specs.declared.amount.Amount.{Amount}
+use Rattle.tk_clock.specs.declared.clock_id.ClockId.TheVariants.{Realtime, Boottime, Tai}
+use Rattle.tk_clock.specs.State.{ReadBase, base_value}
+use Rattle.tk_clock.specs.Limits.{limit}
+
+-- the parts of a read base: its numbers lie in their ranges
+pub record IsReadBase (counter : Counter) (last mult : ℕ) (monotonic raw : Amount) (tai : ℕ) : Type 0 where
+  pub described : IsCounter counter
+  pub last_low : last ≤ mask counter
+  pub mult_some : 1 ≤ mult
+  pub mult_low : mult ≤ fastest counter
+  pub frac_low : monotonic.frac < second counter
+  pub sec_low : monotonic.sec < 946080000
+  pub raw_frac_low : raw.frac < second counter
+  pub raw_sec_low : raw.sec < 1060000000
+  pub tai_low : tai ≤ 100000
+
+-- the slowest multiplier that is ever in force
+abbrev pub slowest : Counter → ℕ
+slowest counter = multiplier counter (neg_ℤ (pos 32768000)) (pos 9000)
+
+-- MONOTONIC_RAW is no further ahead of MONOTONIC than the slowest multiplier leaves it behind
+abbrev pub IsRated : ReadBase → Type 0
+IsRated base = base.raw_amount * slowest base.counter ≤ base.amount * base.counter.mult
+
+-- the running clocks: the multiplier is that of the frequency and tick, and each clock is below its limit
+pub record IsRunning (base : ReadBase) (frequency tick : ℤ) : Type 0 where
+  pub steered : base.mult ≡ multiplier base.counter frequency tick
+  pub tick_low : pos 9000 ≤ℤ tick
+  pub tick_high : tick ≤ℤ pos 11000
+  pub rated : IsRated base
+  pub real_low : base_value base Realtime base.last <ℤ limit Realtime
+  pub boot_low : base_value base Boottime base.last <ℤ limit Boottime
+  pub tai_low : base_value base Tai base.last <ℤ limit Tai

@@ -1,0 +1,53 @@
+ghost use Rattle.std.specs.Prelude.{◌≡◌, ℕ, ◌+◌, ◌*◌, ◌/◌, ◌^◌, ◌<◌, ◌≤◌, MatchOption};
+ghost use Rattle.tk_counter.specs.Counter.{second};
+
+use tk_counter::CounterDesc;
+
+pub(crate) const NANOS_PER_SECOND: u64 = 1_000_000_000;
+
+/// An amount of time: whole seconds, and what is left of them in units of `2^-shift` ns.
+#[derive(Clone, Copy, Debug, PartialEq, Eq)]
+pub(crate) struct Amount {
+    pub sec: u64,
+    pub frac: u64,
+}
+
+impl Amount {
+    ghost use Rattle.tk_clock.specs.Amount.{units_of};
+
+    /// Nothing.
+    pub fn zero() -> Amount
+        ensures { result ≡ record { sec = 0; frac = 0 } }
+    {
+        Amount { sec: 0, frac: 0 }
+    }
+
+    /// The amount with so many cycles at `mult` on top. Nothing below a nanosecond is lost. None where the cycles
+    /// alone come to 9,223,372,036 seconds, which is beyond every clock's limit.
+    pub fn grown(self, desc: &CounterDesc, cycles: u64, mult: u32) -> Option<Amount>
+        requires rest { self.frac < second desc.now }
+        requires few { self.sec < 2 ^ 33 }
+        ensures { let units = units_of desc.now self + cycles * mult in
+            MatchOption result
+            (9223372036 * second desc.now ≤ units)
+            (λ amount. (units_of desc.now amount ≡ units) × (amount.frac < second desc.now)
+            × (amount.sec ≤ self.sec + 9223372035)) }
+    {
+        let Some((seconds, frac)) = desc.advance(self.frac, cycles, mult) else {
+            return None;
+        };
+        Some(Amount {
+            sec: self.sec + seconds,
+            frac,
+        })
+    }
+
+    /// The amount in whole nanoseconds.
+    pub fn nanos(self, desc: &CounterDesc) -> u64
+        requires rest { self.frac < second desc.now }
+        requires few { self.sec ≤ 18446744072 }
+        ensures { result ≡ units_of desc.now self / 2 ^ desc.now.shift }
+    {
+        self.sec * NANOS_PER_SECOND + (self.frac >> desc.shift())
+    }
+}

@@ -1,0 +1,77 @@
+ghost use Rattle.std.specs.Prelude.{◌≡◌, ◌*◌, ◌^◌, ◌<◌, ◌≤◌, pos, ◌≤ℤ◌, ◌<ℤ◌};
+ghost use Rattle.tk_clock.specs.Limits.{limit, is_settable, is_suspension, is_well_formed};
+ghost use Rattle.tk_clock.specs.Time.{nanoseconds};
+
+use crate::amount::NANOS_PER_SECOND;
+use crate::clock_id::ClockId;
+use crate::command::Command;
+use crate::timespec::Timespec;
+
+/// Where MONOTONIC ends, in seconds: 30 years of 365 days (`TIME_UPTIME_SEC_MAX`).
+pub(crate) const MONOTONIC_SEC_LIMIT: u64 = 946_080_000;
+
+/// Where the other clocks end, in seconds: as many as 63 bits of nanoseconds hold (`KTIME_SEC_MAX`).
+const CLOCK_SEC_LIMIT: i64 = 9_223_372_036;
+
+/// Where the times end that REALTIME may be set to, in seconds: 30 years before its own end (`TIME_SETTOD_SEC_MAX`).
+const SETTABLE_SEC_LIMIT: i64 = 8_277_292_036;
+
+/// The nanoseconds at which a clock ends.
+pub(crate) fn limit(clock: ClockId) -> u64
+    ensures value { pos result ≡ limit clock }
+    ensures most { result ≤ 9223372036 * 10 ^ 9 }
+{
+    match clock {
+        ClockId::Monotonic | ClockId::MonotonicCoarse => MONOTONIC_SEC_LIMIT * NANOS_PER_SECOND,
+        _ => CLOCK_SEC_LIMIT as u64 * NANOS_PER_SECOND,
+    }
+}
+
+/// The nanoseconds at which the times end that REALTIME may be set to.
+pub(crate) fn settable_limit() -> u64
+    ensures { result ≡ 8277292036 * 10 ^ 9 }
+{
+    SETTABLE_SEC_LIMIT as u64 * NANOS_PER_SECOND
+}
+
+/// May REALTIME be set to this time?
+#[tactic(auto, unfolding(crate::specs::Limits::is_settable))]
+pub(crate) fn is_settable(time: Timespec) -> bool
+    ensures { result ≡ is_settable time }
+{
+    time.sec >= 0 && time.sec < SETTABLE_SEC_LIMIT && time.nsec < 1_000_000_000
+}
+
+/// May a suspension have lasted so long?
+#[tactic(auto, unfolding(crate::specs::Limits::is_suspension))]
+fn is_suspension(away: Timespec) -> bool
+    ensures { result ≡ is_suspension away }
+{
+    away.sec >= 0 && away.sec < CLOCK_SEC_LIMIT && away.nsec < 1_000_000_000
+}
+
+/// Are a command's numbers in their ranges?
+#[tactic(auto, unfolding(crate::specs::Limits::is_well_formed))]
+pub(crate) fn is_well_formed(cmd: Command) -> bool
+    ensures { result ≡ is_well_formed cmd }
+{
+    match cmd {
+        Command::SetTime(time) => is_settable(time),
+        Command::Step(by) => by.nsec < 1_000_000_000,
+        Command::Tick(tick) => (9_000..=11_000).contains(&tick),
+        Command::Tai(seconds) => (0..=100_000).contains(&seconds),
+        Command::Resume(away) => is_suspension(away),
+        Command::Update | Command::Freq(_) | Command::Suspend => true,
+    }
+}
+
+/// A time or an amount of time in nanoseconds, where it is none before 1970 and no longer than a clock lasts.
+pub(crate) fn nanos_of(time: Timespec) -> u64
+    requires since { pos 0 ≤ℤ time.sec }
+    requires until { time.sec <ℤ pos 9223372036 }
+    requires rest { time.nsec < 10 ^ 9 }
+    ensures value { pos result ≡ nanoseconds time }
+    ensures most { result < 9223372036 * 10 ^ 9 }
+{
+    time.sec as u64 * NANOS_PER_SECOND + u64::from(time.nsec)
+}

@@ -1,0 +1,95 @@
+ghost use Rattle.std.specs.Prelude.{◌≡◌, ℕ, ◌+◌, ◌*◌, ◌/◌, ◌^◌, ◌<◌, ◌≤◌, MatchOption, MatchResult, Some, None, pos, ◌≤ℤ◌};
+
+use crate::amount::{Amount, NANOS_PER_SECOND};
+use crate::clock_id::ClockId;
+use crate::limits::limit;
+use crate::refusal::ReadError;
+use crate::timespec::Timespec;
+use std::marker::Model;
+use tk_counter::CounterDesc;
+
+/// What reading the clocks takes, as the kernel's `struct tk_read_base`.
+#[derive(Clone, Copy)]
+pub(crate) struct ReadBase {
+    /// The counter.
+    pub desc: CounterDesc,
+    /// The last reading, in cycles.
+    pub last: u64,
+    /// What a cycle adds from it on, in `2^-shift` ns.
+    pub mult: u32,
+    /// MONOTONIC at the last reading.
+    pub monotonic: Amount,
+    /// MONOTONIC_RAW at the last reading.
+    pub raw: Amount,
+    /// REALTIME less MONOTONIC, in ns.
+    pub real_offset: u64,
+    /// BOOTTIME less MONOTONIC, in ns.
+    pub boot_offset: u64,
+    /// TAI less REALTIME, in seconds.
+    pub tai: u32,
+    /// Whether the clocks stand still.
+    pub asleep: bool,
+}
+
+impl Model for ReadBase {
+    ghost use Rattle.std.specs.Prelude.{pos, ◌/◌, ◌%◌, unsigned_abs};
+    ghost use Rattle.tk_counter.specs.Counter.{second};
+    ghost use Rattle.tk_clock.specs.Amount.{units_of, amount_of, amount_of-units_of};
+    ghost use Rattle.tk_clock.specs.State.{ReadBase};
+    ghost use Rattle.tk_clock.specs.Running.{IsReadBase};
+    ghost use Rattle.std.proofs.Common.{ap, ◌∙◌};
+    ghost use Rattle.tk_clock.specs.declared.amount.Amount.{Amount};
+
+    ghost Value = { ReadBase };
+
+    ghost view = { λ a. record {
+      counter = a.desc;
+      last = a.last;
+      mult = a.mult;
+      amount = units_of a.desc a.monotonic;
+      raw_amount = units_of a.desc a.raw;
+      real_offset = pos a.real_offset;
+      boot_offset = pos a.boot_offset;
+      tai = pos a.tai;
+      asleep = a.asleep;
+    } };
+
+    ghost invariant = { λ a. IsReadBase a.desc a.last a.mult a.monotonic a.raw a.tai };
+
+    ghost inverse = { λ b. record {
+      desc = b.counter;
+      last = b.last;
+      mult = b.mult;
+      monotonic = amount_of b.counter b.amount;
+      raw = amount_of b.counter b.raw_amount;
+      real_offset = unsigned_abs b.real_offset;
+      boot_offset = unsigned_abs b.boot_offset;
+      tai = unsigned_abs b.tai;
+      asleep = b.asleep;
+    } };
+
+    ghost inverse_ok = { λ a h.
+      ap (λ (m : Amount). record a { monotonic = m; raw = amount_of a.desc (units_of a.desc a.raw) })
+        (amount_of-units_of a.desc a.monotonic h.frac_low)
+      ∙ ap (λ (r : Amount). record a { raw = r }) (amount_of-units_of a.desc a.raw h.raw_frac_low) };
+}
+
+impl ReadBase {
+    ghost use Rattle.tk_counter.specs.Counter.{mask};
+    ghost use Rattle.tk_clock.specs.Limits.{limit};
+    ghost use Rattle.tk_clock.specs.Refusal.{read_refusal};
+    ghost use Rattle.tk_clock.specs.State.{base_cycles, base_value};
+    ghost use Rattle.tk_clock.specs.Time.{nanoseconds};
+
+    /// The cycles from the last reading to another: none while asleep, or where it lies behind.
+    fn cycles_since(&self, reading: u64) -> u64
+        ensures { result ≡ base_cycles self.now reading }
+    {
+        let gap = self.desc.gap(self.last, reading);
+        if self.asleep || self.desc.is_behind(gap) {
+            0
+        } else {
+            gap
+        }
+    }
+}
