@@ -7,3 +7,4 @@ pub mod Legal
 pub mod Monotone
 pub mod Honest
 pub mod Units
+pub mod Forwarding

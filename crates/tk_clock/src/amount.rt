@@ -50,4 +50,19 @@ impl Amount {
     {
         self.sec * NANOS_PER_SECOND + (self.frac >> desc.shift())
     }
+
+    /// The amount with so many cycles at `mult` on top, in whole nanoseconds. None as for `grown`.
+    pub fn nanos_after(self, desc: &CounterDesc, cycles: u64, mult: u32) -> Option<u64>
+        requires rest { self.frac < second desc.now }
+        requires few { self.sec ≤ 1060000000 }
+        ensures { let nanos = (units_of desc.now self + cycles * mult) / 2 ^ desc.now.shift in
+            MatchOption result
+            (9223372036 * 10 ^ 9 ≤ nanos)
+            (λ told. (told ≡ nanos) × (told ≤ 10283372036 * 10 ^ 9)) }
+    {
+        let Some(amount) = self.grown(desc, cycles, mult) else {
+            return None;
+        };
+        Some(amount.nanos(desc))
+    }
 }

@@ -1,10 +1,10 @@
-ghost use Rattle.std.specs.Prelude.{◌≡◌, ℕ, ◌+◌, ◌*◌, ◌/◌, ◌^◌, ◌<◌, ◌≤◌, MatchOption, MatchResult, Some, None, pos, ◌≤ℤ◌};
+ghost use Rattle.std.specs.Prelude.{◌≡◌, ℕ, ◌+◌, ◌*◌, ◌/◌, ◌^◌, ◌<◌, ◌≤◌, MatchOption, MatchResult, Some, None, pos, ◌≤ℤ◌, ◌*ℤ◌};
 
 use crate::amount::{Amount, NANOS_PER_SECOND};
 use crate::clock_id::ClockId;
 use crate::limits::limit;
 use crate::refusal::ReadError;
-use crate::timespec::Timespec;
+use crate::timespec::{Timespec, timespec_of};
 use std::marker::Model;
 use tk_counter::CounterDesc;
 
@@ -78,7 +78,7 @@ impl ReadBase {
     ghost use Rattle.tk_counter.specs.Counter.{mask};
     ghost use Rattle.tk_clock.specs.Limits.{limit};
     ghost use Rattle.tk_clock.specs.Refusal.{read_refusal};
-    ghost use Rattle.tk_clock.specs.State.{base_cycles, base_value};
+    ghost use Rattle.tk_clock.specs.State.{base_cycles, base_monotonic, base_raw, base_value};
     ghost use Rattle.tk_clock.specs.Time.{nanoseconds};
 
     /// The cycles from the last reading to another: none while asleep, or where it lies behind.
@@ -91,5 +91,80 @@ impl ReadBase {
         } else {
             gap
         }
+    }
+
+    /// MONOTONIC at a reading, in ns. None where the cycles since the last one are beyond every clock's limit.
+    fn monotonic_at(&self, reading: u64) -> Option<u64>
+        ensures { MatchOption result
+            (9223372036 * 10 ^ 9 ≤ base_monotonic self.now reading)
+            (λ nanos. (nanos ≡ base_monotonic self.now reading) × (nanos ≤ 10283372036 * 10 ^ 9)) }
+    {
+        let cycles = self.cycles_since(reading);
+        self.monotonic.nanos_after(&self.desc, cycles, self.mult)
+    }
+
+    /// MONOTONIC_RAW at a reading, in ns. None as for MONOTONIC.
+    fn raw_at(&self, reading: u64) -> Option<u64>
+        ensures { MatchOption result
+            (9223372036 * 10 ^ 9 ≤ base_raw self.now reading)
+            (λ nanos. nanos ≡ base_raw self.now reading) }
+    {
+        let cycles = self.cycles_since(reading);
+        self.raw.nanos_after(&self.desc, cycles, self.desc.mult())
+    }
+
+    /// MONOTONIC at the last reading, in ns.
+    pub fn monotonic_now(&self) -> u64
+        ensures value { result ≡ base_monotonic self.now self.now.last }
+        ensures amount { result ≡ self.now.amount / 2 ^ self.now.counter.shift }
+        ensures low { result < 946080000 * 10 ^ 9 }
+    {
+        self.monotonic.nanos(&self.desc)
+    }
+
+    /// TAI less REALTIME, in ns.
+    fn tai_nanos(&self) -> u64
+        ensures value { pos result ≡ self.now.tai *ℤ pos (10 ^ 9) }
+        ensures low { result ≤ 100000 * 10 ^ 9 }
+    {
+        u64::from(self.tai) * NANOS_PER_SECOND
+    }
+
+    /// A clock at a reading, in ns. None where it is beyond every limit.
+    fn value(&self, clock: ClockId, reading: u64) -> Option<u64>
+        ensures { MatchOption result
+            (limit clock ≤ℤ base_value self.now clock reading)
+            (λ nanos. pos nanos ≡ base_value self.now clock reading) }
+    {
+        match clock {
+            ClockId::Monotonic => self.monotonic_at(reading),
+            ClockId::Realtime => self.monotonic_at(reading)?.checked_add(self.real_offset),
+            ClockId::Boottime => self.monotonic_at(reading)?.checked_add(self.boot_offset),
+            ClockId::Tai => {
+                (self.monotonic_at(reading)? + self.tai_nanos()).checked_add(self.real_offset)
+            }
+            ClockId::RealtimeCoarse => self.monotonic_now().checked_add(self.real_offset),
+            ClockId::MonotonicCoarse => Some(self.monotonic_now()),
+            ClockId::MonotonicRaw => self.raw_at(reading),
+        }
+    }
+
+    /// A clock's time at a reading, or the first thing that is wrong.
+    pub fn get(&self, clock: ClockId, reading: u64) -> Result<Timespec, ReadError>
+        ensures { MatchResult result
+            (λ time. (read_refusal self.now clock reading ≡ None)
+            × (nanoseconds time ≡ base_value self.now clock reading) × (time.nsec < 10 ^ 9))
+            (λ refusal. read_refusal self.now clock reading ≡ Some refusal) }
+    {
+        if reading > self.desc.mask() {
+            return Err(ReadError::Invalid);
+        }
+        let Some(nanos) = self.value(clock, reading) else {
+            return Err(ReadError::Range);
+        };
+        if nanos >= limit(clock) {
+            return Err(ReadError::Range);
+        }
+        Ok(timespec_of(nanos))
     }
 }
