@@ -8,3 +8,4 @@ pub mod Monotone
 pub mod Honest
 pub mod Units
 pub mod Forwarding
+pub mod Rates

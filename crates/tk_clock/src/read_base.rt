@@ -2,7 +2,7 @@ ghost use Rattle.std.specs.Prelude.{◌≡◌, ℕ, ◌+◌, ◌*◌, ◌/◌, �
 
 use crate::amount::{Amount, NANOS_PER_SECOND};
 use crate::clock_id::ClockId;
-use crate::limits::limit;
+use crate::limits::{MONOTONIC_SEC_LIMIT, limit};
 use crate::refusal::ReadError;
 use crate::timespec::{Timespec, timespec_of};
 use std::marker::Model;
@@ -78,8 +78,9 @@ impl ReadBase {
     ghost use Rattle.tk_counter.specs.Counter.{mask};
     ghost use Rattle.tk_clock.specs.Limits.{limit};
     ghost use Rattle.tk_clock.specs.Refusal.{read_refusal};
-    ghost use Rattle.tk_clock.specs.State.{base_cycles, base_monotonic, base_raw, base_value};
+    ghost use Rattle.tk_clock.specs.State.{base_cycles, base_monotonic, base_raw, base_value, forwarded};
     ghost use Rattle.tk_clock.specs.Time.{nanoseconds};
+    ghost use Rattle.tk_clock.specs.Running.{IsRated, slowest};
 
     /// The cycles from the last reading to another: none while asleep, or where it lies behind.
     fn cycles_since(&self, reading: u64) -> u64
@@ -166,5 +167,39 @@ impl ReadBase {
             return Err(ReadError::Range);
         }
         Ok(timespec_of(nanos))
+    }
+
+    /// The base with its amounts brought forward to a reading (`timekeeping_forward_now`). Nothing below a nanosecond
+    /// is lost. None where MONOTONIC would be at its limit.
+    pub fn forwarded(&self, reading: u64) -> Option<ReadBase>
+        requires reading { reading ≤ mask self.now.counter }
+        requires steered { slowest self.now.counter ≤ self.now.mult }
+        requires rated { IsRated self.now }
+        ensures { let after = forwarded self.now reading in
+            MatchOption result
+            (946080000 * 10 ^ 9 ≤ after.amount / 2 ^ after.counter.shift)
+            (λ base. (base ≡ after) × IsRated base) }
+    {
+        let cycles = self.desc.gap(self.last, reading);
+        let Some(monotonic) = self.monotonic.grown(&self.desc, cycles, self.mult) else {
+            return None;
+        };
+        if monotonic.sec >= MONOTONIC_SEC_LIMIT {
+            return None;
+        }
+        let Some(raw) = self.raw.grown(&self.desc, cycles, self.desc.mult()) else {
+            return None;
+        };
+        Some(ReadBase {
+            desc: self.desc,
+            last: reading,
+            mult: self.mult,
+            monotonic,
+            raw,
+            real_offset: self.real_offset,
+            boot_offset: self.boot_offset,
+            tai: self.tai,
+            asleep: self.asleep,
+        })
     }
 }
