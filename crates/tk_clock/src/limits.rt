@@ -1,5 +1,5 @@
 ghost use Rattle.std.specs.Prelude.{◌≡◌, ◌*◌, ◌^◌, ◌<◌, ◌≤◌, pos, ◌≤ℤ◌, ◌<ℤ◌};
-ghost use Rattle.tk_clock.specs.Limits.{limit, is_settable, is_suspension, is_well_formed};
+ghost use Rattle.tk_clock.specs.Limits.{limit, is_settable, is_suspension, is_well_formed, sets_real};
 ghost use Rattle.tk_clock.specs.Time.{nanoseconds};
 
 use crate::amount::NANOS_PER_SECOND;
@@ -74,4 +74,11 @@ pub(crate) fn nanos_of(time: Timespec) -> u64
     ensures most { result < 9223372036 * 10 ^ 9 }
 {
     time.sec as u64 * NANOS_PER_SECOND + u64::from(time.nsec)
+}
+
+/// Does the command set REALTIME, so that a test of its own bounds it?
+pub(crate) fn sets_real(cmd: Command) -> bool
+    ensures { result ≡ sets_real cmd }
+{
+    matches!(cmd, Command::SetTime(_) | Command::Step(_))
 }

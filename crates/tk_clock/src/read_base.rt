@@ -1,8 +1,9 @@
-ghost use Rattle.std.specs.Prelude.{◌≡◌, ℕ, ◌+◌, ◌*◌, ◌/◌, ◌^◌, ◌<◌, ◌≤◌, MatchOption, MatchResult, Some, None, pos, ◌≤ℤ◌, ◌*ℤ◌};
+ghost use Rattle.std.specs.Prelude.{◌≡◌, ℕ, ◌+◌, ◌*◌, ◌/◌, ◌^◌, ◌<◌, ◌≤◌, MatchOption, MatchResult, Some, None, pos, ◌≤ℤ◌, ◌+ℤ◌, ◌*ℤ◌, not, int_lt};
 
 use crate::amount::{Amount, NANOS_PER_SECOND};
 use crate::clock_id::ClockId;
-use crate::limits::{MONOTONIC_SEC_LIMIT, limit};
+use crate::command::Command;
+use crate::limits::{MONOTONIC_SEC_LIMIT, limit, sets_real};
 use crate::refusal::ReadError;
 use crate::timespec::{Timespec, timespec_of};
 use std::marker::Model;
@@ -76,7 +77,7 @@ impl Model for ReadBase {
 
 impl ReadBase {
     ghost use Rattle.tk_counter.specs.Counter.{mask};
-    ghost use Rattle.tk_clock.specs.Limits.{limit};
+    ghost use Rattle.tk_clock.specs.Limits.{limit, is_past_limit};
     ghost use Rattle.tk_clock.specs.Refusal.{read_refusal};
     ghost use Rattle.tk_clock.specs.State.{base_cycles, base_monotonic, base_raw, base_value, forwarded};
     ghost use Rattle.tk_clock.specs.Time.{nanoseconds};
@@ -201,5 +202,31 @@ impl ReadBase {
             tai: self.tai,
             asleep: self.asleep,
         })
+    }
+
+    /// Is a clock at its limit at the last reading, as a command left it? REALTIME and TAI are left out where the
+    /// command sets REALTIME, which a test of its own bounds.
+    #[tactic(auto, unfolding(crate::specs::Limits::is_past_limit))]
+    pub fn is_past_limit(&self, cmd: Command) -> bool
+        ensures { result ≡ is_past_limit (λ clock. base_value self.now clock self.now.last) cmd }
+    {
+        let now = self.monotonic_now();
+        if is_at_limit(now, self.boot_offset) {
+            return true;
+        }
+        if sets_real(cmd) {
+            return false;
+        }
+        is_at_limit(now, self.real_offset) || is_at_limit(now + self.tai_nanos(), self.real_offset)
+    }
+}
+
+/// Is an offset from MONOTONIC, or from TAI less REALTIME, at the limit of the clocks but MONOTONIC?
+fn is_at_limit(elapsed: u64, offset: u64) -> bool
+    ensures { result ≡ not (int_lt (pos elapsed +ℤ pos offset) (pos (9223372036 * 10 ^ 9))) }
+{
+    match elapsed.checked_add(offset) {
+        Some(nanos) => nanos >= limit(ClockId::Realtime),
+        None => true,
     }
 }
