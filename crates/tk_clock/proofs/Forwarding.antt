@@ -1,7 +1,6 @@
 -- A read base at its own last reading, and brought forward to another.
-use Rattle.std.proofs.Common.{◌≡◌, ℕ, ◌+◌, ◌*◌, ◌/◌, ◌^◌, ◌<◌, ◌≤◌, ◌∙◌, ap, arith}
-use Rattle.tk_counter.specs.Counter.{gap}
-use Rattle.tk_clock.specs.State.{ReadBase, base_monotonic, forwarded}
+use Rattle.std.proofs.Common.{◌≡◌, ◌+◌, ◌*◌, ◌/◌, ◌^◌, ◌∙◌, ap}
+use Rattle.tk_clock.specs.State.{ReadBase, base_monotonic}
 use Rattle.tk_clock.proofs.Offsets.{cycles_since-self, plus_nothing}
 
 -- no cycles have passed since the last reading

@@ -1,8 +1,8 @@
 -- With a counter that tells true counts, the cycles of a journal are true ones.
-use Rattle.std.proofs.Common.{◌≡◌, ℕ, zero, suc, ◌+◌, ◌-◌, ◌*◌, ◌/◌, ◌%◌, ◌^◌, ◌<◌, ◌≤◌, length, refl, ◌∙◌, ap, arith, Bool, true, false}
+use Rattle.std.proofs.Common.{◌≡◌, ℕ, zero, suc, ◌+◌, ◌-◌, ◌/◌, ◌%◌, ◌^◌, ◌<◌, ◌≤◌, length, refl, ◌∙◌, ap, arith, Bool, true, false}
 use Rattle.std.specs.Prelude.{if◌then◌else◌}
 use Rattle.std.proofs.lemmas.Nat.{pow_pos}
-use Rattle.tk_counter.specs.Counter.{half, gap}
+use Rattle.tk_counter.specs.Counter.{gap}
 use Rattle.tk_counter.proofs.Gaps.{counted_gap}
 use Rattle.tk_clock.specs.Journal.{Journal, reading_at, is_asleep_at}
 use Rattle.tk_clock.specs.Monotonic.{awake_cycles}
@@ -21,7 +21,7 @@ honest_gap journal count place honest within awake =
     ap (λ n. gap journal.opening.counter n (reading_at journal (suc place))) (honest.read place (omega arith))
     ∙ ap (λ n. gap journal.opening.counter (count place % d) n) (honest.read (suc place) within)
     ∙ counted_gap d (count place) (count (suc place)) some (honest.grows place within awake)
-        (below d (count (suc place) - count place) some (honest.near place within awake))
+    (below d (count (suc place) - count place) some (honest.near place within awake))
 
 either_way : (asleep : Bool) (before before' gap gap' : ℕ) → before ≡ before' → (asleep ≡ false → gap ≡ gap') →
     before + (if asleep then 0 else gap) ≡ before' + (if asleep then 0 else gap')
@@ -33,4 +33,4 @@ pub awake_cycles-honest : (journal : Journal) (count : ℕ → ℕ) → IsHonest
 awake_cycles-honest journal count honest zero within = refl
 awake_cycles-honest journal count honest (suc place) within =
     either_way (is_asleep_at journal place) _ _ _ _ (awake_cycles-honest journal count honest place (omega arith))
-        (λ awake. honest_gap journal count place honest within awake)
+    (λ awake. honest_gap journal count place honest within awake)

@@ -9,7 +9,7 @@ use Rattle.tk_clock.specs.declared.command.Command.TheVariants.{Update, SetTime,
 use Rattle.tk_clock.specs.Command.{is_resume}
 use Rattle.tk_clock.specs.Journal.{Journal, followed_by, is_asleep, last_reading}
 use Rattle.tk_clock.specs.Monotonic.{monotonic, monotonic_units, current_multiplier, current_frequency, current_tick}
-use Rattle.tk_clock.specs.State.{ReadBase, State, base_of, state_of, base_value, effect}
+use Rattle.tk_clock.specs.State.{State, base_of, state_of, base_value, effect}
 use Rattle.tk_clock.specs.Clocks.{clock_value, raw_units, real_offset, boot_offset, tai_offset}
 use Rattle.tk_clock.specs.Refusal.{first_of, early_refusal, number_refusal, order_refusal, value_refusal, clock_refusal, state_refusal}
 use Rattle.tk_clock.specs.declared.refusal.Refusal.{Refusal}
@@ -23,9 +23,19 @@ use Rattle.tk_clock.proofs.Offsets.{boot_offset-followed_by, tai_offset-followed
 abbrev state : Counter → ℕ → ℕ → ℕ → ℕ → ℤ → ℤ → ℤ → Bool → ℤ → ℤ → State
 state counter last mult amount raw real boot tai asleep frequency tick = record {
   base = record {
-    counter = counter; last = last; mult = mult; amount = amount; raw_amount = raw;
-    real_offset = real; boot_offset = boot; tai = tai; asleep = asleep };
-  frequency = frequency; tick = tick }
+    counter = counter;
+    last = last;
+    mult = mult;
+    amount = amount;
+    raw_amount = raw;
+    real_offset = real;
+    boot_offset = boot;
+    tai = tai;
+    asleep = asleep;
+  };
+  frequency = frequency;
+  tick = tick;
+}
 
 same_parts : (counter : Counter) (last last' mult mult' amount amount' raw raw' : ℕ) (real real' boot boot' tai tai' : ℤ)
     (asleep asleep' : Bool) (frequency frequency' tick tick' : ℤ) →
@@ -84,55 +94,55 @@ pub ledger : (journal : Journal) (who reading : ℕ) (cmd : Command) → is_resu
 ledger journal who reading Update awake =
     let entry : Entry = record { who = who; reading = reading; cmd = Update } in
     told_state journal entry _ _ _ _ _ _ _ _ _ _ (last_reading-followed_by journal entry) (current_multiplier-followed_by journal entry) (grown journal entry awake) (raw_grown journal entry awake)
-        (real_offset-followed_by journal entry ∙ no_more _) (boot_offset-followed_by journal entry ∙ no_more _)
-        (tai_offset-followed_by journal entry) (is_asleep-followed_by journal entry ∙ awake) (current_frequency-followed_by journal entry) (current_tick-followed_by journal entry)
+    (real_offset-followed_by journal entry ∙ no_more _) (boot_offset-followed_by journal entry ∙ no_more _)
+    (tai_offset-followed_by journal entry) (is_asleep-followed_by journal entry ∙ awake) (current_frequency-followed_by journal entry) (current_tick-followed_by journal entry)
 ledger journal who reading (SetTime time) awake =
     let entry : Entry = record { who = who; reading = reading; cmd = SetTime time } in
     let after = followed_by journal entry in
     let scale = 2 ^ journal.opening.counter.shift in
     told_state journal entry _ _ _ _ _ _ _ _ _ _ (last_reading-followed_by journal entry) (current_multiplier-followed_by journal entry) (grown journal entry awake) (raw_grown journal entry awake)
-        (real_offset-followed_by journal entry
-         ∙ ap (λ r. nanoseconds time -ℤ pos (monotonic after r)) (sym (last_reading-followed_by journal entry))
-         ∙ ap (λ n. nanoseconds time -ℤ pos n) (monotonic-last after)
-         ∙ ap (λ n. nanoseconds time -ℤ pos (n / scale)) (grown journal entry awake))
-        (boot_offset-followed_by journal entry ∙ no_more _)
-        (tai_offset-followed_by journal entry) (is_asleep-followed_by journal entry ∙ awake) (current_frequency-followed_by journal entry) (current_tick-followed_by journal entry)
+    (real_offset-followed_by journal entry
+    ∙ ap (λ r. nanoseconds time -ℤ pos (monotonic after r)) (sym (last_reading-followed_by journal entry))
+    ∙ ap (λ n. nanoseconds time -ℤ pos n) (monotonic-last after)
+    ∙ ap (λ n. nanoseconds time -ℤ pos (n / scale)) (grown journal entry awake))
+    (boot_offset-followed_by journal entry ∙ no_more _)
+    (tai_offset-followed_by journal entry) (is_asleep-followed_by journal entry ∙ awake) (current_frequency-followed_by journal entry) (current_tick-followed_by journal entry)
 ledger journal who reading (Step by) awake =
     let entry : Entry = record { who = who; reading = reading; cmd = Step by } in
     told_state journal entry _ _ _ _ _ _ _ _ _ _ (last_reading-followed_by journal entry) (current_multiplier-followed_by journal entry) (grown journal entry awake) (raw_grown journal entry awake)
-        (real_offset-followed_by journal entry) (boot_offset-followed_by journal entry ∙ no_more _)
-        (tai_offset-followed_by journal entry) (is_asleep-followed_by journal entry ∙ awake) (current_frequency-followed_by journal entry) (current_tick-followed_by journal entry)
+    (real_offset-followed_by journal entry) (boot_offset-followed_by journal entry ∙ no_more _)
+    (tai_offset-followed_by journal entry) (is_asleep-followed_by journal entry ∙ awake) (current_frequency-followed_by journal entry) (current_tick-followed_by journal entry)
 ledger journal who reading (Freq frequency) awake =
     let entry : Entry = record { who = who; reading = reading; cmd = Freq frequency } in
     told_state journal entry _ _ _ _ _ _ _ _ _ _ (last_reading-followed_by journal entry) (current_multiplier-followed_by journal entry) (grown journal entry awake) (raw_grown journal entry awake)
-        (real_offset-followed_by journal entry ∙ no_more _) (boot_offset-followed_by journal entry ∙ no_more _)
-        (tai_offset-followed_by journal entry) (is_asleep-followed_by journal entry ∙ awake) (current_frequency-followed_by journal entry) (current_tick-followed_by journal entry)
+    (real_offset-followed_by journal entry ∙ no_more _) (boot_offset-followed_by journal entry ∙ no_more _)
+    (tai_offset-followed_by journal entry) (is_asleep-followed_by journal entry ∙ awake) (current_frequency-followed_by journal entry) (current_tick-followed_by journal entry)
 ledger journal who reading (Tick tick) awake =
     let entry : Entry = record { who = who; reading = reading; cmd = Tick tick } in
     told_state journal entry _ _ _ _ _ _ _ _ _ _ (last_reading-followed_by journal entry) (current_multiplier-followed_by journal entry) (grown journal entry awake) (raw_grown journal entry awake)
-        (real_offset-followed_by journal entry ∙ no_more _) (boot_offset-followed_by journal entry ∙ no_more _)
-        (tai_offset-followed_by journal entry) (is_asleep-followed_by journal entry ∙ awake) (current_frequency-followed_by journal entry) (current_tick-followed_by journal entry)
+    (real_offset-followed_by journal entry ∙ no_more _) (boot_offset-followed_by journal entry ∙ no_more _)
+    (tai_offset-followed_by journal entry) (is_asleep-followed_by journal entry ∙ awake) (current_frequency-followed_by journal entry) (current_tick-followed_by journal entry)
 ledger journal who reading (Tai seconds) awake =
     let entry : Entry = record { who = who; reading = reading; cmd = Tai seconds } in
     told_state journal entry _ _ _ _ _ _ _ _ _ _ (last_reading-followed_by journal entry) (current_multiplier-followed_by journal entry) (grown journal entry awake) (raw_grown journal entry awake)
-        (real_offset-followed_by journal entry ∙ no_more _) (boot_offset-followed_by journal entry ∙ no_more _)
-        (tai_offset-followed_by journal entry) (is_asleep-followed_by journal entry ∙ awake) (current_frequency-followed_by journal entry) (current_tick-followed_by journal entry)
+    (real_offset-followed_by journal entry ∙ no_more _) (boot_offset-followed_by journal entry ∙ no_more _)
+    (tai_offset-followed_by journal entry) (is_asleep-followed_by journal entry ∙ awake) (current_frequency-followed_by journal entry) (current_tick-followed_by journal entry)
 ledger journal who reading Suspend awake =
     let entry : Entry = record { who = who; reading = reading; cmd = Suspend } in
     told_state journal entry _ _ _ _ _ _ _ _ _ _ (last_reading-followed_by journal entry) (current_multiplier-followed_by journal entry) (grown journal entry awake) (raw_grown journal entry awake)
-        (real_offset-followed_by journal entry ∙ no_more _) (boot_offset-followed_by journal entry ∙ no_more _)
-        (tai_offset-followed_by journal entry) (is_asleep-followed_by journal entry) (current_frequency-followed_by journal entry) (current_tick-followed_by journal entry)
+    (real_offset-followed_by journal entry ∙ no_more _) (boot_offset-followed_by journal entry ∙ no_more _)
+    (tai_offset-followed_by journal entry) (is_asleep-followed_by journal entry) (current_frequency-followed_by journal entry) (current_tick-followed_by journal entry)
 ledger journal who reading (Resume away) asleep =
     let entry : Entry = record { who = who; reading = reading; cmd = Resume away } in
     told_state journal entry _ _ _ _ _ _ _ _ _ _ (last_reading-followed_by journal entry) (current_multiplier-followed_by journal entry)
-        (monotonic_units-followed_by journal entry
-         ∙ ap (λ k. monotonic_units journal + k * current_multiplier journal) (cycles_asleep journal reading asleep)
-         ∙ plus_nothing (monotonic_units journal) (current_multiplier journal))
-        (raw_units-followed_by journal entry
-         ∙ ap (λ k. raw_units journal + k * journal.opening.counter.mult) (cycles_asleep journal reading asleep)
-         ∙ plus_nothing (raw_units journal) journal.opening.counter.mult)
-        (real_offset-followed_by journal entry) (boot_offset-followed_by journal entry)
-        (tai_offset-followed_by journal entry) (is_asleep-followed_by journal entry) (current_frequency-followed_by journal entry) (current_tick-followed_by journal entry)
+    (monotonic_units-followed_by journal entry
+    ∙ ap (λ k. monotonic_units journal + k * current_multiplier journal) (cycles_asleep journal reading asleep)
+    ∙ plus_nothing (monotonic_units journal) (current_multiplier journal))
+    (raw_units-followed_by journal entry
+    ∙ ap (λ k. raw_units journal + k * journal.opening.counter.mult) (cycles_asleep journal reading asleep)
+    ∙ plus_nothing (raw_units journal) journal.opening.counter.mult)
+    (real_offset-followed_by journal entry) (boot_offset-followed_by journal entry)
+    (tai_offset-followed_by journal entry) (is_asleep-followed_by journal entry) (current_frequency-followed_by journal entry) (current_tick-followed_by journal entry)
 
 -- a clock of a journal is that of its read base
 pub base_value-base_of : (journal : Journal) (clock : ClockId) (reading : ℕ) →
@@ -165,10 +175,10 @@ pub clock_refusal-state : (journal : Journal) (who reading : ℕ) (cmd : Command
 clock_refusal-state journal who reading cmd =
     let counter = journal.opening.counter in
     let by_state : State → Option Refusal = λ s.
-        value_refusal (λ clock. clock_value journal clock reading) (λ clock. base_value s.base clock reading) cmd in
+    value_refusal (λ clock. clock_value journal clock reading) (λ clock. base_value s.base clock reading) cmd in
     by_first (early_refusal counter (is_asleep journal) (last_reading journal) reading cmd)
-        (by_state (state_of (followed_by journal (record { who = who; reading = reading; cmd = cmd }))))
-        (by_state (effect (state_of journal) reading cmd))
-        (λ fits. ap by_state (ledger journal who reading cmd
-            (fits_sleep (is_asleep journal) (is_resume cmd)
-                (first_of (number_refusal counter reading cmd) (order_refusal counter (last_reading journal) reading cmd)) fits)))
+    (by_state (state_of (followed_by journal (record { who = who; reading = reading; cmd = cmd }))))
+    (by_state (effect (state_of journal) reading cmd))
+    (λ fits. ap by_state (ledger journal who reading cmd
+    (fits_sleep (is_asleep journal) (is_resume cmd)
+    (first_of (number_refusal counter reading cmd) (order_refusal counter (last_reading journal) reading cmd)) fits)))

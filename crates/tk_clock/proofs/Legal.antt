@@ -1,7 +1,7 @@
 -- An accepted entry keeps a journal legal, and its state the one that it comes to.
-use Rattle.std.proofs.Common.{◌≡◌, ℕ, zero, suc, ◌+◌, ◌<◌, ◌≤◌, List, [], ◌∷◌, ◌++◌, length, take, refl, sym, ◌∙◌, ap, subst, arith, Bool, true, false, ◌⊎◌, inl, inr}
-use Rattle.std.specs.Prelude.{ℤ, pos, ◌+ℤ◌, ◌-◌, ◌*◌, nat_le, nat_lt, Option, Some, None, not, ◌&&◌, ◌||◌, if◌then◌else◌, slice_get}
-use Rattle.std.proofs.lemmas.List.{take-append-le, take_all, take_at, length_push}
+use Rattle.std.proofs.Common.{◌≡◌, ℕ, zero, suc, ◌+◌, ◌<◌, ◌≤◌, List, [], ◌∷◌, ◌++◌, length, refl, sym, ◌∙◌, ap, arith, Bool, true, false, inl, inr}
+use Rattle.std.specs.Prelude.{ℤ, pos, ◌-◌, ◌*◌, nat_lt, Option, Some, None, not, ◌&&◌, ◌||◌, if◌then◌else◌, slice_get}
+use Rattle.std.proofs.lemmas.List.{take-append-le, take_at, length_push}
 use Rattle.std.proofs.lemmas.Bool.{cases_lt}
 use Rattle.std.proofs.lemmas.Option.{slice_get_within}
 use Rattle.tk_clock.specs.declared.command.Entry.{Entry}
@@ -38,8 +38,8 @@ early_none (Some refusal) later e = e
 -- want of memory is never told by the tests
 tests_never_memory : (a b c d e f : Bool) →
     first_of (first_of (if a then Some Asleep else if b then Some Awake else None)
-        (first_of (if c then Some Invalid else None) (if d then Some Behind else None)))
-        (if e then Some Range else if f then Some Invalid else None)
+    (first_of (if c then Some Invalid else None) (if d then Some Behind else None)))
+    (if e then Some Range else if f then Some Invalid else None)
     ≡ Some Memory → ⊥
 tests_never_memory true b c d e f h = cc
 tests_never_memory false true c d e f h = cc
@@ -52,13 +52,13 @@ tests_never_memory false false false false false false h = cc
 never_memory : (journal : Journal) (entry : Entry) → clock_refusal journal entry ≡ Some Memory → ⊥
 never_memory journal entry told =
     tests_never_memory
-        (is_asleep journal && not (is_resume entry.cmd))
-        (not (is_asleep journal) && is_resume entry.cmd)
-        (nat_lt (mask journal.opening.counter) entry.reading || not (is_well_formed entry.cmd))
-        (not (is_resume entry.cmd) && nat_lt (half journal.opening.counter) (gap journal.opening.counter (last_reading journal) entry.reading))
-        (is_past_limit (λ clock. clock_value (followed_by journal entry) clock entry.reading) entry.cmd)
-        (is_bad_setting (λ clock. clock_value journal clock entry.reading) entry.cmd)
-        told
+    (is_asleep journal && not (is_resume entry.cmd))
+    (not (is_asleep journal) && is_resume entry.cmd)
+    (nat_lt (mask journal.opening.counter) entry.reading || not (is_well_formed entry.cmd))
+    (not (is_resume entry.cmd) && nat_lt (half journal.opening.counter) (gap journal.opening.counter (last_reading journal) entry.reading))
+    (is_past_limit (λ clock. clock_value (followed_by journal entry) clock entry.reading) entry.cmd)
+    (is_bad_setting (λ clock. clock_value journal clock entry.reading) entry.cmd)
+    told
 
 -- a journal that has room refuses an entry as its state does
 pub first_refusal-state : (journal : Journal) (state : State) (who reading : ℕ) (cmd : Command) (told : Option Refusal) →
@@ -81,7 +81,7 @@ pub state_of-followed_by : (journal : Journal) (state : State) (who reading : �
     effect state reading cmd ≡ state_of (followed_by journal (record { who = who; reading = reading; cmd = cmd }))
 state_of-followed_by journal state who reading cmd running e =
     let accepted : clock_refusal journal (record { who = who; reading = reading; cmd = cmd }) ≡ None =
-        clock_refusal-state journal who reading cmd ∙ ap (λ s. state_refusal s reading cmd) (sym running) ∙ e in
+    clock_refusal-state journal who reading cmd ∙ ap (λ s. state_refusal s reading cmd) (sym running) ∙ e in
     ap (λ s. effect s reading cmd) running
     ∙ sym (ledger journal who reading cmd (fits_sleep (is_asleep journal) (is_resume cmd) _ (early_none _ _ accepted)))
 
@@ -89,7 +89,7 @@ earlier_accepted : (journal : Journal) (entry : Entry) → IsAccepted journal �
     slice_get (journal.entries ++ entry ∷ []) k ≡ Some other → clock_refusal (prefix k (followed_by journal entry)) other ≡ None
 earlier_accepted journal entry all k other low found =
     let same : prefix k (followed_by journal entry) ≡ prefix k journal =
-        ap (λ (es : List Entry). record journal { entries = es }) (take-append-le k journal.entries (entry ∷ []) (omega arith)) in
+    ap (λ (es : List Entry). record journal { entries = es }) (take-append-le k journal.entries (entry ∷ []) (omega arith)) in
     ap (λ (j : Journal). clock_refusal j other) same
     ∙ all k other (sym (slice_get-append journal.entries entry k low) ∙ found)
 
@@ -99,9 +99,9 @@ last_accepted journal entry accepted k other high found =
     let within = slice_get_within (journal.entries ++ entry ∷ []) k other found in
     let last : length journal.entries ≡ k = omega (arith, length_push journal.entries entry) in
     let same : prefix k (followed_by journal entry) ≡ journal =
-        ap (λ (es : List Entry). record journal { entries = es }) (take_at journal.entries (entry ∷ []) k last) in
+    ap (λ (es : List Entry). record journal { entries = es }) (take_at journal.entries (entry ∷ []) k last) in
     let told : Some entry ≡ Some other =
-        sym (slice_get-push journal.entries entry) ∙ ap (slice_get (journal.entries ++ entry ∷ [])) last ∙ found in
+    sym (slice_get-push journal.entries entry) ∙ ap (slice_get (journal.entries ++ entry ∷ [])) last ∙ found in
     let it : entry ≡ other = cc in
     ap (λ (j : Journal). clock_refusal j other) same ∙ ap (λ e. clock_refusal journal e) (sym it) ∙ accepted
 
@@ -110,8 +110,8 @@ pub IsAccepted-followed_by : (journal : Journal) (entry : Entry) → IsAccepted 
     IsAccepted (followed_by journal entry)
 IsAccepted-followed_by journal entry all accepted =
     λ k (other : Entry) found.
-        elim (cases_lt k (length journal.entries))
-            [ inl low ↦ earlier_accepted journal entry all k other low found | inr high ↦ last_accepted journal entry accepted k other high found ]
+    elim (cases_lt k (length journal.entries))
+    [ inl low ↦ earlier_accepted journal entry all k other low found | inr high ↦ last_accepted journal entry accepted k other high found ]
 
 -- an entry that nothing refuses passes the clock's tests
 not_full : (b : Bool) (told : Option Refusal) → (if b then Some Full else told) ≡ None → told ≡ None
@@ -120,9 +120,9 @@ not_full false told e = e
 
 pub IsLegal-followed_by : (journal : Journal) (entry : Entry) → IsLegal journal → first_refusal journal entry ≡ None → IsLegal (followed_by journal entry)
 IsLegal-followed_by journal entry legal accepted = record {
-    past = legal.past;
-    accepted = IsAccepted-followed_by journal entry legal.accepted (not_full (is_full journal) (clock_refusal journal entry) accepted);
-  }
+  past = legal.past;
+  accepted = IsAccepted-followed_by journal entry legal.accepted (not_full (is_full journal) (clock_refusal journal entry) accepted);
+}
 
 -- a journal without entries comes to its opening
 nothing : (u : ℕ) → 0 + (0 - 0) * u ≡ 0
@@ -135,8 +135,18 @@ pub opened-folded : (counter : Counter) (reading : ℕ) (real : Timespec) →
     (opened counter reading real).opening ≡ folded_opening 0 (state_of (opened counter reading real))
 opened-folded counter reading real =
     let opening : ℕ → ℕ → ℤ → ℤ → Opening = λ amount raw real boot. record {
-        counter = counter; reading = reading; count = 0; amount = amount; raw_amount = raw; frequency = pos 0; tick = pos 10000;
-        real_offset = real; boot_offset = boot; tai = pos 0; asleep = false } in
+      counter = counter;
+      reading = reading;
+      count = 0;
+      amount = amount;
+      raw_amount = raw;
+      frequency = pos 0;
+      tick = pos 10000;
+      real_offset = real;
+      boot_offset = boot;
+      tai = pos 0;
+      asleep = false;
+    } in
     ap (λ n. opening n 0 (nanoseconds real) (pos 0)) (sym (nothing (current_multiplier (opened counter reading real))))
     ∙ ap (λ n. opening (0 + (0 - 0) * current_multiplier (opened counter reading real)) n (nanoseconds real) (pos 0)) (sym (nothing_raw counter.mult))
     ∙ ap (λ z. opening (0 + (0 - 0) * current_multiplier (opened counter reading real)) (0 + 0 * counter.mult) z (pos 0)) (sym (no_more (nanoseconds real)))
@@ -147,18 +157,18 @@ none_listed k entry e = cc e
 pub IsWhole-opened : (counter : Counter) (reading : ℕ) (real : Timespec) → IsCounter counter → opening_refusal counter reading real ≡ None →
     IsWhole (opened counter reading real)
 IsWhole-opened counter reading real described opens = record {
-    described = described;
-    opens = (reading, real, opens, refl);
-    accepted = λ k entry e. absurd (none_listed k entry e);
-  }
+  described = described;
+  opens = (reading, real, opens, refl);
+  accepted = λ k entry e. absurd (none_listed k entry e);
+}
 
 -- clocks that may be opened begin with a legal journal
 pub IsLegal-opened : (counter : Counter) (reading : ℕ) (real : Timespec) → IsCounter counter → opening_refusal counter reading real ≡ None →
     IsLegal (opened counter reading real)
 IsLegal-opened counter reading real described opens = record {
-    past = (opened counter reading real, IsWhole-opened counter reading real described opens, opened-folded counter reading real);
-    accepted = λ k entry e. absurd (none_listed k entry e);
-  }
+  past = (opened counter reading real, IsWhole-opened counter reading real described opens, opened-folded counter reading real);
+  accepted = λ k entry e. absurd (none_listed k entry e);
+}
 
 -- the answer to a refused entry is told as such
 pub IsRefusal-told : (journal : Journal) (entry : Entry) (refusal : Refusal) → is_full journal ≡ false →

@@ -9,3 +9,8 @@ pub mod Honest
 pub mod Units
 pub mod Forwarding
 pub mod Rates
+pub mod Ranges
+pub mod Values
+pub mod Steering
+pub mod Effects
+pub mod Settings

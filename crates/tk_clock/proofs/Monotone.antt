@@ -1,8 +1,8 @@
 -- MONOTONIC never falls.
-use Rattle.std.proofs.Common.{◌≡◌, ℕ, zero, suc, ◌+◌, ◌-◌, ◌*◌, ◌/◌, ◌^◌, ◌<◌, ◌≤◌, List, [], ◌∷◌, ◌++◌, length, get_or, map, take, refl, sym, ◌∙◌, ap, subst, arith, add-one, add-zero, add-suc, Bool, true, false, ◌⊎◌, inl, inr}
+use Rattle.std.proofs.Common.{◌≡◌, ℕ, zero, suc, ◌+◌, ◌-◌, ◌*◌, ◌/◌, ◌^◌, ◌<◌, ◌≤◌, List, [], ◌∷◌, length, get_or, map, take, refl, sym, ◌∙◌, ap, subst, arith, add-zero, Bool, true, false, ◌⊎◌, inl, inr}
 use Rattle.std.specs.Prelude.{if◌then◌else◌, nat_lt, ◌||◌, ◌&&◌, not, Option, Some, None}
 use Rattle.std.proofs.lemmas.List.{take_more, length-take-le, take_all}
-use Rattle.std.proofs.lemmas.Bool.{lt-ltb, le-ltb}
+use Rattle.std.proofs.lemmas.Bool.{lt-ltb}
 use Rattle.std.proofs.Math.Nat.{mul-le-mul_right}
 use Rattle.std.proofs.Math.Pow.{shr_mono}
 use Rattle.tk_counter.specs.Counter.{Counter, gap, half, mask}
@@ -40,7 +40,7 @@ prefix-≤ journal i (suc k) within =
     let before = prefix-≤ journal i k (omega arith) in
     let e : i + suc k ≡ i + k + 1 = omega arith in
     subst (λ (j : Journal). monotonic_units (prefix i journal) ≤ monotonic_units j) (sym (ap (λ n. prefix n journal) e ∙ next.1))
-        (chain _ _ _ before (monotonic_units-≤ (prefix (i + k) journal) next.0))
+    (chain _ _ _ before (monotonic_units-≤ (prefix (i + k) journal) next.0))
 
 at_most : (b : Bool) (x y : ℕ) → x ≤ y → (if b then 0 else x) ≤ y
 at_most true x y low = omega arith
@@ -54,13 +54,13 @@ since_low counter true last reading next life = omega arith
 since_low counter false last reading next (inl e) = absurd cc
 since_low counter false last reading next (inr (inl behind)) =
     let none : cycles_since counter false last reading ≡ 0 =
-        ap (λ (b : Bool). if b then 0 else gap counter last reading) (lt-ltb (half counter) (gap counter last reading) behind) in
+    ap (λ (b : Bool). if b then 0 else gap counter last reading) (lt-ltb (half counter) (gap counter last reading) behind) in
     omega (arith, none)
 since_low counter false last reading next (inr (inr low)) = at_most (nat_lt (half counter) (gap counter last reading)) _ _ low
 
 pub in_life : (journal : Journal) (entry : Entry) (reading : ℕ) →
     (is_asleep journal ≡ true) ⊎ (half journal.opening.counter < gap journal.opening.counter (last_reading journal) reading)
-        ⊎ (gap journal.opening.counter (last_reading journal) reading ≤ gap journal.opening.counter (last_reading journal) entry.reading) →
+    ⊎ (gap journal.opening.counter (last_reading journal) reading ≤ gap journal.opening.counter (last_reading journal) entry.reading) →
     monotonic_units_at journal reading ≤ monotonic_units (followed_by journal entry)
 in_life journal entry reading life =
     let low = since_low journal.opening.counter (is_asleep journal) (last_reading journal) reading entry.reading life in
@@ -92,8 +92,8 @@ last_reading-prefix journal n within = at_end journal.opening.reading (λ (e : E
 -- the life of a prefix, by the prefix and the entry behind it
 life_of : (journal : Journal) (n reading next : ℕ) → n < length journal.entries → reading_at journal (n + 1) ≡ next → IsInLife journal n reading →
     (is_asleep (prefix n journal) ≡ true)
-        ⊎ (half journal.opening.counter < gap journal.opening.counter (last_reading (prefix n journal)) reading)
-        ⊎ (gap journal.opening.counter (last_reading (prefix n journal)) reading ≤ gap journal.opening.counter (last_reading (prefix n journal)) next)
+    ⊎ (half journal.opening.counter < gap journal.opening.counter (last_reading (prefix n journal)) reading)
+    ⊎ (gap journal.opening.counter (last_reading (prefix n journal)) reading ≤ gap journal.opening.counter (last_reading (prefix n journal)) next)
 life_of journal n reading next within e (inl whole) = absurd (omega arith)
 life_of journal n reading next within e (inr (inl asleep)) = inl (is_asleep-prefix journal n (omega arith) ∙ asleep)
 life_of journal n reading next within e (inr (inr (inl behind))) =
@@ -107,22 +107,22 @@ never_falls journal n reading reading' within life =
     let next = prefix-next journal n within in
     let entry : Entry = next.0 in
     let told : reading_at journal (n + 1) ≡ entry.reading =
-        sym (last_reading-prefix journal (n + 1) (omega arith)) ∙ ap last_reading next.1 ∙ last_reading-followed_by (prefix n journal) entry in
+    sym (last_reading-prefix journal (n + 1) (omega arith)) ∙ ap last_reading next.1 ∙ last_reading-followed_by (prefix n journal) entry in
     let whole : prefix (length journal.entries) journal ≡ journal =
-        ap (λ (es : List Entry). record journal { entries = es }) (take_all (length journal.entries) journal.entries (omega arith)) in
+    ap (λ (es : List Entry). record journal { entries = es }) (take_all (length journal.entries) journal.entries (omega arith)) in
     let rest = prefix-≤ journal (n + 1) (length journal.entries - (n + 1)) (omega arith) in
     let e : n + 1 + (length journal.entries - (n + 1)) ≡ length journal.entries = omega arith in
     let to_end : monotonic_units (prefix (n + 1) journal) ≤ monotonic_units journal =
-        subst (λ (j : Journal). monotonic_units (prefix (n + 1) journal) ≤ monotonic_units j) (ap (λ k. prefix k journal) e ∙ whole) rest in
+    subst (λ (j : Journal). monotonic_units (prefix (n + 1) journal) ≤ monotonic_units j) (ap (λ k. prefix k journal) e ∙ whole) rest in
     let first : monotonic_units_at (prefix n journal) reading ≤ monotonic_units (prefix (n + 1) journal) =
-        subst (λ (j : Journal). monotonic_units_at (prefix n journal) reading ≤ monotonic_units j) (sym next.1)
-            (in_life (prefix n journal) entry reading (life_of journal n reading entry.reading within told life)) in
+    subst (λ (j : Journal). monotonic_units_at (prefix n journal) reading ≤ monotonic_units j) (sym next.1)
+    (in_life (prefix n journal) entry reading (life_of journal n reading entry.reading within told life)) in
     shr_mono journal.opening.counter.shift (chain _ _ _ first (chain _ _ _ to_end (units_at-≤ journal reading')))
 
 -- the cycles that an accepted command counts are those that a read at its reading counts
 counted_alike : (asleep resumes invalid behind : Bool) (gap : ℕ) (later : Option Refusal) →
     first_of (first_of (if asleep && not resumes then Some Asleep else if not asleep && resumes then Some Awake else None)
-        (first_of (if invalid then Some Invalid else None) (if not resumes && behind then Some Behind else None))) later ≡ None →
+    (first_of (if invalid then Some Invalid else None) (if not resumes && behind then Some Behind else None))) later ≡ None →
     (if asleep || behind then 0 else gap) ≡ (if asleep then 0 else gap)
 counted_alike true resumes invalid behind gap later e = refl
 counted_alike false true invalid behind gap later e = cc
@@ -143,12 +143,12 @@ agrees journal entry accepted =
     let scale = 2 ^ counter.shift in
     let told = not_full (is_full journal) (clock_refusal journal entry) accepted in
     let same : cycles_after journal entry.reading ≡ cycles_to journal entry.reading =
-        counted_alike (is_asleep journal) (is_resume entry.cmd)
-            (nat_lt (mask counter) entry.reading || not (is_well_formed entry.cmd))
-            (nat_lt (half counter) (gap counter (last_reading journal) entry.reading))
-            (gap counter (last_reading journal) entry.reading)
-            (value_refusal (λ clock. clock_value journal clock entry.reading) (λ clock. clock_value after clock entry.reading) entry.cmd)
-            told in
+    counted_alike (is_asleep journal) (is_resume entry.cmd)
+    (nat_lt (mask counter) entry.reading || not (is_well_formed entry.cmd))
+    (nat_lt (half counter) (gap counter (last_reading journal) entry.reading))
+    (gap counter (last_reading journal) entry.reading)
+    (value_refusal (λ clock. clock_value journal clock entry.reading) (λ clock. clock_value after clock entry.reading) entry.cmd)
+    told in
     ap (λ k. (monotonic_units journal + k * current_multiplier journal) / scale) same
     ∙ ap (λ n. n / scale) (sym (monotonic_units-followed_by journal entry))
     ∙ sym (monotonic-last after)

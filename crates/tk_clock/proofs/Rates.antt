@@ -1,10 +1,8 @@
 -- MONOTONIC_RAW is never far ahead of MONOTONIC.
-use Rattle.std.proofs.Common.{◌≡◌, ℕ, ◌+◌, ◌-◌, ◌*◌, ◌/◌, ◌^◌, ◌<◌, ◌≤◌, ◌∙◌, refl, sym, ap, subst, arith}
-use Rattle.std.specs.Prelude.{ℤ, pos, neg_ℤ, ◌≤ℤ◌, ◌*ℤ◌, ◌+ℤ◌, unsigned_abs}
-use Rattle.std.proofs.lemmas.Int.{ints}
+use Rattle.std.proofs.Common.{◌≡◌, ℕ, ◌+◌, ◌*◌, ◌/◌, ◌^◌, ◌<◌, ◌≤◌, refl, arith}
 use Rattle.std.proofs.lemmas.Nat.{pow_pos}
 use Rattle.std.proofs.Math.Nat.{mul-le-mul_left, mul-le-mul_right, lt_of_mul-lt-mul_left, mul-pos}
-use Rattle.tk_counter.specs.Counter.{Counter, IsCounter, second, gap, fastest, clamped, rate, multiplier}
+use Rattle.tk_counter.specs.Counter.{IsCounter, second, gap}
 use Rattle.tk_clock.specs.State.{ReadBase, forwarded}
 use Rattle.tk_clock.specs.Running.{slowest, IsRated}
 
@@ -22,7 +20,7 @@ pub IsRated-forwarded : (base : ReadBase) (reading : ℕ) → slowest base.count
 IsRated-forwarded base reading slow rated =
     let cycles = gap base.counter base.last reading in
     distribute base.raw_amount base.amount cycles base.counter.mult base.mult (slowest base.counter) rated
-        (swapped cycles base.counter.mult base.mult (slowest base.counter) slow)
+    (swapped cycles base.counter.mult base.mult (slowest base.counter) slow)
 
 slow_enough : (mult slow : ℕ) → slow ≡ mult * 58949632000 / 65536000000 → 256 ≤ mult → mult * 946080000 < slow * 1060000000
 slow_enough mult slow e some = omega (arith, e)
@@ -40,8 +38,8 @@ pub raw_low : (base : ReadBase) → IsCounter base.counter → IsRated base → 
     base.raw_amount < 1060000000 * second base.counter
 raw_low base described rated low =
     cancel base.raw_amount base.amount (slowest base.counter) base.counter.mult (second base.counter) rated low
-        (slow_enough base.counter.mult (slowest base.counter) refl described.mult_low)
-        (omega (arith, described.mult_low)) (mul-pos {m = 10 ^ 9} (omega arith) (pow_pos base.counter.shift))
+    (slow_enough base.counter.mult (slowest base.counter) refl described.mult_low)
+    (omega (arith, described.mult_low)) (mul-pos {m = 10 ^ 9} (omega arith) (pow_pos base.counter.shift))
 
 -- an amount below so many seconds has fewer of them
 pub fewer_seconds : (sec frac end second : ℕ) → sec * second + frac < end * second → sec < end

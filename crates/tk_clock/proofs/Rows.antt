@@ -1,13 +1,12 @@
 -- Worked journals, by computation: what the definitions give is what was worked out by hand.
-use Rattle.std.proofs.Common.{◌≡◌, ℕ, List, [], ◌∷◌, refl, Bool, true, false}
-use Rattle.std.specs.Prelude.{ℤ, pos, negsuc, neg_ℤ, Option, Some, None}
+use Rattle.std.proofs.Common.{◌≡◌, ℕ, List, [], ◌∷◌, refl, false}
+use Rattle.std.specs.Prelude.{ℤ, pos, negsuc, neg_ℤ, Some, None}
 use Rattle.tk_counter.specs.Counter.{Counter}
 use Rattle.tk_clock.specs.declared.timespec.Timespec.{Timespec}
 use Rattle.tk_clock.specs.declared.command.Entry.{Entry}
 use Rattle.tk_clock.specs.declared.command.Command.{Command}
 use Rattle.tk_clock.specs.declared.command.Command.TheVariants.{Update, SetTime, Step, Freq, Tick, Tai, Suspend, Resume}
 use Rattle.tk_clock.specs.declared.clock_id.ClockId.TheVariants.{Realtime, Monotonic, Boottime, Tai as TaiClock, MonotonicCoarse, MonotonicRaw}
-use Rattle.tk_clock.specs.declared.refusal.Refusal.{Refusal}
 use Rattle.tk_clock.specs.declared.refusal.Refusal.TheVariants.{Asleep, Awake, Invalid, Behind, Range}
 use Rattle.tk_clock.specs.declared.refusal.ReadError.TheVariants.{Invalid as InvalidReading, Range as PastLimit}
 use Rattle.tk_clock.specs.Journal.{Journal, opened}
@@ -189,9 +188,19 @@ resumed-boot = refl
 
 resumed-state : state_of resumed ≡ record {
   base = record {
-    counter = nanosecond_counter; last = 5; mult = 16777216; amount = 16777216000; raw_amount = 16777216000;
-    real_offset = pos 1700000005500000000; boot_offset = pos 5500000000; tai = pos 0; asleep = false };
-  frequency = pos 0; tick = pos 10000 }
+    counter = nanosecond_counter;
+    last = 5;
+    mult = 16777216;
+    amount = 16777216000;
+    raw_amount = 16777216000;
+    real_offset = pos 1700000005500000000;
+    boot_offset = pos 5500000000;
+    tai = pos 0;
+    asleep = false;
+  };
+  frequency = pos 0;
+  tick = pos 10000;
+}
 resumed-state = refl
 
 awake-resume : first_refusal (journal_of []) (at 0 (Resume (time (pos 0) 0))) ≡ Some Awake

@@ -1,13 +1,13 @@
 -- MONOTONIC of a journal with one more entry.
-use Rattle.std.proofs.Common.{◌≡◌, ℕ, zero, suc, ◌+◌, ◌-◌, ◌*◌, ◌<◌, ◌≤◌, List, [], ◌∷◌, ◌++◌, length, take, map, refl, sym, ◌∙◌, ap, subst, arith, add-one, add-zero, add-suc, Bool, true, false}
-use Rattle.std.specs.Prelude.{ℤ, pos, is_some, Option, Some, None, if◌then◌else◌}
+use Rattle.std.proofs.Common.{◌≡◌, ℕ, zero, suc, ◌+◌, ◌-◌, ◌*◌, ◌≤◌, List, [], ◌∷◌, ◌++◌, length, refl, sym, ◌∙◌, ap, subst, arith, add-one, add-zero, add-suc, Bool, true, false}
+use Rattle.std.specs.Prelude.{if◌then◌else◌}
 use Rattle.std.proofs.lemmas.List.{length_push, take-append-le, take_all, append-nil}
 use Rattle.std.specs.List.{filter_map}
 use Rattle.std.specs.Option.{option_map_or}
 use Rattle.tk_counter.specs.Counter.{gap, multiplier}
 use Rattle.tk_clock.specs.declared.command.Entry.{Entry}
 use Rattle.tk_clock.specs.Command.{is_suspend, frequency_set, tick_set, sets_multiplier}
-use Rattle.tk_clock.specs.Journal.{Journal, followed_by, at_place, reading_at, is_asleep_at, last_reading, is_asleep, latest, places}
+use Rattle.tk_clock.specs.Journal.{Journal, followed_by, last_reading, is_asleep, latest}
 use Rattle.tk_clock.specs.Monotonic.{awake_cycles, multiplier_at, stretch_places, stretches_from, current_frequency, current_tick, current_multiplier, monotonic_units}
 use Rattle.tk_clock.specs.Clocks.{raw_units}
 use Rattle.tk_clock.proofs.Append.{at_place-within, at_place-last, latest-push, latest_told, places-push, AtMost, AtMost-places, AtMost-latest}
@@ -59,7 +59,7 @@ pub multiplier_at-within : (journal : Journal) (entry : Entry) (k : ℕ) → k �
     multiplier_at (followed_by journal entry) k ≡ multiplier_at journal k
 multiplier_at-within journal entry k within =
     ap (λ (es : List Entry). multiplier journal.opening.counter (latest journal.opening.frequency (filter_map (λ (e : Entry). frequency_set e.cmd) es)) (latest journal.opening.tick (filter_map (λ (e : Entry). tick_set e.cmd) es)))
-        (take-append-le k journal.entries (entry ∷ []) within)
+    (take-append-le k journal.entries (entry ∷ []) within)
 
 spread : (x d v : ℕ) → (x + d) * v ≡ x * v + d * v
 spread x d v = omega arith
@@ -86,10 +86,10 @@ awake_cycles-new journal entry place here =
 last_stretch : (journal : Journal) (entry : Entry) (from place : ℕ) → place ≡ length journal.entries + 1 → from ≤ length journal.entries →
     (awake_cycles (followed_by journal entry) place - awake_cycles (followed_by journal entry) from) * multiplier_at (followed_by journal entry) from
     ≡ (awake_cycles journal (length journal.entries) - awake_cycles journal from) * multiplier_at journal from
-      + cycles_to journal entry.reading * multiplier_at journal from
+    + cycles_to journal entry.reading * multiplier_at journal from
 last_stretch journal entry from place here low =
     longer _ _ _ _ _ _ _ (awake_cycles-within journal entry from low) (awake_cycles-new journal entry place here)
-        (awake_cycles-≤ journal from (length journal.entries) low) (multiplier_at-within journal entry from low)
+    (awake_cycles-≤ journal from (length journal.entries) low) (multiplier_at-within journal entry from low)
 
 -- an earlier stretch
 earlier_stretch : (journal : Journal) (entry : Entry) (from to : ℕ) → from ≤ length journal.entries → to ≤ length journal.entries →
@@ -119,7 +119,7 @@ pub stretches-end : (journal : Journal) (entry : Entry) (from : ℕ) (later : Li
 stretches-end journal entry from [] place here low all =
     let longer' = awake_cycles (followed_by journal entry) in
     let empty : (longer' (length (journal.entries ++ entry ∷ [])) - longer' place) * multiplier_at (followed_by journal entry) place ≡ 0 =
-        nothing _ _ _ (ap longer' (length_push journal.entries entry ∙ sym here)) in
+    nothing _ _ _ (ap longer' (length_push journal.entries entry ∙ sym here)) in
     omega (arith, empty, last_stretch journal entry from place here low)
 stretches-end journal entry from (to ∷ later) place here low all =
     add_up _ _ _ _ _ (earlier_stretch journal entry from to low all.0) (stretches-end journal entry to later place here all.0 all.1)
@@ -146,9 +146,10 @@ monotonic_units-followed_by journal entry =
     let old = stretch_places journal in
     let grown = stretches_from journal 0 old + cycles_to journal entry.reading * current_multiplier journal in
     ap (λ x. journal.opening.amount + x) (ap (stretches_from (followed_by journal entry) 0) (stretch_places-followed_by journal entry)
-    ∙ elim (sets_multiplier entry.cmd) as (λ b. stretches_from (followed_by journal entry) 0 (old ++ (if b then (n + 1) ∷ [] else [])) ≡ grown)
-        [ true ↦ stretches-end journal entry 0 old (n + 1) refl (omega arith) all
-        | false ↦ ap (stretches_from (followed_by journal entry) 0) (append-nil old) ∙ stretches-grow journal entry 0 old (omega arith) all ])
+    ∙ elim (sets_multiplier entry.cmd) as (λ b. stretches_from (followed_by journal entry) 0 (old ++ (if b then (n + 1) ∷ [] else [])) ≡ grown) [
+      | true ↦ stretches-end journal entry 0 old (n + 1) refl (omega arith) all
+      | false ↦ ap (stretches_from (followed_by journal entry) 0) (append-nil old) ∙ stretches-grow journal entry 0 old (omega arith) all
+    ])
     ∙ assoc journal.opening.amount (stretches_from journal 0 old) (cycles_to journal entry.reading * current_multiplier journal)
 
 scaled : (a n c m : ℕ) → a + (n + c) * m ≡ a + n * m + c * m
@@ -160,7 +161,7 @@ pub raw_units-followed_by : (journal : Journal) (entry : Entry) →
 raw_units-followed_by journal entry =
     let mult = journal.opening.counter.mult in
     ap (λ n. journal.opening.raw_amount + n * mult)
-        (awake_cycles-new journal entry (length (journal.entries ++ entry ∷ [])) (length_push journal.entries entry))
+    (awake_cycles-new journal entry (length (journal.entries ++ entry ∷ [])) (length_push journal.entries entry))
     ∙ scaled journal.opening.raw_amount (awake_cycles journal (length journal.entries)) (cycles_to journal entry.reading) mult
 
 pub current_frequency-followed_by : (journal : Journal) (entry : Entry) →
@@ -174,12 +175,12 @@ current_tick-followed_by journal entry = latest_told (λ (e : Entry). tick_set e
 multiplier_told : (journal : Journal) (entry : Entry) (told : Bool) →
     multiplier_at (followed_by journal entry) (latest 0 (stretch_places journal ++ (if told then (length journal.entries + 1) ∷ [] else [])))
     ≡ (if told then multiplier journal.opening.counter (option_map_or (λ x. x) (frequency_set entry.cmd) (current_frequency journal))
-                        (option_map_or (λ x. x) (tick_set entry.cmd) (current_tick journal))
-       else current_multiplier journal)
+    (option_map_or (λ x. x) (tick_set entry.cmd) (current_tick journal))
+    else current_multiplier journal)
 multiplier_told journal entry false =
     ap (λ q. multiplier_at (followed_by journal entry) (latest 0 q)) (append-nil (stretch_places journal))
     ∙ multiplier_at-within journal entry (latest 0 (stretch_places journal))
-        (AtMost-latest (length journal.entries) 0 (stretch_places journal) (omega arith) (AtMost-stretch_places journal))
+    (AtMost-latest (length journal.entries) 0 (stretch_places journal) (omega arith) (AtMost-stretch_places journal))
 multiplier_told journal entry true =
     let at_end = λ (es : List Entry). multiplier journal.opening.counter (latest journal.opening.frequency (filter_map (λ (e : Entry). frequency_set e.cmd) es)) (latest journal.opening.tick (filter_map (λ (e : Entry). tick_set e.cmd) es)) in
     ap (multiplier_at (followed_by journal entry)) (latest-push 0 (stretch_places journal) (length journal.entries + 1))
@@ -191,8 +192,8 @@ multiplier_told journal entry true =
 pub current_multiplier-followed_by : (journal : Journal) (entry : Entry) →
     current_multiplier (followed_by journal entry)
     ≡ (if sets_multiplier entry.cmd then multiplier journal.opening.counter (option_map_or (λ x. x) (frequency_set entry.cmd) (current_frequency journal))
-                        (option_map_or (λ x. x) (tick_set entry.cmd) (current_tick journal))
-       else current_multiplier journal)
+    (option_map_or (λ x. x) (tick_set entry.cmd) (current_tick journal))
+    else current_multiplier journal)
 current_multiplier-followed_by journal entry =
     ap (λ q. multiplier_at (followed_by journal entry) (latest 0 q)) (stretch_places-followed_by journal entry)
     ∙ multiplier_told journal entry (sets_multiplier entry.cmd)

@@ -21,8 +21,8 @@ set_place journal = latest 0 (places (λ (e : Entry). is_some (time_set e.cmd)) 
 abbrev pub offset_set : Journal → ℕ → ℤ
 offset_set journal place =
     at_place journal.opening.real_offset
-        (λ (e : Entry). option_map_or (λ time. time -ℤ pos (monotonic (prefix place journal) e.reading)) (time_set e.cmd) (pos 0))
-        journal.entries place
+    (λ (e : Entry). option_map_or (λ time. time -ℤ pos (monotonic (prefix place journal) e.reading)) (time_set e.cmd) (pos 0))
+    journal.entries place
 
 -- REALTIME less MONOTONIC, in nanoseconds: what was set last, and all steps and suspensions since
 abbrev pub real_offset : Journal → ℤ

@@ -1,7 +1,7 @@
 -- What each command says of the clocks.
 use Rattle.std.specs.Prelude.{ℤ, pos, Bool, true, false, Option, Some, None}
 use Rattle.tk_clock.specs.declared.command.Command.{Command}
-use Rattle.tk_clock.specs.declared.command.Command.TheVariants.{Update, SetTime, Step, Freq, Tick, Tai, Suspend, Resume}
+use Rattle.tk_clock.specs.declared.command.Command.TheVariants.{SetTime, Step, Freq, Tick, Tai, Suspend, Resume}
 use Rattle.tk_clock.specs.Time.{nanoseconds}
 
 -- does the clock fall asleep?

@@ -35,9 +35,20 @@ abbrev pub opened : Counter → ℕ → Timespec → Journal
 opened counter reading real =
     record {
       opening = record {
-        counter = counter; reading = reading; count = 0; amount = 0; raw_amount = 0; frequency = pos 0; tick = pos 10000;
-        real_offset = nanoseconds real; boot_offset = pos 0; tai = pos 0; asleep = false };
-      entries = [] }
+        counter = counter;
+        reading = reading;
+        count = 0;
+        amount = 0;
+        raw_amount = 0;
+        frequency = pos 0;
+        tick = pos 10000;
+        real_offset = nanoseconds real;
+        boot_offset = pos 0;
+        tai = pos 0;
+        asleep = false;
+      };
+      entries = [];
+    }
 
 -- how many commands were accepted, the folded ones among them
 abbrev pub accepted_count : Journal → ℕ

@@ -1,6 +1,6 @@
 -- Which journals can be: those that were opened well, and of which each entry was accepted.
 use Rattle.std.specs.Prelude.{◌≡◌, ℕ, length, slice_get, Some, None}
-use Rattle.tk_counter.specs.Counter.{Counter, IsCounter}
+use Rattle.tk_counter.specs.Counter.{IsCounter}
 use Rattle.tk_clock.specs.declared.timespec.Timespec.{Timespec}
 use Rattle.tk_clock.specs.declared.command.Entry.{Entry}
 use Rattle.tk_clock.specs.Journal.{Opening, Journal, opened, prefix}
@@ -16,7 +16,7 @@ IsAccepted journal =
 pub record IsWhole (journal : Journal) : Type 0 where
   pub described : IsCounter journal.opening.counter
   pub opens : (reading : ℕ) × (real : Timespec) × (opening_refusal journal.opening.counter reading real ≡ None)
-    × (journal.opening ≡ (opened journal.opening.counter reading real).opening)
+      × (journal.opening ≡ (opened journal.opening.counter reading real).opening)
   pub accepted : IsAccepted journal
 
 -- the opening that a journal leaves, once its n entries are folded into it

@@ -11,5 +11,6 @@ pub mod Refusal
 pub mod Legal
 pub mod Life
 pub mod Honest
+pub mod Effect
 pub mod Run
 pub mod Snapshot

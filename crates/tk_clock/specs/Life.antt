@@ -10,7 +10,7 @@ IsInLife journal n reading =
     (n ≡ length journal.entries) ⊎ (is_asleep_at journal n ≡ true)
     ⊎ (half journal.opening.counter < gap journal.opening.counter (reading_at journal n) reading)
     ⊎ (gap journal.opening.counter (reading_at journal n) reading
-        ≤ gap journal.opening.counter (reading_at journal n) (reading_at journal (n + 1)))
+    ≤ gap journal.opening.counter (reading_at journal n) (reading_at journal (n + 1)))
 
 -- what a shorter prefix tells in its life is no later than what the journal tells at any reading
 abbrev pub NeverFalls : Journal → Type 0

@@ -1,5 +1,5 @@
 -- Why a command or a read is refused: the first test that fails.
-use Rattle.std.specs.Prelude.{◌≡◌, ℕ, ◌-◌, ◌^◌, nat_le, length, ℤ, Bool, true, false, not, ◌&&◌, ◌||◌, nat_lt, int_lt, Option, Some, None, if◌then◌else◌}
+use Rattle.std.specs.Prelude.{◌≡◌, ℕ, ◌-◌, ◌^◌, nat_le, length, ℤ, Bool, not, ◌&&◌, ◌||◌, nat_lt, int_lt, Option, Some, None, if◌then◌else◌}
 use Rattle.tk_counter.specs.Counter.{Counter, mask, half, gap}
 use Rattle.tk_clock.specs.declared.timespec.Timespec.{Timespec}
 use Rattle.tk_clock.specs.declared.command.Entry.{Entry}
@@ -53,22 +53,22 @@ early_refusal counter asleep last reading cmd =
 abbrev pub clock_refusal : Journal → Entry → Option Refusal
 clock_refusal journal entry =
     first_of
-        (early_refusal journal.opening.counter (is_asleep journal) (last_reading journal) entry.reading entry.cmd)
-        (value_refusal (λ clock. clock_value journal clock entry.reading)
-            (λ clock. clock_value (followed_by journal entry) clock entry.reading) entry.cmd)
+    (early_refusal journal.opening.counter (is_asleep journal) (last_reading journal) entry.reading entry.cmd)
+    (value_refusal (λ clock. clock_value journal clock entry.reading)
+    (λ clock. clock_value (followed_by journal entry) clock entry.reading) entry.cmd)
 
 -- the tests of values of a command in a state
 abbrev pub state_value_refusal : State → ℕ → Command → Option Refusal
 state_value_refusal state reading cmd =
     value_refusal (λ clock. base_value state.base clock reading)
-        (λ clock. base_value (effect state reading cmd).base clock reading) cmd
+    (λ clock. base_value (effect state reading cmd).base clock reading) cmd
 
 -- why a command is refused in a state
 abbrev pub state_refusal : State → ℕ → Command → Option Refusal
 state_refusal state reading cmd =
     first_of
-        (early_refusal state.base.counter state.base.asleep state.base.last reading cmd)
-        (state_value_refusal state reading cmd)
+    (early_refusal state.base.counter state.base.asleep state.base.last reading cmd)
+    (state_value_refusal state reading cmd)
 
 -- has the journal no room for another entry? It lists at most 1,048,576, and counts at most 2^63 - 1
 abbrev pub is_full : Journal → Bool

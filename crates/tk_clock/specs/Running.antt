@@ -1,5 +1,5 @@
 -- What holds of every state that running clocks are in.
-use Rattle.std.specs.Prelude.{◌≡◌, ℕ, ◌*◌, ◌<◌, ◌≤◌, ℤ, pos, neg_ℤ, ◌<ℤ◌, ◌≤ℤ◌}
+use Rattle.std.specs.Prelude.{◌≡◌, ℕ, ◌*◌, ◌^◌, ◌<◌, ◌≤◌, ℤ, pos, neg_ℤ, ◌<ℤ◌, ◌≤ℤ◌}
 use Rattle.tk_counter.specs.Counter.{Counter, IsCounter, mask, fastest, second, multiplier}
 use Rattle.tk_clock.specs.declared.amount.Amount.{Amount}
 use Rattle.tk_clock.specs.declared.clock_id.ClockId.TheVariants.{Realtime, Boottime, Tai}
@@ -29,6 +29,8 @@ IsRated base = base.raw_amount * slowest base.counter ≤ base.amount * base.cou
 -- the running clocks: the multiplier is that of the frequency and tick, and each clock is below its limit
 pub record IsRunning (base : ReadBase) (frequency tick : ℤ) : Type 0 where
   pub steered : base.mult ≡ multiplier base.counter frequency tick
+  pub frequency_low : neg_ℤ (pos (2 ^ 63)) ≤ℤ frequency
+  pub frequency_high : frequency <ℤ pos (2 ^ 63)
   pub tick_low : pos 9000 ≤ℤ tick
   pub tick_high : tick ≤ℤ pos 11000
   pub rated : IsRated base

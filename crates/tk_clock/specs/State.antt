@@ -79,7 +79,8 @@ forwarded base reading =
     record base {
       amount = base.amount + cycles * base.mult;
       raw_amount = base.raw_amount + cycles * base.counter.mult;
-      last = reading }
+      last = reading;
+    }
 
 -- what a command at a reading does to the clocks
 abbrev pub effect : State → ℕ → Command → State
@@ -107,4 +108,6 @@ effect state reading (Resume away) =
         last = reading;
         real_offset = base.real_offset +ℤ nanoseconds away;
         boot_offset = base.boot_offset +ℤ nanoseconds away;
-        asleep = false } }
+        asleep = false;
+      };
+    }

@@ -13,14 +13,18 @@
 #![tactic(auto)]
 
 mod amount;
+mod clock;
 mod clock_id;
 mod command;
 mod limits;
 mod read_base;
 mod refusal;
+mod snapshot;
 mod timespec;
 
+pub use clock::Clock;
 pub use clock_id::ClockId;
 pub use command::{Command, Entry};
 pub use refusal::{ReadError, Refusal};
+pub use snapshot::Snapshot;
 pub use timespec::Timespec;

@@ -1,4 +1,4 @@
-ghost use Rattle.std.specs.Prelude.{◌≡◌, ℕ, ◌+◌, ◌*◌, ◌/◌, ◌^◌, ◌<◌, ◌≤◌, MatchOption, MatchResult, Some, None, pos, ◌≤ℤ◌, ◌+ℤ◌, ◌*ℤ◌, not, int_lt};
+ghost use Rattle.std.specs.Prelude.{◌≡◌, ℕ, ◌+◌, ◌*◌, ◌/◌, ◌^◌, ◌<◌, ◌≤◌, MatchOption, MatchResult, Some, None, pos, ◌≤ℤ◌, ◌+ℤ◌, ◌*ℤ◌, ◌<ℤ◌, not, nat_lt, int_lt, true, false};
 
 use crate::amount::{Amount, NANOS_PER_SECOND};
 use crate::clock_id::ClockId;
@@ -70,18 +70,25 @@ impl Model for ReadBase {
     } };
 
     ghost inverse_ok = { λ a h.
-      ap (λ (m : Amount). record a { monotonic = m; raw = amount_of a.desc (units_of a.desc a.raw) })
+        ap (λ (m : Amount). record a { monotonic = m; raw = amount_of a.desc (units_of a.desc a.raw) })
         (amount_of-units_of a.desc a.monotonic h.frac_low)
-      ∙ ap (λ (r : Amount). record a { raw = r }) (amount_of-units_of a.desc a.raw h.raw_frac_low) };
+        ∙ ap (λ (r : Amount). record a { raw = r }) (amount_of-units_of a.desc a.raw h.raw_frac_low) };
 }
 
 impl ReadBase {
-    ghost use Rattle.tk_counter.specs.Counter.{mask};
+    ghost use Rattle.tk_counter.specs.Counter.{mask, fastest, half, gap};
     ghost use Rattle.tk_clock.specs.Limits.{limit, is_past_limit};
     ghost use Rattle.tk_clock.specs.Refusal.{read_refusal};
     ghost use Rattle.tk_clock.specs.State.{base_cycles, base_monotonic, base_raw, base_value, forwarded};
     ghost use Rattle.tk_clock.specs.Time.{nanoseconds};
     ghost use Rattle.tk_clock.specs.Running.{IsRated, slowest};
+
+    /// Does a reading lie behind the last one?
+    pub fn is_behind(&self, reading: u64) -> bool
+        ensures { result ≡ nat_lt (half self.now.counter) (gap self.now.counter self.now.last reading) }
+    {
+        self.desc.is_behind(self.desc.gap(self.last, reading))
+    }
 
     /// The cycles from the last reading to another: none while asleep, or where it lies behind.
     fn cycles_since(&self, reading: u64) -> u64
@@ -120,6 +127,7 @@ impl ReadBase {
         ensures value { result ≡ base_monotonic self.now self.now.last }
         ensures amount { result ≡ self.now.amount / 2 ^ self.now.counter.shift }
         ensures low { result < 946080000 * 10 ^ 9 }
+        ensures tai { self.now.tai ≤ℤ pos 100000 }
     {
         self.monotonic.nanos(&self.desc)
     }
@@ -218,6 +226,65 @@ impl ReadBase {
             return false;
         }
         is_at_limit(now, self.real_offset) || is_at_limit(now + self.tai_nanos(), self.real_offset)
+    }
+
+    /// The base with another multiplier from its last reading on.
+    pub fn with_mult(self, mult: u32) -> ReadBase
+        requires some { 1 ≤ mult }
+        requires most { mult ≤ fastest self.counter }
+        ensures { result ≡ record self { mult = mult } }
+    {
+        let mut base = self;
+        base.mult = mult;
+        base
+    }
+
+    /// The base with REALTIME so far from MONOTONIC, in ns.
+    pub fn with_real_offset(self, offset: u64) -> ReadBase
+        ensures { result ≡ record self { real_offset = pos offset } }
+    {
+        let mut base = self;
+        base.real_offset = offset;
+        base
+    }
+
+    /// The base with TAI so far from REALTIME, in seconds.
+    pub fn with_tai(self, seconds: u32) -> ReadBase
+        requires { seconds ≤ 100000 }
+        ensures { result ≡ record self { tai = pos seconds } }
+    {
+        let mut base = self;
+        base.tai = seconds;
+        base
+    }
+
+    /// The base asleep.
+    pub fn fallen_asleep(self) -> ReadBase
+        ensures { result ≡ record self { asleep = true } }
+    {
+        let mut base = self;
+        base.asleep = true;
+        base
+    }
+
+    /// The base awake, counting from another reading on, after a suspension of so many ns.
+    pub fn woken(self, reading: u64, away: u64) -> ReadBase
+        requires reading { reading ≤ mask self.counter }
+        requires real { (self.real_offset +ℤ pos away) <ℤ pos (2 ^ 64) }
+        requires boot { (self.boot_offset +ℤ pos away) <ℤ pos (2 ^ 64) }
+        ensures { result ≡ record self {
+          last = reading;
+          real_offset = self.real_offset +ℤ pos away;
+          boot_offset = self.boot_offset +ℤ pos away;
+          asleep = false;
+        } }
+    {
+        let mut base = self;
+        base.last = reading;
+        base.real_offset += away;
+        base.boot_offset += away;
+        base.asleep = false;
+        base
     }
 }
 

@@ -1,4 +1,4 @@
-use Rattle.std.proofs.Common.{◌≡◌, ◌+◌, ◌*◌, ◌/◌, ◌^◌, ◌<◌, ◌∙◌, ap, arith}
+use Rattle.std.proofs.Common.{◌+◌, ◌*◌, ◌/◌, ◌^◌, ◌<◌, ◌∙◌, ap, arith}
 use Rattle.tk_counter.specs.Counter.{second}
 use Rattle.tk_clock.specs.Amount.{units_of}
 use Rattle.tk_clock.proofs.Units.{below_nanos}

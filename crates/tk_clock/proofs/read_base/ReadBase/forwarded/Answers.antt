@@ -1,8 +1,8 @@
-use Rattle.std.proofs.Common.{◌≡◌, ◌+◌, ◌*◌, ◌<◌, ◌≤◌, ◌∙◌, sym, ap, subst, arith}
+use Rattle.std.proofs.Common.{◌+◌, ◌*◌, ◌<◌, ◌≤◌, ◌∙◌, sym, ap, subst, arith}
 use Rattle.tk_counter.specs.Counter.{gap, second}
 use Rattle.tk_clock.specs.Amount.{units_of}
 use Rattle.tk_clock.specs.State.{ReadBase, forwarded}
-use Rattle.tk_clock.specs.Running.{IsRated, slowest}
+use Rattle.tk_clock.specs.Running.{IsRated}
 use Rattle.tk_clock.specs.contracts.read_base.ReadBase.{the_view}
 use Rattle.tk_clock.proofs.Units.{end_nanos}
 use Rattle.tk_clock.proofs.Rates.{IsRated-forwarded, raw_low, fewer_seconds, below_seconds, at_least_seconds}
@@ -24,7 +24,7 @@ returns-then-monotonic-ge-MONOTONIC_SEC_LIMIT c =
     let same = c.in-Some.ensures.0 ∙ ap (λ k. units + k * base.mult) c.gap-cycles.ensures.value in
     let many = at_least_seconds after.sec after.frac 946080000 (second base.desc) c.if-monotonic-ge-MONOTONIC_SEC_LIMIT.true in
     let far : 946080000 * second base.desc ≤ units + gap base.desc base.last c.args.reading * base.mult =
-        subst (λ n. 946080000 * second base.desc ≤ n) same many in
+    subst (λ n. 946080000 * second base.desc ≤ n) same many in
     rw (← c.self.view_is) (end_nanos 946080000 _ base.desc.shift far)
 
 pub returns-in_default-grown : goal.returns-in_default-grown
@@ -36,7 +36,7 @@ returns-in_default-grown c =
     let rated = rw (← c.self.view_is) at c.requires.rated in
     let same = c.in-Some.ensures.0 ∙ ap (λ k. units_of base.desc base.monotonic + k * base.mult) c.gap-cycles.ensures.value in
     let low = subst (λ n. n < 946080000 * second base.desc) same
-        (below_seconds monotonic.sec monotonic.frac 946080000 (second base.desc) c.if-monotonic-ge-MONOTONIC_SEC_LIMIT.false c.in-Some.ensures.1) in
+    (below_seconds monotonic.sec monotonic.frac 946080000 (second base.desc) c.if-monotonic-ge-MONOTONIC_SEC_LIMIT.false c.in-Some.ensures.1) in
     let below = raw_low (forwarded before c.args.reading) c.self.invariant.described (IsRated-forwarded before c.args.reading steered rated) low in
     let mult = ap (λ m. units_of base.desc base.raw + c.gap-cycles.result * m) c.mult.ensures.value in
     let cycles = ap (λ k. units_of base.desc base.raw + k * base.desc.mult) c.gap-cycles.ensures.value in
@@ -53,11 +53,11 @@ invariant_of-result c =
     let rated = rw (← c.self.view_is) at c.requires.rated in
     let same = c.in-Some.ensures.0 ∙ ap (λ k. units_of base.desc base.monotonic + k * base.mult) c.gap-cycles.ensures.value in
     let low = subst (λ n. n < 946080000 * second base.desc) same
-        (below_seconds monotonic.sec monotonic.frac 946080000 (second base.desc) c.if-monotonic-ge-MONOTONIC_SEC_LIMIT.false c.in-Some.ensures.1) in
+    (below_seconds monotonic.sec monotonic.frac 946080000 (second base.desc) c.if-monotonic-ge-MONOTONIC_SEC_LIMIT.false c.in-Some.ensures.1) in
     let below = raw_low (forwarded before c.args.reading) held.described (IsRated-forwarded before c.args.reading steered rated) low in
     let raw_same = c.in-Some-grown.ensures.0
-        ∙ ap (λ m. units_of base.desc base.raw + c.gap-cycles.result * m) c.mult.ensures.value
-        ∙ ap (λ k. units_of base.desc base.raw + k * base.desc.mult) c.gap-cycles.ensures.value in
+    ∙ ap (λ m. units_of base.desc base.raw + c.gap-cycles.result * m) c.mult.ensures.value
+    ∙ ap (λ k. units_of base.desc base.raw + k * base.desc.mult) c.gap-cycles.ensures.value in
     record {
       described = held.described;
       last_low = rw (← c.self.view_is) at c.requires.reading;
@@ -80,8 +80,8 @@ returns c =
     let rated = rw (← c.self.view_is) at c.requires.rated in
     let same = c.in-Some.ensures.0 ∙ ap (λ k. units_of base.desc base.monotonic + k * base.mult) c.gap-cycles.ensures.value in
     let raw_same = c.in-Some-grown.ensures.0
-        ∙ ap (λ m. units_of base.desc base.raw + c.gap-cycles.result * m) c.mult.ensures.value
-        ∙ ap (λ k. units_of base.desc base.raw + k * base.desc.mult) c.gap-cycles.ensures.value in
+    ∙ ap (λ m. units_of base.desc base.raw + c.gap-cycles.result * m) c.mult.ensures.value
+    ∙ ap (λ k. units_of base.desc base.raw + k * base.desc.mult) c.gap-cycles.ensures.value in
     let told = ap (λ m. record after { amount = m; raw_amount = units_of base.desc c.in-Some-grown.raw }) same
-        ∙ ap (λ r. record after { raw_amount = r }) raw_same in
+    ∙ ap (λ r. record after { raw_amount = r }) raw_same in
     rw (← c.self.view_is) (told, subst (λ (b : ReadBase). IsRated b) (sym told) (IsRated-forwarded before c.args.reading steered rated))

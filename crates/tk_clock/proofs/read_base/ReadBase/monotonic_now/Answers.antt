@@ -1,4 +1,3 @@
-use Rattle.std.proofs.Common.{◌∙◌, sym}
 use Rattle.tk_clock.proofs.Forwarding.{base_monotonic-last}
 use Rattle.tk_clock.proofs.read_base.ReadBase.monotonic_now.Goals as goal
 

@@ -1,0 +1,125 @@
+ghost use Rattle.std.specs.Prelude.{◌≡◌, ◌≤◌, MatchResult, Some, None};
+
+mod effects;
+
+use crate::amount::Amount;
+use crate::command::Command;
+use crate::limits::{is_settable, is_well_formed, nanos_of};
+use crate::read_base::ReadBase;
+use crate::refusal::Refusal;
+use crate::snapshot::Snapshot;
+use crate::timespec::Timespec;
+use std::marker::Model;
+use tk_counter::CounterDesc;
+
+/// The running clocks of a counter, as the kernel's `struct timekeeper`.
+///
+/// It knows no time of its own: each command hands in the counter's reading. Commands need no allocation.
+#[derive(Clone, Copy)]
+pub struct Clock {
+    base: ReadBase,
+    /// The frequency in force, in `2^-16` ppm.
+    frequency: i64,
+    /// The tick in force, in microseconds.
+    tick: i64,
+}
+
+impl Model for Clock {
+    ghost use Rattle.tk_clock.specs.State.{State};
+    ghost use Rattle.tk_clock.specs.Running.{IsRunning};
+
+    ghost Value = { State };
+
+    ghost view = { λ a. record { base = a.base; frequency = a.frequency; tick = a.tick } };
+
+    ghost invariant = { λ a. IsRunning a.base a.frequency a.tick };
+
+    ghost inverse = { λ s. record { base = s.base; frequency = s.frequency; tick = s.tick } };
+}
+
+impl Clock {
+    ghost use Rattle.tk_clock.specs.Journal.{opened};
+    ghost use Rattle.tk_clock.specs.Refusal.{opening_refusal, early_refusal, state_refusal};
+    ghost use Rattle.tk_clock.specs.State.{state_of, effect};
+    ghost use Rattle.tk_clock.specs.Effect.{IsEarly};
+
+    /// The clocks from this reading on, awake and at their usual rate: MONOTONIC is 0, and REALTIME `real`.
+    ///
+    /// Invalid where the reading is above the mask, or where REALTIME may not be set to `real`.
+    pub fn open(desc: CounterDesc, reading: u64, real: Timespec) -> Result<Clock, Refusal>
+        ensures { MatchResult result
+            (λ clock. (opening_refusal desc reading real ≡ None)
+            × (clock ≡ state_of (opened desc reading real)))
+            (λ refusal. opening_refusal desc reading real ≡ Some refusal) }
+    {
+        if reading > desc.mask() || !is_settable(real) {
+            return Err(Refusal::Invalid);
+        }
+        let base = ReadBase {
+            desc,
+            last: reading,
+            mult: desc.mult(),
+            monotonic: Amount::zero(),
+            raw: Amount::zero(),
+            real_offset: nanos_of(real),
+            boot_offset: 0,
+            tai: 0,
+            asleep: false,
+        };
+        Ok(Clock {
+            base,
+            frequency: 0,
+            tick: 10_000,
+        })
+    }
+
+    /// Does a command to the clocks, or tells why not and leaves them as they were.
+    ///
+    /// In this order: Asleep or Awake; Invalid where the reading is above the mask or the command's numbers are out of
+    /// range; Behind where the reading lies behind the last one; Range where a clock would be at its limit; Invalid
+    /// where REALTIME would be set below MONOTONIC or beyond what may be set. The kernel's `do_settimeofday64`,
+    /// `timekeeping_inject_offset`, `do_adjtimex`, `timekeeping_suspend` and `timekeeping_resume` are its commands.
+    pub fn apply(&mut self, reading: u64, cmd: Command) -> Result<(), Refusal>
+        ensures { MatchResult result
+            (λ _. (state_refusal self.old reading cmd ≡ None)
+            × (self.new ≡ effect self.old reading cmd))
+            (λ refusal. (state_refusal self.old reading cmd ≡ Some refusal) × (self.new ≡ self.old)) }
+    {
+        self.check(reading, cmd)?;
+        *self = self.effect(reading, cmd)?;
+        Ok(())
+    }
+
+    /// The tests that need no clock's value.
+    fn check(&self, reading: u64, cmd: Command) -> Result<(), Refusal>
+        ensures { MatchResult result
+            (λ _. IsEarly self.now reading cmd)
+            (λ refusal. early_refusal self.now.base.counter self.now.base.asleep self.now.base.last
+            reading cmd ≡ Some refusal) }
+    {
+        let is_resume = matches!(cmd, Command::Resume(_));
+        if self.base.asleep && !is_resume {
+            return Err(Refusal::Asleep);
+        }
+        if !self.base.asleep && is_resume {
+            return Err(Refusal::Awake);
+        }
+        if reading > self.base.desc.mask() || !is_well_formed(cmd) {
+            return Err(Refusal::Invalid);
+        }
+        if !is_resume && self.base.is_behind(reading) {
+            return Err(Refusal::Behind);
+        }
+        Ok(())
+    }
+
+    /// What a reader is given, once so many commands were accepted.
+    pub fn snapshot(&self, front: u64) -> Snapshot
+        ensures { result ≡ record { front = front; base = self.now.base } }
+    {
+        Snapshot {
+            front,
+            base: self.base,
+        }
+    }
+}

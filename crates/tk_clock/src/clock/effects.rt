@@ -1,0 +1,223 @@
+//! What each command does to the clocks, and the tests of values that go with it.
+ghost use Rattle.std.specs.Prelude.{◌≡◌, ◌+◌, ◌*◌, ◌/◌, ◌^◌, ◌<◌, ◌≤◌, MatchResult, MatchOption, None, pos, ◌≤ℤ◌, ◌<ℤ◌, ◌+ℤ◌, true, false, ◌⊎◌};
+ghost use Rattle.tk_clock.specs.State.{base_value, forwarded};
+ghost use Rattle.tk_clock.specs.Limits.{limit, sets_real};
+ghost use Rattle.tk_clock.specs.Running.{IsRated};
+ghost use Rattle.tk_clock.specs.Effect.{IsEarly, IsEffect, IsSettled};
+ghost use Rattle.tk_clock.specs.Command.{is_resume};
+ghost use Rattle.tk_clock.specs.Time.{nanoseconds};
+ghost use Rattle.tk_counter.specs.Counter.{mask, multiplier};
+
+use super::Clock;
+use crate::amount::NANOS_PER_SECOND;
+use crate::clock_id::ClockId;
+use crate::command::Command;
+use crate::limits::{nanos_of, settable_limit};
+use crate::read_base::ReadBase;
+use crate::refusal::Refusal;
+use crate::timespec::Timespec;
+
+impl Clock {
+    /// The clocks after a command that the tests before those of values let pass.
+    ///
+    /// Range where a clock would be at its limit; then Invalid where REALTIME would be set below MONOTONIC, or to a
+    /// time that it may not be set to. Each command but a resume first brings the clocks forward.
+    pub(super) fn effect(&self, reading: u64, cmd: Command) -> Result<Clock, Refusal>
+        requires { IsEarly self.now reading cmd }
+        ensures { IsEffect self.now reading cmd result }
+    {
+        if let Command::Resume(away) = cmd {
+            return self.resume(reading, away);
+        }
+        let Some(now) = self.base.forwarded(reading) else {
+            return Err(Refusal::Range);
+        };
+        self.change(now, cmd)
+    }
+
+    /// The clocks after a command, from the base that was brought forward to its reading.
+    fn change(&self, now: ReadBase, cmd: Command) -> Result<Clock, Refusal>
+        requires forwarded { now ≡ forwarded self.now.base now.last }
+        requires rated { IsRated now }
+        requires early { IsEarly self.now now.last cmd }
+        requires awake { is_resume cmd ≡ false }
+        ensures { IsEffect self.now now.last cmd result }
+    {
+        match cmd {
+            Command::Update => self.update(now),
+            Command::SetTime(time) => self.set_time(now, time),
+            Command::Step(by) => self.step(now, by),
+            Command::Freq(frequency) => self.set_frequency(now, frequency),
+            Command::Tick(tick) => self.set_tick(now, tick),
+            Command::Tai(seconds) => self.set_tai(now, seconds),
+            Command::Suspend => self.suspend(now),
+            Command::Resume(_) => unreachable!(),
+        }
+    }
+
+    /// Nothing more than being brought forward.
+    fn update(&self, now: ReadBase) -> Result<Clock, Refusal>
+        requires forwarded { now ≡ forwarded self.now.base now.last }
+        requires rated { IsRated now }
+        ensures { IsEffect self.now now.last Command.Update result }
+    {
+        self.settled(now, Command::Update)
+    }
+
+    /// Another frequency from the base's last reading on; the tick stays.
+    fn set_frequency(&self, now: ReadBase, frequency: i64) -> Result<Clock, Refusal>
+        requires forwarded { now ≡ forwarded self.now.base now.last }
+        requires rated { IsRated now }
+        ensures { IsEffect self.now now.last (Command.Freq frequency) result }
+    {
+        Clock::steered(now, frequency, self.tick, Command::Freq(frequency))
+    }
+
+    /// Another tick from the base's last reading on; the frequency stays.
+    fn set_tick(&self, now: ReadBase, tick: i64) -> Result<Clock, Refusal>
+        requires forwarded { now ≡ forwarded self.now.base now.last }
+        requires rated { IsRated now }
+        requires early { IsEarly self.now now.last (Command.Tick tick) }
+        ensures { IsEffect self.now now.last (Command.Tick tick) result }
+    {
+        Clock::steered(now, self.frequency, tick, Command::Tick(tick))
+    }
+
+    /// Another TAI offset.
+    fn set_tai(&self, now: ReadBase, seconds: i64) -> Result<Clock, Refusal>
+        requires forwarded { now ≡ forwarded self.now.base now.last }
+        requires rated { IsRated now }
+        requires early { IsEarly self.now now.last (Command.Tai seconds) }
+        ensures { IsEffect self.now now.last (Command.Tai seconds) result }
+    {
+        self.settled(
+            now.with_tai(seconds.unsigned_abs() as u32),
+            Command::Tai(seconds),
+        )
+    }
+
+    /// The clocks asleep from the base's last reading on.
+    fn suspend(&self, now: ReadBase) -> Result<Clock, Refusal>
+        requires forwarded { now ≡ forwarded self.now.base now.last }
+        requires rated { IsRated now }
+        ensures { IsEffect self.now now.last Command.Suspend result }
+    {
+        self.settled(now.fallen_asleep(), Command::Suspend)
+    }
+
+    /// The clocks awake again after a suspension, counting from the reading on.
+    fn resume(&self, reading: u64, away: Timespec) -> Result<Clock, Refusal>
+        requires { IsEarly self.now reading (Command.Resume away) }
+        ensures { IsEffect self.now reading (Command.Resume away) result }
+    {
+        self.settled(
+            self.base.woken(reading, nanos_of(away)),
+            Command::Resume(away),
+        )
+    }
+
+    /// The clocks with another rate from the base's last reading on, unless one is at its limit.
+    fn steered(now: ReadBase, frequency: i64, tick: i64, cmd: Command) -> Result<Clock, Refusal>
+        requires slowest { pos 9000 ≤ℤ tick }
+        requires fastest { tick ≤ℤ pos 11000 }
+        requires rated { IsRated now }
+        requires plain { sets_real cmd ≡ false }
+        ensures { IsSettled (record {
+          base = record now { mult = multiplier now.counter frequency tick };
+          frequency = frequency;
+          tick = tick;
+        }) cmd result }
+    {
+        let base = now.with_mult(now.desc.mult_at(frequency, tick));
+        if base.is_past_limit(cmd) {
+            return Err(Refusal::Range);
+        }
+        Ok(Clock {
+            base,
+            frequency,
+            tick,
+        })
+    }
+
+    /// The clocks with a base that runs at their rate, unless one is at its limit.
+    fn settled(&self, base: ReadBase, cmd: Command) -> Result<Clock, Refusal>
+        requires steered { base.mult ≡ self.now.base.mult }
+        requires counter { base.counter ≡ self.now.base.counter }
+        requires rated { IsRated base }
+        requires plain { sets_real cmd ≡ false }
+        ensures { IsSettled (record self.now { base = base }) cmd result }
+    {
+        if base.is_past_limit(cmd) {
+            return Err(Refusal::Range);
+        }
+        let mut clock = *self;
+        clock.base = base;
+        Ok(clock)
+    }
+
+    /// REALTIME set to a time (`do_settimeofday64`).
+    fn set_time(&self, now: ReadBase, time: Timespec) -> Result<Clock, Refusal>
+        requires forwarded { now ≡ forwarded self.now.base now.last }
+        requires rated { IsRated now }
+        requires early { IsEarly self.now now.last (Command.SetTime time) }
+        ensures { IsEffect self.now now.last (Command.SetTime time) result }
+    {
+        if now.is_past_limit(Command::SetTime(time)) {
+            return Err(Refusal::Range);
+        }
+        let Some(offset) = nanos_of(time).checked_sub(now.monotonic_now()) else {
+            return Err(Refusal::Invalid);
+        };
+        Ok(self.set_to(now, offset))
+    }
+
+    /// REALTIME moved by an amount (`timekeeping_inject_offset`).
+    fn step(&self, now: ReadBase, by: Timespec) -> Result<Clock, Refusal>
+        requires forwarded { now ≡ forwarded self.now.base now.last }
+        requires rated { IsRated now }
+        requires early { IsEarly self.now now.last (Command.Step by) }
+        ensures { IsEffect self.now now.last (Command.Step by) result }
+    {
+        if now.is_past_limit(Command::Step(by)) {
+            return Err(Refusal::Range);
+        }
+        let monotonic = now.monotonic_now();
+        let Some(real) = moved(monotonic + self.base.real_offset, by) else {
+            return Err(Refusal::Invalid);
+        };
+        if real < monotonic || real >= settable_limit() {
+            return Err(Refusal::Invalid);
+        }
+        Ok(self.set_to(now, real - monotonic))
+    }
+
+    /// The clocks brought forward, with REALTIME so far from MONOTONIC, in ns.
+    fn set_to(&self, now: ReadBase, offset: u64) -> Clock
+        requires forwarded { now ≡ forwarded self.now.base now.last }
+        requires rated { IsRated now }
+        requires settable { now.amount / 2 ^ now.counter.shift + offset < 8277292036 * 10 ^ 9 }
+        requires tai { now.tai ≤ℤ pos 100000 }
+        requires boot { base_value now ClockId.Boottime now.last <ℤ limit ClockId.Boottime }
+        ensures { result ≡ record self.now { base = record now { real_offset = pos offset } } }
+    {
+        let mut clock = *self;
+        clock.base = now.with_real_offset(offset);
+        clock
+    }
+}
+
+/// A time in ns moved by an amount. None where it would come before 1970, or beyond what a word of ns holds.
+fn moved(real: u64, by: Timespec) -> Option<u64>
+    requires real { real < 10169452036 * 10 ^ 9 }
+    requires rest { by.nsec < 10 ^ 9 }
+    ensures { let moved = pos real +ℤ nanoseconds by in
+        MatchOption result ((moved <ℤ pos 0) ⊎ (pos (2 ^ 64) ≤ℤ moved)) (λ nanos. pos nanos ≡ moved) }
+{
+    let upward = real + u64::from(by.nsec);
+    let whole = by.sec.unsigned_abs().checked_mul(NANOS_PER_SECOND)?;
+    if by.sec < 0 {
+        upward.checked_sub(whole)
+    } else {
+        upward.checked_add(whole)
+    }
+}
