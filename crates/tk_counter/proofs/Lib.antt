@@ -1,3 +1,4 @@
+pub mod Frequency
 pub mod Gaps
 pub mod Rates
 pub mod Seconds

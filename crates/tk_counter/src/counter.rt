@@ -1,6 +1,7 @@
 ghost use Rattle.std.specs.Prelude.{◌≡◌, ℕ, ◌+◌, ◌*◌, ◌/◌, ◌^◌, ◌<◌, MatchResult, Some, None};
 
 mod advance;
+mod frequency;
 mod gaps;
 mod rates;
 
@@ -42,7 +43,7 @@ impl CounterDesc {
             (λ desc. (desc ≡ described) × (first_fault described ≡ None))
             (λ fault. first_fault described ≡ Some fault) }
     {
-        if bits < 8 || bits > 64 {
+        if !(8..=64).contains(&bits) {
             return Err(DescError::Bits);
         }
         if shift > 32 {
