@@ -1,4 +1,5 @@
 pub mod Frequency
 pub mod Gaps
 pub mod Rates
+mod Rows
 pub mod Seconds
