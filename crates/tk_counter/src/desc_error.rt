@@ -1,3 +1,6 @@
+use std::error::Error;
+use std::fmt;
+
 /// Why numbers describe no counter. Where more than one holds, the first in this order is told.
 #[derive(Clone, Copy, Debug, PartialEq, Eq)]
 pub enum DescError {
@@ -12,3 +15,17 @@ pub enum DescError {
     /// The frequency is 0 Hz, or the span is not of 1 to 600 seconds.
     Rate,
 }
+
+impl fmt::Display for DescError {
+    fn fmt<W: fmt::Write>(&self, f: &mut fmt::Formatter<W>) -> fmt::Result {
+        f.write_str(match self {
+            DescError::Bits => "a reading does not have 8 to 64 bits",
+            DescError::Shift => "the shift is above 32",
+            DescError::Mult => "the mult is below 256",
+            DescError::Adjust => "the mult and 11 percent of it do not fit 32 bits",
+            DescError::Rate => "the frequency is 0 Hz or the span is not 1 to 600 seconds",
+        })
+    }
+}
+
+impl Error for DescError {}
