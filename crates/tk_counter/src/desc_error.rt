@@ -1,3 +1,6 @@
+ghost use Rattle.std.specs.Prelude.{Some};
+ghost use Rattle.tk_counter.specs.DescError.{fault_text};
+
 use std::error::Error;
 use std::fmt;
 
@@ -17,6 +20,8 @@ pub enum DescError {
 }
 
 impl fmt::Display for DescError {
+    ghost output = { λ fault. Some (fault_text fault) };
+
     fn fmt<W: fmt::Write>(&self, f: &mut fmt::Formatter<W>) -> fmt::Result {
         f.write_str(match self {
             DescError::Bits => "a reading does not have 8 to 64 bits",
