@@ -1,8 +1,8 @@
 -- The shift that a frequency gets: that there is one, and that its mult is neither long nor short.
 use Rattle.std.proofs.Common.{◌≡◌, ℕ, zero, suc, ◌+◌, ◌*◌, ◌/◌, ◌^◌, ◌<◌, ◌≤◌, ◌⊎◌, ⊎_elim, min, List, [], ◌∷◌, cond, find, Option, Some, refl, ap, arith}
 use Rattle.std.proofs.lemmas.Bool.{cases_lt, lt-ltb, le-ltb}
-use Rattle.std.proofs.lemmas.Nat.{leading_top, mul-le, pow-add, le-div}
-use Rattle.std.proofs.Math.Nat.{mul-le-mul_left, mul-div-le, mul-pos, lt_of_not-le, min-eq_left, min-eq_right, pow-le-pow_right}
+use Rattle.std.proofs.lemmas.Nat.{leading_top, leading_length, mul-le, mul-lt, pow-add, le-div}
+use Rattle.std.proofs.Math.Nat.{mul-le-mul_left, mul-div-le, mul-pos, lt_of_not-le, min-eq_left, min-eq_right, min-le_right, pow-le-pow_right}
 use Rattle.std.specs.Int.{leading_zeros, w64}
 use Rattle.tk_counter.specs.Frequency.{rounded_mult, mult_bits, fits, shifts, chosen_shift}
 
@@ -103,3 +103,17 @@ ample hz maxsec shift above next runs small lasts short reason =
     let enough : 4194304 ≤ rounded_mult hz above = omega arith in
     half_mult hz shift runs (rw next at enough))
     reason
+
+-- with so few bits the cycles of that many seconds convert within a word
+pub converts : (hz maxsec mult : ℕ) → hz < 2 ^ 32 → maxsec ≤ 600 → mult < 2 ^ mult_bits hz maxsec → maxsec * hz * mult < 2 ^ 64
+converts hz maxsec mult small short few =
+    let fits : maxsec * hz < 2 ^ 64 = omega (arith, cycles_low hz maxsec small short) in
+    let zeros = leading_zeros w64 (maxsec * hz) in
+    let top = leading_length 64 (maxsec * hz) fits in
+    let some : 0 < 2 = omega arith in
+    let lower : min 32 zeros ≤ zeros = min-le_right 32 zeros in
+    let bound : 2 ^ min 32 zeros ≤ 2 ^ zeros = pow-le-pow_right some lower in
+    let low : mult < 2 ^ zeros = omega arith in
+    let sum : top.0 + zeros ≡ 64 = omega (arith, top.1) in
+    let whole : 2 ^ top.0 * 2 ^ zeros ≡ 2 ^ 64 = rw (← pow-add 2 top.0 zeros) (ap (λ n. 2 ^ n) sum) in
+    omega (arith, mul-lt (maxsec * hz) mult (2 ^ top.0) (2 ^ zeros) top.2 low)

@@ -1,4 +1,4 @@
-ghost use Rattle.std.specs.Prelude.{◌≡◌, ℕ, ◌+◌, ◌*◌, ◌/◌, ◌^◌, ◌<◌, ◌≤◌, MatchResult, Some, None, find, nat_lt};
+ghost use Rattle.std.specs.Prelude.{◌≡◌, ℕ, ◌+◌, ◌*◌, ◌/◌, ◌^◌, ◌<◌, ◌≤◌, MatchResult, IfOk, Some, None, find, nat_lt};
 ghost use Rattle.tk_counter.specs.Frequency.{rounded_mult, mult_bits, shifts, chosen_shift, described, frequency_fault};
 
 use super::{CounterDesc, NANOS_PER_SECOND, fastest};
@@ -10,9 +10,10 @@ impl CounterDesc {
     /// The shift is the highest whose mult has no more bits than the cycles of `maxsec` seconds leave free in a word
     /// (`clocks_calc_mult_shift`, kernel/time/clocksource.c). Refused with Bits first, and then with Rate.
     pub fn from_hz(bits: u32, hz: u32, maxsec: u32) -> Result<CounterDesc, DescError>
-        ensures { MatchResult result
+        ensures value { MatchResult result
             (λ desc. (described bits hz maxsec ≡ Some desc) × (frequency_fault bits hz maxsec ≡ None))
             (λ fault. frequency_fault bits hz maxsec ≡ Some fault) }
+        ensures converts { IfOk result (λ desc. maxsec * hz * desc.mult < 2 ^ 64) }
     {
         if !(8..=64).contains(&bits) {
             return Err(DescError::Bits);
@@ -43,6 +44,7 @@ fn chosen_shift(hz: u32, maxsec: u32) -> u32
     ensures most { result ≤ 32 }
     ensures fits { rounded_mult hz result < 2 ^ 32 }
     ensures ample { 512 ≤ rounded_mult hz result }
+    ensures converts { maxsec * hz * rounded_mult hz result < 2 ^ 64 }
 {
     let limit = mult_limit(hz, maxsec);
     for shift in (2..33).rev() {

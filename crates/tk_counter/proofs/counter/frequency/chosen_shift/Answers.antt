@@ -1,6 +1,6 @@
 use Rattle.std.proofs.Common.{arith, inl, inr, refl, ◌∙◌, suc, ◌-◌, ◌+◌, ◌≡◌, ◌≤◌, ◌<◌}
 use Rattle.tk_counter.specs.Frequency.{rounded_mult}
-use Rattle.tk_counter.proofs.Frequency.{from_top, found, passed, last_fits, ample}
+use Rattle.tk_counter.proofs.Frequency.{from_top, found, passed, last_fits, ample, converts}
 use Rattle.tk_counter.proofs.counter.frequency.chosen_shift.Goals as goal
 
 pub loop-shift-init : goal.loop-shift-init
@@ -36,3 +36,13 @@ pub returns-clause-ample : goal.returns-clause-ample
 returns-clause-ample c =
     let next : c.loop-shift.shift ≡ 1 + 1 = omega arith in
     ample c.args.hz c.args.maxsec 1 _ next c.requires.runs c.ranges.hz.fits c.requires.lasts c.requires.short (rw c.mult_limit-limit.ensures at c.loop-shift.invariant.above)
+
+pub returns-then-rounded_mult-limit-clause-converts : goal.returns-then-rounded_mult-limit-clause-converts
+returns-then-rounded_mult-limit-clause-converts c =
+    let short : rounded_mult c.args.hz (c.loop-shift.shift - 1) < c.mult_limit-limit.result = omega arith in
+    converts c.args.hz c.args.maxsec _ c.ranges.hz.fits c.requires.short (rw c.mult_limit-limit.ensures at short)
+
+pub returns-clause-converts : goal.returns-clause-converts
+returns-clause-converts c =
+    let short = last_fits c.args.hz c.args.maxsec c.requires.runs c.ranges.hz.fits c.requires.lasts c.requires.short in
+    converts c.args.hz c.args.maxsec _ c.ranges.hz.fits c.requires.short short
