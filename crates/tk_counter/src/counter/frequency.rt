@@ -1,5 +1,5 @@
-ghost use Rattle.std.specs.Prelude.{◌≡◌, ℕ, ◌+◌, ◌*◌, ◌/◌, ◌^◌, ◌<◌, ◌≤◌, MatchResult, IfOk, Some, None, find, nat_lt};
-ghost use Rattle.tk_counter.specs.Frequency.{rounded_mult, mult_bits, shifts, chosen_shift, described, frequency_fault};
+ghost use Rattle.std.specs.Prelude.{◌≡◌, ℕ, ◌+◌, ◌*◌, ◌/◌, ◌^◌, ◌<◌, ◌≤◌, MatchResult, IfOk, Some, None};
+ghost use Rattle.tk_counter.specs.Frequency.{rounded_mult, mult_bits, chosen_shift, described, frequency_fault};
 
 use super::{CounterDesc, NANOS_PER_SECOND, fastest};
 use crate::desc_error::DescError;
@@ -8,7 +8,8 @@ impl CounterDesc {
     /// The counter that runs at `hz` cycles a second, for gaps of up to `maxsec` seconds.
     ///
     /// The shift is the highest whose mult has no more bits than the cycles of `maxsec` seconds leave free in a word
-    /// (`clocks_calc_mult_shift`, kernel/time/clocksource.c). Refused with Bits first, and then with Rate.
+    /// (`clocks_calc_mult_shift`, kernel/time/clocksource.c); a mult with no room for 11 percent more is then halved.
+    /// Refused with Bits first, and then with Rate.
     pub fn from_hz(bits: u32, hz: u32, maxsec: u32) -> Result<CounterDesc, DescError>
         ensures value { MatchResult result
             (λ desc. (described bits hz maxsec ≡ Some desc) × (frequency_fault bits hz maxsec ≡ None))
