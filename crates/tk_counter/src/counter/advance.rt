@@ -50,8 +50,8 @@ impl CounterDesc {
         (units >> self.shift) / NANOS_PER_SECOND
     }
 
-    /// As `advance`, where the units don't fit a word: a long division by the digits that the upper half of `delta`,
-    /// its lower half, and what those two leave make.
+    /// As `advance`, where the units don't fit a word: the upper half of `delta`, its lower half, and what both leave
+    /// are divided in turn.
     ///
     /// A second is `10^9 * 2^shift` units, and `2^32` units of the upper half are `2^(32 - shift)` seconds a
     /// nanosecond:
