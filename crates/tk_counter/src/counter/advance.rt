@@ -15,7 +15,8 @@ impl CounterDesc {
     pub fn advance(&self, frac: u64, delta: u64, mult: u32) -> Option<(u64, u64)>
         requires { frac < second self.now }
         ensures { let units = frac + delta * mult in
-            SomeIff result (units / second self.now < SECONDS_LIMIT) (units / second self.now, units % second self.now) }
+            SomeIff result (units / second self.now < SECONDS_LIMIT)
+            (units / second self.now, units % second self.now) }
     {
         let (seconds, rest) = match word_of(frac, delta, mult) {
             Some(units) => self.split(units),
