@@ -38,6 +38,7 @@ impl Model for Clock {
 }
 
 impl Clock {
+    ghost use Rattle.tk_counter.specs.Counter.{IsCounter};
     ghost use Rattle.tk_clock.specs.Journal.{opened};
     ghost use Rattle.tk_clock.specs.Refusal.{opening_refusal, early_refusal, state_refusal};
     ghost use Rattle.tk_clock.specs.State.{state_of, effect};
@@ -47,10 +48,11 @@ impl Clock {
     ///
     /// Invalid where the reading is above the mask, or where REALTIME may not be set to `real`.
     pub fn open(desc: CounterDesc, reading: u64, real: Timespec) -> Result<Clock, Refusal>
-        ensures { MatchResult result
+        ensures answer { MatchResult result
             (λ clock. (opening_refusal desc reading real ≡ None)
             × (clock ≡ state_of (opened desc reading real)))
             (λ refusal. opening_refusal desc reading real ≡ Some refusal) }
+        ensures counter { IsCounter desc }
     {
         if reading > desc.mask() || !is_settable(real) {
             return Err(Refusal::Invalid);

@@ -1,0 +1,40 @@
+-- What a timekeeper holds.
+use Rattle.std.specs.Prelude.{◌≡◌, ℕ, ◌-◌, ◌^◌, ◌<◌, ◌≤◌, List, length, Option, None, nat_lt, if◌then◌else◌, slice_get}
+use Rattle.tk_clock.specs.declared.command.Entry.{Entry}
+use Rattle.tk_clock.specs.declared.clock_id.ClockId.{ClockId}
+use Rattle.tk_clock.specs.Journal.{Journal, accepted_count}
+use Rattle.tk_clock.specs.Monotonic.{awake_cycles}
+use Rattle.tk_clock.specs.Clocks.{clock_value}
+use Rattle.tk_clock.specs.Honest.{IsHonest, counted_cycles}
+use Rattle.tk_clock.specs.Legal.{IsLegal, folded_opening}
+use Rattle.tk_clock.specs.State.{ReadBase, State, base_value, state_of}
+
+-- its journal
+pub record Keeper : Type 0 where
+  pub journal : Journal
+
+-- the journal that begins with a state, so many commands after the clocks were opened
+abbrev pub journal_from : ℕ → State → List Entry → Journal
+journal_from count start entries = record { opening = folded_opening count start; entries = entries }
+
+-- the journal is legal, the running state is what it comes to, and it isn't overfull
+pub record IsKept (journal : Journal) (state : State) : Type 0 where
+  pub legal : IsLegal journal
+  pub running : state ≡ state_of journal
+  pub room : length journal.entries ≤ 1048576
+  pub counted : accepted_count journal < 2 ^ 63
+
+-- the entry of a number, counted from 1 over all accepted commands; none where it was folded or is yet to come
+abbrev pub entry_at : Journal → ℕ → Option Entry
+entry_at journal number =
+    if nat_lt journal.opening.count number then slice_get journal.entries (number - journal.opening.count - 1) else None
+
+-- a read base gives each clock the journal's own value at every reading
+abbrev pub ReadsAs : Journal → ReadBase → Type 0
+ReadsAs journal base = (clock : ClockId) (reading : ℕ) → base_value base clock reading ≡ clock_value journal clock reading
+
+-- where the counter's readings are true counts, the journal's cycles are true ones
+abbrev pub CountsTrue : Journal → Type 0
+CountsTrue journal =
+    (count : ℕ → ℕ) → IsHonest journal count → (place : ℕ) → place ≤ length journal.entries →
+    awake_cycles journal place ≡ counted_cycles journal count place

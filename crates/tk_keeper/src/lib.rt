@@ -1,0 +1,12 @@
+//! The running clocks of a counter with the journal of all accepted commands.
+//!
+//! | Item | What it is |
+//! |---|---|
+//! | `Timekeeper` | the clocks and their journal: opened at a reading, changed by commands, read by snapshots |
+//!
+//! Units are those of `tk_clock`. Entries are numbered from 1; a front is how many commands were accepted.
+#![tactic(auto)]
+
+mod timekeeper;
+
+pub use timekeeper::Timekeeper;
