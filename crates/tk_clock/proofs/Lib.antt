@@ -14,3 +14,4 @@ pub mod Values
 pub mod Steering
 pub mod Effects
 pub mod Settings
+pub mod Words

@@ -19,23 +19,23 @@ use Rattle.tk_clock.specs.Running.{IsRunning, IsRated}
 use Rattle.tk_clock.proofs.Values.{now_of, real-last, tai-last}
 use Rattle.tk_clock.proofs.Effects.{monotonic-before, told_range, told_invalid, told_none}
 
-is_below : (x y : ℤ) → x <ℤ y → int_lt x y ≡ true
+pub is_below : (x y : ℤ) → x <ℤ y → int_lt x y ≡ true
 is_below x y low = grind (arith, common_steps, ints)
 
 not_below : (x y : ℤ) → y ≤ℤ x → int_lt x y ≡ false
 not_below x y high = grind (arith, common_steps, ints)
 
-below-of : (x y : ℤ) → int_lt x y ≡ true → x <ℤ y
+pub below-of : (x y : ℤ) → int_lt x y ≡ true → x <ℤ y
 below-of x y e = grind (arith, common_steps, ints)
 
 -- what the test of limits says where it passes
-both : (a b c : Bool) → (not a || not b || c) ≡ false → (a ≡ true) × (b ≡ true) × (c ≡ false)
+pub both : (a b c : Bool) → (not a || not b || c) ≡ false → (a ≡ true) × (b ≡ true) × (c ≡ false)
 both true true false e = (refl, refl, refl)
 both true true true e = absurd cc
 both true false c e = absurd cc
 both false b c e = absurd cc
 
-either : (p a b : Bool) → p ≡ false → (not p && (not a || not b)) ≡ false → (a ≡ true) × (b ≡ true)
+pub either : (p a b : Bool) → p ≡ false → (not p && (not a || not b)) ≡ false → (a ≡ true) × (b ≡ true)
 either false true true q e = (refl, refl)
 either false true false q e = absurd cc
 either false false b q e = absurd cc

@@ -14,3 +14,4 @@ pub mod Honest
 pub mod Effect
 pub mod Run
 pub mod Snapshot
+pub mod Words

@@ -26,6 +26,12 @@ slowest counter = multiplier counter (neg_ℤ (pos 32768000)) (pos 9000)
 abbrev pub IsRated : ReadBase → Type 0
 IsRated base = base.raw_amount * slowest base.counter ≤ base.amount * base.counter.mult
 
+-- no clock is at its limit at the last reading
+pub record IsWithin (base : ReadBase) : Type 0 where
+  pub real_low : base_value base Realtime base.last <ℤ limit Realtime
+  pub boot_low : base_value base Boottime base.last <ℤ limit Boottime
+  pub tai_low : base_value base Tai base.last <ℤ limit Tai
+
 -- the running clocks: the multiplier is that of the frequency and tick, and each clock is below its limit
 pub record IsRunning (base : ReadBase) (frequency tick : ℤ) : Type 0 where
   pub steered : base.mult ≡ multiplier base.counter frequency tick

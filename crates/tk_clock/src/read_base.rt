@@ -81,7 +81,9 @@ impl ReadBase {
     ghost use Rattle.tk_clock.specs.Refusal.{read_refusal};
     ghost use Rattle.tk_clock.specs.State.{base_cycles, base_monotonic, base_raw, base_value, forwarded};
     ghost use Rattle.tk_clock.specs.Time.{nanoseconds};
-    ghost use Rattle.tk_clock.specs.Running.{IsRated, slowest};
+    ghost use Rattle.tk_clock.specs.Running.{IsRated, IsWithin, slowest};
+    ghost use Rattle.tk_clock.specs.Amount.{amount_of};
+    ghost use Rattle.tk_clock.specs.Words.{words_of, restored};
 
     /// Does a reading lie behind the last one?
     pub fn is_behind(&self, reading: u64) -> bool
@@ -120,6 +122,41 @@ impl ReadBase {
     {
         let cycles = self.cycles_since(reading);
         self.raw.nanos_after(&self.desc, cycles, self.desc.mult())
+    }
+
+    /// MONOTONIC at the last reading.
+    pub fn monotonic_amount(&self) -> Amount
+        ensures { result ≡ amount_of self.now.counter self.now.amount }
+    {
+        self.monotonic
+    }
+
+    /// MONOTONIC_RAW at the last reading.
+    pub fn raw_amount(&self) -> Amount
+        ensures { result ≡ amount_of self.now.counter self.now.raw_amount }
+    {
+        self.raw
+    }
+
+    /// The base and a front as ten words.
+    pub fn words(&self, front: u64) -> [u64; 10]
+        ensures value { result ≡ words_of (record { front = front; base = self.now }) }
+        ensures back { IsWithin self.now → restored self.now.counter
+            (words_of (record { front = front; base = self.now }))
+            ≡ Some (record { front = front; base = self.now }) }
+    {
+        [
+            front,
+            self.last,
+            u64::from(self.mult),
+            self.monotonic.frac,
+            self.monotonic.sec,
+            self.real_offset,
+            self.boot_offset,
+            u64::from(self.tai) * 2 + u64::from(self.asleep),
+            self.raw.frac,
+            self.raw.sec,
+        ]
     }
 
     /// MONOTONIC at the last reading, in ns.

@@ -1,0 +1,61 @@
+-- A snapshot as ten words, for a page that readers take without the lock.
+use Rattle.std.specs.Prelude.{ℕ, ◌+◌, ◌*◌, ◌/◌, ◌%◌, ◌==◌, pos, unsigned_abs, List, [], ◌∷◌, slice_index, Bool, ◌&&◌, nat_lt, nat_le, int_lt, Option, Some, None, if◌then◌else◌}
+use Rattle.tk_counter.specs.Counter.{Counter, mask, fastest, second}
+use Rattle.tk_clock.specs.declared.clock_id.ClockId.TheVariants.{Realtime, Boottime, Tai as TaiClock}
+use Rattle.tk_clock.specs.State.{ReadBase, base_value}
+use Rattle.tk_clock.specs.Limits.{limit}
+use Rattle.tk_clock.specs.Snapshot.{Snapshot}
+
+-- MONOTONIC and MONOTONIC_RAW as what is below a second, in units of 2^-shift nanoseconds, and seconds; the offsets of
+-- REALTIME and BOOTTIME in nanoseconds; and the TAI offset times 2, plus 1 while asleep
+abbrev pub words_of : Snapshot → List ℕ
+words_of snapshot =
+    let base = snapshot.base in
+    snapshot.front ∷ base.last ∷ base.mult
+    ∷ (base.amount % second base.counter) ∷ (base.amount / second base.counter)
+    ∷ unsigned_abs base.real_offset ∷ unsigned_abs base.boot_offset
+    ∷ (unsigned_abs base.tai * 2 + (if base.asleep then 1 else 0))
+    ∷ (base.raw_amount % second base.counter) ∷ (base.raw_amount / second base.counter)
+    ∷ []
+
+-- the TAI offset that words tell, in seconds
+abbrev pub tai_told : List ℕ → ℕ
+tai_told words = slice_index words 7 / 2
+
+-- does each word lie in its range?
+unfoldable pub are_in_range : Counter → List ℕ → Bool
+are_in_range counter words =
+    nat_le (slice_index words 1) (mask counter)
+    && nat_le 1 (slice_index words 2) && nat_le (slice_index words 2) (fastest counter)
+    && nat_lt (slice_index words 3) (second counter) && nat_lt (slice_index words 4) 946080000
+    && nat_le (tai_told words) 100000
+    && nat_lt (slice_index words 8) (second counter) && nat_lt (slice_index words 9) 1060000000
+
+-- the snapshot that they tell
+abbrev pub snapshot_told : Counter → List ℕ → Snapshot
+snapshot_told counter words = record {
+  front = slice_index words 0;
+  base = record {
+    counter = counter;
+    last = slice_index words 1;
+    mult = slice_index words 2;
+    amount = slice_index words 4 * second counter + slice_index words 3;
+    raw_amount = slice_index words 9 * second counter + slice_index words 8;
+    real_offset = pos (slice_index words 5);
+    boot_offset = pos (slice_index words 6);
+    tai = pos (tai_told words);
+    asleep = slice_index words 7 % 2 == 1;
+  };
+}
+
+-- are REALTIME, BOOTTIME and TAI below their limits at the last reading?
+unfoldable pub is_within : ReadBase → Bool
+is_within base =
+    int_lt (base_value base Boottime base.last) (limit Boottime)
+    && int_lt (base_value base Realtime base.last) (limit Realtime)
+    && int_lt (base_value base TaiClock base.last) (limit TaiClock)
+
+-- the snapshot that words tell, if they tell one
+abbrev pub restored : Counter → List ℕ → Option Snapshot
+restored counter words =
+    if are_in_range counter words && is_within (snapshot_told counter words).base then Some (snapshot_told counter words) else None
