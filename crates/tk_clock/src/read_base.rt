@@ -200,7 +200,8 @@ impl ReadBase {
     pub fn get(&self, clock: ClockId, reading: u64) -> Result<Timespec, ReadError>
         ensures { MatchResult result
             (λ time. (read_refusal self.now clock reading ≡ None)
-            × (nanoseconds time ≡ base_value self.now clock reading) × (time.nsec < 10 ^ 9))
+            × (nanoseconds time ≡ base_value self.now clock reading) × (time.nsec < 10 ^ 9)
+            × (pos 0 ≤ℤ time.sec))
             (λ refusal. read_refusal self.now clock reading ≡ Some refusal) }
     {
         if reading > self.desc.mask() {

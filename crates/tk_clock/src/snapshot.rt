@@ -1,4 +1,4 @@
-ghost use Rattle.std.specs.Prelude.{◌≡◌, ◌/◌, ◌%◌, ◌^◌, ◌<◌, pos, MatchResult, Some, None};
+ghost use Rattle.std.specs.Prelude.{◌≡◌, ◌/◌, ◌%◌, ◌^◌, ◌<◌, pos, ◌≤ℤ◌, MatchResult, Some, None};
 
 mod words;
 
@@ -46,7 +46,8 @@ impl Snapshot {
     pub fn get(&self, clock: ClockId, reading: u64) -> Result<Timespec, ReadError>
         ensures { MatchResult result
             (λ time. (read_refusal self.now.base clock reading ≡ None)
-            × (nanoseconds time ≡ base_value self.now.base clock reading) × (time.nsec < 10 ^ 9))
+            × (nanoseconds time ≡ base_value self.now.base clock reading) × (time.nsec < 10 ^ 9)
+            × (pos 0 ≤ℤ time.sec))
             (λ refusal. read_refusal self.now.base clock reading ≡ Some refusal) }
     {
         self.base.get(clock, reading)
