@@ -1,0 +1,4 @@
+pub mod RecordLemmas
+pub mod ReadingLemmas
+pub mod RowLemmas
+pub mod GrammarLemmas

@@ -1,0 +1,43 @@
+-- The fields of a record, read from left to right: each is what its place wants, or the record's fault.
+use Rattle.std.specs.Prelude.{ℕ, ℤ, ◌+◌, List, [], Option, Result, Ok, Err, unwrap_or}
+use Rattle.std.specs.Option.{ok_or}
+use Rattle.csv.specs.Records.{field_at}
+use Rattle.tk_clock.specs.declared.clock_id.ClockId.{ClockId}
+use Rattle.tk_clock.specs.declared.timespec.Timespec.{Timespec}
+use Rattle.tk_script.specs.Number.{number_of, number32_of, signed_of}
+use Rattle.tk_script.specs.Word.{clock_of}
+use Rattle.tk_script.specs.declared.script_error.ScriptError.{ScriptError}
+use Rattle.tk_script.specs.declared.script_error.ScriptError.TheVariants as errors
+
+-- go on with what was read, or stop at its fault
+infixl 10 ◌>>=◌
+abbrev pub ◌>>=◌ : {A B : Type 0} → Result A ScriptError → (A → Result B ScriptError) → Result B ScriptError
+(Ok x) >>= f = f x
+(Err e) >>= f = Err e
+
+-- the field at a place, counted from 0; no bytes behind the last
+abbrev pub field : List (List ℕ) → ℕ → List ℕ
+field fields i = unwrap_or (field_at fields i) []
+
+-- a number of 64 bits in the record `row`
+abbrev pub number_at : ℕ → List (List ℕ) → ℕ → Result ℕ ScriptError
+number_at row fields i = ok_or (number_of (field fields i)) (errors.Number row)
+
+-- a number of 32 bits
+abbrev pub number32_at : ℕ → List (List ℕ) → ℕ → Result ℕ ScriptError
+number32_at row fields i = ok_or (number32_of (field fields i)) (errors.Number row)
+
+-- a signed number of 64 bits
+abbrev pub signed_at : ℕ → List (List ℕ) → ℕ → Result ℤ ScriptError
+signed_at row fields i = ok_or (signed_of (field fields i)) (errors.Number row)
+
+-- seconds, and in the next field nanoseconds
+unfoldable pub time_at : ℕ → List (List ℕ) → ℕ → Result Timespec ScriptError
+time_at row fields i = do
+  sec ← signed_at row fields i
+  nsec ← number32_at row fields (i + 1)
+  Ok (record { sec = sec; nsec = nsec })
+
+-- a clock's word
+abbrev pub clock_at : ℕ → List (List ℕ) → ℕ → Result ClockId ScriptError
+clock_at row fields i = ok_or (clock_of (field fields i)) (errors.Word row)

@@ -1,0 +1,11 @@
+pub mod Number
+pub mod Word
+pub mod Field
+pub mod Opening
+pub mod Rows
+pub mod Records
+pub mod Reading
+pub mod Grammar
+pub mod Script
+pub mod Utc
+pub mod Lines

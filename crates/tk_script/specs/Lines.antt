@@ -1,0 +1,47 @@
+-- The lines of a report.
+use Rattle.std.specs.Prelude.{◌≡◌, ℕ, ◌<◌, List, ◌++◌, codes, decimal, pos, unsigned_abs}
+use Rattle.tk_counter.specs.Counter.{Counter}
+use Rattle.tk_clock.specs.declared.timespec.Timespec.{Timespec}
+use Rattle.tk_clock.specs.declared.clock_id.ClockId.{ClockId}
+use Rattle.tk_clock.specs.declared.clock_id.ClockId.TheVariants.{Realtime, RealtimeCoarse}
+use Rattle.tk_clock.specs.declared.refusal.Refusal.{Refusal}
+use Rattle.tk_script.specs.Word.{clock_name, refusal_name}
+use Rattle.tk_script.specs.Utc.{nine_digits, IsUtcText}
+
+-- a time that can be written: 0 to 9,223,372,035 seconds, and fewer than 10^9 nanoseconds
+abbrev pub IsWritable : Timespec → Type 0
+IsWritable time =
+    (unsigned_abs time.sec < 9223372036) × (time.sec ≡ pos (unsigned_abs time.sec)) × (time.nsec < 1000000000)
+
+-- seconds, a dot, and nanoseconds in nine digits
+abbrev pub time_text : Timespec → List ℕ
+time_text time = decimal (unsigned_abs time.sec) ++ codes "." ++ nine_digits time.nsec
+
+-- the opening: `open,BITS,MULT,SHIFT`
+abbrev pub open_line : Counter → List ℕ
+open_line counter =
+    codes "open," ++ decimal counter.bits ++ codes "," ++ decimal counter.mult ++ codes "," ++ decimal counter.shift
+    ++ codes "\n"
+
+-- an accepted command: `ok,NUMBER,TIME`
+abbrev pub ok_line : ℕ → Timespec → List ℕ
+ok_line n time = codes "ok," ++ decimal n ++ codes "," ++ time_text time ++ codes "\n"
+
+-- a refusal: `no,WORD`
+abbrev pub no_line : Refusal → List ℕ
+no_line refusal = codes "no," ++ refusal_name refusal ++ codes "\n"
+
+-- a clock's time, without the line's end: `at,CLOCK,TIME`
+abbrev pub at_text : ClockId → Timespec → List ℕ
+at_text clock time = codes "at," ++ clock_name clock ++ codes "," ++ time_text time
+
+-- the same with the time as UTC text: `at,CLOCK,TIME,UTC`
+abbrev pub IsUtcLine : ClockId → Timespec → List ℕ → Type 0
+IsUtcLine clock time text = (utc : List ℕ) × IsUtcText (unsigned_abs time.sec) time.nsec utc
+    × (text ≡ at_text clock time ++ codes "," ++ utc ++ codes "\n")
+
+-- a clock's time: with UTC text for the clocks that count from 1970, and else without
+abbrev pub IsAtLine : ClockId → Timespec → List ℕ → Type 0
+IsAtLine Realtime time text = IsUtcLine Realtime time text
+IsAtLine RealtimeCoarse time text = IsUtcLine RealtimeCoarse time text
+IsAtLine clock time text = text ≡ at_text clock time ++ codes "\n"

@@ -1,0 +1,24 @@
+-- What a reader of a script's bytes has left.
+use Rattle.std.specs.Prelude.{◌≡◌, ℕ, List, [], ◌∷◌, Option, Some, Bool, true, false, option_map}
+use Rattle.std.specs.Borrow.{Bor}
+use Rattle.csv.specs.Reading.{Ready, default_config, reader_config, reader_state, reader_trim, source_of}
+use Rattle.csv.specs.declared.reader.Reader.{Reader}
+use Rattle.csv.specs.declared.reader.Trim.TheVariants as trim
+use Rattle.tk_script.specs.Records.{records_after}
+
+-- a reader of bytes in memory
+abbrev pub SliceReader : Type 0
+SliceReader = Reader (Bor (List ℕ))
+
+-- each read is of one record, by the crate's defaults, and trims nothing
+abbrev pub IsReading : SliceReader → Type 0
+IsReading reader = (reader_trim reader ≡ trim.None) × Ready reader × (reader_config reader ≡ default_config)
+
+-- the records that are left, where the reader has not failed
+abbrev pub left_of : SliceReader → Option (List (List (List ℕ)))
+left_of reader = option_map (records_after (reader_state reader)) (source_of (λ bytes. Some bytes.now) reader)
+
+-- a read found a record with these fields and left the others, or there was none
+abbrev pub Takes : Bool → List (List ℕ) → List (List (List ℕ)) → Option (List (List (List ℕ))) → Type 0
+Takes true fields records left = (rest : List (List (List ℕ))) × (records ≡ fields ∷ rest) × (left ≡ Some rest)
+Takes false fields records left = records ≡ []

@@ -1,0 +1,27 @@
+-- A time as UTC text, in digits.
+use Rattle.std.specs.Prelude.{◌≡◌, ℕ, ◌+◌, ◌/◌, ◌%◌, List, [], ◌∷◌, ◌++◌, codes, pos}
+use Rattle.jiff.specs.Types.{Date}
+use Rattle.jiff.specs.Words.{date_text, epoch_day}
+
+-- a number below 100 in two digits
+abbrev pub two_digits : ℕ → List ℕ
+two_digits n = (48 + n / 10) ∷ (48 + n % 10) ∷ []
+
+-- a number below 10^4 in four digits
+abbrev pub four_digits : ℕ → List ℕ
+four_digits n = two_digits (n / 100) ++ two_digits (n % 100)
+
+-- a number below 10^9 in nine digits
+abbrev pub nine_digits : ℕ → List ℕ
+nine_digits n = (48 + n / 100000000) ∷ four_digits (n / 10000 % 10000) ++ four_digits (n % 10000)
+
+-- `hh:mm:ss.nnnnnnnnn` for a second of a day, and nanoseconds
+abbrev pub time_of_day : ℕ → ℕ → List ℕ
+time_of_day second nsec =
+    two_digits (second / 3600) ++ codes ":" ++ two_digits (second / 60 % 60) ++ codes ":" ++ two_digits (second % 60)
+    ++ codes "." ++ nine_digits nsec
+
+-- `YYYY-MM-DDThh:mm:ss.nnnnnnnnnZ`, where the date is that day of the calendar, counted from 1970-01-01
+abbrev pub IsUtcText : ℕ → ℕ → List ℕ → Type 0
+IsUtcText sec nsec text = (date : Date) × (epoch_day date ≡ pos (sec / 86400))
+    × (text ≡ date_text date ++ codes "T" ++ time_of_day (sec % 86400) nsec ++ codes "Z")

@@ -1,0 +1,37 @@
+-- The words of a script, and of a report.
+use Rattle.std.specs.Prelude.{ℕ, List, Option, Some, None, Bool, nat_eq, if◌then◌else◌, codes}
+use Rattle.std.specs.Cmp.Lexicographic.{pointwise}
+use Rattle.tk_clock.specs.declared.clock_id.ClockId.{ClockId}
+use Rattle.tk_clock.specs.declared.clock_id.ClockId.TheVariants.{Realtime, Monotonic, Boottime, Tai, RealtimeCoarse, MonotonicCoarse, MonotonicRaw}
+use Rattle.tk_clock.specs.declared.refusal.Refusal.{Refusal}
+use Rattle.tk_clock.specs.declared.refusal.Refusal.TheVariants.{Full, Asleep, Awake, Invalid, Behind, Range, Memory}
+
+-- are these bytes the word?
+abbrev pub is_word : List ℕ → List ℕ → Bool
+is_word bytes word = pointwise nat_eq bytes word
+
+-- a clock's word
+abbrev pub clock_name : ClockId → List ℕ
+clock_name Realtime = codes "realtime"
+clock_name Monotonic = codes "monotonic"
+clock_name Boottime = codes "boottime"
+clock_name Tai = codes "tai"
+clock_name RealtimeCoarse = codes "realtime_coarse"
+clock_name MonotonicCoarse = codes "monotonic_coarse"
+clock_name MonotonicRaw = codes "monotonic_raw"
+
+-- the clock that a script may read by this word
+abbrev pub clock_of : List ℕ → Option ClockId
+clock_of word =
+    if is_word word (codes "monotonic") then Some Monotonic
+    else None
+
+-- a refusal's word
+abbrev pub refusal_name : Refusal → List ℕ
+refusal_name Full = codes "full"
+refusal_name Asleep = codes "asleep"
+refusal_name Awake = codes "awake"
+refusal_name Invalid = codes "invalid"
+refusal_name Behind = codes "behind"
+refusal_name Range = codes "range"
+refusal_name Memory = codes "memory"

@@ -1,0 +1,63 @@
+ghost use Rattle.std.specs.Prelude.{◌≡◌, ◌+◌, ◌<◌, ◌^◌};
+ghost use Rattle.csv.specs.Records.{fields_of};
+ghost use Rattle.tk_script.specs.Word.{is_word};
+ghost use Rattle.tk_script.specs.Field as spec;
+
+use crate::numbers::{number, number32, signed};
+use crate::script_error::ScriptError;
+use crate::words::clock_word;
+use csv::ByteRecord;
+use tk_clock::{ClockId, Timespec};
+
+/// Are these bytes the word?
+pub(crate) fn has_word(bytes: &[u8], word: &[u8]) -> bool
+    ensures { result ≡ is_word bytes.now word.now }
+{
+    bytes == word
+}
+
+/// The field at a place, or no bytes behind the last one.
+pub(crate) fn field(fields: &ByteRecord, i: usize) -> &[u8]
+    ensures { result.now ≡ spec.field (fields_of fields.now) i }
+{
+    fields.get(i).unwrap_or(&[])
+}
+
+/// A number of 64 bits in the record `row`.
+pub(crate) fn number_at(row: u64, fields: &ByteRecord, i: usize) -> Result<u64, ScriptError>
+    ensures { result ≡ spec.number_at row (fields_of fields.now) i }
+{
+    number(field(fields, i)).ok_or(ScriptError::Number { row })
+}
+
+/// A number of 32 bits.
+pub(crate) fn number32_at(row: u64, fields: &ByteRecord, i: usize) -> Result<u32, ScriptError>
+    ensures { result ≡ spec.number32_at row (fields_of fields.now) i }
+{
+    number32(field(fields, i)).ok_or(ScriptError::Number { row })
+}
+
+/// A signed number of 64 bits.
+fn signed_at(row: u64, fields: &ByteRecord, i: usize) -> Result<i64, ScriptError>
+    ensures { result ≡ spec.signed_at row (fields_of fields.now) i }
+{
+    signed(field(fields, i)).ok_or(ScriptError::Number { row })
+}
+
+/// Seconds, and in the next field nanoseconds.
+#[tactic(auto, unfolding(crate::specs::Field::time_at))]
+pub(crate) fn time_at(row: u64, fields: &ByteRecord, i: usize) -> Result<Timespec, ScriptError>
+    requires { i < 2 ^ 32 }
+    ensures { result ≡ spec.time_at row (fields_of fields.now) i }
+{
+    let sec = signed_at(row, fields, i)?;
+    let nsec = number32_at(row, fields, i + 1)?;
+    Ok(Timespec { sec, nsec })
+}
+
+/// A clock's word.
+pub(crate) fn clock_at(row: u64, fields: &ByteRecord, i: usize) -> Result<ClockId, ScriptError>
+    ensures { result ≡ spec.clock_at row (fields_of fields.now) i }
+{
+    clock_word(field(fields, i)).ok_or(ScriptError::Word { row })
+}

@@ -1,0 +1,78 @@
+ghost use Rattle.std.specs.Prelude.{◌≡◌, length, is_none, Some, None};
+ghost use Rattle.csv.specs.Records.{fields_of};
+ghost use Rattle.tk_counter.specs.Counter.{Counter};
+ghost use Rattle.tk_clock.specs.Refusal.{opening_refusal};
+ghost use Rattle.tk_script.specs.Opening as spec;
+
+use crate::fields::{field, has_word, number_at, number32_at, time_at};
+use crate::script_error::ScriptError;
+use csv::ByteRecord;
+use tk_clock::Timespec;
+use tk_counter::CounterDesc;
+
+/// How the clocks are opened: the counter, its reading in cycles, and the real time there.
+#[derive(Clone, Copy)]
+pub(crate) struct Start {
+    pub(crate) desc: CounterDesc,
+    pub(crate) reading: u64,
+    pub(crate) real: Timespec,
+}
+
+/// The opening that the first record tells, by its word.
+#[tactic(auto, unfolding(crate::specs::Opening::start_of))]
+pub(crate) fn read_start(fields: &ByteRecord) -> Result<Start, ScriptError>
+    ensures { result ≡ spec.start_of (fields_of fields.now) }
+{
+    if has_word(field(fields, 0), b"open") {
+        read_open(fields)
+    } else {
+        Err(ScriptError::Opening { row: 1 })
+    }
+}
+
+/// `open` with bits, mult, shift, reading, sec and nsec.
+#[tactic(auto, unfolding(crate::specs::Opening::open_of))]
+fn read_open(fields: &ByteRecord) -> Result<Start, ScriptError>
+    ensures { result ≡ spec.open_of (fields_of fields.now) }
+{
+    if fields.len() != 7 {
+        return Err(ScriptError::Fields { row: 1 });
+    }
+    let bits = number32_at(1, fields, 1)?;
+    let mult = number32_at(1, fields, 2)?;
+    let shift = number32_at(1, fields, 3)?;
+    let reading = number_at(1, fields, 4)?;
+    let real = time_at(1, fields, 5)?;
+    let desc = described(bits, mult, shift)?;
+    started(desc, reading, real)
+}
+
+/// The counter of these numbers, if they describe one.
+fn described(bits: u32, mult: u32, shift: u32) -> Result<CounterDesc, ScriptError>
+    ensures { result ≡ spec.described (record { bits = bits; mult = mult; shift = shift }) }
+{
+    CounterDesc::new(bits, mult, shift).map_err(|_| ScriptError::Opening { row: 1 })
+}
+
+/// The opening with this counter, reading and real time, if clocks can be opened so.
+fn started(desc: CounterDesc, reading: u64, real: Timespec) -> Result<Start, ScriptError>
+    ensures { result ≡ spec.started desc reading real }
+{
+    if can_open(&desc, reading, real) {
+        Ok(Start {
+            desc,
+            reading,
+            real,
+        })
+    } else {
+        Err(ScriptError::Opening { row: 1 })
+    }
+}
+
+/// Is the reading within the mask, and the time one that may be set?
+#[tactic(auto, unfolding(tk_clock::specs::Limits::is_settable))]
+fn can_open(desc: &CounterDesc, reading: u64, real: Timespec) -> bool
+    ensures { result ≡ is_none (opening_refusal desc.now reading real) }
+{
+    reading <= desc.mask() && real.sec >= 0 && real.sec < 8_277_292_036 && real.nsec < 1_000_000_000
+}

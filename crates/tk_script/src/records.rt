@@ -1,0 +1,36 @@
+ghost use Rattle.std.specs.Prelude.{◌≡◌, ℕ, List, Some, true, IfOk, IfErr};
+ghost use Rattle.csv.specs.Records.{fields_of};
+ghost use Rattle.tk_script.specs.Reading.{IsReading, Takes, left_of};
+ghost use Rattle.tk_script.specs.Records.{records_of};
+
+use crate::script_error::ScriptError;
+use csv::{ByteRecord, Reader, ReaderBuilder};
+use std::alloc::Global;
+
+/// A reader of the bytes by the crate's defaults, but that no record is a header and that lengths may differ.
+pub(crate) fn open_reader(alloc: Global, bytes: &[u8]) -> Reader<&[u8]>
+    ensures reading { IsReading result }
+    ensures left { left_of result ≡ Some (records_of bytes.now) }
+{
+    ReaderBuilder::new()
+        .has_headers(false)
+        .flexible(true)
+        .from_reader(alloc, bytes)
+}
+
+/// Reads the next record, if there is one. From bytes in memory a read fails for want of memory alone.
+pub(crate) fn next_fields(
+    reader: &mut Reader<&[u8]>,
+    fields: &mut ByteRecord,
+) -> Result<bool, ScriptError>
+    requires { IsReading reader.old }
+    ensures reading { IfOk result (λ found. found ≡ true → IsReading reader.new) }
+    ensures takes { IfOk result (λ found. (rs : List (List (List ℕ))) → left_of reader.old ≡ Some rs
+        → Takes found (fields_of fields.new) rs (left_of reader.new)) }
+    ensures err { IfErr result (λ e. e ≡ ScriptError.Memory) }
+{
+    match reader.read_byte_record(fields) {
+        Ok(found) => Ok(found),
+        Err(_) => Err(ScriptError::Memory),
+    }
+}

@@ -1,0 +1,46 @@
+ghost use Rattle.std.specs.Prelude.{◌≡◌};
+ghost use Rattle.tk_script.specs.Word.{clock_of, clock_name, refusal_name};
+
+use crate::fields::has_word;
+use tk_clock::{ClockId, Refusal};
+
+/// The clock that a script reads by this word, if it is one.
+pub fn clock_word(word: &[u8]) -> Option<ClockId>
+    ensures { result ≡ clock_of word.now }
+{
+    if has_word(word, b"monotonic") {
+        Some(ClockId::Monotonic)
+    } else {
+        None
+    }
+}
+
+/// A clock's word.
+pub(crate) fn word_of_clock(clock: ClockId) -> &'static [u8]
+    ensures { result.now ≡ clock_name clock }
+{
+    match clock {
+        ClockId::Realtime => b"realtime",
+        ClockId::Monotonic => b"monotonic",
+        ClockId::Boottime => b"boottime",
+        ClockId::Tai => b"tai",
+        ClockId::RealtimeCoarse => b"realtime_coarse",
+        ClockId::MonotonicCoarse => b"monotonic_coarse",
+        ClockId::MonotonicRaw => b"monotonic_raw",
+    }
+}
+
+/// A refusal's word.
+pub(crate) fn word_of_refusal(refusal: Refusal) -> &'static [u8]
+    ensures { result.now ≡ refusal_name refusal }
+{
+    match refusal {
+        Refusal::Full => b"full",
+        Refusal::Asleep => b"asleep",
+        Refusal::Awake => b"awake",
+        Refusal::Invalid => b"invalid",
+        Refusal::Behind => b"behind",
+        Refusal::Range => b"range",
+        Refusal::Memory => b"memory",
+    }
+}
