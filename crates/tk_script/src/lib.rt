@@ -11,6 +11,7 @@
 //! Units: readings in cycles; times in seconds and nanoseconds; records are counted from 1, fields from 0.
 #![tactic(auto)]
 
+mod at_lines;
 mod calendar;
 mod fields;
 mod lines;
@@ -23,10 +24,14 @@ mod script_error;
 mod text;
 mod words;
 
+pub use at_lines::line_at;
 pub use calendar::utc;
-pub use lines::{line_at, line_no, line_ok, line_open};
+pub use lines::{line_no, line_ok, line_open};
 pub use numbers::number;
 pub use row::Row;
 pub use script::Script;
 pub use script_error::ScriptError;
 pub use words::clock_word;
+
+#[cfg(test)]
+mod tests;

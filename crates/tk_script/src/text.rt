@@ -39,6 +39,22 @@ pub(crate) fn add_time(out: &mut Vec<u8>, time: Timespec) -> Result<(), ScriptEr
     add(out, &nine_digits_of(time.nsec))
 }
 
+/// Takes back what was added behind the first `len` bytes, where the adding failed.
+pub(crate) fn undo_if_err(
+    out: &mut Vec<u8>,
+    len: usize,
+    added: Result<(), ScriptError>,
+) -> Result<(), ScriptError>
+    ensures same { result ≡ added }
+    ensures ok { OnOk added (out.new.items ≡ out.old.items) }
+    ensures err { OnErr added (out.new.items ≡ take len out.old.items) }
+{
+    if added.is_err() {
+        out.truncate(len);
+    }
+    added
+}
+
 /// A number below 100 in two digits.
 pub(crate) fn two_digits_of(n: u32) -> [u8; 2]
     requires { n < 100 }

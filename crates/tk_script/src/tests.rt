@@ -1,0 +1,3 @@
+mod faults;
+mod lines;
+mod scripts;

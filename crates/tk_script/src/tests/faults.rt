@@ -1,0 +1,123 @@
+use crate::{Script, ScriptError};
+use std::alloc::Global;
+use std::test::Fail;
+
+const OPENING: &[u8] = b"open,32,16777216,24,0,1700000000,0\n";
+
+/// The fault of a script. Refused memory, or no fault, ends the test by an error of its own.
+fn fault(alloc: Global, bytes: &[u8]) -> Result<ScriptError, Fail> {
+    match Script::from_bytes(alloc, bytes) {
+        Ok(_) => Err("no fault")?,
+        Err(ScriptError::Memory) => Err(ScriptError::Memory)?,
+        Err(fault) => Ok(fault),
+    }
+}
+
+fn fault_after_opening(alloc: Global, records: &[u8]) -> Result<ScriptError, Fail> {
+    let mut bytes = OPENING.to_vec(alloc)?;
+    bytes.extend_from_slice(records)?;
+    fault(alloc, bytes.as_slice())
+}
+
+#[test]
+fn tells_the_fault_of_the_first_record(rt: HostRuntime) -> Result<(), Fail> {
+    let opening = ScriptError::Opening { row: 1 };
+    let fields = ScriptError::Fields { row: 1 };
+    let number = ScriptError::Number { row: 1 };
+    for (bytes, want) in [
+        (b"".as_slice(), ScriptError::Empty),
+        (b"\n\r\n".as_slice(), ScriptError::Empty),
+        (b"update,0".as_slice(), opening),
+        (b"openhz,32,24000000,600,0,0,0".as_slice(), opening),
+        (b"\"".as_slice(), opening),
+        (b"\"\"".as_slice(), opening),
+        (b"\xff".as_slice(), opening),
+        (b"\"open,32,16777216,24,0,1700000000,0".as_slice(), opening),
+        (b"open,7,16777216,24,0,1700000000,0".as_slice(), opening),
+        (
+            b"open,32,16777216,24,4294967296,1700000000,0".as_slice(),
+            opening,
+        ),
+        (b"open,32,16777216,24,0,8277292036,0".as_slice(), opening),
+        (b"open,32,16777216,24,0,-1,0".as_slice(), opening),
+        (b"open,32,16777216,24,0,0,1000000000".as_slice(), opening),
+        (b"open,32,16777216,24,0,1700000000".as_slice(), fields),
+        (b"open,32,4294967296,24,0,1700000000,0".as_slice(), number),
+        (
+            b"open,32,16777216,24,0,9223372036854775808,0".as_slice(),
+            number,
+        ),
+        (b"open,7,16777216,24,0,1700000000,-0".as_slice(), number),
+    ] {
+        assert_eq!(rt; fault(rt.alloc(), bytes)?, want);
+    }
+    Ok(())
+}
+
+#[test]
+fn tells_the_fault_of_a_later_record(rt: HostRuntime) -> Result<(), Fail> {
+    let word = ScriptError::Word { row: 2 };
+    let fields = ScriptError::Fields { row: 2 };
+    let number = ScriptError::Number { row: 2 };
+    for (records, want) in [
+        (b"updat,0".as_slice(), word),
+        (b"updat,0,0".as_slice(), word),
+        (OPENING, word),
+        (b"tai,0,1".as_slice(), word),
+        (b"\"\"".as_slice(), word),
+        (b"update".as_slice(), fields),
+        (b"update,1,1".as_slice(), fields),
+        (b"get,x".as_slice(), fields),
+        (b"update, 1".as_slice(), number),
+        (b"update,+1".as_slice(), number),
+        (b"update,".as_slice(), number),
+        (b"update,18446744073709551616".as_slice(), number),
+        (b"update,\"7\nget,1,foo".as_slice(), number),
+        (b"get,x,foo".as_slice(), number),
+        (b"get,1,foo".as_slice(), word),
+        (
+            b"update,1\nget,1,tai".as_slice(),
+            ScriptError::Word { row: 3 },
+        ),
+        (b"update\ntai".as_slice(), fields),
+    ] {
+        assert_eq!(rt; fault_after_opening(rt.alloc(), records)?, want);
+    }
+    Ok(())
+}
+
+#[test]
+fn refuses_a_script_by_its_length(rt: HostRuntime) -> Result<(), Fail> {
+    let bytes = vec![in rt.alloc(); b'\n'; 16_777_217]?;
+    assert_eq!(rt; fault(rt.alloc(), bytes.as_slice())?, ScriptError::TooLarge);
+    assert_eq!(rt;
+        fault(rt.alloc(), &bytes.as_slice()[1..])?,
+        ScriptError::Empty
+    );
+    Ok(())
+}
+
+#[test]
+fn shows_each_fault(rt: HostRuntime) -> Result<(), Fail> {
+    for (fault, want) in [
+        (ScriptError::TooLarge, "larger than 16777216 bytes"),
+        (ScriptError::Empty, "no record"),
+        (
+            ScriptError::Opening { row: 1 },
+            "record 1: not a valid opening",
+        ),
+        (ScriptError::Word { row: 2 }, "record 2: unknown word"),
+        (
+            ScriptError::Fields { row: 3 },
+            "record 3: wrong number of fields",
+        ),
+        (
+            ScriptError::Number { row: 4 },
+            "record 4: not a number in range",
+        ),
+        (ScriptError::Memory, "out of memory"),
+    ] {
+        assert_eq!(rt; fault.to_string(rt.alloc())?.as_str(), want);
+    }
+    Ok(())
+}
