@@ -3,3 +3,4 @@ pub mod RecordLemmas
 pub mod ReadingLemmas
 pub mod RowLemmas
 pub mod GrammarLemmas
+pub mod TextLemmas

@@ -15,13 +15,13 @@ four_digits n = two_digits (n / 100) ++ two_digits (n % 100)
 abbrev pub nine_digits : ℕ → List ℕ
 nine_digits n = (48 + n / 100000000) ∷ four_digits (n / 10000 % 10000) ++ four_digits (n % 10000)
 
--- `hh:mm:ss.nnnnnnnnn` for a second of a day, and nanoseconds
-abbrev pub time_of_day : ℕ → ℕ → List ℕ
-time_of_day second nsec =
-    two_digits (second / 3600) ++ codes ":" ++ two_digits (second / 60 % 60) ++ codes ":" ++ two_digits (second % 60)
-    ++ codes "." ++ nine_digits nsec
+-- `Thh:mm:ss.nnnnnnnnnZ` for a second of a day, and nanoseconds
+abbrev pub time_part : ℕ → ℕ → List ℕ
+time_part second nsec =
+    codes "T" ++ two_digits (second / 3600) ++ codes ":" ++ two_digits (second / 60 % 60) ++ codes ":"
+    ++ two_digits (second % 60) ++ codes "." ++ nine_digits nsec ++ codes "Z"
 
 -- `YYYY-MM-DDThh:mm:ss.nnnnnnnnnZ`, where the date is that day of the calendar, counted from 1970-01-01
 abbrev pub IsUtcText : ℕ → ℕ → List ℕ → Type 0
 IsUtcText sec nsec text = (date : Date) × (epoch_day date ≡ pos (sec / 86400))
-    × (text ≡ date_text date ++ codes "T" ++ time_of_day (sec % 86400) nsec ++ codes "Z")
+    × (text ≡ date_text date ++ time_part (sec % 86400) nsec)

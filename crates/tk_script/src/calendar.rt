@@ -1,10 +1,10 @@
-ghost use Rattle.std.specs.Prelude.{◌≡◌, ◌<◌, ◌≤◌, ◌++◌, IfOk, IfErr, OnOk, pos, unsigned_abs, string_bytes, codes};
+ghost use Rattle.std.specs.Prelude.{◌≡◌, ◌<◌, ◌≤◌, ◌++◌, IfOk, IfErr, OnOk, pos, unsigned_abs, string_bytes};
 ghost use Rattle.jiff.specs.Words.{date_text, epoch_day};
-ghost use Rattle.tk_script.specs.Utc.{IsUtcText, time_of_day};
+ghost use Rattle.tk_script.specs.Utc.{IsUtcText, time_part};
 ghost use Rattle.tk_script.specs.Lines.{IsWritable};
 
 use crate::script_error::ScriptError;
-use crate::text::{add, nine_digits_of, two_digits_of};
+use crate::text::{nine_digits_of, two_digits_of};
 use jiff::civil::Date;
 use std::alloc::Global;
 
@@ -33,16 +33,29 @@ fn date_of_day(day: u32) -> Date
 fn utc_of(alloc: Global, date: Date, second: u32, nsec: u32) -> Result<String, ScriptError>
     requires second { second < 86400 }
     requires nanoseconds { nsec < 1000000000 }
-    ensures ok { IfOk result (λ s. string_bytes s
-        ≡ date_text date ++ codes "T" ++ time_of_day second nsec ++ codes "Z") }
+    ensures ok { IfOk result (λ s. string_bytes s ≡ date_text date ++ time_part second nsec) }
     ensures memory { IfErr result (λ e. e ≡ ScriptError.Memory) }
 {
+    let time = time_of_day(second, nsec);
     let mut text = date_string(alloc, date)?;
-    let time = time_string(alloc, second, nsec)?;
-    push(&mut text, "T")?;
-    push(&mut text, time.as_str())?;
-    push(&mut text, "Z")?;
+    push(&mut text, str::from_utf8(&time).unwrap())?;
     Ok(text)
+}
+
+/// `Thh:mm:ss.nnnnnnnnnZ`.
+fn time_of_day(second: u32, nsec: u32) -> [u8; 20]
+    requires second { second < 86400 }
+    requires nanoseconds { nsec < 1000000000 }
+    ensures { result ≡ time_part second nsec }
+{
+    let hour = two_digits_of(second / 3600);
+    let minute = two_digits_of(second / 60 % 60);
+    let second = two_digits_of(second % 60);
+    let n = nine_digits_of(nsec);
+    [
+        b'T', hour[0], hour[1], b':', minute[0], minute[1], b':', second[0], second[1], b'.', n[0],
+        n[1], n[2], n[3], n[4], n[5], n[6], n[7], n[8], b'Z',
+    ]
 }
 
 /// `YYYY-MM-DD`.
@@ -50,40 +63,7 @@ fn date_string(alloc: Global, date: Date) -> Result<String, ScriptError>
     ensures ok { IfOk result (λ s. string_bytes s ≡ date_text date) }
     ensures memory { IfErr result (λ e. e ≡ ScriptError.Memory) }
 {
-    match date.to_string(alloc) {
-        Ok(text) => Ok(text),
-        Err(_) => Err(ScriptError::Memory),
-    }
-}
-
-/// `hh:mm:ss.nnnnnnnnn`.
-fn time_string(alloc: Global, second: u32, nsec: u32) -> Result<String, ScriptError>
-    requires second { second < 86400 }
-    requires nanoseconds { nsec < 1000000000 }
-    ensures ok { IfOk result (λ s. string_bytes s ≡ time_of_day second nsec) }
-    ensures memory { IfErr result (λ e. e ≡ ScriptError.Memory) }
-{
-    match String::from_utf8(time_bytes(alloc, second, nsec)?) {
-        Ok(text) => Ok(text),
-        Err(_) => Err(ScriptError::Memory),
-    }
-}
-
-fn time_bytes(alloc: Global, second: u32, nsec: u32) -> Result<Vec<u8>, ScriptError>
-    requires second { second < 86400 }
-    requires nanoseconds { nsec < 1000000000 }
-    ensures ok { IfOk result (λ v. v.items ≡ time_of_day second nsec) }
-    ensures memory { IfErr result (λ e. e ≡ ScriptError.Memory) }
-{
-    let mut text = Vec::new(alloc);
-    add(&mut text, &two_digits_of(second / 3600))?;
-    add(&mut text, b":")?;
-    add(&mut text, &two_digits_of(second / 60 % 60))?;
-    add(&mut text, b":")?;
-    add(&mut text, &two_digits_of(second % 60))?;
-    add(&mut text, b".")?;
-    add(&mut text, &nine_digits_of(nsec))?;
-    Ok(text)
+    date.to_string(alloc).map_err(|_| ScriptError::Memory)
 }
 
 /// Appends the text, or nothing.
@@ -91,8 +71,5 @@ fn push(text: &mut String, more: &str) -> Result<(), ScriptError>
     ensures ok { OnOk result (string_bytes text.new ≡ string_bytes text.old ++ more.now) }
     ensures memory { IfErr result (λ e. e ≡ ScriptError.Memory) }
 {
-    match text.push_str(more) {
-        Ok(()) => Ok(()),
-        Err(_) => Err(ScriptError::Memory),
-    }
+    text.push_str(more).map_err(|_| ScriptError::Memory)
 }

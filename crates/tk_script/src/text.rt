@@ -12,10 +12,7 @@ pub(crate) fn add(out: &mut Vec<u8>, text: &[u8]) -> Result<(), ScriptError>
     ensures err { OnErr result (out.new.items ≡ out.old.items) }
     ensures memory { IfErr result (λ e. e ≡ ScriptError.Memory) }
 {
-    match out.extend_from_slice(text) {
-        Ok(()) => Ok(()),
-        Err(_) => Err(ScriptError::Memory),
-    }
+    out.extend_from_slice(text).map_err(|_| ScriptError::Memory)
 }
 
 /// Appends the number in decimal, or nothing.
