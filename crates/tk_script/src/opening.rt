@@ -1,13 +1,11 @@
-ghost use Rattle.std.specs.Prelude.{◌≡◌, length, is_none, Some, None};
+ghost use Rattle.std.specs.Prelude.{◌≡◌};
 ghost use Rattle.csv.specs.Records.{fields_of};
-ghost use Rattle.tk_counter.specs.Counter.{Counter};
-ghost use Rattle.tk_clock.specs.Refusal.{opening_refusal};
 ghost use Rattle.tk_script.specs.Opening as spec;
 
 use crate::fields::{field, has_word, number_at, number32_at, time_at};
 use crate::script_error::ScriptError;
 use csv::ByteRecord;
-use tk_clock::Timespec;
+use tk_clock::{Clock, Timespec};
 use tk_counter::CounterDesc;
 
 /// How the clocks are opened: the counter, its reading in cycles, and the real time there.
@@ -58,21 +56,12 @@ fn described(bits: u32, mult: u32, shift: u32) -> Result<CounterDesc, ScriptErro
 fn started(desc: CounterDesc, reading: u64, real: Timespec) -> Result<Start, ScriptError>
     ensures { result ≡ spec.started desc reading real }
 {
-    if can_open(&desc, reading, real) {
-        Ok(Start {
-            desc,
-            reading,
-            real,
-        })
-    } else {
-        Err(ScriptError::Opening { row: 1 })
+    if Clock::open(desc, reading, real).is_err() {
+        return Err(ScriptError::Opening { row: 1 });
     }
-}
-
-/// Is the reading within the mask, and the time one that may be set?
-#[tactic(auto, unfolding(tk_clock::specs::Limits::is_settable))]
-fn can_open(desc: &CounterDesc, reading: u64, real: Timespec) -> bool
-    ensures { result ≡ is_none (opening_refusal desc.now reading real) }
-{
-    reading <= desc.mask() && real.sec >= 0 && real.sec < 8_277_292_036 && real.nsec < 1_000_000_000
+    Ok(Start {
+        desc,
+        reading,
+        real,
+    })
 }
