@@ -1,5 +1,5 @@
 -- The first record of a script: the counter, its reading and the real time at which the clocks are opened.
-use Rattle.std.specs.Prelude.{ℕ, List, length, is_none, Option, Some, None, Result, Ok, Err, ◌&&◌, ◌==◌, if◌then◌else◌, codes}
+use Rattle.std.specs.Prelude.{ℕ, List, length, is_none, Result, Ok, Err, ◌==◌, if◌then◌else◌, codes}
 use Rattle.tk_counter.specs.Counter.{Counter}
 use Rattle.tk_counter.specs.Description.{first_fault}
 use Rattle.tk_clock.specs.declared.timespec.Timespec.{Timespec}

@@ -86,13 +86,20 @@ fn tells_the_fault_of_a_later_record(rt: HostRuntime) -> Result<(), Fail> {
     Ok(())
 }
 
+/// The fault of a script with one record of an unknown word, and then empty lines up to this length.
+fn fault_of_size(alloc: Global, len: usize) -> Result<ScriptError, Fail> {
+    let mut bytes = b"x\n".to_vec(alloc)?;
+    bytes.resize(len, b'\n')?;
+    fault(alloc, bytes.as_slice())
+}
+
 #[test]
 fn refuses_a_script_by_its_length(rt: HostRuntime) -> Result<(), Fail> {
-    let bytes = vec![in rt.alloc(); b'\n'; 16_777_217]?;
-    assert_eq!(rt; fault(rt.alloc(), bytes.as_slice())?, ScriptError::TooLarge);
+    let opening = ScriptError::Opening { row: 1 };
+    assert_eq!(rt; fault_of_size(rt.alloc(), 16_777_216)?, opening);
     assert_eq!(rt;
-        fault(rt.alloc(), &bytes.as_slice()[1..])?,
-        ScriptError::Empty
+        fault_of_size(rt.alloc(), 16_777_217)?,
+        ScriptError::TooLarge
     );
     Ok(())
 }

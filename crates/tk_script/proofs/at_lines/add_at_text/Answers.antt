@@ -1,4 +1,4 @@
-use Rattle.std.proofs.Common.{◌≡◌, ◌++◌, codes, rules}
+use Rattle.std.proofs.Common.{◌++◌, codes, rules}
 use Rattle.std.proofs.lemmas.Result.{on_err_weaker}
 use Rattle.std.proofs.lemmas.List.{append_assoc}
 use Rattle.tk_script.proofs.ListLemmas.{take-before}

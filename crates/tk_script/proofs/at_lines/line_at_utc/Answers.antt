@@ -1,4 +1,4 @@
-use Rattle.std.proofs.Common.{◌≡◌, refl, arith, FitsSigned, w64}
+use Rattle.std.proofs.Common.{refl, arith, FitsSigned, w64}
 use Rattle.std.proofs.lemmas.Result.{on_ok_weaker}
 use Rattle.std.proofs.lemmas.Int.{to_z-of_z, ints}
 use Rattle.tk_script.proofs.at_lines.line_at_utc.Goals as goal

@@ -1,4 +1,3 @@
-use Rattle.std.proofs.Common.{◌≡◌}
 use Rattle.tk_script.proofs.TextLemmas.{IsUtf8-time_part, IsOk-from_match}
 use Rattle.tk_script.proofs.calendar.utc_of.Goals as goal
 

@@ -1,4 +1,4 @@
-use Rattle.std.proofs.Common.{rules, ◌≡◌, ℕ, ◌+◌, ◌-◌, ◌*◌, ◌%◌, ◌<◌, ◌≤◌, length, Bool, true, false, List, take, get_or, refl, arith, Some, None, cond, ap, ◌∙◌, sym, ◌&&◌, not, ◌==◌, nat_le}
+use Rattle.std.proofs.Common.{◌≡◌, ℕ, ◌+◌, ◌%◌, ◌<◌, length, Bool, true, false, List, get_or, refl, arith, sym, ◌&&◌, not, ◌==◌, nat_le}
 use Rattle.std.proofs.lemmas.Grind.{common_steps}
 use Rattle.std.proofs.lemmas.Int.Digits.{digits_value_more}
 use Rattle.std.proofs.lemmas.Str.Parse.{digits_value-take-le}
@@ -6,7 +6,6 @@ use Rattle.std.proofs.lemmas.List.Folds.{list_all_at}
 use Rattle.std.specs.List.{list_all}
 use Rattle.std.specs.Char.{is_ascii_digit, digit_value}
 use Rattle.std.specs.Str.Parse.{digits_value}
-use Rattle.tk_script.specs.Number.{is_numeral, number_up_to}
 use Rattle.tk_script.proofs.numbers.number_at_most.Goals as goal
 
 -- both parts of a test that passed

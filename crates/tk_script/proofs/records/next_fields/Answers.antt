@@ -1,6 +1,4 @@
-use Rattle.std.proofs.Common.{◌≡◌, ℕ, List, Some, Bool}
 use Rattle.csv.specs.Records.{fields_of}
-use Rattle.tk_script.specs.Reading.{IsReading, Takes, left_of}
 use Rattle.tk_script.proofs.ReadingLemmas.{takes-read}
 use Rattle.tk_script.proofs.records.next_fields.Goals as goal
 use Rattle.tk_script.proofs.records.next_fields.Goals.{in-Ok, in-Err}

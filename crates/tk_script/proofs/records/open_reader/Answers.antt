@@ -1,6 +1,4 @@
-use Rattle.std.proofs.Common.{◌≡◌, ◌∙◌, refl, sym, ap, Some, inl, inr}
-use Rattle.tk_script.specs.Reading.{IsReading, left_of}
-use Rattle.tk_script.specs.Records.{records_of}
+use Rattle.std.proofs.Common.{◌∙◌, inr}
 use Rattle.tk_script.proofs.ReadingLemmas.{left-all}
 use Rattle.tk_script.proofs.records.open_reader.Goals as goal
 

@@ -1,7 +1,7 @@
-use Rattle.std.proofs.Common.{◌≡◌, ◌∙◌, ◌++◌, ℕ, List, [], ◌∷◌, Some, Ok, Err, Bool, true, false, sym, ap, refl, rules}
+use Rattle.std.proofs.Common.{◌∙◌, Err, sym, ap, rules}
 use Rattle.std.proofs.lemmas.Result.{err_from_is_err_and}
 use Rattle.csv.specs.Records.{fields_of}
-use Rattle.tk_script.specs.Rows.{row_of, rows_of}
+use Rattle.tk_script.specs.Rows.{rows_of}
 use Rattle.tk_script.proofs.RowLemmas.{goes-more, goes-fault, goes-end}
 use Rattle.tk_script.proofs.GrammarLemmas.{fails-from}
 use Rattle.tk_script.proofs.script.read_rows.Goals as goal

@@ -1,9 +1,7 @@
-use Rattle.std.proofs.Common.{◌≡◌, ◌∙◌, ℕ, List, ◌∷◌, [], Some, Ok, Err, sym, ap, refl, rules, arith, vec_items}
+use Rattle.std.proofs.Common.{◌∙◌, Err, sym, ap}
 use Rattle.std.proofs.lemmas.Result.{err_from_is_err_and}
 use Rattle.csv.specs.Records.{fields_of}
-use Rattle.tk_script.specs.Grammar.{Gives, Fails, parse_of, parse_records}
-use Rattle.tk_script.specs.Rows.{rows_of}
-use Rattle.tk_script.specs.Opening.{start_of}
+use Rattle.tk_script.specs.Grammar.{parse_of}
 use Rattle.tk_script.specs.Records.{records_of}
 use Rattle.tk_script.proofs.GrammarLemmas.{parse-large, parse-small, parse-none, parse-start_fault, parse-rows, parse-rows_fault, fails-from}
 use Rattle.tk_script.proofs.script.Script.from_bytes.Goals as goal
