@@ -1,0 +1,4 @@
+pub mod KnownBytes
+pub mod Times
+pub mod Refusals
+pub mod Lines

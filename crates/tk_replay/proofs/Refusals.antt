@@ -1,0 +1,51 @@
+-- After an accepted command MONOTONIC can be told.
+use Rattle.std.proofs.Common.{◌≡◌, refl, Bool, true, false}
+use Rattle.std.specs.Prelude.{ℤ, Option, Some, None, not, ◌||◌, nat_lt, int_lt, if◌then◌else◌}
+use Rattle.tk_counter.specs.Counter.{mask}
+use Rattle.tk_clock.specs.declared.clock_id.ClockId.{ClockId}
+use Rattle.tk_clock.specs.declared.clock_id.ClockId.TheVariants.{Monotonic}
+use Rattle.tk_clock.specs.declared.command.Entry.{Entry}
+use Rattle.tk_clock.specs.declared.command.Command.{Command}
+use Rattle.tk_clock.specs.declared.refusal.Refusal.{Refusal}
+use Rattle.tk_clock.specs.declared.refusal.Refusal.TheVariants.{Invalid, Range}
+use Rattle.tk_clock.specs.Clocks.{clock_value}
+use Rattle.tk_clock.specs.Journal.{Journal, followed_by}
+use Rattle.tk_clock.specs.Limits.{limit, is_past_limit}
+use Rattle.tk_clock.specs.Refusal.{first_of, first_refusal}
+use Rattle.tk_replay.specs.Report.{look_refusal}
+
+passed : (test : Bool) (refusal : Refusal) (later : Option Refusal) → (if test then Some refusal else later) ≡ None →
+    (test ≡ false) × (later ≡ None)
+passed true refusal later told = cc
+passed false refusal later told = (refl, told)
+
+both_passed : (first later : Option Refusal) → first_of first later ≡ None → (first ≡ None) × (later ≡ None)
+both_passed None later told = (refl, told)
+both_passed (Some refusal) later told = cc
+
+neither : (a b : Bool) → (a || b) ≡ false → (a ≡ false) × (b ≡ false)
+neither true b none = cc
+neither false b none = (refl, none)
+
+below_limits : (after : ClockId → ℤ) (cmd : Command) → is_past_limit after cmd ≡ false →
+    not (int_lt (after Monotonic) (limit Monotonic)) ≡ false
+unfolding is_past_limit
+below_limits after cmd below = (neither _ _ (neither _ _ below).0).0
+
+neither_test : (above past : Bool) → above ≡ false → past ≡ false →
+    (if above then Some Invalid else if past then Some Range else None) ≡ None
+neither_test true past not_above not_past = cc
+neither_test false true not_above not_past = cc
+neither_test false false not_above not_past = refl
+
+-- after an accepted command MONOTONIC can be told at its reading
+pub look_refusal-accepted : (journal : Journal) (entry : Entry) → first_refusal journal entry ≡ None →
+    look_refusal (followed_by journal entry) Monotonic entry.reading ≡ None
+look_refusal-accepted journal entry accepted =
+    let tests = both_passed _ _ (passed _ _ _ accepted).1 in
+    let numbers = both_passed _ _ (both_passed _ _ tests.0).1 in
+    let above = nat_lt (mask journal.opening.counter) entry.reading in
+    let past = not (int_lt (clock_value (followed_by journal entry) Monotonic entry.reading) (limit Monotonic)) in
+    let not_above : above ≡ false = (neither _ _ (passed _ _ _ numbers.0).0).0 in
+    let not_past : past ≡ false = below_limits _ _ (passed _ _ _ tests.1).0 in
+    neither_test above past not_above not_past

@@ -1,0 +1,14 @@
+use Rattle.std.proofs.Common.{◌≤◌, ◌+◌, ◌-◌, ◌^◌, take, vec_len}
+use Rattle.std.specs.Io.KnownBytes.{Consumes}
+use Rattle.tk_replay.proofs.source.read_to_end.Given as goal
+
+-- the front of the room is what was read
+abbrev pub invariant-reads : goal.invariant-reads
+invariant-reads g l = record {
+  within : l.filled ≤ vec_len l.bytes;
+  most : vec_len l.bytes ≤ 2 ^ 24 + 1;
+  read : Consumes (g.S.Read.remaining l.fn.source) (g.S.Read.remaining l.source) (take l.filled l.bytes.items);
+}
+
+abbrev pub decreases-reads : goal.decreases-reads
+decreases-reads g l = 2 ^ 24 + 1 - l.filled

@@ -1,0 +1,58 @@
+ghost use Rattle.std.specs.Prelude.{◌≡◌};
+ghost use Rattle.tk_replay.specs.Fault.{fault_of, fault_text};
+ghost use Rattle.tk_replay.specs.declared.fault.Fault.TheVariants.{Memory};
+
+use std::alloc::AllocError;
+use std::error::Error;
+use std::fmt;
+use tk_script::ScriptError;
+
+/// Why a replay stopped. In every fault but `Write` nothing was written.
+#[derive(Clone, Copy, Debug, PartialEq, Eq)]
+pub enum Fault {
+    /// A read answered an error.
+    Read,
+    /// The bytes are no script. This is never `ScriptError::Memory`.
+    Script(ScriptError),
+    /// Memory was refused, before anything was written.
+    Memory,
+    /// A write or the flush answered an error, or a write took nothing.
+    Write {
+        /// How many bytes of the report, from its beginning, had gone out.
+        written: u64,
+    },
+}
+
+impl fmt::Display for Fault {
+    ghost output = { fault_text };
+
+    fn fmt<W: fmt::Write>(&self, f: &mut fmt::Formatter<W>) -> fmt::Result {
+        match self {
+            Fault::Read => write!(f, "cannot read"),
+            Fault::Script(error) => write!(f, "script: {error}"),
+            Fault::Memory => write!(f, "out of memory"),
+            Fault::Write { .. } => write!(f, "cannot write"),
+        }
+    }
+}
+
+impl Error for Fault {}
+
+impl From<ScriptError> for Fault {
+    ghost from_gives = { λ error fault. fault ≡ fault_of error };
+
+    fn from(error: ScriptError) -> Fault {
+        match error {
+            ScriptError::Memory => Fault::Memory,
+            error => Fault::Script(error),
+        }
+    }
+}
+
+impl From<AllocError> for Fault {
+    ghost from_gives = { λ _ fault. fault ≡ Memory };
+
+    fn from(_error: AllocError) -> Fault {
+        Fault::Memory
+    }
+}

@@ -1,0 +1,25 @@
+//! Reports of scripts: what each record of a script comes to, a line each.
+//!
+//! | Item | What it is |
+//! |---|---|
+//! | `report` | the report of a script's bytes |
+//! | `replay` | reads a script to its end and writes its report |
+//! | `Fault` | why `replay` stopped, and how much of the report had gone out by then |
+//! | `Source`, `Sink` | where the script comes from and where the report goes: any reader, any writer |
+//!
+//! Units: readings in cycles; times in seconds and nanoseconds; texts and lengths in bytes.
+#![tactic(auto)]
+
+mod fault;
+mod replaying;
+mod reporting;
+mod sink;
+mod source;
+#[cfg(test)]
+mod tests;
+
+pub use fault::Fault;
+pub use replaying::replay;
+pub use reporting::report;
+pub use sink::Sink;
+pub use source::Source;

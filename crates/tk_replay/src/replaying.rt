@@ -1,0 +1,35 @@
+ghost use Rattle.std.specs.Prelude.{OnOk, IfErr};
+ghost use Rattle.tk_replay.specs.Reading.{ReadFailed};
+ghost use Rattle.tk_replay.specs.Writing.{IsFlushed, WriteFailed};
+ghost use Rattle.tk_replay.specs.Replay.{HasFailed, IsReplayed, Leaves};
+
+use crate::fault::Fault;
+use crate::reporting::report;
+use crate::sink::{Sink, write_whole};
+use crate::source::{Source, read_to_end};
+use std::alloc::Global;
+
+/// Reads a script to its end, makes the whole report, writes it and flushes.
+///
+/// It reads at most 16,777,217 bytes, of which the last one shows that the script is too large. No call is tried
+/// again: a read or a write that is interrupted (EINTR) is a fault as any other. What it keeps beside the report is the
+/// script, at most twice its size.
+pub fn replay<R: Source, W: Sink>(
+    alloc: Global,
+    reader: &mut R,
+    writer: &mut W,
+) -> Result<(), Fault>
+    ensures ok { OnOk result (IsReplayed
+        (R.Read.remaining reader.old) (R.Read.remaining reader.new)
+        (W.Write.contents writer.old) (W.Write.contents writer.new)) }
+    ensures flushed { OnOk result (IsFlushed W.Sink.flush_gives writer.new) }
+    ensures err { IfErr result (Leaves
+        (R.Read.remaining reader.old) (R.Read.remaining reader.new) W.Write.contents writer.old writer.new) }
+    ensures failed { IfErr result (HasFailed
+        (ReadFailed R.Source.read_gives reader.new)
+        (WriteFailed W.Sink.write_gives W.Sink.flush_gives writer.new)) }
+{
+    let script = read_to_end(alloc, reader)?;
+    let text = report(alloc, script.as_slice())?;
+    write_whole(writer, text.as_slice()).map_err(|written| Fault::Write { written })
+}
