@@ -1,0 +1,95 @@
+use super::{REPORT, SCRIPT};
+use crate::{Fault, report};
+use std::alloc::Global;
+use std::process::Abort;
+use std::test::Fail;
+use tk_script::ScriptError;
+
+/// The report of the script is this text.
+fn assert_report(rt: &impl Abort, alloc: Global, script: &[u8], text: &[u8]) {
+    match report(alloc, script) {
+        Ok(told) => assert_eq!(rt; told.as_slice(), text),
+        Err(error) => assert_eq!(rt; error, ScriptError::Memory),
+    }
+}
+
+/// The script has this fault.
+fn assert_fault(rt: &impl Abort, alloc: Global, script: &[u8], fault: ScriptError) {
+    match report(alloc, script) {
+        Ok(_) => assert!(rt; false, "a report in place of {fault}"),
+        Err(error) => assert!(rt; error == fault || error == ScriptError::Memory, "{error}"),
+    }
+}
+
+#[test]
+fn tells_each_record_in_a_line(rt: HostRuntime) {
+    assert_report(&rt, rt.alloc(), SCRIPT, REPORT);
+}
+
+#[test]
+fn reports_when_memory_is_there(rt: HostRuntime) -> Result<(), Fail> {
+    assert_eq!(rt; report(rt.alloc(), SCRIPT)?.as_slice(), REPORT);
+    Ok(())
+}
+
+#[test]
+fn tells_the_first_fault_of_a_script(rt: HostRuntime) {
+    let alloc = rt.alloc();
+    let faults: [(&[u8], ScriptError); 4] = [
+        (b"", ScriptError::Empty),
+        (b"update,0\n", ScriptError::Opening { row: 1 }),
+        (
+            b"open,32,16777216,24,0,1700000000,0\nupdate\n",
+            ScriptError::Fields { row: 2 },
+        ),
+        (
+            b"open,32,16777216,24,0,1700000000,0\ntai,0,1\n",
+            ScriptError::Word { row: 2 },
+        ),
+    ];
+    for (script, fault) in faults {
+        assert_fault(&rt, alloc, script, fault);
+    }
+}
+
+#[test]
+fn takes_no_script_above_the_limit(rt: HostRuntime) -> Result<(), Fail> {
+    let script = Vec::from_elem(rt.alloc(), b'\n', 16_777_217)?;
+    assert_fault(&rt, rt.alloc(), script.as_slice(), ScriptError::TooLarge);
+    assert_fault(&rt, rt.alloc(), &script[1..], ScriptError::Empty);
+    Ok(())
+}
+
+#[test]
+fn names_each_fault(rt: HostRuntime) -> Result<(), Fail> {
+    let texts = [
+        (Fault::Read, "cannot read"),
+        (Fault::Memory, "out of memory"),
+        (Fault::Write { written: 30 }, "cannot write"),
+        (
+            Fault::Script(ScriptError::TooLarge),
+            "script: larger than 16777216 bytes",
+        ),
+        (Fault::Script(ScriptError::Empty), "script: no record"),
+        (
+            Fault::Script(ScriptError::Opening { row: 1 }),
+            "script: record 1: not a valid opening",
+        ),
+        (
+            Fault::Script(ScriptError::Word { row: 2 }),
+            "script: record 2: unknown word",
+        ),
+        (
+            Fault::Script(ScriptError::Fields { row: 3 }),
+            "script: record 3: wrong number of fields",
+        ),
+        (
+            Fault::Script(ScriptError::Number { row: 4 }),
+            "script: record 4: not a number in range",
+        ),
+    ];
+    for (fault, text) in texts {
+        assert_eq!(rt; format!(in rt.alloc(); "{fault}")?.as_str(), text);
+    }
+    Ok(())
+}
