@@ -1,9 +1,10 @@
 ghost use Rattle.std.specs.Prelude.{◌≡◌, ℕ, ◌+◌, ◌*◌, ◌/◌, ◌^◌, ◌<◌, ◌≤◌, MatchOption, MatchResult, Some, None, pos, ◌≤ℤ◌, ◌+ℤ◌, ◌*ℤ◌, ◌<ℤ◌, not, nat_lt, int_lt, true, false};
 
+mod changes;
+
 use crate::amount::{Amount, NANOS_PER_SECOND};
 use crate::clock_id::ClockId;
-use crate::command::Command;
-use crate::limits::{MONOTONIC_SEC_LIMIT, limit, sets_real};
+use crate::limits::limit;
 use crate::refusal::ReadError;
 use crate::timespec::{Timespec, timespec_of};
 use std::marker::Model;
@@ -214,124 +215,5 @@ impl ReadBase {
             return Err(ReadError::Range);
         }
         Ok(timespec_of(nanos))
-    }
-
-    /// The base with its amounts brought forward to a reading (`timekeeping_forward_now`). Nothing below a nanosecond
-    /// is lost. None where MONOTONIC would be at its limit.
-    pub fn forwarded(&self, reading: u64) -> Option<ReadBase>
-        requires reading { reading ≤ mask self.now.counter }
-        requires steered { slowest self.now.counter ≤ self.now.mult }
-        requires rated { IsRated self.now }
-        ensures { let after = forwarded self.now reading in
-            MatchOption result
-            (946080000 * 10 ^ 9 ≤ after.amount / 2 ^ after.counter.shift)
-            (λ base. (base ≡ after) × IsRated base) }
-    {
-        let cycles = self.desc.gap(self.last, reading);
-        let Some(monotonic) = self.monotonic.grown(&self.desc, cycles, self.mult) else {
-            return None;
-        };
-        if monotonic.sec >= MONOTONIC_SEC_LIMIT {
-            return None;
-        }
-        let Some(raw) = self.raw.grown(&self.desc, cycles, self.desc.mult()) else {
-            return None;
-        };
-        Some(ReadBase {
-            desc: self.desc,
-            last: reading,
-            mult: self.mult,
-            monotonic,
-            raw,
-            real_offset: self.real_offset,
-            boot_offset: self.boot_offset,
-            tai: self.tai,
-            asleep: self.asleep,
-        })
-    }
-
-    /// Is a clock at its limit at the last reading, as a command left it? REALTIME and TAI are left out where the
-    /// command sets REALTIME, which a test of its own bounds.
-    #[tactic(auto, unfolding(crate::specs::Limits::is_past_limit))]
-    pub fn is_past_limit(&self, cmd: Command) -> bool
-        ensures { result ≡ is_past_limit (λ clock. base_value self.now clock self.now.last) cmd }
-    {
-        let now = self.monotonic_now();
-        if is_at_limit(now, self.boot_offset) {
-            return true;
-        }
-        if sets_real(cmd) {
-            return false;
-        }
-        is_at_limit(now, self.real_offset) || is_at_limit(now + self.tai_nanos(), self.real_offset)
-    }
-
-    /// The base with another multiplier from its last reading on.
-    pub fn with_mult(self, mult: u32) -> ReadBase
-        requires some { 1 ≤ mult }
-        requires most { mult ≤ fastest self.counter }
-        ensures { result ≡ record self { mult = mult } }
-    {
-        let mut base = self;
-        base.mult = mult;
-        base
-    }
-
-    /// The base with REALTIME so far from MONOTONIC, in ns.
-    pub fn with_real_offset(self, offset: u64) -> ReadBase
-        ensures { result ≡ record self { real_offset = pos offset } }
-    {
-        let mut base = self;
-        base.real_offset = offset;
-        base
-    }
-
-    /// The base with TAI so far from REALTIME, in seconds.
-    pub fn with_tai(self, seconds: u32) -> ReadBase
-        requires { seconds ≤ 100000 }
-        ensures { result ≡ record self { tai = pos seconds } }
-    {
-        let mut base = self;
-        base.tai = seconds;
-        base
-    }
-
-    /// The base asleep.
-    pub fn fallen_asleep(self) -> ReadBase
-        ensures { result ≡ record self { asleep = true } }
-    {
-        let mut base = self;
-        base.asleep = true;
-        base
-    }
-
-    /// The base awake, counting from another reading on, after a suspension of so many ns.
-    pub fn woken(self, reading: u64, away: u64) -> ReadBase
-        requires reading { reading ≤ mask self.counter }
-        requires real { (self.real_offset +ℤ pos away) <ℤ pos (2 ^ 64) }
-        requires boot { (self.boot_offset +ℤ pos away) <ℤ pos (2 ^ 64) }
-        ensures { result ≡ record self {
-          last = reading;
-          real_offset = self.real_offset +ℤ pos away;
-          boot_offset = self.boot_offset +ℤ pos away;
-          asleep = false;
-        } }
-    {
-        let mut base = self;
-        base.last = reading;
-        base.real_offset += away;
-        base.boot_offset += away;
-        base.asleep = false;
-        base
-    }
-}
-
-/// Is an offset from MONOTONIC, or from TAI less REALTIME, at the limit of the clocks but MONOTONIC?
-fn is_at_limit(elapsed: u64, offset: u64) -> bool
-    ensures { result ≡ not (int_lt (pos elapsed +ℤ pos offset) (pos (9223372036 * 10 ^ 9))) }
-{
-    match elapsed.checked_add(offset) {
-        Some(nanos) => nanos >= limit(ClockId::Realtime),
-        None => true,
     }
 }

@@ -1,0 +1,129 @@
+//! What commands make of a read base: each function gives another one, and leaves its own as it was.
+ghost use Rattle.std.specs.Prelude.{◌≡◌, ◌*◌, ◌/◌, ◌^◌, ◌≤◌, MatchOption, pos, ◌≤ℤ◌, ◌+ℤ◌, ◌<ℤ◌, not, int_lt, true, false};
+ghost use Rattle.tk_counter.specs.Counter.{mask, fastest};
+ghost use Rattle.tk_clock.specs.Limits.{is_past_limit};
+ghost use Rattle.tk_clock.specs.State.{base_value, forwarded};
+ghost use Rattle.tk_clock.specs.Running.{IsRated, slowest};
+
+use super::ReadBase;
+use crate::clock_id::ClockId;
+use crate::command::Command;
+use crate::limits::{MONOTONIC_SEC_LIMIT, limit, sets_real};
+
+impl ReadBase {
+    /// The base with its amounts brought forward to a reading (`timekeeping_forward_now`). Nothing below a nanosecond
+    /// is lost. None where MONOTONIC would be at its limit.
+    pub fn forwarded(&self, reading: u64) -> Option<ReadBase>
+        requires reading { reading ≤ mask self.now.counter }
+        requires steered { slowest self.now.counter ≤ self.now.mult }
+        requires rated { IsRated self.now }
+        ensures { let after = forwarded self.now reading in
+            MatchOption result
+            (946080000 * 10 ^ 9 ≤ after.amount / 2 ^ after.counter.shift)
+            (λ base. (base ≡ after) × IsRated base) }
+    {
+        let cycles = self.desc.gap(self.last, reading);
+        let Some(monotonic) = self.monotonic.grown(&self.desc, cycles, self.mult) else {
+            return None;
+        };
+        if monotonic.sec >= MONOTONIC_SEC_LIMIT {
+            return None;
+        }
+        let Some(raw) = self.raw.grown(&self.desc, cycles, self.desc.mult()) else {
+            return None;
+        };
+        Some(ReadBase {
+            last: reading,
+            monotonic,
+            raw,
+            ..*self
+        })
+    }
+
+    /// Is a clock at its limit at the last reading, as a command left it? REALTIME and TAI are left out where the
+    /// command sets REALTIME, which a test of its own bounds.
+    #[tactic(auto, unfolding(crate::specs::Limits::is_past_limit))]
+    pub fn is_past_limit(&self, cmd: Command) -> bool
+        ensures { result ≡ is_past_limit (λ clock. base_value self.now clock self.now.last) cmd }
+    {
+        let now = self.monotonic_now();
+        if is_at_limit(now, self.boot_offset) {
+            return true;
+        }
+        if sets_real(cmd) {
+            return false;
+        }
+        is_at_limit(now, self.real_offset) || is_at_limit(now + self.tai_nanos(), self.real_offset)
+    }
+
+    /// The base with another multiplier from its last reading on.
+    pub fn with_mult(self, mult: u32) -> ReadBase
+        requires some { 1 ≤ mult }
+        requires most { mult ≤ fastest self.counter }
+        ensures { result ≡ record self { mult = mult } }
+    {
+        ReadBase { mult, ..self }
+    }
+
+    /// The base with REALTIME so far from MONOTONIC, in ns.
+    pub fn with_real_offset(self, offset: u64) -> ReadBase
+        ensures { result ≡ record self { real_offset = pos offset } }
+    {
+        ReadBase {
+            real_offset: offset,
+            ..self
+        }
+    }
+
+    /// The base with TAI so far from REALTIME, in seconds.
+    pub fn with_tai(self, seconds: u32) -> ReadBase
+        requires { seconds ≤ 100000 }
+        ensures { result ≡ record self { tai = pos seconds } }
+    {
+        ReadBase {
+            tai: seconds,
+            ..self
+        }
+    }
+
+    /// The base asleep.
+    pub fn fallen_asleep(self) -> ReadBase
+        ensures { result ≡ record self { asleep = true } }
+    {
+        ReadBase {
+            asleep: true,
+            ..self
+        }
+    }
+
+    /// The base awake, counting from another reading on, after a suspension of so many ns.
+    pub fn woken(self, reading: u64, away: u64) -> ReadBase
+        requires reading { reading ≤ mask self.counter }
+        requires real { (self.real_offset +ℤ pos away) <ℤ pos (2 ^ 64) }
+        requires boot { (self.boot_offset +ℤ pos away) <ℤ pos (2 ^ 64) }
+        ensures { result ≡ record self {
+          last = reading;
+          real_offset = self.real_offset +ℤ pos away;
+          boot_offset = self.boot_offset +ℤ pos away;
+          asleep = false;
+        } }
+    {
+        ReadBase {
+            last: reading,
+            real_offset: self.real_offset + away,
+            boot_offset: self.boot_offset + away,
+            asleep: false,
+            ..self
+        }
+    }
+}
+
+/// Is an offset from MONOTONIC, or from TAI less REALTIME, at the limit of the clocks but MONOTONIC?
+fn is_at_limit(elapsed: u64, offset: u64) -> bool
+    ensures { result ≡ not (int_lt (pos elapsed +ℤ pos offset) (pos (9223372036 * 10 ^ 9))) }
+{
+    match elapsed.checked_add(offset) {
+        Some(nanos) => nanos >= limit(ClockId::Realtime),
+        None => true,
+    }
+}
