@@ -3,6 +3,7 @@ ghost use Rattle.tk_counter.specs.Counter.{second};
 
 use tk_counter::CounterDesc;
 
+/// The nanoseconds of a second.
 pub(crate) const NANOS_PER_SECOND: u64 = 1_000_000_000;
 
 /// An amount of time: whole seconds, and what is left of them in units of `2^-shift` ns.

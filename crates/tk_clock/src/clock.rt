@@ -1,14 +1,15 @@
 ghost use Rattle.std.specs.Prelude.{◌≡◌, ◌≤◌, MatchResult, Some, None};
 
 mod effects;
+mod settings;
 
 use crate::amount::Amount;
 use crate::command::Command;
-use crate::limits::{is_settable, is_well_formed, nanos_of};
+use crate::limits::{USUAL_TICK, is_settable, is_well_formed};
 use crate::read_base::ReadBase;
 use crate::refusal::Refusal;
 use crate::snapshot::Snapshot;
-use crate::timespec::Timespec;
+use crate::timespec::{Timespec, nanos_of};
 use std::marker::Model;
 use tk_counter::CounterDesc;
 
@@ -71,7 +72,7 @@ impl Clock {
         Ok(Clock {
             base,
             frequency: 0,
-            tick: 10_000,
+            tick: USUAL_TICK,
         })
     }
 

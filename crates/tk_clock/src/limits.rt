@@ -1,6 +1,5 @@
 ghost use Rattle.std.specs.Prelude.{◌≡◌, ◌*◌, ◌^◌, ◌<◌, ◌≤◌, pos, ◌≤ℤ◌, ◌<ℤ◌};
 ghost use Rattle.tk_clock.specs.Limits.{limit, is_settable, is_suspension, is_well_formed, sets_real};
-ghost use Rattle.tk_clock.specs.Time.{nanoseconds};
 
 use crate::amount::NANOS_PER_SECOND;
 use crate::clock_id::ClockId;
@@ -10,11 +9,23 @@ use crate::timespec::Timespec;
 /// Where MONOTONIC ends, in seconds: 30 years of 365 days (`TIME_UPTIME_SEC_MAX`).
 pub(crate) const MONOTONIC_SEC_LIMIT: u64 = 946_080_000;
 
+/// What MONOTONIC_RAW stays below, in seconds, while MONOTONIC is below its limit: it gains most on MONOTONIC at the
+/// slowest tick and frequency.
+pub(crate) const RAW_SEC_LIMIT: u64 = 1_060_000_000;
+
 /// Where the other clocks end, in seconds: as many as 63 bits of nanoseconds hold (`KTIME_SEC_MAX`).
 const CLOCK_SEC_LIMIT: i64 = 9_223_372_036;
 
 /// Where the times end that REALTIME may be set to, in seconds: 30 years before its own end (`TIME_SETTOD_SEC_MAX`).
 const SETTABLE_SEC_LIMIT: i64 = 8_277_292_036;
+
+/// The ticks that may be set, in microseconds, and the usual one: 100 of it are a second (`USER_HZ`).
+const SHORTEST_TICK: i64 = 9_000;
+const LONGEST_TICK: i64 = 11_000;
+pub(crate) const USUAL_TICK: i64 = 10_000;
+
+/// The greatest TAI offset, in seconds (`MAX_TAI_OFFSET`).
+pub(crate) const TAI_OFFSET_MOST: i64 = 100_000;
 
 /// The nanoseconds at which a clock ends.
 pub(crate) fn limit(clock: ClockId) -> u64
@@ -58,22 +69,11 @@ pub(crate) fn is_well_formed(cmd: Command) -> bool
     match cmd {
         Command::SetTime(time) => is_settable(time),
         Command::Step(by) => by.nsec < 1_000_000_000,
-        Command::Tick(tick) => (9_000..=11_000).contains(&tick),
-        Command::Tai(seconds) => (0..=100_000).contains(&seconds),
+        Command::Tick(tick) => (SHORTEST_TICK..=LONGEST_TICK).contains(&tick),
+        Command::Tai(seconds) => (0..=TAI_OFFSET_MOST).contains(&seconds),
         Command::Resume(away) => is_suspension(away),
         Command::Update | Command::Freq(_) | Command::Suspend => true,
     }
-}
-
-/// A time or an amount of time in nanoseconds, where it is none before 1970 and no longer than a clock lasts.
-pub(crate) fn nanos_of(time: Timespec) -> u64
-    requires since { pos 0 ≤ℤ time.sec }
-    requires until { time.sec <ℤ pos 9223372036 }
-    requires rest { time.nsec < 10 ^ 9 }
-    ensures value { pos result ≡ nanoseconds time }
-    ensures most { result < 9223372036 * 10 ^ 9 }
-{
-    time.sec as u64 * NANOS_PER_SECOND + u64::from(time.nsec)
 }
 
 /// Does the command set REALTIME, so that a test of its own bounds it?

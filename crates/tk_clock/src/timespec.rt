@@ -1,5 +1,5 @@
-ghost use Rattle.std.specs.Prelude.{◌≡◌, ◌*◌, ◌^◌, ◌<◌};
-ghost use Rattle.tk_clock.specs.Time.{timespec_of};
+ghost use Rattle.std.specs.Prelude.{◌≡◌, ◌*◌, ◌^◌, ◌<◌, pos, ◌≤ℤ◌, ◌<ℤ◌};
+ghost use Rattle.tk_clock.specs.Time.{nanoseconds, timespec_of};
 
 use crate::amount::NANOS_PER_SECOND;
 
@@ -12,6 +12,18 @@ pub struct Timespec {
     pub sec: i64,
     /// Nanoseconds on top of them.
     pub nsec: u32,
+}
+
+/// A time or an amount of time in nanoseconds (`timespec64_to_ns`), where it is none before 1970 and no longer than a
+/// clock lasts.
+pub(crate) fn nanos_of(time: Timespec) -> u64
+    requires since { pos 0 ≤ℤ time.sec }
+    requires until { time.sec <ℤ pos 9223372036 }
+    requires rest { time.nsec < 10 ^ 9 }
+    ensures value { pos result ≡ nanoseconds time }
+    ensures most { result < 9223372036 * 10 ^ 9 }
+{
+    time.sec as u64 * NANOS_PER_SECOND + u64::from(time.nsec)
 }
 
 /// So many nanoseconds, as seconds and nanoseconds (`ns_to_timespec64`).

@@ -5,15 +5,9 @@ ghost use Rattle.tk_clock.specs.Words.{words_of, restored, are_in_range};
 use super::Snapshot;
 use crate::amount::Amount;
 use crate::command::Command;
-use crate::limits::MONOTONIC_SEC_LIMIT;
+use crate::limits::{MONOTONIC_SEC_LIMIT, RAW_SEC_LIMIT, TAI_OFFSET_MOST};
 use crate::read_base::ReadBase;
 use tk_counter::CounterDesc;
-
-/// Where MONOTONIC_RAW ends while MONOTONIC is below its own limit, in seconds.
-const RAW_SEC_LIMIT: u64 = 1_060_000_000;
-
-/// The greatest TAI offset, in seconds.
-const TAI_LIMIT: u64 = 100_000;
 
 impl Snapshot {
     /// The snapshot as ten words.
@@ -82,7 +76,7 @@ fn are_in_range(desc: &CounterDesc, words: &[u64; 10]) -> bool
         && words[2] <= u64::from(desc.mult()) + u64::from(desc.max_adj())
         && words[3] < desc.second()
         && words[4] < MONOTONIC_SEC_LIMIT
-        && words[7] / 2 <= TAI_LIMIT
+        && words[7] / 2 <= TAI_OFFSET_MOST as u64
         && words[8] < desc.second()
         && words[9] < RAW_SEC_LIMIT
 }

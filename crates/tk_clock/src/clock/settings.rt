@@ -1,0 +1,84 @@
+//! REALTIME set to a time, and moved by an amount.
+ghost use Rattle.std.specs.Prelude.{◌≡◌, ◌+◌, ◌*◌, ◌/◌, ◌^◌, ◌<◌, ◌≤◌, MatchOption, pos, ◌≤ℤ◌, ◌<ℤ◌, ◌+ℤ◌, ◌⊎◌};
+ghost use Rattle.tk_clock.specs.State.{base_value, forwarded};
+ghost use Rattle.tk_clock.specs.Limits.{limit};
+ghost use Rattle.tk_clock.specs.Running.{IsRated};
+ghost use Rattle.tk_clock.specs.Effect.{IsEarly, IsEffect};
+ghost use Rattle.tk_clock.specs.Time.{nanoseconds};
+
+use super::Clock;
+use crate::amount::NANOS_PER_SECOND;
+use crate::clock_id::ClockId;
+use crate::command::Command;
+use crate::limits::settable_limit;
+use crate::read_base::ReadBase;
+use crate::refusal::Refusal;
+use crate::timespec::{Timespec, nanos_of};
+
+impl Clock {
+    /// REALTIME set to a time (`do_settimeofday64`).
+    pub(super) fn set_time(&self, now: ReadBase, time: Timespec) -> Result<Clock, Refusal>
+        requires forwarded { now ≡ forwarded self.now.base now.last }
+        requires rated { IsRated now }
+        requires early { IsEarly self.now now.last (Command.SetTime time) }
+        ensures { IsEffect self.now now.last (Command.SetTime time) result }
+    {
+        if now.is_past_limit(Command::SetTime(time)) {
+            return Err(Refusal::Range);
+        }
+        let Some(offset) = nanos_of(time).checked_sub(now.monotonic_now()) else {
+            return Err(Refusal::Invalid);
+        };
+        Ok(self.set_to(now, offset))
+    }
+
+    /// REALTIME moved by an amount (`timekeeping_inject_offset`).
+    pub(super) fn step(&self, now: ReadBase, by: Timespec) -> Result<Clock, Refusal>
+        requires forwarded { now ≡ forwarded self.now.base now.last }
+        requires rated { IsRated now }
+        requires early { IsEarly self.now now.last (Command.Step by) }
+        ensures { IsEffect self.now now.last (Command.Step by) result }
+    {
+        if now.is_past_limit(Command::Step(by)) {
+            return Err(Refusal::Range);
+        }
+        let monotonic = now.monotonic_now();
+        let Some(real) = moved(monotonic + self.base.real_offset, by) else {
+            return Err(Refusal::Invalid);
+        };
+        if real < monotonic || real >= settable_limit() {
+            return Err(Refusal::Invalid);
+        }
+        Ok(self.set_to(now, real - monotonic))
+    }
+
+    /// The clocks brought forward, with REALTIME so far from MONOTONIC, in ns.
+    fn set_to(&self, now: ReadBase, offset: u64) -> Clock
+        requires forwarded { now ≡ forwarded self.now.base now.last }
+        requires rated { IsRated now }
+        requires settable { now.amount / 2 ^ now.counter.shift + offset < 8277292036 * 10 ^ 9 }
+        requires tai { now.tai ≤ℤ pos 100000 }
+        requires boot { base_value now ClockId.Boottime now.last <ℤ limit ClockId.Boottime }
+        ensures { result ≡ record self.now { base = record now { real_offset = pos offset } } }
+    {
+        let mut clock = *self;
+        clock.base = now.with_real_offset(offset);
+        clock
+    }
+}
+
+/// A time in ns moved by an amount. None where it would come before 1970, or beyond what a word of ns holds.
+fn moved(real: u64, by: Timespec) -> Option<u64>
+    requires real { real < 10169452036 * 10 ^ 9 }
+    requires rest { by.nsec < 10 ^ 9 }
+    ensures { let moved = pos real +ℤ nanoseconds by in
+        MatchOption result ((moved <ℤ pos 0) ⊎ (pos (2 ^ 64) ≤ℤ moved)) (λ nanos. pos nanos ≡ moved) }
+{
+    let upward = real + u64::from(by.nsec);
+    let whole = by.sec.unsigned_abs().checked_mul(NANOS_PER_SECOND)?;
+    if by.sec < 0 {
+        upward.checked_sub(whole)
+    } else {
+        upward.checked_add(whole)
+    }
+}
