@@ -177,7 +177,9 @@ IsRunning-set base now frequency tick offset held e rated low tai boot =
       tick_low = held.tick_low;
       tick_high = held.tick_high;
       rated = rated;
-      real_low = rw (real-last after) (omega (arith, ints));
-      boot_low = boot;
-      tai_low = rw (tai-last after) (omega (arith, ints, tai));
+      within = record {
+        real_low = rw (real-last after) (omega (arith, ints));
+        boot_low = boot;
+        tai_low = rw (tai-last after) (omega (arith, ints, tai));
+      };
     }

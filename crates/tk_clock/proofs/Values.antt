@@ -69,9 +69,11 @@ IsRunning-opened counter reading mult real same low =
       tick_low = omega (arith, ints);
       tick_high = omega (arith, ints);
       rated = omega arith;
-      real_low = rw (real-last base, none) (omega (arith, ints));
-      boot_low = rw (boot-last base, none) (omega (arith, ints));
-      tai_low = rw (tai-last base, none) (omega (arith, ints));
+      within = record {
+        real_low = rw (real-last base, none) (omega (arith, ints));
+        boot_low = rw (boot-last base, none) (omega (arith, ints));
+        tai_low = rw (tai-last base, none) (omega (arith, ints));
+      };
     }
 
 -- REALTIME below its limit is no further than that from MONOTONIC

@@ -32,7 +32,7 @@ pub record IsWithin (base : ReadBase) : Type 0 where
   pub boot_low : base_value base Boottime base.last <ℤ limit Boottime
   pub tai_low : base_value base Tai base.last <ℤ limit Tai
 
--- the running clocks: the multiplier is that of the frequency and tick, and each clock is below its limit
+-- the running clocks: the multiplier is that of the frequency and tick, and no clock is at its limit
 pub record IsRunning (base : ReadBase) (frequency tick : ℤ) : Type 0 where
   pub steered : base.mult ≡ multiplier base.counter frequency tick
   pub frequency_low : neg_ℤ (pos (2 ^ 63)) ≤ℤ frequency
@@ -40,6 +40,4 @@ pub record IsRunning (base : ReadBase) (frequency tick : ℤ) : Type 0 where
   pub tick_low : pos 9000 ≤ℤ tick
   pub tick_high : tick ≤ℤ pos 11000
   pub rated : IsRated base
-  pub real_low : base_value base Realtime base.last <ℤ limit Realtime
-  pub boot_low : base_value base Boottime base.last <ℤ limit Boottime
-  pub tai_low : base_value base Tai base.last <ℤ limit Tai
+  pub within : IsWithin base

@@ -147,8 +147,6 @@ impl Clock {
         if base.is_past_limit(cmd) {
             return Err(Refusal::Range);
         }
-        let mut clock = *self;
-        clock.base = base;
-        Ok(clock)
+        Ok(Clock { base, ..*self })
     }
 }

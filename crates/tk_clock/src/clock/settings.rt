@@ -61,9 +61,8 @@ impl Clock {
         requires boot { base_value now ClockId.Boottime now.last <ℤ limit ClockId.Boottime }
         ensures { result ≡ record self.now { base = record now { real_offset = pos offset } } }
     {
-        let mut clock = *self;
-        clock.base = now.with_real_offset(offset);
-        clock
+        let base = now.with_real_offset(offset);
+        Clock { base, ..*self }
     }
 }
 

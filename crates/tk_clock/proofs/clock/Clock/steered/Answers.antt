@@ -29,7 +29,9 @@ invariant_of-result c =
       tick_low = c.requires.slowest;
       tick_high = c.requires.fastest;
       rated = rw told c.requires.rated;
-      real_low = plain.0;
-      boot_low = within_boot (λ clock. base_value base clock base.last) c.args.cmd past;
-      tai_low = plain.1;
+      within = record {
+        real_low = plain.0;
+        boot_low = within_boot (λ clock. base_value base clock base.last) c.args.cmd past;
+        tai_low = plain.1;
+      };
     }

@@ -27,7 +27,7 @@ pub overflow_add-monotonic : goal.overflow_add-monotonic
 overflow_add-monotonic c =
     let base = c.self.inside.base in
     let held = ap (λ (i : Inside). i.base.real_offset) (sym c.self-inside.view_is) in
-    let low = real_offset_low base c.self-inside.inside.0.0.real_offset held c.self.invariant.real_low in
+    let low = real_offset_low base c.self-inside.inside.0.0.real_offset held c.self.invariant.within.real_low in
     let now = c.monotonic_now-monotonic.ensures.low in
     omega (arith, low, now)
 
@@ -35,7 +35,7 @@ pub moved-requires-clause-real : goal.moved-requires-clause-real
 moved-requires-clause-real c =
     let base = c.self.inside.base in
     let held = ap (λ (i : Inside). i.base.real_offset) (sym c.self-inside.view_is) in
-    let low = real_offset_low base c.self-inside.inside.0.0.real_offset held c.self.invariant.real_low in
+    let low = real_offset_low base c.self-inside.inside.0.0.real_offset held c.self.invariant.within.real_low in
     let now = c.monotonic_now-monotonic.ensures.low in
     omega (arith, low, now)
 
