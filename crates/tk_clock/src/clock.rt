@@ -16,7 +16,7 @@ use tk_counter::CounterDesc;
 /// The running clocks of a counter, as the kernel's `struct timekeeper`.
 ///
 /// It knows no time of its own: each command hands in the counter's reading. Commands need no allocation.
-#[derive(Clone, Copy)]
+#[derive(Clone, Copy, Debug)]
 pub struct Clock {
     base: ReadBase,
     /// The frequency in force, in `2^-16` ppm.

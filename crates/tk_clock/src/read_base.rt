@@ -11,7 +11,7 @@ use std::marker::Model;
 use tk_counter::CounterDesc;
 
 /// What reading the clocks takes, as the kernel's `struct tk_read_base`.
-#[derive(Clone, Copy)]
+#[derive(Clone, Copy, Debug)]
 pub(crate) struct ReadBase {
     /// The counter.
     pub desc: CounterDesc,
