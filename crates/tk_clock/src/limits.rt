@@ -21,7 +21,9 @@ const SETTABLE_SEC_LIMIT: i64 = 8_277_292_036;
 
 /// The ticks that may be set, in microseconds, and the usual one: 100 of it are a second (`USER_HZ`).
 const SHORTEST_TICK: i64 = 9_000;
+
 const LONGEST_TICK: i64 = 11_000;
+
 pub(crate) const USUAL_TICK: i64 = 10_000;
 
 /// The greatest TAI offset, in seconds (`MAX_TAI_OFFSET`).

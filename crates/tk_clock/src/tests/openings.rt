@@ -26,18 +26,21 @@ fn the_readers_tell_the_words(rt: HostRuntime) -> Result<(), Fail> {
     let snapshot = opened()?.snapshot(0);
     assert_eq!(rt; snapshot.desc(), nanosecond_counter()?);
     assert!(rt; !snapshot.asleep());
-    assert_eq!(rt; [
-        snapshot.front(),
-        snapshot.last(),
-        u64::from(snapshot.mult()),
-        snapshot.frac(),
-        snapshot.sec(),
-        snapshot.real_offset(),
-        snapshot.boot_offset(),
-        u64::from(snapshot.tai()),
-        snapshot.raw_frac(),
-        snapshot.raw_sec(),
-    ], OPENING);
+    assert_eq!(rt;
+        [
+            snapshot.front(),
+            snapshot.last(),
+            u64::from(snapshot.mult()),
+            snapshot.frac(),
+            snapshot.sec(),
+            snapshot.real_offset(),
+            snapshot.boot_offset(),
+            u64::from(snapshot.tai()),
+            snapshot.raw_frac(),
+            snapshot.raw_sec(),
+        ],
+        OPENING
+    );
     Ok(())
 }
 

@@ -51,10 +51,7 @@ fn a_step_stays_between_monotonic_and_the_settable_times(rt: HostRuntime) -> Res
         (time(-8_277_292_035, 0), Ok(())),
         (time(-1, 0), Err(Refusal::Invalid)),
         (time(0, 1_000_000_000), Err(Refusal::Invalid)),
-        (
-            time(-9_223_372_036_854_775_808, 0),
-            Err(Refusal::Invalid),
-        ),
+        (time(-9_223_372_036_854_775_808, 0), Err(Refusal::Invalid)),
     ] {
         answers(&rt, &mut clock, 0, Command::Step(by), answer);
     }

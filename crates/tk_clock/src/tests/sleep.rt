@@ -6,18 +6,21 @@ use std::test::Fail;
 fn a_suspension_moves_realtime_and_boottime(rt: HostRuntime) -> Result<(), Fail> {
     let mut clock = opened()?;
     answers(&rt, &mut clock, 1_000, Command::Suspend, Ok(()));
-    assert_eq!(rt; clock.snapshot(1).words(), [
-        1,
-        1_000,
-        16_777_216,
-        16_777_216_000,
-        0,
-        1_700_000_000_000_000_000,
-        0,
-        1,
-        16_777_216_000,
-        0
-    ]);
+    assert_eq!(rt;
+        clock.snapshot(1).words(),
+        [
+            1,
+            1_000,
+            16_777_216,
+            16_777_216_000,
+            0,
+            1_700_000_000_000_000_000,
+            0,
+            1,
+            16_777_216_000,
+            0
+        ]
+    );
     answers(
         &rt,
         &mut clock,
@@ -27,18 +30,21 @@ fn a_suspension_moves_realtime_and_boottime(rt: HostRuntime) -> Result<(), Fail>
     );
     let away = Command::Resume(time(5, 500_000_000));
     answers(&rt, &mut clock, 5, away, Ok(()));
-    assert_eq!(rt; clock.snapshot(2).words(), [
-        2,
-        5,
-        16_777_216,
-        16_777_216_000,
-        0,
-        1_700_000_005_500_000_000,
-        5_500_000_000,
-        0,
-        16_777_216_000,
-        0
-    ]);
+    assert_eq!(rt;
+        clock.snapshot(2).words(),
+        [
+            2,
+            5,
+            16_777_216,
+            16_777_216_000,
+            0,
+            1_700_000_005_500_000_000,
+            5_500_000_000,
+            0,
+            16_777_216_000,
+            0
+        ]
+    );
     for (id, reading, told) in [
         (ClockId::Monotonic, 5, time(0, 1_000)),
         (ClockId::Realtime, 5, time(1_700_000_005, 500_001_000)),
@@ -94,11 +100,7 @@ fn a_long_suspension_takes_realtime_to_its_limit(rt: HostRuntime) -> Result<(), 
             Command::Resume(time(7_523_372_036, 0)),
             Err(Refusal::Range),
         ),
-        (
-            0,
-            Command::Resume(time(7_523_372_035, 999_999_999)),
-            Ok(()),
-        ),
+        (0, Command::Resume(time(7_523_372_035, 999_999_999)), Ok(())),
         (1, Command::Update, Err(Refusal::Range)),
         (0, Command::Tai(1), Err(Refusal::Range)),
         (0, Command::Step(time(0, 0)), Err(Refusal::Invalid)),

@@ -53,18 +53,21 @@ fn a_tick_and_a_frequency_keep_each_other(rt: HostRuntime) -> Result<(), Fail> {
     reads(&rt, &clock, ClockId::MonotonicRaw, at, time(1, 0));
     answers(&rt, &mut clock, at, Command::Freq(32_768_000), Ok(()));
     reads(&rt, &clock, ClockId::Monotonic, at, time(1, 99_999_964));
-    assert_eq!(rt; clock.snapshot(2).words(), [
-        2,
-        1_000_000_000,
-        18_463_326,
-        1_677_721_000_000_000,
-        1,
-        1_700_000_000_000_000_000,
-        0,
-        0,
-        0,
-        1
-    ]);
+    assert_eq!(rt;
+        clock.snapshot(2).words(),
+        [
+            2,
+            1_000_000_000,
+            18_463_326,
+            1_677_721_000_000_000,
+            1,
+            1_700_000_000_000_000_000,
+            0,
+            0,
+            0,
+            1
+        ]
+    );
     reads(&rt, &clock, ClockId::Monotonic, at + 1, time(1, 99_999_965));
     reads(&rt, &clock, ClockId::MonotonicRaw, at + 1, time(1, 1));
     Ok(())

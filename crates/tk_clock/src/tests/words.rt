@@ -9,6 +9,7 @@ const OPENING: [u64; 10] = [0, 0, 16_777_216, 0, 0, 0, 0, 0, 0, 0];
 
 /// One second below the end of REALTIME, BOOTTIME and TAI, and 1 ns below it, in ns.
 const SECOND_BELOW_END: u64 = 9_223_372_035_000_000_000;
+
 const BELOW_END: u64 = 9_223_372_035_999_999_999;
 
 /// Words are taken, and then given back; or they aren't.
@@ -84,7 +85,18 @@ fn a_clock_is_below_its_end_at_the_last_reading(rt: HostRuntime) -> Result<(), F
 #[test]
 fn the_greatest_monotonic_reads_beyond_its_limit_soon(rt: HostRuntime) -> Result<(), Fail> {
     let desc = nanosecond_counter()?;
-    let mut words = [0, 0, 18_622_709, 16_777_215_999_999_999, 946_079_999, 0, 0, 0, 0, 0];
+    let mut words = [
+        0,
+        0,
+        18_622_709,
+        16_777_215_999_999_999,
+        946_079_999,
+        0,
+        0,
+        0,
+        0,
+        0,
+    ];
     let snapshot = Snapshot::from_words(desc, words).ok_or("the words are in range")?;
     for (id, told) in [
         (ClockId::Monotonic, Err(ReadError::Range)),
