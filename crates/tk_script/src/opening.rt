@@ -1,5 +1,6 @@
-ghost use Rattle.std.specs.Prelude.{◌≡◌};
+ghost use Rattle.std.specs.Prelude.{◌≡◌, IfOk, None};
 ghost use Rattle.csv.specs.Records.{fields_of};
+ghost use Rattle.tk_clock.specs.Refusal.{opening_refusal};
 ghost use Rattle.tk_script.specs.Opening as spec;
 
 use crate::fields::{field, has_word, number_at, number32_at, time_at};
@@ -19,7 +20,9 @@ pub(crate) struct Start {
 /// The opening that the first record tells, by its word.
 #[tactic(auto, unfolding(crate::specs::Opening::start_of))]
 pub(crate) fn read_start(fields: &ByteRecord) -> Result<Start, ScriptError>
-    ensures { result ≡ spec.start_of (fields_of fields.now) }
+    ensures value { result ≡ spec.start_of (fields_of fields.now) }
+    ensures opens { IfOk result (λ start.
+        opening_refusal start.desc start.reading start.real ≡ None) }
 {
     if has_word(field(fields, 0), b"open") {
         read_open(fields)
@@ -31,7 +34,9 @@ pub(crate) fn read_start(fields: &ByteRecord) -> Result<Start, ScriptError>
 /// `open` with bits, mult, shift, reading, sec and nsec.
 #[tactic(auto, unfolding(crate::specs::Opening::open_of))]
 fn read_open(fields: &ByteRecord) -> Result<Start, ScriptError>
-    ensures { result ≡ spec.open_of (fields_of fields.now) }
+    ensures value { result ≡ spec.open_of (fields_of fields.now) }
+    ensures opens { IfOk result (λ start.
+        opening_refusal start.desc start.reading start.real ≡ None) }
 {
     if fields.len() != 7 {
         return Err(ScriptError::Fields { row: 1 });
@@ -54,7 +59,9 @@ fn described(bits: u32, mult: u32, shift: u32) -> Result<CounterDesc, ScriptErro
 
 /// The opening with this counter, reading and real time, if clocks can be opened so.
 fn started(desc: CounterDesc, reading: u64, real: Timespec) -> Result<Start, ScriptError>
-    ensures { result ≡ spec.started desc reading real }
+    ensures value { result ≡ spec.started desc reading real }
+    ensures opens { IfOk result (λ start.
+        opening_refusal start.desc start.reading start.real ≡ None) }
 {
     if Clock::open(desc, reading, real).is_err() {
         return Err(ScriptError::Opening { row: 1 });

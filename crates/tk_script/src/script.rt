@@ -1,4 +1,5 @@
-ghost use Rattle.std.specs.Prelude.{◌≡◌, ℕ, List, Some};
+ghost use Rattle.std.specs.Prelude.{◌≡◌, ℕ, List, IfOk, None, Some};
+ghost use Rattle.tk_clock.specs.Refusal.{opening_refusal};
 ghost use Rattle.tk_script.specs.Reading.{IsReading, left_of};
 ghost use Rattle.tk_script.specs.Rows.{rows_of};
 ghost use Rattle.tk_script.specs.Grammar.{Gives, parse_of};
@@ -33,7 +34,10 @@ impl Script {
 
     /// The script that the bytes spell, or its first fault.
     pub fn from_bytes(alloc: Global, bytes: &[u8]) -> Result<Script, ScriptError>
-        ensures { Gives parse result (parse_of bytes.now) }
+        ensures gives { Gives parse result (parse_of bytes.now) }
+        // clocks can be opened as the script says
+        ensures opens { IfOk result (λ script.
+            opening_refusal script.desc script.reading script.real ≡ None) }
     {
         if bytes.len() > SIZE_LIMIT {
             return Err(ScriptError::TooLarge);
