@@ -1,0 +1,68 @@
+ghost use Rattle.std.specs.Prelude.{◌≡◌};
+
+use clap::error::ErrorKind;
+use std::alloc::AllocError;
+use std::{fmt, io};
+use tk_replay::Fault;
+
+/// Why the program stops before it is done.
+#[derive(Clone, Copy, Debug, PartialEq, Eq)]
+pub(crate) enum Stop {
+    /// The words on the command line are none of its own.
+    Words,
+    /// The call that the words name has failed.
+    Fault(Fault),
+}
+
+impl Stop {
+    ghost use Rattle.tkcore.specs.Stop.{status_of};
+
+    /// The exit status.
+    pub(crate) fn status(self) -> u8
+        ensures { result ≡ status_of self }
+    {
+        match self {
+            Stop::Fault(_) => 1,
+            Stop::Words => 2,
+        }
+    }
+}
+
+impl fmt::Display for Stop {
+    ghost use Rattle.tkcore.specs.Stop.{stop_text};
+
+    ghost output = { stop_text };
+
+    fn fmt<W: fmt::Write>(&self, f: &mut fmt::Formatter<W>) -> fmt::Result {
+        match self {
+            Stop::Words => write!(f, "words refused"),
+            Stop::Fault(fault) => write!(f, "{fault}"),
+        }
+    }
+}
+
+impl From<AllocError> for Stop {
+    fn from(_error: AllocError) -> Stop {
+        Stop::Fault(Fault::Memory)
+    }
+}
+
+/// The words couldn't be taken: one of them isn't UTF-8, or memory was refused.
+impl From<io::Error> for Stop {
+    fn from(error: io::Error) -> Stop {
+        match error.kind() {
+            io::ErrorKind::OutOfMemory => Stop::Fault(Fault::Memory),
+            _ => Stop::Words,
+        }
+    }
+}
+
+/// The words don't parse: they aren't known, they ask for help, or memory was refused.
+impl From<clap::Error> for Stop {
+    fn from(error: clap::Error) -> Stop {
+        match error.kind() {
+            ErrorKind::OutOfMemory => Stop::Fault(Fault::Memory),
+            _ => Stop::Words,
+        }
+    }
+}
