@@ -15,11 +15,13 @@ abbrev pub IsReplayed : Option (List ℕ) → Option (List ℕ) → Option (List
 IsReplayed unread left held holds =
     (bytes : List ℕ) × (text : List ℕ) × IsReadToEnd unread left bytes × IsReport bytes text × Appends held holds text
 
--- what each fault leaves of a reader's bytes and of a writer: the first bytes of the report went out, or no call was made
+-- what each fault leaves of a reader's bytes and of a writer: the first bytes of the report went out, or the writer is as
+-- it was
 abbrev pub Leaves : {W : Type 0} → Option (List ℕ) → Option (List ℕ) → (W → Option (List ℕ)) → W → W → Fault → Type 0
 Leaves unread left contents old new faults.Read = new ≡ old
 Leaves unread left contents old new (faults.Script error) =
-    (bytes : List ℕ) × IsReadToEnd unread left bytes × (parse_of bytes ≡ Err error) × (error ≢ errors.Memory) × (new ≡ old)
+    (bytes : List ℕ) × IsReadToEnd unread left bytes × (parse_of bytes ≡ Err error) × (error ≢ errors.Memory)
+    × (new ≡ old)
 Leaves unread left contents old new faults.Memory = new ≡ old
 Leaves unread left contents old new (faults.Write written) =
     (bytes : List ℕ) × (text : List ℕ) × IsReadToEnd unread left bytes × IsReport bytes text

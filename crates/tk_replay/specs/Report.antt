@@ -63,7 +63,8 @@ after journal (Look reading clock) = journal
 abbrev pub IsLines : Journal → List Row → List ℕ → Type 0
 IsLines journal [] text = text ≡ []
 IsLines journal (row ∷ rows) text =
-    (line : List ℕ) × (rest : List ℕ) × IsLine journal row line × IsLines (after journal row) rows rest × (text ≡ line ++ rest)
+    (line : List ℕ) × (rest : List ℕ) × IsLine journal row line × IsLines (after journal row) rows rest
+    × (text ≡ line ++ rest)
 
 -- the report of what a script says
 abbrev pub IsReportOf : Parse → List ℕ → Type 0

@@ -11,9 +11,8 @@ use std::alloc::Global;
 
 /// Reads a script to its end, makes the whole report, writes it and flushes.
 ///
-/// It reads at most 16,777,217 bytes, of which the last one shows that the script is too large. No call is tried
-/// again: a read or a write that is interrupted (EINTR) is a fault as any other. What it keeps beside the report is the
-/// script, at most twice its size.
+/// It reads at most 16,777,217 bytes, of which the last one shows that the script is too large. No call is
+/// tried again: a read or a write that is interrupted (EINTR) is a fault as any other.
 pub fn replay<R: Source, W: Sink>(
     alloc: Global,
     reader: &mut R,
@@ -24,7 +23,8 @@ pub fn replay<R: Source, W: Sink>(
         (W.Write.contents writer.old) (W.Write.contents writer.new)) }
     ensures flushed { OnOk result (IsFlushed W.Sink.flush_gives writer.new) }
     ensures err { IfErr result (Leaves
-        (R.Read.remaining reader.old) (R.Read.remaining reader.new) W.Write.contents writer.old writer.new) }
+        (R.Read.remaining reader.old) (R.Read.remaining reader.new)
+        W.Write.contents writer.old writer.new) }
     ensures failed { IfErr result (HasFailed
         (ReadFailed R.Source.read_gives reader.new)
         (WriteFailed W.Sink.write_gives W.Sink.flush_gives writer.new)) }

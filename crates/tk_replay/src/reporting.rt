@@ -17,7 +17,8 @@ const CALLER: u32 = 0;
 
 /// The report of a script's bytes: a line for the opening, and one for each record after it.
 ///
-/// Commands are applied in their order, all by the caller 0. An accepted one is told with MONOTONIC at its reading.
+/// Commands are applied in their order, all by the caller 0. An accepted one is told with MONOTONIC at its
+/// reading.
 /// `Memory` may stand in the place of any other answer.
 pub fn report(alloc: Global, script: &[u8]) -> Result<Vec<u8>, ScriptError>
     ensures { MatchResult result
@@ -65,7 +66,8 @@ fn add_reply(
 ) -> Result<(), ScriptError>
     ensures line { OnOk result (text.new.items
         ≡ text.old.items ++ reply_line reading (reply_to keeper.old.journal (event reading cmd))) }
-    ensures after { OnOk result (keeper.new.journal ≡ (reply_to keeper.old.journal (event reading cmd)).journal) }
+    ensures after { OnOk result
+        (keeper.new.journal ≡ (reply_to keeper.old.journal (event reading cmd)).journal) }
     ensures err { IfErr result (λ error. error ≡ ScriptError.Memory) }
 {
     match keeper.apply(CALLER, reading, cmd) {
@@ -86,7 +88,8 @@ fn add_look(
     clock: ClockId,
 ) -> Result<(), ScriptError>
     ensures line { OnOk result ((line : List ℕ)
-        × IsLookLine keeper.now.journal clock reading (look_refusal keeper.now.journal clock reading) line
+        × IsLookLine keeper.now.journal clock reading
+        (look_refusal keeper.now.journal clock reading) line
         × (text.new.items ≡ text.old.items ++ line)) }
     ensures err { IfErr result (λ error. error ≡ ScriptError.Memory) }
 {

@@ -8,18 +8,21 @@ use std::io::Read;
 
 /// Where a script comes from: any reader.
 ///
-/// `replay` reads by this trait, so that its contract can say that a read failed: it is proved for every relation
-/// `read_gives`, and so can name only a read that it made. Every reader has it; write no impl of it.
+/// `replay` reads by this trait, so that its contract can say that a read failed: it is proved for every
+/// relation `read_gives`, and so can name only a read that it made. Every reader has it; write no impl of it.
 pub trait Source: Read {
-    // What a read may come to: the reader before it, how many bytes it gave, none where it failed, the reader after it.
+    // What a read may come to: the reader before it, how many bytes it gave, none where it failed, and the
+    // reader after it.
     ghost read_gives: { Self → Option ℕ → Self → Type 0 };
 
-    /// Reads once into `room`, from its front: how many bytes it gave, or nothing where the read answered an error.
+    /// Reads once into `room`, from its front: how many bytes it gave, or nothing where the read answered an
+    /// error.
     fn read_once(&mut self, room: &mut [u8]) -> Option<usize>
         ensures bound { IfSome result (λ count. count ≤ length room.new) }
         ensures bytes { MatchOption result
             (Keeps (Self.Read.remaining self.old) (Self.Read.remaining self.new))
-            (λ count. Consumes (Self.Read.remaining self.old) (Self.Read.remaining self.new) (take count room.new)
+            (λ count.
+            Consumes (Self.Read.remaining self.old) (Self.Read.remaining self.new) (take count room.new)
             × (count ≡ 0 → 0 < length room.new → IsAtEnd (Self.Read.remaining self.new))) }
         ensures call { read_gives self.old result self.new };
 }
@@ -81,7 +84,8 @@ fn read_at<S: Source>(source: &mut S, room: &mut [u8], at: usize) -> Option<usiz
     ensures bound { IfSome result (λ count. at + count ≤ length room.new) }
     ensures bytes { MatchOption result
         (Keeps (S.Read.remaining source.old) (S.Read.remaining source.new))
-        (λ count. Consumes (S.Read.remaining source.old) (S.Read.remaining source.new) (take count (drop at room.new))
+        (λ count. Consumes
+        (S.Read.remaining source.old) (S.Read.remaining source.new) (take count (drop at room.new))
         × (count ≡ 0 → IsAtEnd (S.Read.remaining source.new))) }
     ensures call { S.Source.read_gives source.old result source.new }
 {

@@ -3,7 +3,7 @@
 mod reports;
 mod streams;
 
-/// Opens a counter of one nanosecond a cycle, reads MONOTONIC, and brings it forward to half the counter's range.
+/// Opens a counter of one nanosecond a cycle, and brings the clocks forward by half of the counter's range.
 const SCRIPT: &[u8] = b"open,32,16777216,24,0,1700000000,0\nget,0,monotonic\nupdate,2147483647\n\
 get,2147483648,monotonic\nupdate,0\n";
 
