@@ -1,17 +1,18 @@
 -- What a timekeeper holds.
-use Rattle.std.specs.Prelude.{◌≡◌, ℕ, ◌-◌, ◌^◌, ◌<◌, ◌≤◌, List, length, Option, None, nat_lt, if◌then◌else◌, slice_get}
+use Rattle.std.specs.Prelude.{◌≡◌, ℕ, ◌+◌, ◌-◌, ◌*◌, ◌/◌, ◌%◌, ◌^◌, ◌<◌, ◌≤◌, min, List, length, Option, Some, None, nat_lt, if◌then◌else◌, slice_get}
 use Rattle.tk_clock.specs.declared.command.Entry.{Entry}
 use Rattle.tk_clock.specs.declared.clock_id.ClockId.{ClockId}
-use Rattle.tk_clock.specs.Journal.{Journal, accepted_count}
+use Rattle.tk_clock.specs.Journal.{Journal, prefix, accepted_count}
 use Rattle.tk_clock.specs.Monotonic.{awake_cycles}
 use Rattle.tk_clock.specs.Clocks.{clock_value}
 use Rattle.tk_clock.specs.Honest.{IsHonest, counted_cycles}
 use Rattle.tk_clock.specs.Legal.{IsLegal, folded_opening}
 use Rattle.tk_clock.specs.State.{ReadBase, State, base_value, state_of}
 
--- its journal
+-- its journal, and how many accepted commands will take no memory
 pub record Keeper : Type 0 where
   pub journal : Journal
+  pub spare : ℕ
 
 -- the journal that begins with a state, so many commands after the clocks were opened
 abbrev pub journal_from : ℕ → State → List Entry → Journal
@@ -23,6 +24,17 @@ pub record IsKept (journal : Journal) (state : State) : Type 0 where
   pub running : state ≡ state_of journal
   pub room : length journal.entries ≤ 1048576
   pub counted : accepted_count journal < 2 ^ 63
+
+-- a state is kept for each listed entry whose number is a multiple of 256: the one after it
+pub record HasKept (journal : Journal) (kept : List State) : Type 0 where
+  pub all : length kept + journal.opening.count / 256 ≡ accepted_count journal / 256
+  pub told : (i place : ℕ) → i < length kept →
+      journal.opening.count + place ≡ 256 * (journal.opening.count / 256 + 1 + i) →
+      slice_get kept i ≡ Some (state_of (prefix place journal))
+
+-- how many commands fit into so many free places for entries and for kept states, after so many commands
+abbrev pub room_for : ℕ → ℕ → ℕ → ℕ
+room_for places kept count = min places (256 * (kept + 1) - count % 256 - 1)
 
 -- the entry of a number, counted from 1 over all accepted commands; none where it was folded or is yet to come
 abbrev pub entry_at : Journal → ℕ → Option Entry

@@ -1,8 +1,10 @@
-ghost use Rattle.std.specs.Prelude.{◌≡◌, ◌≤◌, MatchResult, IfOk, Some, None};
+ghost use Rattle.std.specs.Prelude.{◌≡◌, MatchResult, Some, None};
+
+mod applying;
 
 use std::alloc::Global;
 use std::marker::Model;
-use tk_clock::{Clock, Command, Entry, Refusal, Snapshot, Timespec};
+use tk_clock::{Clock, Entry, Refusal, Snapshot, Timespec};
 use tk_counter::CounterDesc;
 
 /// The most entries that a journal lists.
@@ -10,6 +12,9 @@ const LISTED_LIMIT: usize = 1_048_576;
 
 /// The most commands that a journal counts.
 const COUNTED_LIMIT: u64 = (1 << 63) - 1;
+
+/// A copy of the clocks is kept at each entry whose number is a multiple of this.
+const KEPT_EVERY: usize = 256;
 
 /// The clocks of a counter, with the journal of all accepted commands.
 ///
@@ -23,28 +28,34 @@ pub struct Timekeeper {
     folded: u64,
     /// The commands accepted since.
     entries: Vec<Entry>,
+    /// The clocks after each of them whose number is a multiple of 256, so that past states are near.
+    kept: Vec<Clock>,
     /// The clocks now.
     clock: Clock,
 }
 
 impl Model for Timekeeper {
-    ghost use Rattle.tk_keeper.specs.Keeper.{Keeper, IsKept, journal_from};
+    ghost use Rattle.std.specs.Prelude.{◌+◌, ◌-◌, length, vec_capacity};
+    ghost use Rattle.tk_keeper.specs.Keeper.{Keeper, IsKept, HasKept, journal_from, room_for};
 
     ghost Value = { Keeper };
 
-    ghost view = { λ a. record { journal = journal_from a.folded a.start a.entries.items } };
+    ghost view = { λ a. record {
+      journal = journal_from a.folded a.start a.entries.items;
+      spare = room_for (vec_capacity a.entries - length a.entries.items)
+          (vec_capacity a.kept - length a.kept.items) (a.folded + length a.entries.items);
+    } };
 
-    ghost invariant = { λ a. IsKept (journal_from a.folded a.start a.entries.items) a.clock };
+    ghost invariant = { λ a.
+        IsKept (journal_from a.folded a.start a.entries.items) a.clock
+        × HasKept (journal_from a.folded a.start a.entries.items) a.kept.items };
 }
 
 impl Timekeeper {
-    ghost use Rattle.tk_clock.specs.Journal.{opened, followed_by, accepted_count};
+    ghost use Rattle.tk_clock.specs.Journal.{opened, accepted_count};
     ghost use Rattle.tk_clock.specs.Legal.{IsLegal};
-    ghost use Rattle.tk_clock.specs.Life.{NeverFalls};
-    ghost use Rattle.tk_clock.specs.Monotonic.{monotonic};
-    ghost use Rattle.tk_clock.specs.Refusal.{opening_refusal, first_refusal, is_full, IsRefusal};
+    ghost use Rattle.tk_clock.specs.Refusal.{opening_refusal};
     ghost use Rattle.tk_clock.specs.Snapshot.{snapshot_of};
-    ghost use Rattle.tk_clock.specs.declared.command.Entry.{Entry};
     ghost use Rattle.tk_keeper.specs.Keeper.{entry_at, ReadsAs, CountsTrue};
 
     /// The clocks from this reading on, with an empty journal: MONOTONIC is 0, and REALTIME `real`. It takes no memory.
@@ -66,45 +77,9 @@ impl Timekeeper {
             start: clock,
             folded: 0,
             entries: Vec::new(alloc),
+            kept: Vec::new(alloc),
             clock,
         })
-    }
-
-    /// Does a command to the clocks and enters it in the journal; the entry's number, counted from 1.
-    ///
-    /// Full where the journal has no room, then as `Clock::apply` refuses it, then Memory where the room for the entry
-    /// was refused. A refused command changes nothing.
-    pub fn apply(&mut self, who: u32, reading: u64, cmd: Command) -> Result<u64, Refusal>
-        ensures answer { let entry : Entry = record { who = who; reading = reading; cmd = cmd } in
-            MatchResult result
-            (λ number. (first_refusal self.old.journal entry ≡ None)
-            × (self.new.journal ≡ followed_by self.old.journal entry)
-            × (number ≡ accepted_count self.new.journal))
-            (λ refusal. IsRefusal self.old.journal entry refusal × (self.new ≡ self.old)) }
-        // MONOTONIC at the command's reading is the same before and after
-        ensures agrees { IfOk result
-            (λ _. monotonic self.old.journal reading ≡ monotonic self.new.journal reading) }
-        // and no prefix, read in its life, tells more than the journal tells now at any reading
-        ensures rises { NeverFalls self.new.journal }
-    {
-        if self.is_full() {
-            return Err(Refusal::Full);
-        }
-        let mut next = self.clock;
-        next.apply(reading, cmd)?;
-        if self.entries.push(Entry { who, reading, cmd }).is_err() {
-            return Err(Refusal::Memory);
-        }
-        self.clock = next;
-        Ok(self.folded + self.entries.len() as u64)
-    }
-
-    /// Has the journal no room for another entry?
-    fn is_full(&self) -> bool
-        ensures { result ≡ is_full self.now.journal }
-    {
-        self.entries.len() >= LISTED_LIMIT
-            || self.folded + self.entries.len() as u64 >= COUNTED_LIMIT
     }
 
     /// How many commands were accepted.
@@ -127,6 +102,16 @@ impl Timekeeper {
             .copied()
     }
 
+    /// How many accepted commands will take no memory.
+    pub fn spare(&self) -> usize
+        ensures { result ≡ self.now.spare }
+    {
+        let places = self.entries.capacity() - self.entries.len();
+        let kept = self.kept.capacity() - self.kept.len();
+        let until_kept = KEPT_EVERY - 1 - self.len() % KEPT_EVERY;
+        places.min(kept.saturating_mul(KEPT_EVERY).saturating_add(until_kept))
+    }
+
     /// What a reader is given: each clock at each reading as the journal has it.
     pub fn snapshot(&self) -> Snapshot
         ensures value { result ≡ snapshot_of self.now.journal }
@@ -134,6 +119,6 @@ impl Timekeeper {
         ensures clocks { ReadsAs self.now.journal result.base }
         ensures honest { CountsTrue self.now.journal }
     {
-        self.clock.snapshot(self.folded + self.entries.len() as u64)
+        self.clock.snapshot(self.len() as u64)
     }
 }

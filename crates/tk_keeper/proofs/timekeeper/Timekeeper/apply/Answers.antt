@@ -1,16 +1,17 @@
-use Rattle.std.proofs.Common.{◌≡◌, refl, sym, ◌∙◌, ap, subst, arith, ◌∷◌, [], ◌++◌, List, false, Bool}
-use Rattle.std.specs.Prelude.{None, if◌then◌else◌}
-use Rattle.std.proofs.lemmas.List.{length_push}
+use Rattle.std.proofs.Common.{◌≡◌, refl, sym, ◌∙◌, ap, subst, false}
+use Rattle.std.specs.Prelude.{Some, None}
 use Rattle.std.proofs.lemmas.Result.{err_from_is_err_and}
 use Rattle.tk_clock.specs.declared.command.Entry.{Entry}
+use Rattle.tk_clock.specs.declared.refusal.Refusal.{Refusal}
+use Rattle.tk_clock.specs.declared.refusal.Refusal.TheVariants.{Memory}
 use Rattle.tk_clock.specs.Journal.{Journal, followed_by}
 use Rattle.tk_clock.specs.Monotonic.{monotonic}
-use Rattle.tk_clock.specs.Refusal.{is_full}
+use Rattle.tk_clock.specs.Refusal.{is_full, first_refusal}
+use Rattle.tk_clock.specs.State.{state_of}
 use Rattle.tk_clock.proofs.Monotone.{never_falls, agrees}
-use Rattle.tk_clock.proofs.Legal.{first_refusal-state, state_of-followed_by, IsLegal-followed_by, IsRefusal-told}
-use Rattle.tk_keeper.specs.Keeper.{IsKept, journal_from}
+use Rattle.tk_clock.proofs.Legal.{first_refusal-state, state_of-followed_by, IsRefusal-told}
+use Rattle.tk_keeper.specs.Keeper.{Keeper}
 use Rattle.tk_keeper.specs.contracts.timekeeper.Timekeeper.{the_view}
-use Rattle.tk_keeper.proofs.Room.{not_full}
 use Rattle.tk_keeper.proofs.timekeeper.Timekeeper.apply.Goals as goal
 
 pub returns-then-is_full-clause-rises : goal.returns-then-is_full-clause-rises
@@ -23,69 +24,79 @@ pub returns-in_err-apply-clause-answer : goal.returns-in_err-apply-clause-answer
 returns-in_err-apply-clause-answer c =
     let keeper = c.self.inside in
     let journal : Journal = (the_view keeper).journal in
-    let held = c.self.invariant in
     let entry : Entry = record { who = c.args.who; reading = c.args.reading; cmd = c.args.cmd } in
     let room : is_full journal ≡ false = rw (← c.self.view_is) at (sym c.if-is_full.ensures) in
     let p = err_from_is_err_and c.from_residual.result c.from_residual.ensures.1 in
     rw (p.1, p.2, ← c.self.view_is) (
       IsRefusal-told journal entry _ room
-          (first_refusal-state journal keeper.clock c.args.who c.args.reading c.args.cmd _ held.running room c.in_err-apply.ensures.0),
+          (first_refusal-state journal keeper.clock c.args.who c.args.reading c.args.cmd _ c.self.invariant.0.running room c.in_err-apply.ensures.0),
       refl,
     )
 
-pub returns-then-is_err-clause-answer : goal.returns-then-is_err-clause-answer
-returns-then-is_err-clause-answer c =
-    let keeper = c.self.inside in
-    let journal : Journal = (the_view keeper).journal in
-    let held = c.self.invariant in
-    let entry : Entry = record { who = c.args.who; reading = c.args.reading; cmd = c.args.cmd } in
-    let room : is_full journal ≡ false = rw (← c.self.view_is) at (sym c.if-is_full.ensures) in
-    let same : c.push.new.self.items ≡ keeper.entries.items =
-    c.push.ensures.items
-    ∙ ap (λ (b : Bool). if b then keeper.entries.items ++ entry ∷ [] else keeper.entries.items) c.if-is_err.ensures.negation in
-    rw (← c.self.view_is) (
-      first_refusal-state journal keeper.clock c.args.who c.args.reading c.args.cmd None held.running room c.in_ok-apply.ensures.0,
-      ap (λ (es : List Entry). record { journal = journal_from keeper.folded keeper.start es }) same,
-    )
+-- the tests of the clock never tell of want of memory
+not_told : (journal : Journal) (entry : Entry) (refusal : Refusal) → is_full journal ≡ false →
+    first_refusal journal entry ≡ Some refusal → refusal ≡ Memory → ⊥
+not_told journal entry refusal room told e =
+    let memory : first_refusal journal entry ≡ Some Memory = told ∙ ap (λ (r : Refusal). Some r) e in
+    let none = IsRefusal-told journal entry Memory room memory in
+    cc (none, memory)
 
-pub returns-then-is_err-clause-rises : goal.returns-then-is_err-clause-rises
-returns-then-is_err-clause-rises c = never_falls (journal_from c.self.inside.folded c.self.inside.start c.push.new.self.items)
-
-pub invariant_of-self-2 : goal.invariant_of-self-2
-invariant_of-self-2 c =
+pub returns-in_err-apply-clause-memory : goal.returns-in_err-apply-clause-memory
+returns-in_err-apply-clause-memory c = λ e.
     let keeper = c.self.inside in
     let journal : Journal = (the_view keeper).journal in
     let entry : Entry = record { who = c.args.who; reading = c.args.reading; cmd = c.args.cmd } in
-    let held = c.self.invariant in
     let room : is_full journal ≡ false = rw (← c.self.view_is) at (sym c.if-is_full.ensures) in
-    let pushed : c.push.new.self.items ≡ keeper.entries.items ++ entry ∷ [] =
-    c.push.ensures.items
-    ∙ ap (λ (b : Bool). if b then keeper.entries.items ++ entry ∷ [] else keeper.entries.items) c.if-is_err.ensures.negation in
-    let accepted = first_refusal-state journal keeper.clock c.args.who c.args.reading c.args.cmd None held.running room c.in_ok-apply.ensures.0 in
-    let more = not_full journal room in
-    let kept : IsKept (followed_by journal entry) c.apply.new.self = record {
-      legal = IsLegal-followed_by journal entry held.legal accepted;
-      running = c.in_ok-apply.ensures.1
-          ∙ state_of-followed_by journal keeper.clock c.args.who c.args.reading c.args.cmd held.running c.in_ok-apply.ensures.0;
-      room = omega (arith, more.0, length_push keeper.entries.items entry);
-      counted = omega (arith, more.1, length_push keeper.entries.items entry);
-    } in
-    subst (λ (es : List Entry). IsKept (journal_from keeper.folded keeper.start es) c.apply.new.self) (sym pushed) kept
+    let p = err_from_is_err_and c.from_residual.result c.from_residual.ensures.1 in
+    let told = first_refusal-state journal keeper.clock c.args.who c.args.reading c.args.cmd _ c.self.invariant.0.running room c.in_err-apply.ensures.0 in
+    absurd (not_told journal entry _ room told cc)
+
+pub returns-in_err-make_room-clause-answer : goal.returns-in_err-make_room-clause-answer
+returns-in_err-make_room-clause-answer c =
+    let keeper = c.self.inside in
+    let journal : Journal = (the_view keeper).journal in
+    let entry : Entry = record { who = c.args.who; reading = c.args.reading; cmd = c.args.cmd } in
+    let room : is_full journal ≡ false = rw (← c.self.view_is) at (sym c.if-is_full.ensures) in
+    let p = err_from_is_err_and c.from_residual-in_err-make_room.result c.from_residual-in_err-make_room.ensures.1 in
+    let told = first_refusal-state journal keeper.clock c.args.who c.args.reading c.args.cmd None c.self.invariant.0.running room c.in_ok-apply.ensures.0 in
+    let refused = c.in_err-make_room.ensures.answer in
+    let accepted : first_refusal c.args.self.now.journal entry ≡ None =
+    subst (λ (k : Keeper). first_refusal k.journal entry ≡ None) c.self.view_is told in
+    rw (p.1, p.2, refused.0) (accepted, refused.2)
+
+pub returns-in_err-make_room-clause-rises : goal.returns-in_err-make_room-clause-rises
+returns-in_err-make_room-clause-rises c = never_falls c.make_room.new.self.journal
+
+pub enter-requires-clause-accepted : goal.enter-requires-clause-accepted
+enter-requires-clause-accepted c =
+    let keeper = c.self.inside in
+    let journal : Journal = (the_view keeper).journal in
+    let entry : Entry = record { who = c.args.who; reading = c.args.reading; cmd = c.args.cmd } in
+    let room : is_full journal ≡ false = rw (← c.self.view_is) at (sym c.if-is_full.ensures) in
+    let told = first_refusal-state journal keeper.clock c.args.who c.args.reading c.args.cmd None c.self.invariant.0.running room c.in_ok-apply.ensures.0 in
+    subst (λ (j : Journal). first_refusal j entry ≡ None)
+    (ap (λ (k : Keeper). k.journal) c.self.view_is ∙ sym c.make_room.ensures.journal) told
+
+pub enter-requires-clause-next : goal.enter-requires-clause-next
+enter-requires-clause-next c =
+    let keeper = c.self.inside in
+    let journal : Journal = (the_view keeper).journal in
+    let entry : Entry = record { who = c.args.who; reading = c.args.reading; cmd = c.args.cmd } in
+    let next = c.in_ok-apply.ensures.1
+    ∙ state_of-followed_by journal keeper.clock c.args.who c.args.reading c.args.cmd c.self.invariant.0.running c.in_ok-apply.ensures.0 in
+    subst (λ (j : Journal). c.apply.new.self ≡ state_of (followed_by j entry))
+    (ap (λ (k : Keeper). k.journal) c.self.view_is ∙ sym c.make_room.ensures.journal) next
 
 pub returns-clause-answer : goal.returns-clause-answer
 returns-clause-answer c =
     let keeper = c.self.inside in
     let journal : Journal = (the_view keeper).journal in
     let entry : Entry = record { who = c.args.who; reading = c.args.reading; cmd = c.args.cmd } in
-    let held = c.self.invariant in
     let room : is_full journal ≡ false = rw (← c.self.view_is) at (sym c.if-is_full.ensures) in
-    let pushed : c.push.new.self.items ≡ keeper.entries.items ++ entry ∷ [] =
-    c.push.ensures.items
-    ∙ ap (λ (b : Bool). if b then keeper.entries.items ++ entry ∷ [] else keeper.entries.items) c.if-is_err.ensures.negation in
-    rw (← c.self.view_is) (
-      first_refusal-state journal keeper.clock c.args.who c.args.reading c.args.cmd None held.running room c.in_ok-apply.ensures.0,
-      ap (λ (es : List Entry). journal_from keeper.folded keeper.start es) pushed,
-      omega arith,
+    let told = first_refusal-state journal keeper.clock c.args.who c.args.reading c.args.cmd None c.self.invariant.0.running room c.in_ok-apply.ensures.0 in (
+      subst (λ (k : Keeper). first_refusal k.journal entry ≡ None) c.self.view_is told,
+      c.enter.ensures.journal ∙ ap (λ (j : Journal). followed_by j entry) c.make_room.ensures.journal,
+      c.enter.ensures.number,
     )
 
 pub returns-clause-agrees : goal.returns-clause-agrees
@@ -93,14 +104,11 @@ returns-clause-agrees c =
     let keeper = c.self.inside in
     let journal : Journal = (the_view keeper).journal in
     let entry : Entry = record { who = c.args.who; reading = c.args.reading; cmd = c.args.cmd } in
-    let held = c.self.invariant in
     let room : is_full journal ≡ false = rw (← c.self.view_is) at (sym c.if-is_full.ensures) in
-    let pushed : c.push.new.self.items ≡ keeper.entries.items ++ entry ∷ [] =
-    c.push.ensures.items
-    ∙ ap (λ (b : Bool). if b then keeper.entries.items ++ entry ∷ [] else keeper.entries.items) c.if-is_err.ensures.negation in
-    rw (← c.self.view_is)
-    (agrees journal entry (first_refusal-state journal keeper.clock c.args.who c.args.reading c.args.cmd None held.running room c.in_ok-apply.ensures.0)
-    ∙ ap (λ (es : List Entry). monotonic (journal_from keeper.folded keeper.start es) c.args.reading) (sym pushed))
+    let told = first_refusal-state journal keeper.clock c.args.who c.args.reading c.args.cmd None c.self.invariant.0.running room c.in_ok-apply.ensures.0 in
+    agrees c.args.self.now.journal entry (subst (λ (k : Keeper). first_refusal k.journal entry ≡ None) c.self.view_is told)
+    ∙ ap (λ (j : Journal). monotonic j c.args.reading)
+    (sym (c.enter.ensures.journal ∙ ap (λ (j : Journal). followed_by j entry) c.make_room.ensures.journal))
 
 pub returns-clause-rises : goal.returns-clause-rises
-returns-clause-rises c = never_falls (journal_from c.self.inside.folded c.self.inside.start c.push.new.self.items)
+returns-clause-rises c = never_falls c.enter.new.self.journal

@@ -3,7 +3,7 @@ use Rattle.tk_clock.specs.declared.command.Entry.{Entry}
 use Rattle.tk_clock.specs.Journal.{Opening, Journal, opened}
 use Rattle.tk_clock.specs.State.{State}
 use Rattle.tk_clock.proofs.Legal.{IsLegal-opened, opened-folded}
-use Rattle.tk_keeper.specs.Keeper.{IsKept, journal_from}
+use Rattle.tk_keeper.specs.Keeper.{IsKept, HasKept, journal_from}
 use Rattle.tk_keeper.proofs.timekeeper.Timekeeper.open.Goals as goal
 
 pub invariant_of-result : goal.invariant_of-result
@@ -23,4 +23,7 @@ invariant_of-result c =
       room = omega arith;
       counted = omega arith;
     } in
-    subst (λ (j : Journal). IsKept j clock) (sym same) kept
+    let none : HasKept (opened counter reading real) [] = record { all = omega arith; told = λ i place low here. absurd (omega arith) } in (
+      subst (λ (j : Journal). IsKept j clock) (sym same) kept,
+      rw c.new-2.ensures.items (subst (λ (j : Journal). HasKept j []) (sym same) none),
+    )

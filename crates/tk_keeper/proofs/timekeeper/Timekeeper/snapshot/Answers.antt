@@ -9,7 +9,7 @@ use Rattle.tk_keeper.proofs.timekeeper.Timekeeper.snapshot.Goals as goal
 pub returns-clause-clocks : goal.returns-clause-clocks
 returns-clause-clocks c = λ clock reading.
     let told = ap (λ (s : Snapshot). s.base) c.snapshot.ensures in
-    let running = ap (λ (s : State). s.base) c.self.invariant.running in
+    let running = ap (λ (s : State). s.base) c.self.invariant.0.running in
     let same = ap (λ (k : Keeper). base_of k.journal) c.self.view_is in
     ap (λ (b : ReadBase). base_value b clock reading) (told ∙ running ∙ same)
     ∙ base_value-base_of c.args.self.now.journal clock reading

@@ -1,0 +1,100 @@
+//! Commands, and the room that their entries take.
+ghost use Rattle.std.specs.Prelude.{◌≡◌, ◌+◌, ◌-◌, ◌<◌, ◌≤◌, length, min, MatchResult, IfOk, IsErrOf, None, false};
+ghost use Rattle.tk_clock.specs.Journal.{followed_by, accepted_count};
+ghost use Rattle.tk_clock.specs.Life.{NeverFalls};
+ghost use Rattle.tk_clock.specs.Monotonic.{monotonic};
+ghost use Rattle.tk_clock.specs.Refusal.{first_refusal, is_full, IsRefusal};
+ghost use Rattle.tk_clock.specs.State.{state_of};
+ghost use Rattle.tk_clock.specs.declared.command.Entry.{Entry};
+
+use super::{COUNTED_LIMIT, KEPT_EVERY, LISTED_LIMIT, Timekeeper};
+use tk_clock::{Clock, Command, Entry, Refusal};
+
+impl Timekeeper {
+    /// Does a command to the clocks and enters it in the journal; the entry's number, counted from 1.
+    ///
+    /// Full where the journal has no room, then as `Clock::apply` refuses it, then Memory where the room for the entry
+    /// was refused. A refused command changes nothing. It takes no memory while `spare` is above 0.
+    pub fn apply(&mut self, who: u32, reading: u64, cmd: Command) -> Result<u64, Refusal>
+        ensures answer { let entry : Entry = record { who = who; reading = reading; cmd = cmd } in
+            MatchResult result
+            (λ number. (first_refusal self.old.journal entry ≡ None)
+            × (self.new.journal ≡ followed_by self.old.journal entry)
+            × (number ≡ accepted_count self.new.journal))
+            (λ refusal. IsRefusal self.old.journal entry refusal × (self.new ≡ self.old)) }
+        ensures memory { IsErrOf result Refusal.Memory → self.old.spare ≡ 0 }
+        ensures spare { IfOk result (λ _. 0 < self.old.spare → self.new.spare + 1 ≡ self.old.spare) }
+        // MONOTONIC at the command's reading is the same before and after
+        ensures agrees { IfOk result
+            (λ _. monotonic self.old.journal reading ≡ monotonic self.new.journal reading) }
+        // and no prefix, read in its life, tells more than the journal tells now at any reading
+        ensures rises { NeverFalls self.new.journal }
+    {
+        if self.is_full() {
+            return Err(Refusal::Full);
+        }
+        let mut next = self.clock;
+        next.apply(reading, cmd)?;
+        self.make_room()?;
+        Ok(self.enter(Entry { who, reading, cmd }, next))
+    }
+
+    /// Makes room for one more command, where there is none.
+    fn make_room(&mut self) -> Result<(), Refusal>
+        requires { is_full self.old.journal ≡ false }
+        ensures answer { MatchResult result
+            (λ _. 0 < self.new.spare)
+            (λ refusal. (refusal ≡ Refusal.Memory) × (self.old.spare ≡ 0) × (self.new ≡ self.old)) }
+        ensures journal { self.new.journal ≡ self.old.journal }
+        ensures spare { 0 < self.old.spare → self.new.spare ≡ self.old.spare }
+    {
+        if self.spare() == 0 {
+            return self.reserve(1);
+        }
+        Ok(())
+    }
+
+    /// Enters an accepted command, after which the clocks are `next`, where there is room; its number.
+    fn enter(&mut self, entry: Entry, next: Clock) -> u64
+        requires room { 0 < self.old.spare }
+        requires accepted { first_refusal self.old.journal entry ≡ None }
+        requires next { next ≡ state_of (followed_by self.old.journal entry) }
+        ensures journal { self.new.journal ≡ followed_by self.old.journal entry }
+        ensures number { result ≡ accepted_count self.new.journal }
+        ensures spare { self.new.spare + 1 ≡ self.old.spare }
+    {
+        self.entries.push_reserved(entry);
+        let number = self.folded + self.entries.len() as u64;
+        if number % KEPT_EVERY as u64 == 0 {
+            self.kept.push_reserved(next);
+        }
+        self.clock = next;
+        number
+    }
+
+    /// Makes room for so many more commands, or for as many as the journal may still list.
+    ///
+    /// Only Memory. `spare` may be greater then too; nothing else changes.
+    pub fn reserve(&mut self, extra: usize) -> Result<(), Refusal>
+        ensures answer { let wanted = min extra (1048576 - length self.old.journal.entries) in
+            MatchResult result
+            (λ _. wanted ≤ self.new.spare)
+            (λ refusal. (refusal ≡ Refusal.Memory) × (self.new.spare < wanted)) }
+        ensures journal { self.new.journal ≡ self.old.journal }
+        ensures spare { self.old.spare ≤ self.new.spare }
+    {
+        let places = extra.min(LISTED_LIMIT - self.entries.len());
+        let kept = (self.len() % KEPT_EVERY + places) / KEPT_EVERY;
+        if self.entries.reserve(places).is_err() || self.kept.reserve(kept).is_err() {
+            return Err(Refusal::Memory);
+        }
+        Ok(())
+    }
+
+    /// Has the journal no room for another entry?
+    fn is_full(&self) -> bool
+        ensures { result ≡ is_full self.now.journal }
+    {
+        self.entries.len() >= LISTED_LIMIT || self.len() as u64 >= COUNTED_LIMIT
+    }
+}
