@@ -1,2 +1,5 @@
+pub mod Folding
 pub mod Kept
+pub mod Later
 pub mod Room
+pub mod Start

@@ -3,10 +3,13 @@
 //! | Item | What it is |
 //! |---|---|
 //! | `Timekeeper` | the clocks and their journal: opened at a reading, changed by commands, read by snapshots |
+//! | `FrontError` | why a front has no snapshot |
 //!
 //! Units are those of `tk_clock`. Entries are numbered from 1; a front is how many commands were accepted.
 #![tactic(auto)]
 
+mod front_error;
 mod timekeeper;
 
+pub use front_error::FrontError;
 pub use timekeeper::Timekeeper;
