@@ -1,12 +1,12 @@
 -- A folded journal is legal, and says of later fronts what the journal before said.
-use Rattle.std.proofs.Common.{◌≡◌, ℕ, zero, suc, ◌+◌, ◌-◌, ◌≤◌, List, [], ◌∷◌, ◌++◌, length, take, drop, refl, sym, ◌∙◌, ap, subst, arith, length-append, length-drop, min}
-use Rattle.std.specs.Prelude.{Some, None, slice_get}
-use Rattle.std.proofs.lemmas.List.{take-append-drop, length-take, length-take-le}
+use Rattle.std.proofs.Common.{◌≡◌, ℕ, ◌+◌, ◌-◌, ◌≤◌, List, [], ◌++◌, length, take, drop, sym, ◌∙◌, ap, subst, arith, length-append, length-drop, min}
+use Rattle.std.specs.Prelude.{Some, slice_get}
+use Rattle.std.proofs.lemmas.List.{take-append-drop, length-take, length-take-le, take_all}
 use Rattle.std.proofs.Math.Seq.{take-add}
 use Rattle.tk_clock.specs.declared.command.Entry.{Entry}
 use Rattle.tk_clock.specs.declared.clock_id.ClockId.{ClockId}
 use Rattle.tk_clock.specs.Journal.{Opening, Journal, prefix, accepted_count}
-use Rattle.tk_clock.specs.Legal.{IsLegal, IsWhole, IsAccepted, folded_opening}
+use Rattle.tk_clock.specs.Legal.{IsLegal, IsAccepted, folded_opening}
 use Rattle.tk_clock.specs.State.{ReadBase, State, state_of, base_value}
 use Rattle.tk_clock.specs.Snapshot.{Snapshot, snapshot_of}
 use Rattle.tk_clock.specs.Clocks.{clock_value}
@@ -115,3 +115,15 @@ IsFolded-folded journal n within all =
       clocks = λ front clock reading later. value-state (at_front front journal) (at_front front (folded_by n journal)) clock reading
           (state_of-front journal n front all later);
     }
+
+-- the whole folded journal comes to what the whole journal came to
+pub state_of-whole : (journal : Journal) (n : ℕ) → n ≤ length journal.entries → IsAccepted journal →
+    state_of (folded_by n journal) ≡ state_of journal
+state_of-whole journal n within all =
+    let rest = drop n journal.entries in
+    let fewer = length-drop n journal.entries in
+    let after : prefix (length rest) (folded_by n journal) ≡ folded_by n journal =
+    ap (λ (es : List Entry). record (folded_by n journal) { entries = es }) (take_all (length rest) rest (omega arith)) in
+    let before : prefix (n + length rest) journal ≡ journal =
+    ap (λ (es : List Entry). record journal { entries = es }) (take_all (n + length rest) journal.entries (omega arith)) in
+    sym (ap state_of after) ∙ state_of-folded journal n (length rest) all ∙ ap state_of before

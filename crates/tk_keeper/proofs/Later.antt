@@ -7,7 +7,7 @@ use Rattle.tk_clock.specs.declared.command.Entry.{Entry}
 use Rattle.tk_clock.specs.Journal.{Journal, prefix, followed_by}
 use Rattle.tk_clock.specs.Legal.{IsAccepted}
 use Rattle.tk_clock.specs.Refusal.{clock_refusal, state_refusal}
-use Rattle.tk_clock.specs.State.{State, state_of}
+use Rattle.tk_clock.specs.State.{state_of}
 use Rattle.tk_clock.proofs.Ledger.{clock_refusal-state}
 use Rattle.tk_clock.proofs.Legal.{IsAccepted-followed_by, state_of-followed_by}
 
@@ -35,10 +35,9 @@ pub Follows-accepted : (journal : Journal) (entries : List Entry) → IsAccepted
 Follows-accepted journal [] all = tt
 Follows-accepted journal (entry ∷ entries) all =
     let here : prefix (length journal.entries) (extended_by journal (entry ∷ entries)) ≡ journal =
-    ap (λ (es : List Entry). record journal { entries = es }) (take-append_seam journal.entries (entry ∷ entries)) in
-    (
+    ap (λ (es : List Entry). record journal { entries = es }) (take-append_seam journal.entries (entry ∷ entries)) in (
       ap (λ (j : Journal). clock_refusal j entry) (sym here)
-      ∙ all (length journal.entries) entry (slice_get-seam journal.entries entry entries),
+          ∙ all (length journal.entries) entry (slice_get-seam journal.entries entry entries),
       Follows-accepted (followed_by journal entry) entries (subst IsAccepted (regroup journal entry entries) all),
     )
 

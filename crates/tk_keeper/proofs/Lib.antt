@@ -3,3 +3,4 @@ pub mod Kept
 pub mod Later
 pub mod Room
 pub mod Start
+pub mod Steps

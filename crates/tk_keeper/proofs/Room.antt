@@ -1,5 +1,5 @@
 -- Room in a journal.
-use Rattle.std.proofs.Common.{◌≡◌, ◌-◌, ◌<◌, ◌^◌, length, refl, arith, Bool, true, false}
+use Rattle.std.proofs.Common.{◌≡◌, ◌∙◌, ℕ, ◌-◌, ◌<◌, ◌≤◌, ◌^◌, length, length-drop, refl, sym, arith, Bool, true, false}
 use Rattle.std.specs.Prelude.{Option, Some, None, if◌then◌else◌}
 use Rattle.std.proofs.lemmas.Grind.{common_steps}
 use Rattle.std.proofs.lemmas.List.{length_push}
@@ -11,6 +11,8 @@ use Rattle.tk_clock.specs.Refusal.{is_full, clock_refusal, first_refusal}
 use Rattle.tk_clock.specs.State.{State, state_of}
 use Rattle.tk_clock.proofs.Legal.{IsLegal-followed_by}
 use Rattle.tk_keeper.specs.Keeper.{IsKept}
+use Rattle.tk_keeper.specs.Past.{folded_by}
+use Rattle.tk_keeper.proofs.Folding.{IsLegal-folded, state_of-whole}
 
 -- a journal that isn't full lists and counts fewer than it may
 pub not_full : (journal : Journal) → is_full journal ≡ false → (length journal.entries < 1048576) × (accepted_count journal < 2 ^ 63 - 1)
@@ -34,4 +36,16 @@ IsKept-followed_by journal entry before after held accepted running =
       running = running;
       room = omega (arith, more.0, length_push journal.entries entry);
       counted = omega (arith, more.1, length_push journal.entries entry);
+    }
+
+-- and so does folding
+pub IsKept-folded : (journal : Journal) (n : ℕ) (state : State) → n ≤ length journal.entries → IsKept journal state →
+    IsKept (folded_by n journal) state
+IsKept-folded journal n state within held =
+    let fewer = length-drop n journal.entries in
+    record {
+      legal = IsLegal-folded journal n within held.legal;
+      running = held.running ∙ sym (state_of-whole journal n within held.legal.accepted);
+      room = omega (arith, fewer, held.room);
+      counted = omega (arith, fewer, held.counted);
     }

@@ -25,8 +25,9 @@ pub record IsKept (journal : Journal) (state : State) : Type 0 where
   pub room : length journal.entries ≤ 1048576
   pub counted : accepted_count journal < 2 ^ 63
 
--- a state is kept for each listed entry whose number is a multiple of 256: the one after it
-pub record HasKept (journal : Journal) (kept : List State) : Type 0 where
+-- the state before all entries is at hand, and that after each listed entry whose number is a multiple of 256
+pub record HasKept (journal : Journal) (start : State) (kept : List State) : Type 0 where
+  pub first : start ≡ state_of (prefix 0 journal)
   pub all : length kept + journal.opening.count / 256 ≡ accepted_count journal / 256
   pub told : (i place : ℕ) → i < length kept →
       journal.opening.count + place ≡ 256 * (journal.opening.count / 256 + 1 + i) →

@@ -1,6 +1,7 @@
 ghost use Rattle.std.specs.Prelude.{◌≡◌, MatchResult, Some, None};
 
 mod applying;
+mod past;
 
 use std::alloc::Global;
 use std::marker::Model;
@@ -48,7 +49,7 @@ impl Model for Timekeeper {
 
     ghost invariant = { λ a.
         IsKept (journal_from a.folded a.start a.entries.items) a.clock
-        × HasKept (journal_from a.folded a.start a.entries.items) a.kept.items };
+        × HasKept (journal_from a.folded a.start a.entries.items) a.start a.kept.items };
 }
 
 impl Timekeeper {

@@ -26,17 +26,17 @@ invariant_of-self c =
     omega (arith, length_push keeper.entries.items entry) in
     let holds : Inside → Type 0 = λ a.
     IsKept (journal_from a.folded a.start a.entries.items) c.args.next
-    × HasKept (journal_from a.folded a.start a.entries.items) a.kept.items in
+    × HasKept (journal_from a.folded a.start a.entries.items) a.start a.kept.items in
     elim c.if-number-eq0.branch [
       | then-number-eq0 w ↦
           let even = ap (λ n. n % 256) number ∙ w.if-number-eq0.true in
-          let more = HasKept-more journal entry keeper.kept.items c.self.invariant.1 even in
+          let more = HasKept-more journal entry keeper.start keeper.kept.items c.self.invariant.1 even in
           subst holds (sym w.self-inside-is) (
             rw c.push_reserved.ensures.items kept,
             rw (c.push_reserved.ensures.items, w.push_reserved-then-number-eq0.ensures.items, running) more,
           )
       | else-number-eq0 w ↦
-          let more = HasKept-same journal entry keeper.kept.items c.self.invariant.1
+          let more = HasKept-same journal entry keeper.start keeper.kept.items c.self.invariant.1
           (λ even. w.if-number-eq0.false (sym (ap (λ n. n % 256) number) ∙ even)) in
           subst holds (sym w.self-inside-is) (rw c.push_reserved.ensures.items (kept, more))
     ]

@@ -23,7 +23,7 @@ invariant_of-result c =
       room = omega arith;
       counted = omega arith;
     } in
-    let none : HasKept (opened counter reading real) [] = record { all = omega arith; told = λ i place low here. absurd (omega arith) } in (
+    let none : HasKept (opened counter reading real) clock [] = record { first = told.1; all = omega arith; told = λ i place low here. absurd (omega arith) } in (
       subst (λ (j : Journal). IsKept j clock) (sym same) kept,
-      rw c.new-2.ensures.items (subst (λ (j : Journal). HasKept j []) (sym same) none),
+      rw c.new-2.ensures.items (subst (λ (j : Journal). HasKept j clock []) (sym same) none),
     )

@@ -1,0 +1,61 @@
+//! Snapshots of the past, which begin at the nearest kept state.
+ghost use Rattle.std.specs.Prelude.{◌≡◌, ◌+◌, ◌<◌, ◌≤◌, length, MatchResult, IfOk, Some, None};
+ghost use Rattle.tk_clock.specs.Journal.{prefix};
+ghost use Rattle.tk_clock.specs.Snapshot.{snapshot_of};
+ghost use Rattle.tk_clock.specs.State.{state_of};
+ghost use Rattle.tk_keeper.specs.Keeper.{ReadsAs};
+ghost use Rattle.tk_keeper.specs.Past.{at_front, front_refusal};
+
+use super::{KEPT_EVERY, Timekeeper};
+use crate::front_error::FrontError;
+use tk_clock::{Clock, Snapshot};
+
+impl Timekeeper {
+    /// What a reader was given when so many commands were accepted. It takes no memory, and at most 255 steps.
+    ///
+    /// Unknown where fewer were accepted, then Folded where entries after the front were folded.
+    pub fn snapshot_at(&self, front: u64) -> Result<Snapshot, FrontError>
+        ensures answer { MatchResult result
+            (λ snapshot. (front_refusal self.now.journal front ≡ None)
+            × (snapshot ≡ snapshot_of (at_front front self.now.journal)))
+            (λ error. front_refusal self.now.journal front ≡ Some error) }
+        ensures clocks { IfOk result (λ snapshot. ReadsAs (at_front front self.now.journal) snapshot.base) }
+    {
+        if front > self.len() as u64 {
+            return Err(FrontError::Unknown);
+        }
+        if front < self.folded {
+            return Err(FrontError::Folded);
+        }
+        let clock = self.clock_at((front - self.folded) as usize);
+        Ok(clock.snapshot(front))
+    }
+
+    /// The clocks after so many of the listed entries.
+    pub(super) fn clock_at(&self, place: usize) -> Clock
+        requires { place ≤ length self.now.journal.entries }
+        ensures { result ≡ state_of (prefix place self.now.journal) }
+    {
+        let (mut clock, kept_place) = self.nearest(place);
+        'later: for entry in &self.entries[kept_place..place] {
+            clock.apply(entry.reading, entry.cmd).unwrap();
+        }
+        clock
+    }
+
+    /// The clocks at the last kept state up to a place, or before all entries, and how many entries lie before it.
+    fn nearest(&self, place: usize) -> (Clock, usize)
+        requires { place ≤ length self.now.journal.entries }
+        ensures state { result.0 ≡ state_of (prefix result.1 self.now.journal) }
+        ensures before { result.1 ≤ place }
+        ensures near { place < result.1 + 256 }
+    {
+        let folded = self.folded as usize;
+        let kept = (folded + place) / KEPT_EVERY - folded / KEPT_EVERY;
+        if kept == 0 {
+            return (self.start, 0);
+        }
+        let number = (folded + place) / KEPT_EVERY * KEPT_EVERY;
+        (self.kept[kept - 1], number - folded)
+    }
+}
