@@ -2,6 +2,7 @@ ghost use Rattle.std.specs.Prelude.{◌≡◌, MatchResult, Some, None};
 
 mod applying;
 mod past;
+mod running;
 
 use std::alloc::Global;
 use std::marker::Model;

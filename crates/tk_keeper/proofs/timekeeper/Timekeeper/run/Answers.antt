@@ -1,0 +1,33 @@
+use Rattle.std.proofs.Common.{◌≡◌, ◌+◌, ◌-◌, ◌<◌, List, [], ◌∷◌, ◌++◌, length, get_or, drop, sym, ◌∙◌, ap, arith, append_assoc}
+use Rattle.tk_clock.specs.declared.command.Entry.{Entry}
+use Rattle.tk_clock.specs.declared.command.Command.TheVariants.{Update}
+use Rattle.tk_clock.specs.Run.{Run, run}
+use Rattle.tk_keeper.proofs.Running.{reply-answer, never_short, room_left, run-next}
+use Rattle.tk_keeper.proofs.timekeeper.Timekeeper.run.Goals as goal
+
+pub events-preserved : goal.events-preserved
+events-preserved c =
+    let none : Entry = record { who = 0; reading = 0; cmd = Update } in
+    let events : List Entry = c.args.events.now in
+    let k = c.events.event-index in
+    let event : Entry = get_or events k none in
+    let before = c.events.self in
+    let after = c.apply.new.self in
+    let held = c.events.invariant in
+    let left = length events - k in
+    let some : 0 < left = omega arith in
+    let enough = never_short before after event c.apply.result left c.apply.ensures.answer c.apply.ensures.memory some held.spare in
+    let reply = reply-answer before after event c.apply.result c.apply.ensures.answer enough in
+    let next = run-next before.journal after.journal events k c.apply.result none c.events-test.true reply in
+    let fewer : length events - (k + 1) ≡ left - 1 = omega arith in
+    let later = (run after.journal (drop (k + 1) events)).answers in
+    record {
+      answers =
+          held.answers
+          ∙ ap (λ (r : Run). c.events.answers.items ++ r.answers) next
+          ∙ sym (append_assoc c.events.answers.items (c.apply.result ∷ []) later)
+          ∙ ap (λ xs. xs ++ later) (sym c.push_reserved.ensures.items);
+      journal = held.journal ∙ ap (λ (r : Run). r.journal) next;
+      room = omega arith;
+      spare = rw fewer (room_left before after event c.apply.result left c.apply.ensures.answer c.apply.ensures.spare some held.spare);
+    }

@@ -1,0 +1,13 @@
+use Rattle.std.proofs.Common.{◌≡◌, ◌+◌, ◌-◌, ◌≤◌, ◌++◌, length, min, drop}
+use Rattle.std.specs.Prelude.{vec_len, vec_capacity}
+use Rattle.tk_clock.specs.Run.{run}
+use Rattle.tk_keeper.proofs.timekeeper.Timekeeper.run.Given as goal
+
+abbrev pub invariant-events : goal.invariant-events
+invariant-events l = record {
+  answers : (run l.fn.self.journal l.events).answers
+      ≡ l.answers.items ++ (run l.self.journal (drop l.event-index l.events)).answers;
+  journal : (run l.fn.self.journal l.events).journal ≡ (run l.self.journal (drop l.event-index l.events)).journal;
+  room : vec_len l.answers + (length l.events - l.event-index) ≤ vec_capacity l.answers;
+  spare : min (length l.events - l.event-index) (1048576 - length l.self.journal.entries) ≤ l.self.spare;
+}

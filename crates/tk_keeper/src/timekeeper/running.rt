@@ -1,0 +1,28 @@
+//! Many commands at once.
+ghost use Rattle.std.specs.Prelude.{◌≡◌, MatchResult};
+ghost use Rattle.tk_clock.specs.Run.{run};
+
+use super::Timekeeper;
+use tk_clock::{Entry, Refusal};
+
+impl Timekeeper {
+    /// Applies the events in their order; the answer to each.
+    ///
+    /// All room is asked for first, so Memory applies nothing, though `spare` may be greater then, and no answer to an
+    /// event is Memory.
+    pub fn run(&mut self, events: &[Entry]) -> Result<Vec<Result<u64, Refusal>>, Refusal>
+        ensures { MatchResult result
+            (λ answers. (answers.items ≡ (run self.old.journal events.now).answers)
+            × (self.new.journal ≡ (run self.old.journal events.now).journal))
+            (λ refusal. (refusal ≡ Refusal.Memory) × (self.new.journal ≡ self.old.journal)) }
+    {
+        let Ok(mut answers) = Vec::with_capacity(*self.entries.allocator(), events.len()) else {
+            return Err(Refusal::Memory);
+        };
+        self.reserve(events.len())?;
+        'events: for event in events {
+            answers.push_reserved(self.apply(event.who, event.reading, event.cmd));
+        }
+        Ok(answers)
+    }
+}
