@@ -1,0 +1,61 @@
+//! Folding the oldest entries into the opening.
+ghost use Rattle.std.specs.Prelude.{◌≡◌, ◌-◌, ◌≤◌, length, drop, max, vec_capacity};
+ghost use Rattle.tk_clock.specs.Journal.{accepted_count};
+ghost use Rattle.tk_clock.specs.Legal.{IsLegal};
+ghost use Rattle.tk_keeper.specs.Past.{IsFolded, folded_by};
+
+use super::{KEPT_EVERY, Timekeeper};
+
+impl Timekeeper {
+    /// Folds the oldest entries, so that at most `keep` are listed; how many are folded then.
+    ///
+    /// Numbers and fronts go on as before, and no later value changes. It takes no memory: the listed entries move down
+    /// once, so fold many at a time.
+    pub fn fold(&mut self, keep: u64) -> u64
+        ensures answer { result ≡ max self.old.journal.opening.count (accepted_count self.old.journal - keep) }
+        ensures folded { self.new.journal.opening.count ≡ result }
+        ensures same { IsFolded self.old.journal self.new.journal }
+        ensures legal { IsLegal self.new.journal }
+        ensures spare { self.old.spare ≤ self.new.spare }
+    {
+        let places = self.entries.len().saturating_sub(keep as usize);
+        self.fold_first(places);
+        self.folded
+    }
+
+    /// Folds so many of the listed entries.
+    fn fold_first(&mut self, places: usize)
+        requires { places ≤ length self.old.journal.entries }
+        ensures journal { self.new.journal ≡ folded_by places self.old.journal }
+        ensures spare { self.old.spare ≤ self.new.spare }
+    {
+        let start = self.clock_at(places);
+        let folded = self.folded as usize;
+        let kept = (folded + places) / KEPT_EVERY - folded / KEPT_EVERY;
+        discard(&mut self.entries, places);
+        discard(&mut self.kept, kept);
+        self.start = start;
+        self.folded += places as u64;
+    }
+
+    /// How many commands were folded: fronts from here on have a snapshot.
+    pub fn folded(&self) -> u64
+        ensures { result ≡ self.now.journal.opening.count }
+    {
+        self.folded
+    }
+}
+
+/// Takes the first items off, and moves the others down.
+fn discard<T: Copy>(items: &mut Vec<T>, places: usize)
+    requires { places ≤ length items.old.items }
+    ensures items { items.new.items ≡ drop places items.old.items }
+    ensures capacity { vec_capacity items.new ≡ vec_capacity items.old }
+{
+    if places == 0 {
+        return;
+    }
+    let left = items.len() - places;
+    items.copy_within(places.., 0);
+    items.truncate(left);
+}
