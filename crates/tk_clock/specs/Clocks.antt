@@ -9,6 +9,7 @@ use Rattle.tk_clock.specs.Command.{tai_set, time_set, real_amount, boot_amount}
 use Rattle.tk_clock.specs.Journal.{Journal, prefix, at_place, last_reading, latest, places}
 use Rattle.tk_clock.specs.Monotonic.{monotonic, awake_cycles, cycles_after}
 
+-- the sum of a list
 abbrev pub sum_of : List ℤ → ℤ
 sum_of [] = pos 0
 sum_of (x ∷ xs) = x +ℤ sum_of xs

@@ -26,6 +26,7 @@ pub record Opening : Type 0 where
   pub tai : ℤ
   pub asleep : Bool
 
+-- how the clocks were opened, and each command that was accepted since, in order
 pub record Journal : Type 0 where
   pub opening : Opening
   pub entries : List Entry
@@ -70,7 +71,7 @@ at_place opening f entries place = get_or (opening ∷ map f entries) place open
 abbrev pub reading_at : Journal → ℕ → ℕ
 reading_at journal place = at_place journal.opening.reading (λ (e : Entry). e.reading) journal.entries place
 
--- is the clock asleep from this place on?
+-- is the clock asleep from this place on? A suspension puts it to sleep, and the entry after that is a resume
 abbrev pub is_asleep_at : Journal → ℕ → Bool
 is_asleep_at journal place = at_place journal.opening.asleep (λ (e : Entry). is_suspend e.cmd) journal.entries place
 

@@ -42,7 +42,8 @@ sets_real (SetTime time) = true
 sets_real (Step by) = true
 sets_real _ = false
 
--- is a clock, by its values after the command, at its limit or beyond it?
+-- is a clock, by its value after the command, at its limit or beyond it? Where the command sets REALTIME, that and TAI are
+-- left to the test below
 unfoldable pub is_past_limit : (ClockId → ℤ) → Command → Bool
 is_past_limit after cmd =
     not (int_lt (after Monotonic) (limit Monotonic)) || not (int_lt (after Boottime) (limit Boottime))

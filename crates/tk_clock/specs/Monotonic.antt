@@ -38,13 +38,15 @@ stretches_from journal from [] =
 stretches_from journal from (to ∷ later) =
     (awake_cycles journal to - awake_cycles journal from) * multiplier_at journal from + stretches_from journal to later
 
--- the frequency, the tick and the multiplier of the last stretch
+-- the frequency of the last stretch
 abbrev pub current_frequency : Journal → ℤ
 current_frequency journal = latest journal.opening.frequency (filter_map (λ (e : Entry). frequency_set e.cmd) journal.entries)
 
+-- its tick
 abbrev pub current_tick : Journal → ℤ
 current_tick journal = latest journal.opening.tick (filter_map (λ (e : Entry). tick_set e.cmd) journal.entries)
 
+-- its multiplier
 abbrev pub current_multiplier : Journal → ℕ
 current_multiplier journal = multiplier_at journal (latest 0 (stretch_places journal))
 
@@ -52,12 +54,12 @@ current_multiplier journal = multiplier_at journal (latest 0 (stretch_places jou
 abbrev pub monotonic_units : Journal → ℕ
 monotonic_units journal = journal.opening.amount + stretches_from journal 0 (stretch_places journal)
 
--- the cycles from the last entry to a reading: none while asleep, or where the reading lies behind
+-- the cycles from the last reading to another: none while asleep, or where it lies behind
 abbrev pub cycles_since : Counter → Bool → ℕ → ℕ → ℕ
 cycles_since counter asleep last reading =
     if asleep || nat_lt (half counter) (gap counter last reading) then 0 else gap counter last reading
 
--- the same after a journal
+-- the cycles from a journal's last entry to a reading
 abbrev pub cycles_after : Journal → ℕ → ℕ
 cycles_after journal reading = cycles_since journal.opening.counter (is_asleep journal) (last_reading journal) reading
 

@@ -15,6 +15,7 @@ abbrev pub reply_if : Journal → Entry → Option Refusal → Reply
 reply_if journal event None = record { answer = Ok (accepted_count journal + 1); journal = followed_by journal event }
 reply_if journal event (Some refusal) = record { answer = Err refusal; journal = journal }
 
+-- the answer to an event, by the first test that it fails
 abbrev pub reply_to : Journal → Entry → Reply
 reply_to journal event = reply_if journal event (first_refusal journal event)
 
@@ -23,6 +24,7 @@ pub record Run : Type 0 where
   pub answers : List (Result ℕ Refusal)
   pub journal : Journal
 
+-- each event is answered in order, over what the ones before it left
 abbrev pub run : Journal → List Entry → Run
 run journal [] = record { answers = []; journal = journal }
 run journal (event ∷ events) =

@@ -6,7 +6,7 @@ use Rattle.tk_clock.specs.declared.clock_id.ClockId.TheVariants.{Realtime, Boott
 use Rattle.tk_clock.specs.State.{ReadBase, base_value}
 use Rattle.tk_clock.specs.Limits.{limit}
 
--- the parts of a read base: its numbers lie in their ranges
+-- the numbers of a read base lie in their ranges
 pub record IsReadBase (counter : Counter) (last mult : ℕ) (monotonic raw : Amount) (tai : ℕ) : Type 0 where
   pub described : IsCounter counter
   pub last_low : last ≤ mask counter
@@ -22,11 +22,11 @@ pub record IsReadBase (counter : Counter) (last mult : ℕ) (monotonic raw : Amo
 abbrev pub slowest : Counter → ℕ
 slowest counter = multiplier counter (neg_ℤ (pos 32768000)) (pos 9000)
 
--- MONOTONIC_RAW is no further ahead of MONOTONIC than the slowest multiplier leaves it behind
+-- MONOTONIC_RAW is at most MONOTONIC times the counter's own multiplier over the slowest one
 abbrev pub IsRated : ReadBase → Type 0
 IsRated base = base.raw_amount * slowest base.counter ≤ base.amount * base.counter.mult
 
--- no clock is at its limit at the last reading
+-- neither REALTIME nor BOOTTIME nor TAI is at its limit at the last reading
 pub record IsWithin (base : ReadBase) : Type 0 where
   pub real_low : base_value base Realtime base.last <ℤ limit Realtime
   pub boot_low : base_value base Boottime base.last <ℤ limit Boottime

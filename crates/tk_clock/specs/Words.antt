@@ -6,8 +6,9 @@ use Rattle.tk_clock.specs.State.{ReadBase, base_value}
 use Rattle.tk_clock.specs.Limits.{limit}
 use Rattle.tk_clock.specs.Snapshot.{Snapshot}
 
--- MONOTONIC and MONOTONIC_RAW as what is below a second, in units of 2^-shift nanoseconds, and seconds; the offsets of
--- REALTIME and BOOTTIME in nanoseconds; and the TAI offset times 2, plus 1 while asleep
+-- the words of a snapshot: its front; the last reading; the multiplier; MONOTONIC there, below a second in units of 2^-shift
+-- nanoseconds, and seconds; REALTIME and BOOTTIME less MONOTONIC, in nanoseconds; the TAI offset in seconds times 2, plus 1
+-- while asleep; and MONOTONIC_RAW as MONOTONIC
 abbrev pub words_of : Snapshot → List ℕ
 words_of snapshot =
     let base = snapshot.base in

@@ -80,8 +80,7 @@ impl Clock {
     ///
     /// In this order: Asleep or Awake; Invalid where the reading is above the mask or the command's numbers are out of
     /// range; Behind where the reading lies behind the last one; Range where a clock would be at its limit; Invalid
-    /// where REALTIME would be set below MONOTONIC or beyond what may be set. The kernel's `do_settimeofday64`,
-    /// `timekeeping_inject_offset`, `do_adjtimex`, `timekeeping_suspend` and `timekeeping_resume` are its commands.
+    /// where REALTIME would be set below MONOTONIC or beyond what may be set. `Command` names the kernel's functions.
     pub fn apply(&mut self, reading: u64, cmd: Command) -> Result<(), Refusal>
         ensures { MatchResult result
             (λ _. (state_refusal self.old reading cmd ≡ None)
@@ -93,7 +92,7 @@ impl Clock {
         Ok(())
     }
 
-    /// The tests that need no clock's value.
+    /// The tests that need no clock's value, in the order of `apply`.
     fn check(&self, reading: u64, cmd: Command) -> Result<(), Refusal>
         ensures { MatchResult result
             (λ _. IsEarly self.now reading cmd)

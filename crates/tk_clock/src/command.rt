@@ -25,7 +25,7 @@ pub enum Command {
 /// An accepted command in a journal.
 #[derive(Clone, Copy, Debug, PartialEq, Eq)]
 pub struct Entry {
-    /// Who gave it.
+    /// The caller that gave it.
     pub who: u32,
     /// The counter's reading.
     pub reading: u64,

@@ -19,11 +19,13 @@ const CLOCK_SEC_LIMIT: i64 = 9_223_372_036;
 /// Where the times end that REALTIME may be set to, in seconds: 30 years before its own end (`TIME_SETTOD_SEC_MAX`).
 const SETTABLE_SEC_LIMIT: i64 = 8_277_292_036;
 
-/// The ticks that may be set, in microseconds, and the usual one: 100 of it are a second (`USER_HZ`).
+/// The shortest tick that may be set, in microseconds.
 const SHORTEST_TICK: i64 = 9_000;
 
+/// The longest one.
 const LONGEST_TICK: i64 = 11_000;
 
+/// The usual one: a hundredth of a second (`USER_TICK_USEC`).
 pub(crate) const USUAL_TICK: i64 = 10_000;
 
 /// The greatest TAI offset, in seconds (`MAX_TAI_OFFSET`).
