@@ -13,3 +13,6 @@ mod timekeeper;
 
 pub use front_error::FrontError;
 pub use timekeeper::Timekeeper;
+
+#[cfg(test)]
+mod tests;

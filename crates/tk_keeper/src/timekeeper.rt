@@ -1,4 +1,4 @@
-ghost use Rattle.std.specs.Prelude.{◌≡◌, MatchResult, Some, None};
+ghost use Rattle.std.specs.Prelude.{◌≡◌, ◌<◌, ◌^◌, MatchResult, Some, None};
 
 mod applying;
 mod folding;
@@ -88,6 +88,7 @@ impl Timekeeper {
     /// How many commands were accepted.
     pub fn len(&self) -> usize
         ensures value { result ≡ accepted_count self.now.journal }
+        ensures most { result < 2 ^ 63 }
         ensures legal { IsLegal self.now.journal }
     {
         self.folded as usize + self.entries.len()

@@ -1,0 +1,35 @@
+use super::opened;
+use std::test::Fail;
+use tk_clock::{Command, Entry, Refusal};
+
+fn event(reading: u64, cmd: Command) -> Entry {
+    Entry {
+        who: 3,
+        reading,
+        cmd,
+    }
+}
+
+#[test]
+fn a_run_goes_on_after_a_refusal(rt: HostRuntime) -> Result<(), Fail> {
+    let mut keeper = opened(rt.alloc())?;
+    let events = [
+        event(100, Command::Update),
+        event(99, Command::Update),
+        event(200, Command::Tai(37)),
+    ];
+    let answers = match keeper.run(&events) {
+        Ok(answers) => answers,
+        Err(_) => {
+            assert_eq!(rt; keeper.len(), 0);
+            keeper.run(&events)?
+        }
+    };
+    assert_eq!(rt;
+        answers.as_slice(),
+        [Ok(1), Err(Refusal::Behind), Ok(2)].as_slice()
+    );
+    assert_eq!(rt; keeper.len(), 2);
+    assert_eq!(rt; keeper.entry(2), Some(event(200, Command::Tai(37))));
+    Ok(())
+}
