@@ -1,21 +1,26 @@
+ghost use Rattle.std.specs.Prelude.{Some};
+ghost use Rattle.tk_keeper.specs.FrontError.{fault_text};
+
 use std::error::Error;
 use std::fmt;
 
-/// Why a front has no snapshot.
+/// Why a front has no snapshot. A front is how many commands were accepted.
 #[derive(Clone, Copy, Debug, PartialEq, Eq)]
 pub enum FrontError {
     /// Fewer commands were accepted.
     Unknown,
-    /// Entries after it were folded.
+    /// A later entry was folded.
     Folded,
 }
 
 impl fmt::Display for FrontError {
+    ghost output = { λ fault. Some (fault_text fault) };
+
     fn fmt<W: fmt::Write>(&self, f: &mut fmt::Formatter<W>) -> fmt::Result {
-        match self {
-            FrontError::Unknown => write!(f, "unknown front"),
-            FrontError::Folded => write!(f, "folded front"),
-        }
+        f.write_str(match self {
+            FrontError::Unknown => "unknown front",
+            FrontError::Folded => "folded front",
+        })
     }
 }
 

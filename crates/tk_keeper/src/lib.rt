@@ -2,10 +2,11 @@
 //!
 //! | Item | What it is |
 //! |---|---|
-//! | `Timekeeper` | the clocks and their journal: opened at a reading, changed by commands, read by snapshots |
+//! | `Timekeeper` | the clocks and their journal: opened, changed by commands, read by snapshots, folded |
 //! | `FrontError` | why a front has no snapshot |
 //!
-//! Units are those of `tk_clock`. Entries are numbered from 1; a front is how many commands were accepted.
+//! Units are those of `tk_clock`. Entries are numbered from 1, and a front is how many commands were accepted: both
+//! count the folded ones too.
 #![tactic(auto)]
 
 mod front_error;

@@ -72,7 +72,7 @@ impl Timekeeper {
     ) -> Result<Timekeeper, Refusal>
         ensures { MatchResult result
             (λ keeper. (opening_refusal desc reading real ≡ None)
-            × (keeper.journal ≡ opened desc reading real))
+            × (keeper.journal ≡ opened desc reading real) × (keeper.spare ≡ 0))
             (λ refusal. opening_refusal desc reading real ≡ Some refusal) }
     {
         let clock = Clock::open(desc, reading, real)?;
@@ -85,7 +85,7 @@ impl Timekeeper {
         })
     }
 
-    /// How many commands were accepted.
+    /// How many commands were accepted, the folded ones among them.
     pub fn len(&self) -> usize
         ensures value { result ≡ accepted_count self.now.journal }
         ensures most { result < 2 ^ 63 }
@@ -94,7 +94,7 @@ impl Timekeeper {
         self.folded as usize + self.entries.len()
     }
 
-    /// The entry of a number, counted from 1; None for 0 and beyond `len`.
+    /// The entry of a number, counted from 1; None for 0, beyond `len`, and where it was folded.
     pub fn entry(&self, number: u64) -> Option<Entry>
         ensures { result ≡ entry_at self.now.journal number }
     {

@@ -23,7 +23,8 @@ impl Timekeeper {
             × (number ≡ accepted_count self.new.journal))
             (λ refusal. IsRefusal self.old.journal entry refusal × (self.new ≡ self.old)) }
         ensures memory { IsErrOf result Refusal.Memory → self.old.spare ≡ 0 }
-        ensures spare { IfOk result (λ _. 0 < self.old.spare → self.new.spare + 1 ≡ self.old.spare) }
+        ensures spare { IfOk result
+            (λ _. 0 < self.old.spare → self.new.spare + 1 ≡ self.old.spare) }
         // MONOTONIC at the command's reading is the same before and after
         ensures agrees { IfOk result
             (λ _. monotonic self.old.journal reading ≡ monotonic self.new.journal reading) }

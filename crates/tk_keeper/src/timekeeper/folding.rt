@@ -12,7 +12,8 @@ impl Timekeeper {
     /// Numbers and fronts go on as before, and no later value changes. It takes no memory: the listed entries move down
     /// once, so fold many at a time.
     pub fn fold(&mut self, keep: u64) -> u64
-        ensures answer { result ≡ max self.old.journal.opening.count (accepted_count self.old.journal - keep) }
+        ensures answer { let before = self.old.journal in
+            result ≡ max before.opening.count (accepted_count before - keep) }
         ensures folded { self.new.journal.opening.count ≡ result }
         ensures same { IsFolded self.old.journal self.new.journal }
         ensures legal { IsLegal self.new.journal }
@@ -36,13 +37,6 @@ impl Timekeeper {
         discard(&mut self.kept, kept);
         self.start = start;
         self.folded += places as u64;
-    }
-
-    /// How many commands were folded: fronts from here on have a snapshot.
-    pub fn folded(&self) -> u64
-        ensures { result ≡ self.now.journal.opening.count }
-    {
-        self.folded
     }
 }
 

@@ -1,4 +1,4 @@
-//! Snapshots of the past, which begin at the nearest kept state.
+//! Snapshots of the past. Each is made from the last kept state before it.
 ghost use Rattle.std.specs.Prelude.{◌≡◌, ◌+◌, ◌<◌, ◌≤◌, length, MatchResult, IfOk, Some, None};
 ghost use Rattle.tk_clock.specs.Journal.{prefix};
 ghost use Rattle.tk_clock.specs.Snapshot.{snapshot_of};
@@ -19,7 +19,8 @@ impl Timekeeper {
             (λ snapshot. (front_refusal self.now.journal front ≡ None)
             × (snapshot ≡ snapshot_of (at_front front self.now.journal)))
             (λ error. front_refusal self.now.journal front ≡ Some error) }
-        ensures clocks { IfOk result (λ snapshot. ReadsAs (at_front front self.now.journal) snapshot.base) }
+        ensures clocks { IfOk result
+            (λ snapshot. ReadsAs (at_front front self.now.journal) snapshot.base) }
     {
         if front > self.len() as u64 {
             return Err(FrontError::Unknown);
@@ -29,6 +30,13 @@ impl Timekeeper {
         }
         let clock = self.clock_at((front - self.folded) as usize);
         Ok(clock.snapshot(front))
+    }
+
+    /// How many commands were folded. Fronts from here on have a snapshot.
+    pub fn folded(&self) -> u64
+        ensures { result ≡ self.now.journal.opening.count }
+    {
+        self.folded
     }
 
     /// The clocks after so many of the listed entries.
