@@ -1,35 +1,71 @@
 -- The records of a script after the first, each told by its word.
-use Rattle.std.specs.Prelude.{ℕ, ◌+◌, List, [], ◌∷◌, length, Result, Ok, Err, ◌==◌, if◌then◌else◌, codes}
-use Rattle.tk_clock.specs.declared.command.Command.TheVariants.{Update}
+use Rattle.std.specs.Prelude.{ℕ, ℤ, ◌+◌, List, [], ◌∷◌, length, Result, Ok, Err, ◌==◌, if◌then◌else◌, codes}
+use Rattle.tk_clock.specs.declared.clock_id.ClockId.{ClockId}
+use Rattle.tk_clock.specs.declared.command.Command.{Command}
+use Rattle.tk_clock.specs.declared.command.Command.TheVariants.{Update, SetTime, Step, Freq, Tick, Tai, Suspend, Resume}
+use Rattle.tk_clock.specs.declared.timespec.Timespec.{Timespec}
 use Rattle.tk_script.specs.Word.{is_word}
-use Rattle.tk_script.specs.Field.{◌>>=◌, field, number_at, clock_at}
+use Rattle.tk_script.specs.Field.{◌>>=◌, field, number_at, signed_at, time_at, clock_at}
 use Rattle.tk_script.specs.declared.row.Row.{Row}
 use Rattle.tk_script.specs.declared.row.Row.TheVariants.{Act, Look}
 use Rattle.tk_script.specs.declared.script_error.ScriptError.{ScriptError}
 use Rattle.tk_script.specs.declared.script_error.ScriptError.TheVariants as errors
 
--- `update` with a reading
-unfoldable pub update_of : ℕ → List (List ℕ) → Result Row ScriptError
-update_of row fields =
-    if length fields == 2 then (do
+-- a reading alone
+unfoldable pub plain_of : ℕ → List (List ℕ) → Result ℕ ScriptError
+plain_of row fields = if length fields == 2 then number_at row fields 1 else Err (errors.Fields row)
+
+-- a reading and a time
+unfoldable pub timed_of : ℕ → List (List ℕ) → Result (ℕ × Timespec) ScriptError
+timed_of row fields =
+    if length fields == 4 then (do
       reading ← number_at row fields 1
-      Ok (Act reading Update))
+      time ← time_at row fields 2
+      Ok (reading, time))
     else Err (errors.Fields row)
 
--- `get` with a reading and a clock
-unfoldable pub look_of : ℕ → List (List ℕ) → Result Row ScriptError
+-- a reading and a signed number
+unfoldable pub signed_of : ℕ → List (List ℕ) → Result (ℕ × ℤ) ScriptError
+signed_of row fields =
+    if length fields == 3 then (do
+      reading ← number_at row fields 1
+      value ← signed_at row fields 2
+      Ok (reading, value))
+    else Err (errors.Fields row)
+
+-- a reading and a clock
+unfoldable pub look_of : ℕ → List (List ℕ) → Result (ℕ × ClockId) ScriptError
 look_of row fields =
     if length fields == 3 then (do
       reading ← number_at row fields 1
       clock ← clock_at row fields 2
-      Ok (Look reading clock))
+      Ok (reading, clock))
     else Err (errors.Fields row)
+
+-- a command without an operand
+abbrev pub plain : Command → Result ℕ ScriptError → Result Row ScriptError
+plain command told = told >>= λ reading. Ok (Act reading command)
+
+-- a command with an operand
+abbrev pub with_operand : {A : Type 0} → (A → Command) → Result (ℕ × A) ScriptError → Result Row ScriptError
+with_operand command told = told >>= λ p. Ok (Act p.0 (command p.1))
+
+-- a read of a clock
+abbrev pub look : Result (ℕ × ClockId) ScriptError → Result Row ScriptError
+look told = told >>= λ p. Ok (Look p.0 p.1)
 
 -- the command or the read that the record `row` tells
 unfoldable pub row_of : ℕ → List (List ℕ) → Result Row ScriptError
 row_of row fields =
-    if is_word (field fields 0) (codes "update") then update_of row fields
-    else if is_word (field fields 0) (codes "get") then look_of row fields
+    if is_word (field fields 0) (codes "update") then plain Update (plain_of row fields)
+    else if is_word (field fields 0) (codes "get") then look (look_of row fields)
+    else if is_word (field fields 0) (codes "set") then with_operand SetTime (timed_of row fields)
+    else if is_word (field fields 0) (codes "step") then with_operand Step (timed_of row fields)
+    else if is_word (field fields 0) (codes "freq") then with_operand Freq (signed_of row fields)
+    else if is_word (field fields 0) (codes "tick") then with_operand Tick (signed_of row fields)
+    else if is_word (field fields 0) (codes "tai") then with_operand Tai (signed_of row fields)
+    else if is_word (field fields 0) (codes "suspend") then plain Suspend (plain_of row fields)
+    else if is_word (field fields 0) (codes "resume") then with_operand Resume (timed_of row fields)
     else Err (errors.Word row)
 
 -- what these records tell, the first of which is the record `row`

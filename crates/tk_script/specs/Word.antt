@@ -24,6 +24,12 @@ clock_name MonotonicRaw = codes "monotonic_raw"
 abbrev pub clock_of : List ℕ → Option ClockId
 clock_of word =
     if is_word word (codes "monotonic") then Some Monotonic
+    else if is_word word (codes "realtime") then Some Realtime
+    else if is_word word (codes "tai") then Some Tai
+    else if is_word word (codes "boottime") then Some Boottime
+    else if is_word word (codes "monotonic_coarse") then Some MonotonicCoarse
+    else if is_word word (codes "realtime_coarse") then Some RealtimeCoarse
+    else if is_word word (codes "monotonic_raw") then Some MonotonicRaw
     else None
 
 -- a refusal's word

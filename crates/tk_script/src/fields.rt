@@ -38,7 +38,7 @@ pub(crate) fn number32_at(row: u64, fields: &ByteRecord, i: usize) -> Result<u32
 }
 
 /// A signed number of 64 bits.
-fn signed_at(row: u64, fields: &ByteRecord, i: usize) -> Result<i64, ScriptError>
+pub(crate) fn signed_at(row: u64, fields: &ByteRecord, i: usize) -> Result<i64, ScriptError>
     ensures { result ≡ spec.signed_at row (fields_of fields.now) i }
 {
     signed(field(fields, i)).ok_or(ScriptError::Number { row })

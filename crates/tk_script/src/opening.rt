@@ -24,8 +24,11 @@ pub(crate) fn read_start(fields: &ByteRecord) -> Result<Start, ScriptError>
     ensures opens { IfOk result (λ start.
         opening_refusal start.desc start.reading start.real ≡ None) }
 {
-    if has_word(field(fields, 0), b"open") {
+    let word = field(fields, 0);
+    if has_word(word, b"open") {
         read_open(fields)
+    } else if has_word(word, b"openhz") {
+        read_openhz(fields)
     } else {
         Err(ScriptError::Opening { row: 1 })
     }
@@ -50,11 +53,37 @@ fn read_open(fields: &ByteRecord) -> Result<Start, ScriptError>
     started(desc, reading, real)
 }
 
+/// `openhz` with bits, hz, maxsec, reading, sec and nsec.
+#[tactic(auto, unfolding(crate::specs::Opening::openhz_of))]
+fn read_openhz(fields: &ByteRecord) -> Result<Start, ScriptError>
+    ensures value { result ≡ spec.openhz_of (fields_of fields.now) }
+    ensures opens { IfOk result (λ start.
+        opening_refusal start.desc start.reading start.real ≡ None) }
+{
+    if fields.len() != 7 {
+        return Err(ScriptError::Fields { row: 1 });
+    }
+    let bits = number32_at(1, fields, 1)?;
+    let hz = number32_at(1, fields, 2)?;
+    let maxsec = number32_at(1, fields, 3)?;
+    let reading = number_at(1, fields, 4)?;
+    let real = time_at(1, fields, 5)?;
+    let desc = running(bits, hz, maxsec)?;
+    started(desc, reading, real)
+}
+
 /// The counter of these numbers, if they describe one.
 fn described(bits: u32, mult: u32, shift: u32) -> Result<CounterDesc, ScriptError>
     ensures { result ≡ spec.described (record { bits = bits; mult = mult; shift = shift }) }
 {
     CounterDesc::new(bits, mult, shift).map_err(|_| ScriptError::Opening { row: 1 })
+}
+
+/// The counter of so many bits at so many hz, for gaps of up to `maxsec` seconds, if there is one.
+fn running(bits: u32, hz: u32, maxsec: u32) -> Result<CounterDesc, ScriptError>
+    ensures { result ≡ spec.running bits hz maxsec }
+{
+    CounterDesc::from_hz(bits, hz, maxsec).map_err(|_| ScriptError::Opening { row: 1 })
 }
 
 /// The opening with this counter, reading and real time, if clocks can be opened so.

@@ -1,11 +1,12 @@
 ghost use Rattle.std.specs.Prelude.{◌≡◌};
 ghost use Rattle.csv.specs.Records.{fields_of};
-ghost use Rattle.tk_script.specs.Rows.{update_of, look_of, row_of};
+ghost use Rattle.tk_script.specs.Rows as spec;
+ghost use Rattle.tk_script.specs.declared.row.Row.TheVariants.{Act};
 
-use crate::fields::{clock_at, field, has_word, number_at};
+use crate::fields::{clock_at, field, has_word, number_at, signed_at, time_at};
 use crate::script_error::ScriptError;
 use csv::ByteRecord;
-use tk_clock::{ClockId, Command};
+use tk_clock::{ClockId, Command, Timespec};
 
 /// What a record of a script after the first one asks for, at a reading of the counter in cycles.
 #[derive(Clone, Copy, Debug, PartialEq, Eq)]
@@ -16,45 +17,88 @@ pub enum Row {
     Look { reading: u64, clock: ClockId },
 }
 
-/// What the record `row` asks for, by its word.
+/// What the record `row` asks for, by its word; the frequent words come first.
 #[tactic(auto, unfolding(crate::specs::Rows::row_of))]
 pub(crate) fn read_row(row: u64, fields: &ByteRecord) -> Result<Row, ScriptError>
-    ensures { result ≡ row_of row (fields_of fields.now) }
+    ensures { result ≡ spec.row_of row (fields_of fields.now) }
 {
     let word = field(fields, 0);
     if has_word(word, b"update") {
-        read_update(row, fields)
+        read_plain(row, fields).map(|reading| act(reading, Command::Update))
     } else if has_word(word, b"get") {
-        read_look(row, fields)
+        read_look(row, fields).map(|(reading, clock)| Row::Look { reading, clock })
+    } else if has_word(word, b"set") {
+        read_timed(row, fields).map(|(reading, time)| act(reading, Command::SetTime(time)))
+    } else if has_word(word, b"step") {
+        read_timed(row, fields).map(|(reading, time)| act(reading, Command::Step(time)))
+    } else if has_word(word, b"freq") {
+        read_signed(row, fields).map(|(reading, freq)| act(reading, Command::Freq(freq)))
+    } else if has_word(word, b"tick") {
+        read_signed(row, fields).map(|(reading, tick)| act(reading, Command::Tick(tick)))
+    } else if has_word(word, b"tai") {
+        read_signed(row, fields).map(|(reading, tai)| act(reading, Command::Tai(tai)))
+    } else if has_word(word, b"suspend") {
+        read_plain(row, fields).map(|reading| act(reading, Command::Suspend))
+    } else if has_word(word, b"resume") {
+        read_timed(row, fields).map(|(reading, time)| act(reading, Command::Resume(time)))
     } else {
         Err(ScriptError::Word { row })
     }
 }
 
-/// `update` with a reading.
-#[tactic(auto, unfolding(crate::specs::Rows::update_of))]
-fn read_update(row: u64, fields: &ByteRecord) -> Result<Row, ScriptError>
-    ensures { result ≡ update_of row (fields_of fields.now) }
+/// A command at a reading.
+fn act(reading: u64, cmd: Command) -> Row
+    ensures { result ≡ Act reading cmd }
+{
+    Row::Act { reading, cmd }
+}
+
+/// A reading alone.
+#[tactic(auto, unfolding(crate::specs::Rows::plain_of))]
+fn read_plain(row: u64, fields: &ByteRecord) -> Result<u64, ScriptError>
+    ensures { result ≡ spec.plain_of row (fields_of fields.now) }
 {
     if fields.len() != 2 {
         return Err(ScriptError::Fields { row });
     }
-    let reading = number_at(row, fields, 1)?;
-    Ok(Row::Act {
-        reading,
-        cmd: Command::Update,
-    })
+    number_at(row, fields, 1)
 }
 
-/// `get` with a reading and a clock.
+/// A reading and a time.
+#[tactic(auto, unfolding(crate::specs::Rows::timed_of))]
+fn read_timed(row: u64, fields: &ByteRecord) -> Result<(u64, Timespec), ScriptError>
+    ensures { result ≡ spec.timed_of row (fields_of fields.now) }
+{
+    if fields.len() != 4 {
+        return Err(ScriptError::Fields { row });
+    }
+    let reading = number_at(row, fields, 1)?;
+    let time = time_at(row, fields, 2)?;
+    Ok((reading, time))
+}
+
+/// A reading and a signed number.
+#[tactic(auto, unfolding(crate::specs::Rows::signed_of))]
+fn read_signed(row: u64, fields: &ByteRecord) -> Result<(u64, i64), ScriptError>
+    ensures { result ≡ spec.signed_of row (fields_of fields.now) }
+{
+    if fields.len() != 3 {
+        return Err(ScriptError::Fields { row });
+    }
+    let reading = number_at(row, fields, 1)?;
+    let value = signed_at(row, fields, 2)?;
+    Ok((reading, value))
+}
+
+/// A reading and a clock.
 #[tactic(auto, unfolding(crate::specs::Rows::look_of))]
-fn read_look(row: u64, fields: &ByteRecord) -> Result<Row, ScriptError>
-    ensures { result ≡ look_of row (fields_of fields.now) }
+fn read_look(row: u64, fields: &ByteRecord) -> Result<(u64, ClockId), ScriptError>
+    ensures { result ≡ spec.look_of row (fields_of fields.now) }
 {
     if fields.len() != 3 {
         return Err(ScriptError::Fields { row });
     }
     let reading = number_at(row, fields, 1)?;
     let clock = clock_at(row, fields, 2)?;
-    Ok(Row::Look { reading, clock })
+    Ok((reading, clock))
 }

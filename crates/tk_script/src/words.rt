@@ -10,6 +10,18 @@ pub fn clock_word(word: &[u8]) -> Option<ClockId>
 {
     if has_word(word, b"monotonic") {
         Some(ClockId::Monotonic)
+    } else if has_word(word, b"realtime") {
+        Some(ClockId::Realtime)
+    } else if has_word(word, b"tai") {
+        Some(ClockId::Tai)
+    } else if has_word(word, b"boottime") {
+        Some(ClockId::Boottime)
+    } else if has_word(word, b"monotonic_coarse") {
+        Some(ClockId::MonotonicCoarse)
+    } else if has_word(word, b"realtime_coarse") {
+        Some(ClockId::RealtimeCoarse)
+    } else if has_word(word, b"monotonic_raw") {
+        Some(ClockId::MonotonicRaw)
     } else {
         None
     }

@@ -43,7 +43,7 @@ fn tells_the_first_fault_of_a_script(rt: HostRuntime) {
             ScriptError::Fields { row: 2 },
         ),
         (
-            b"open,32,16777216,24,0,1700000000,0\ntai,0,1\n",
+            b"open,32,16777216,24,0,1700000000,0\nupdat,0\n",
             ScriptError::Word { row: 2 },
         ),
     ];

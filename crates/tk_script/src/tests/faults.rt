@@ -28,7 +28,11 @@ fn tells_the_fault_of_the_first_record(rt: HostRuntime) -> Result<(), Fail> {
         (b"".as_slice(), ScriptError::Empty),
         (b"\n\r\n".as_slice(), ScriptError::Empty),
         (b"update,0".as_slice(), opening),
-        (b"openhz,32,24000000,600,0,0,0".as_slice(), opening),
+        (b"get,0,monotonic".as_slice(), opening),
+        (b"openhz,7,24000000,600,0,0,0".as_slice(), opening),
+        (b"openhz,32,0,600,0,0,0".as_slice(), opening),
+        (b"openhz,32,24000000,0,0,0,0".as_slice(), opening),
+        (b"openhz,32,24000000,601,0,0,0".as_slice(), opening),
         (b"\"".as_slice(), opening),
         (b"\"\"".as_slice(), opening),
         (b"\xff".as_slice(), opening),
@@ -63,7 +67,7 @@ fn tells_the_fault_of_a_later_record(rt: HostRuntime) -> Result<(), Fail> {
         (b"updat,0".as_slice(), word),
         (b"updat,0,0".as_slice(), word),
         (OPENING, word),
-        (b"tai,0,1".as_slice(), word),
+        (b"openhz,32,24000000,600,0,0,0".as_slice(), word),
         (b"\"\"".as_slice(), word),
         (b"update".as_slice(), fields),
         (b"update,1,1".as_slice(), fields),
@@ -76,10 +80,10 @@ fn tells_the_fault_of_a_later_record(rt: HostRuntime) -> Result<(), Fail> {
         (b"get,x,foo".as_slice(), number),
         (b"get,1,foo".as_slice(), word),
         (
-            b"update,1\nget,1,tai".as_slice(),
+            b"update,1\nget,1,foo".as_slice(),
             ScriptError::Word { row: 3 },
         ),
-        (b"update\ntai".as_slice(), fields),
+        (b"update\nfoo".as_slice(), fields),
     ] {
         assert_eq!(rt; fault_after_opening(rt.alloc(), records)?, want);
     }
