@@ -1,6 +1,7 @@
 pub mod ListLemmas
 pub mod RecordLemmas
 pub mod ReadingLemmas
-pub mod RowLemmas
+pub mod EachLemmas
+pub mod StampLemmas
 pub mod GrammarLemmas
 pub mod TextLemmas

@@ -7,5 +7,6 @@ pub mod Records
 pub mod Reading
 pub mod Grammar
 pub mod Script
+pub mod Stamps
 pub mod Utc
 pub mod Lines

@@ -1,8 +1,10 @@
--- The records of a script's bytes, as `csv` reads them.
-use Rattle.std.specs.Prelude.{ℕ, ◌+◌, List, length}
+-- The records of a script's bytes, as `csv` reads them, and what all of them tell.
+use Rattle.std.specs.Prelude.{ℕ, ◌+◌, List, [], ◌∷◌, length, Result, Ok}
 use Rattle.csv.specs.Reading.{default_config, records_from, strip_bom}
 use Rattle.csv.specs.declared.parser.State.{State}
 use Rattle.csv.specs.declared.parser.State.TheVariants.{StartRecord}
+use Rattle.tk_script.specs.Field.{◌>>=◌}
+use Rattle.tk_script.specs.declared.script_error.ScriptError.{ScriptError}
 
 -- the records of the bytes that follow on a state of the reader
 abbrev pub records_after : State → List ℕ → List (List (List ℕ))
@@ -11,3 +13,9 @@ records_after state bytes = records_from default_config (length bytes + 1) state
 -- all records of a text
 abbrev pub records_of : List ℕ → List (List (List ℕ))
 records_of bytes = records_after StartRecord (strip_bom bytes)
+
+-- what each of these records tells, the first of which is the record `row`, or the first fault
+unfoldable pub each : {A : Type 0} → (ℕ → List (List ℕ) → Result A ScriptError) → ℕ → List (List (List ℕ)) → Result (List A) ScriptError
+each tell row [] = Ok []
+each tell row (fields ∷ later) =
+    tell row fields >>= λ first. (each tell (row + 1) later >>= λ rest. Ok (first ∷ rest))

@@ -1,11 +1,12 @@
 -- The records of a script after the first, each told by its word.
-use Rattle.std.specs.Prelude.{ℕ, ℤ, ◌+◌, List, [], ◌∷◌, length, Result, Ok, Err, ◌==◌, if◌then◌else◌, codes}
+use Rattle.std.specs.Prelude.{ℕ, ℤ, List, length, Result, Ok, Err, ◌==◌, if◌then◌else◌, codes}
 use Rattle.tk_clock.specs.declared.clock_id.ClockId.{ClockId}
 use Rattle.tk_clock.specs.declared.command.Command.{Command}
 use Rattle.tk_clock.specs.declared.command.Command.TheVariants.{Update, SetTime, Step, Freq, Tick, Tai, Suspend, Resume}
 use Rattle.tk_clock.specs.declared.timespec.Timespec.{Timespec}
 use Rattle.tk_script.specs.Word.{is_word}
 use Rattle.tk_script.specs.Field.{◌>>=◌, field, number_at, signed_at, time_at, clock_at}
+use Rattle.tk_script.specs.Records.{each}
 use Rattle.tk_script.specs.declared.row.Row.{Row}
 use Rattle.tk_script.specs.declared.row.Row.TheVariants.{Act, Look}
 use Rattle.tk_script.specs.declared.script_error.ScriptError.{ScriptError}
@@ -69,7 +70,5 @@ row_of row fields =
     else Err (errors.Word row)
 
 -- what these records tell, the first of which is the record `row`
-unfoldable pub rows_of : ℕ → List (List (List ℕ)) → Result (List Row) ScriptError
-rows_of row [] = Ok []
-rows_of row (fields ∷ later) =
-    row_of row fields >>= λ first. (rows_of (row + 1) later >>= λ rows. Ok (first ∷ rows))
+abbrev pub rows_of : ℕ → List (List (List ℕ)) → Result (List Row) ScriptError
+rows_of row records = each row_of row records

@@ -1,9 +1,10 @@
-//! Scripts of commands and reads, taken from bytes, and the lines of a report on them.
+//! Scripts of commands and reads and lists of stamps, taken from bytes, and the lines of a report on a script.
 //!
 //! | Item | What it is |
 //! |---|---|
 //! | `Script`, `Row` | the opening of the clocks, and then commands and reads of clocks |
-//! | `ScriptError` | the first fault of a script |
+//! | `Stamps` | readings of the counter, each with the number of commands before it |
+//! | `ScriptError` | the first fault of a script or of a stamp file |
 //! | `number`, `clock_word` | single fields of a script |
 //! | `line_open`, `line_ok`, `line_no`, `line_at` | the lines of a report |
 //! | `utc` | a time as UTC text |
@@ -21,6 +22,7 @@ mod records;
 mod row;
 mod script;
 mod script_error;
+mod stamps;
 mod text;
 mod words;
 
@@ -31,6 +33,7 @@ pub use numbers::number;
 pub use row::Row;
 pub use script::Script;
 pub use script_error::ScriptError;
+pub use stamps::Stamps;
 pub use words::clock_word;
 
 #[cfg(test)]

@@ -7,6 +7,9 @@ use crate::script_error::ScriptError;
 use csv::{ByteRecord, Reader, ReaderBuilder};
 use std::alloc::Global;
 
+/// How many bytes a script or a stamp file may have.
+pub(crate) const SIZE_LIMIT: usize = 16_777_216;
+
 /// A reader of the bytes by the crate's defaults, but that no record is a header and that lengths may differ.
 pub(crate) fn open_reader(alloc: Global, bytes: &[u8]) -> Reader<&[u8]>
     ensures reading { IsReading result }

@@ -5,16 +5,13 @@ ghost use Rattle.tk_script.specs.Rows.{rows_of};
 ghost use Rattle.tk_script.specs.Grammar.{Gives, parse_of};
 
 use crate::opening::read_start;
-use crate::records::{next_fields, open_reader};
+use crate::records::{SIZE_LIMIT, next_fields, open_reader};
 use crate::row::{Row, read_row};
 use crate::script_error::ScriptError;
 use csv::{ByteRecord, Reader};
 use std::alloc::Global;
 use tk_clock::Timespec;
 use tk_counter::CounterDesc;
-
-/// How many bytes a script may have.
-const SIZE_LIMIT: usize = 16_777_216;
 
 /// A script: how the clocks are opened, and what is then asked of them.
 #[derive(Drop)]

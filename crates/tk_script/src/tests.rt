@@ -1,3 +1,35 @@
+mod bytes;
+mod commands;
 mod faults;
 mod lines;
 mod scripts;
+mod stamps;
+mod words;
+
+use crate::{Row, ScriptError};
+use std::test::Fail;
+use tk_clock::{ClockId, Command, Timespec};
+
+/// A counter of 32 bits at 1 ns a cycle, opened at reading 0.
+const OPENING: &[u8] = b"open,32,16777216,24,0,1700000000,0\n";
+
+/// The fault that was told. Refused memory, or no fault, ends the test by an error of its own.
+fn fault_of<T: Drop>(told: Result<T, ScriptError>) -> Result<ScriptError, Fail> {
+    match told {
+        Ok(_) => Err("no fault")?,
+        Err(ScriptError::Memory) => Err(ScriptError::Memory)?,
+        Err(fault) => Ok(fault),
+    }
+}
+
+fn time(sec: i64, nsec: u32) -> Timespec {
+    Timespec { sec, nsec }
+}
+
+fn act(reading: u64, cmd: Command) -> Row {
+    Row::Act { reading, cmd }
+}
+
+fn look(reading: u64, clock: ClockId) -> Row {
+    Row::Look { reading, clock }
+}

@@ -1,16 +1,10 @@
+use super::{OPENING, fault_of};
 use crate::{Script, ScriptError};
 use std::alloc::Global;
 use std::test::Fail;
 
-const OPENING: &[u8] = b"open,32,16777216,24,0,1700000000,0\n";
-
-/// The fault of a script. Refused memory, or no fault, ends the test by an error of its own.
 fn fault(alloc: Global, bytes: &[u8]) -> Result<ScriptError, Fail> {
-    match Script::from_bytes(alloc, bytes) {
-        Ok(_) => Err("no fault")?,
-        Err(ScriptError::Memory) => Err(ScriptError::Memory)?,
-        Err(fault) => Ok(fault),
-    }
+    fault_of(Script::from_bytes(alloc, bytes))
 }
 
 fn fault_after_opening(alloc: Global, records: &[u8]) -> Result<ScriptError, Fail> {
@@ -66,17 +60,40 @@ fn tells_the_fault_of_a_later_record(rt: HostRuntime) -> Result<(), Fail> {
     for (records, want) in [
         (b"updat,0".as_slice(), word),
         (b"updat,0,0".as_slice(), word),
+        (b"updates,0".as_slice(), word),
+        (b"Update,0".as_slice(), word),
+        (b"settime,0,0,0".as_slice(), word),
+        (b"monotonic,0".as_slice(), word),
         (OPENING, word),
         (b"openhz,32,24000000,600,0,0,0".as_slice(), word),
         (b"\"\"".as_slice(), word),
         (b"update".as_slice(), fields),
         (b"update,1,1".as_slice(), fields),
+        (b"set,5,7".as_slice(), fields),
+        (b"step,5,7,0,0".as_slice(), fields),
+        (b"freq,5".as_slice(), fields),
+        (b"tick,5,10000,0".as_slice(), fields),
+        (b"tai,5".as_slice(), fields),
+        (b"suspend,5,0".as_slice(), fields),
+        (b"resume,5,0".as_slice(), fields),
+        (b"set,x,y".as_slice(), fields),
         (b"get,x".as_slice(), fields),
         (b"update, 1".as_slice(), number),
         (b"update,+1".as_slice(), number),
         (b"update,".as_slice(), number),
         (b"update,18446744073709551616".as_slice(), number),
         (b"update,\"7\nget,1,foo".as_slice(), number),
+        (b"set,0,-9223372036854775809,0".as_slice(), number),
+        (b"set,0,9223372036854775808,0".as_slice(), number),
+        (b"set,0,0,4294967296".as_slice(), number),
+        (b"step,0,0,-1".as_slice(), number),
+        (b"step,0,--1,0".as_slice(), number),
+        (b"resume,0,+1,0".as_slice(), number),
+        (b"freq,0,-".as_slice(), number),
+        (b"freq,0,1.5".as_slice(), number),
+        (b"tick,0,".as_slice(), number),
+        (b"tai,-1,0".as_slice(), number),
+        (b"suspend,-1".as_slice(), number),
         (b"get,x,foo".as_slice(), number),
         (b"get,1,foo".as_slice(), word),
         (
@@ -105,6 +122,18 @@ fn refuses_a_script_by_its_length(rt: HostRuntime) -> Result<(), Fail> {
         fault_of_size(rt.alloc(), 16_777_217)?,
         ScriptError::TooLarge
     );
+    Ok(())
+}
+
+#[test]
+fn counts_the_records_before_a_fault(rt: HostRuntime) -> Result<(), Fail> {
+    let mut bytes = OPENING.to_vec(rt.alloc())?;
+    for _ in 0..1_000_000 {
+        bytes.extend_from_slice(b"update,1\n\n")?;
+    }
+    bytes.extend_from_slice(b"update")?;
+    let want = ScriptError::Fields { row: 1_000_002 };
+    assert_eq!(rt; fault(rt.alloc(), bytes.as_slice())?, want);
     Ok(())
 }
 

@@ -1,12 +1,10 @@
-use crate::{Row, Script, clock_word, number};
+use super::{act, look, time};
+use crate::{Row, Script};
 use std::test::Fail;
-use tk_clock::{ClockId, Command, Timespec};
+use tk_clock::{ClockId, Command};
 
 fn update(reading: u64) -> Row {
-    Row::Act {
-        reading,
-        cmd: Command::Update,
-    }
+    act(reading, Command::Update)
 }
 
 #[test]
@@ -19,20 +17,10 @@ fn reads_an_opening_and_rows(rt: HostRuntime) -> Result<(), Fail> {
     assert_eq!(rt; script.desc.mult(), 16_777_216);
     assert_eq!(rt; script.desc.shift(), 24);
     assert_eq!(rt; script.reading, 5);
-    assert_eq!(rt;
-        script.real,
-        Timespec {
-            sec: 1_700_000_000,
-            nsec: 7
-        }
-    );
+    assert_eq!(rt; script.real, time(1_700_000_000, 7));
     assert_eq!(rt; script.rows.len(), 2);
     assert_eq!(rt; script.rows[0], update(7));
-    let look = Row::Look {
-        reading: 9,
-        clock: ClockId::Monotonic,
-    };
-    assert_eq!(rt; script.rows[1], look);
+    assert_eq!(rt; script.rows[1], look(9, ClockId::Monotonic));
     Ok(())
 }
 
@@ -60,26 +48,4 @@ fn grows_the_rows(rt: HostRuntime) -> Result<(), Fail> {
     assert_eq!(rt; script.rows.len(), 100);
     assert_eq!(rt; script.rows[99], update(u64::MAX));
     Ok(())
-}
-
-#[test]
-fn tells_numbers(rt: HostRuntime) {
-    for (field, want) in [
-        (b"007".as_slice(), Some(7)),
-        (b"18446744073709551615".as_slice(), Some(u64::MAX)),
-        (b"18446744073709551616".as_slice(), None),
-        (b"".as_slice(), None),
-        (b"+1".as_slice(), None),
-        (b" 1".as_slice(), None),
-        (b"-1".as_slice(), None),
-    ] {
-        assert_eq!(rt; number(field), want);
-    }
-}
-
-#[test]
-fn tells_clock_words(rt: HostRuntime) {
-    assert_eq!(rt; clock_word(b"monotonic"), Some(ClockId::Monotonic));
-    assert_eq!(rt; clock_word(b"Monotonic"), None);
-    assert_eq!(rt; clock_word(b""), None);
 }

@@ -1,0 +1,45 @@
+-- The items of a stamp file, read one after the other.
+use Rattle.std.proofs.Common.{◌≡◌, ◌<◌, ◌≤◌, ◌∙◌, ◌+◌, ◌++◌, ◌^◌, ℕ, List, [], ◌∷◌, length, map, nat_lt, Ok, Err, true, false, refl, sym, ap, arith}
+use Rattle.std.proofs.lemmas.Grind.{common_steps}
+use Rattle.std.proofs.lemmas.List.{map_push, length_push}
+use Rattle.tk_script.specs.Records.{each, records_of}
+use Rattle.tk_script.specs.Stamps.{Items, items_of, stamp_of, stamps_of, told}
+use Rattle.tk_script.specs.declared.script_error.ScriptError.{ScriptError}
+use Rattle.tk_script.specs.declared.script_error.ScriptError.TheVariants as errors
+
+-- both lists grew by one
+pub paired-more : (xs ys xs' ys' : List ℕ) (x y : ℕ)
+    → length xs ≡ length ys → xs' ≡ xs ++ x ∷ [] → ys' ≡ ys ++ y ∷ [] → length xs' ≡ length ys'
+paired-more xs ys xs' ys' x y e f g = rw (f, g) (length_push xs x ∙ ap (λ n. n + 1) e ∙ sym (length_push ys y))
+
+-- one more pair, in two lists
+pub items-more : (pairs : List (ℕ × ℕ)) (fronts stamps fronts' stamps' : List ℕ) (p : ℕ × ℕ)
+    → items_of pairs ≡ record { fronts = fronts; stamps = stamps }
+    → fronts' ≡ fronts ++ p.0 ∷ [] → stamps' ≡ stamps ++ p.1 ∷ []
+    → items_of (pairs ++ p ∷ []) ≡ record { fronts = fronts'; stamps = stamps' }
+items-more pairs fronts stamps fronts' stamps' p e f g =
+    let left : map (λ (q : ℕ × ℕ). q.0) pairs ≡ fronts = ap (λ (i : Items). i.fronts) e in
+    let right : map (λ (q : ℕ × ℕ). q.1) pairs ≡ stamps = ap (λ (i : Items). i.stamps) e in
+    let more : map (λ (q : ℕ × ℕ). q.0) (pairs ++ p ∷ []) ≡ fronts' = map_push _ pairs p ∙ ap (λ (xs : List ℕ). xs ++ p.0 ∷ []) left ∙ sym f in
+    let more' : map (λ (q : ℕ × ℕ). q.1) (pairs ++ p ∷ []) ≡ stamps' = map_push _ pairs p ∙ ap (λ (xs : List ℕ). xs ++ p.1 ∷ []) right ∙ sym g in
+    rw (more, more') refl
+
+-- all records were read
+pub told-all : (records : List (List (List ℕ))) (pairs : List (ℕ × ℕ)) (items : Items)
+    → each stamp_of 1 records ≡ Ok pairs → items_of pairs ≡ items → told 1 records ≡ Ok items
+told-all records pairs items e f = rw e (ap Ok f)
+
+-- a faulty record ends the reading
+pub told-fault : (records : List (List (List ℕ))) (fault : ScriptError)
+    → each stamp_of 1 records ≡ Err fault → told 1 records ≡ Err fault
+told-fault records fault e = rw e refl
+
+-- too many bytes
+pub stamps-large : (bytes : List ℕ) → 2 ^ 24 < length bytes → stamps_of bytes ≡ Err errors.TooLarge
+unfolding stamps_of
+stamps-large bytes h = let big : nat_lt (2 ^ 24) (length bytes) ≡ true = grind (arith, common_steps) in rw big refl
+
+-- and no more than there may be
+pub stamps-small : (bytes : List ℕ) → length bytes ≤ 2 ^ 24 → stamps_of bytes ≡ told 1 (records_of bytes)
+unfolding stamps_of
+stamps-small bytes h = let small : nat_lt (2 ^ 24) (length bytes) ≡ false = grind (arith, common_steps) in rw small refl

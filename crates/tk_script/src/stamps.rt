@@ -1,0 +1,83 @@
+ghost use Rattle.std.specs.Prelude.{◌≡◌, ℕ, List, IfOk, IfErr, OnOk, OnErr, Some, length, ◌++◌, ◌∷◌, []};
+ghost use Rattle.csv.specs.Records.{fields_of};
+ghost use Rattle.tk_script.specs.Reading.{IsReading, left_of};
+ghost use Rattle.tk_script.specs.Grammar.{Gives};
+ghost use Rattle.tk_script.specs.Stamps as spec;
+
+use crate::fields::number_at;
+use crate::records::{SIZE_LIMIT, next_fields, open_reader};
+use crate::script_error::ScriptError;
+use csv::{ByteRecord, Reader};
+use std::alloc::Global;
+
+/// Stamps to be told in a clock's time, each with its front: how many accepted commands come before it.
+#[derive(Drop)]
+pub struct Stamps {
+    /// Each item's front. Reads and refused commands of the script count for nothing.
+    pub fronts: Vec<u64>,
+    /// In the same order, each item's stamp: a reading of the counter, in cycles.
+    pub stamps: Vec<u64>,
+}
+
+impl Stamps {
+    /// The stamps that the bytes of a stamp file spell, or its first fault. A file without a record has none.
+    pub fn from_bytes(alloc: Global, bytes: &[u8]) -> Result<Stamps, ScriptError>
+        ensures gives { Gives spec.items result (spec.stamps_of bytes.now) }
+        ensures paired { IfOk result (λ s. length s.fronts.items ≡ length s.stamps.items) }
+    {
+        if bytes.len() > SIZE_LIMIT {
+            return Err(ScriptError::TooLarge);
+        }
+        let mut reader = open_reader(alloc, bytes);
+        let mut fields = ByteRecord::new(alloc);
+        read_stamps(alloc, &mut reader, &mut fields)
+    }
+
+    /// Appends an item. Where memory is refused the two lists may differ in length.
+    fn push(&mut self, front: u64, stamp: u64) -> Result<(), ScriptError>
+        ensures fronts { OnOk result (self.new.fronts.items ≡ self.old.fronts.items ++ front ∷ []) }
+        ensures stamps { OnOk result (self.new.stamps.items ≡ self.old.stamps.items ++ stamp ∷ []) }
+        ensures memory { IfErr result (λ e. e ≡ ScriptError.Memory) }
+    {
+        self.fronts.push(front).map_err(|_| ScriptError::Memory)?;
+        self.stamps.push(stamp).map_err(|_| ScriptError::Memory)
+    }
+}
+
+/// The items of the records that are left, the first of which is the first of the file.
+fn read_stamps(
+    alloc: Global,
+    reader: &mut Reader<&[u8]>,
+    fields: &mut ByteRecord,
+) -> Result<Stamps, ScriptError>
+    requires { IsReading reader.old }
+    ensures gives { (rs : List (List (List ℕ))) → left_of reader.old ≡ Some rs
+        → Gives spec.items result (spec.told 1 rs) }
+    ensures paired { IfOk result (λ s. length s.fronts.items ≡ length s.stamps.items) }
+{
+    let mut stamps = Stamps {
+        fronts: Vec::new(alloc),
+        stamps: Vec::new(alloc),
+    };
+    for row in 1..u64::MAX {
+        if !next_fields(reader, fields)? {
+            return Ok(stamps);
+        }
+        let (front, stamp) = read_stamp(row, fields)?;
+        stamps.push(front, stamp)?;
+    }
+    Err(ScriptError::Memory)
+}
+
+/// A front and a stamp in the record `row`.
+#[tactic(auto, unfolding(crate::specs::Stamps::stamp_of))]
+fn read_stamp(row: u64, fields: &ByteRecord) -> Result<(u64, u64), ScriptError>
+    ensures { result ≡ spec.stamp_of row (fields_of fields.now) }
+{
+    if fields.len() != 2 {
+        return Err(ScriptError::Fields { row });
+    }
+    let front = number_at(row, fields, 0)?;
+    let stamp = number_at(row, fields, 1)?;
+    Ok((front, stamp))
+}

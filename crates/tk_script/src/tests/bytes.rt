@@ -1,0 +1,124 @@
+use super::{OPENING, act, fault_of, look};
+use crate::{Script, ScriptError, Stamps};
+use std::alloc::Global;
+use std::test::Fail;
+use tk_clock::{ClockId, Command};
+
+fn fault(alloc: Global, bytes: &[u8]) -> Result<ScriptError, Fail> {
+    fault_of(Script::from_bytes(alloc, bytes))
+}
+
+const FIRST: &[u8] = b"open,32,16777216,24,0,1700000000,0";
+
+#[test]
+fn tells_where_the_first_record_is_cut(rt: HostRuntime) -> Result<(), Fail> {
+    for len in 0..34 {
+        let want = match len {
+            0 => ScriptError::Empty,
+            1..=3 => ScriptError::Opening { row: 1 },
+            4..=32 => ScriptError::Fields { row: 1 },
+            _ => ScriptError::Number { row: 1 },
+        };
+        assert_eq!(rt;
+            fault(rt.alloc(), &FIRST[..len])?,
+            want,
+            "after {len} bytes"
+        );
+    }
+    let whole = Script::from_bytes(rt.alloc(), FIRST)?;
+    assert_eq!(rt; whole.rows.len(), 0);
+    Ok(())
+}
+
+#[test]
+fn takes_an_open_quote_to_the_end_of_the_input(rt: HostRuntime) -> Result<(), Fail> {
+    let alloc = rt.alloc();
+    let opening = ScriptError::Opening { row: 1 };
+    assert_eq!(rt; fault(alloc, b"\"update,0\n")?, opening);
+    let mut long = Vec::from_elem(alloc, b'\n', 16_777_216)?;
+    long[0] = b'"';
+    assert_eq!(rt; fault(alloc, long.as_slice())?, opening);
+    let lines = &mut long[..OPENING.len()];
+    lines.copy_from_slice(OPENING);
+    long[OPENING.len()] = b'"';
+    let word = ScriptError::Word { row: 2 };
+    assert_eq!(rt; fault(alloc, long.as_slice())?, word);
+    Ok(())
+}
+
+#[test]
+fn takes_any_byte(rt: HostRuntime) -> Result<(), Fail> {
+    let alloc = rt.alloc();
+    let opening = ScriptError::Opening { row: 1 };
+    assert_eq!(rt; fault(alloc, b"\xff")?, opening);
+    assert_eq!(rt;
+        fault(alloc, b"\xffopen,32,16777216,24,0,1700000000,0")?,
+        opening
+    );
+    assert_eq!(rt; fault(alloc, b"\0")?, opening);
+    assert_eq!(rt;
+        fault(alloc, b" open,32,16777216,24,0,1700000000,0")?,
+        opening
+    );
+    let number = ScriptError::Number { row: 1 };
+    assert_eq!(rt;
+        fault(alloc, b"open,32,16777216,24,0,1700000000,\xff")?,
+        number
+    );
+    assert_eq!(rt;
+        fault(alloc, b"open,32,16777216,24,0,1700000000,\0")?,
+        number
+    );
+    Ok(())
+}
+
+#[test]
+fn finds_no_record_in_line_feeds(rt: HostRuntime) -> Result<(), Fail> {
+    let mut lines = Vec::from_elem(rt.alloc(), b'\n', 16_777_216)?;
+    assert_eq!(rt; fault(rt.alloc(), lines.as_slice())?, ScriptError::Empty);
+    lines.push(b'\n')?;
+    assert_eq!(rt; fault(rt.alloc(), lines.as_slice())?, ScriptError::TooLarge);
+    Ok(())
+}
+
+#[test]
+fn takes_carriage_returns_before_line_feeds(rt: HostRuntime) -> Result<(), Fail> {
+    let script = Script::from_bytes(
+        rt.alloc(),
+        b"open,32,16777216,24,0,1700000000,0\r\n\
+        get,0,monotonic\r\n\
+        update,2147483647\r\n\
+        get,2147483648,monotonic\r\n\
+        update,0\r\n",
+    )?;
+    let rows = [
+        look(0, ClockId::Monotonic),
+        act(2_147_483_647, Command::Update),
+        look(2_147_483_648, ClockId::Monotonic),
+        act(0, Command::Update),
+    ];
+    assert_eq!(rt; script.rows.as_slice(), rows.as_slice());
+    Ok(())
+}
+
+/// A text over and over again, up to 16,777,216 bytes.
+fn repeated(alloc: Global, text: &[u8]) -> Result<Vec<u8>, Fail> {
+    let mut bytes = Vec::with_capacity(alloc, 16_777_216)?;
+    for _ in 0..16_777_216 / text.len() {
+        bytes.extend_from_slice(text)?;
+    }
+    Ok(bytes)
+}
+
+#[test]
+fn tells_the_fault_of_records_of_one_byte(rt: HostRuntime) -> Result<(), Fail> {
+    let bytes = repeated(rt.alloc(), b"x\n")?;
+    assert_eq!(rt; bytes.len(), 16_777_216);
+    assert_eq!(rt;
+        fault(rt.alloc(), bytes.as_slice())?,
+        ScriptError::Opening { row: 1 }
+    );
+    let told = Stamps::from_bytes(rt.alloc(), bytes.as_slice());
+    assert_eq!(rt; fault_of(told)?, ScriptError::Fields { row: 1 });
+    Ok(())
+}
