@@ -2,3 +2,5 @@ pub mod KnownBytes
 pub mod Times
 pub mod Refusals
 pub mod Lines
+pub mod Alike
+pub mod Folded

@@ -1,6 +1,6 @@
 -- After an accepted command MONOTONIC can be told.
-use Rattle.std.proofs.Common.{◌≡◌, refl, Bool, true, false}
-use Rattle.std.specs.Prelude.{ℤ, Option, Some, None, not, ◌||◌, nat_lt, int_lt, if◌then◌else◌}
+use Rattle.std.proofs.Common.{◌≡◌, ◌∙◌, ℕ, refl, Bool, true, false}
+use Rattle.std.specs.Prelude.{ℤ, Ok, Option, Some, None, not, ◌||◌, nat_lt, int_lt, if◌then◌else◌}
 use Rattle.tk_counter.specs.Counter.{mask}
 use Rattle.tk_clock.specs.declared.clock_id.ClockId.{ClockId}
 use Rattle.tk_clock.specs.declared.clock_id.ClockId.TheVariants.{Monotonic}
@@ -11,8 +11,11 @@ use Rattle.tk_clock.specs.declared.refusal.Refusal.TheVariants.{Invalid, Range}
 use Rattle.tk_clock.specs.Clocks.{clock_value}
 use Rattle.tk_clock.specs.Journal.{Journal, followed_by}
 use Rattle.tk_clock.specs.Limits.{limit, is_past_limit}
-use Rattle.tk_clock.specs.Refusal.{first_of, first_refusal}
-use Rattle.tk_replay.specs.Report.{look_refusal}
+use Rattle.tk_clock.specs.Refusal.{first_of, clock_refusal}
+use Rattle.tk_clock.specs.Run.{reply_if}
+use Rattle.tk_replay.specs.Folding.{IsAlike, IsReplied, rule_of}
+use Rattle.tk_replay.specs.Report.{look_refusal, reply_by}
+use Rattle.tk_replay.proofs.Alike.{IsAlike-stands, look_refusal-alike}
 
 passed : (test : Bool) (refusal : Refusal) (later : Option Refusal) → (if test then Some refusal else later) ≡ None →
     (test ≡ false) × (later ≡ None)
@@ -39,13 +42,35 @@ neither_test false true not_above not_past = cc
 neither_test false false not_above not_past = refl
 
 -- after an accepted command MONOTONIC can be told at its reading
-pub look_refusal-accepted : (journal : Journal) (entry : Entry) → first_refusal journal entry ≡ None →
+look_refusal-accepted : (journal : Journal) (entry : Entry) → clock_refusal journal entry ≡ None →
     look_refusal (followed_by journal entry) Monotonic entry.reading ≡ None
 look_refusal-accepted journal entry accepted =
-    let tests = both_passed _ _ (passed _ _ _ accepted).1 in
+    let tests = both_passed _ _ accepted in
     let numbers = both_passed _ _ (both_passed _ _ tests.0).1 in
     let above = nat_lt (mask journal.opening.counter) entry.reading in
     let past = not (int_lt (clock_value (followed_by journal entry) Monotonic entry.reading) (limit Monotonic)) in
     let not_above : above ≡ false = (neither _ _ (passed _ _ _ numbers.0).0).0 in
     let not_past : past ≡ false = below_limits _ _ (passed _ _ _ tests.1).0 in
     neither_test above past not_above not_past
+
+-- what a rule lets through passes the clocks' tests
+accepted_by : (keep : Option ℕ) (journal : Journal) (entry : Entry) → rule_of keep journal entry ≡ None →
+    clock_refusal journal entry ≡ None
+accepted_by None journal entry told = (passed _ _ _ told).1
+accepted_by (Some keep) journal entry told = told
+
+told_after : (keep : Option ℕ) (journal kept : Journal) (entry : Entry) (number : ℕ) (told : Option Refusal) →
+    rule_of keep journal entry ≡ told → (reply_if journal entry told).answer ≡ Ok number →
+    IsAlike kept (reply_if journal entry told).journal → look_refusal kept Monotonic entry.reading ≡ None
+told_after keep journal kept entry number None accepted answered alike =
+    look_refusal-alike kept (followed_by journal entry) alike Monotonic entry.reading
+    ∙ look_refusal-accepted journal entry (accepted_by keep journal entry accepted)
+told_after keep journal kept entry number (Some refusal) refused answered alike = cc answered
+
+-- so the time of an accepted command's line can be told by the journal that is kept
+pub look_refusal-replied : (keep : Option ℕ) (journal kept : Journal) (entry : Entry) (number : ℕ) →
+    IsReplied keep (reply_by (rule_of keep) journal entry) (Ok number) kept →
+    look_refusal kept Monotonic entry.reading ≡ None
+look_refusal-replied keep journal kept entry number replied =
+    told_after keep journal kept entry number (rule_of keep journal entry) refl replied.0
+    (IsAlike-stands keep kept (reply_by (rule_of keep) journal entry).journal replied.1)

@@ -2,4 +2,5 @@ pub mod Fault
 pub mod Reading
 pub mod Writing
 pub mod Report
+pub mod Folding
 pub mod Replay

@@ -11,7 +11,8 @@ use Rattle.tk_clock.specs.Clocks.{clock_value}
 use Rattle.tk_clock.specs.Journal.{Journal, opened}
 use Rattle.tk_clock.specs.Limits.{limit}
 use Rattle.tk_clock.specs.Monotonic.{monotonic}
-use Rattle.tk_clock.specs.Run.{Reply, reply_to}
+use Rattle.tk_clock.specs.Refusal.{clock_refusal, first_refusal}
+use Rattle.tk_clock.specs.Run.{Reply, reply_if}
 use Rattle.tk_clock.specs.Time.{timespec_of}
 use Rattle.tk_script.specs.declared.row.Row.{Row}
 use Rattle.tk_script.specs.declared.row.Row.TheVariants.{Act, Look}
@@ -21,6 +22,14 @@ use Rattle.tk_script.specs.Lines.{open_line, ok_line, no_line, IsAtLine}
 -- a script's command as an event: all of them come from one caller, 0
 abbrev pub event : ℕ → Command → Entry
 event reading cmd = record { who = 0; reading = reading; cmd = cmd }
+
+-- why an event is refused after a journal
+abbrev pub Rule : Type 0
+Rule = Journal → Entry → Option Refusal
+
+-- the answer to an event, by a rule
+abbrev pub reply_by : Rule → Journal → Entry → Reply
+reply_by rule journal event = reply_if journal event (rule journal event)
 
 -- the line of an answer: the entry's number with MONOTONIC at its reading, or the refusal
 abbrev pub answer_line : Journal → ℕ → Result ℕ Refusal → List ℕ
@@ -50,28 +59,37 @@ IsLookLine journal clock reading None line =
 IsLookLine journal clock reading (Some refusal) line = line ≡ no_line refusal
 
 -- the line of a record after a journal
-abbrev pub IsLine : Journal → Row → List ℕ → Type 0
-IsLine journal (Act reading cmd) line = line ≡ reply_line reading (reply_to journal (event reading cmd))
-IsLine journal (Look reading clock) line = IsLookLine journal clock reading (look_refusal journal clock reading) line
+abbrev pub IsLine : Rule → Journal → Row → List ℕ → Type 0
+IsLine rule journal (Act reading cmd) line = line ≡ reply_line reading (reply_by rule journal (event reading cmd))
+IsLine rule journal (Look reading clock) line =
+    IsLookLine journal clock reading (look_refusal journal clock reading) line
 
 -- the journal after a record: an accepted command is its next entry, and a look leaves it
-abbrev pub after : Journal → Row → Journal
-after journal (Act reading cmd) = (reply_to journal (event reading cmd)).journal
-after journal (Look reading clock) = journal
+abbrev pub after : Rule → Journal → Row → Journal
+after rule journal (Act reading cmd) = (reply_by rule journal (event reading cmd)).journal
+after rule journal (Look reading clock) = journal
 
 -- the lines of records, each on the journal that those before it left
-abbrev pub IsLines : Journal → List Row → List ℕ → Type 0
-IsLines journal [] text = text ≡ []
-IsLines journal (row ∷ rows) text =
-    (line : List ℕ) × (rest : List ℕ) × IsLine journal row line × IsLines (after journal row) rows rest
+abbrev pub IsLines : Rule → Journal → List Row → List ℕ → Type 0
+IsLines rule journal [] text = text ≡ []
+IsLines rule journal (row ∷ rows) text =
+    (line : List ℕ) × (rest : List ℕ) × IsLine rule journal row line × IsLines rule (after rule journal row) rows rest
     × (text ≡ line ++ rest)
 
 -- the report of what a script says
-abbrev pub IsReportOf : Parse → List ℕ → Type 0
-IsReportOf parse text =
-    (lines : List ℕ) × IsLines (opened parse.counter parse.reading parse.real) parse.rows lines
+abbrev pub IsReportOf : Rule → Parse → List ℕ → Type 0
+IsReportOf rule parse text =
+    (lines : List ℕ) × IsLines rule (opened parse.counter parse.reading parse.real) parse.rows lines
     × (text ≡ open_line parse.counter ++ lines)
 
--- the report of a script's bytes
+-- the report of a script's bytes, by a rule
+abbrev pub IsReportBy : Rule → List ℕ → List ℕ → Type 0
+IsReportBy rule bytes text = (parse : Parse) × (parse_of bytes ≡ Ok parse) × IsReportOf rule parse text
+
+-- the report of a script's bytes: a command is refused where the journal is full, too
 abbrev pub IsReport : List ℕ → List ℕ → Type 0
-IsReport bytes text = (parse : Parse) × (parse_of bytes ≡ Ok parse) × IsReportOf parse text
+IsReport = IsReportBy first_refusal
+
+-- the report of a script's bytes by a journal that lists every command and is never full
+abbrev pub IsReportUnlimited : List ℕ → List ℕ → Type 0
+IsReportUnlimited = IsReportBy clock_refusal

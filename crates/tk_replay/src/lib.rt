@@ -3,6 +3,7 @@
 //! | Item | What it is |
 //! |---|---|
 //! | `report` | the report of a script's bytes |
+//! | `report_bounded` | the same with no limit to the commands, in bounded memory |
 //! | `replay` | reads a script to its end and writes its report |
 //! | `Fault` | why `replay` stopped, and how much of the report had gone out by then |
 //! | `Source`, `Sink` | where the script comes from and where the report goes: any reader, any writer |
@@ -10,6 +11,7 @@
 //! Units: readings in cycles; times in seconds and nanoseconds; texts and lengths in bytes.
 #![tactic(auto)]
 
+mod applying;
 mod fault;
 mod replaying;
 mod reporting;
@@ -20,6 +22,6 @@ mod tests;
 
 pub use fault::Fault;
 pub use replaying::replay;
-pub use reporting::report;
+pub use reporting::{report, report_bounded};
 pub use sink::Sink;
 pub use source::Source;

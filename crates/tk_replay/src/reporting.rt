@@ -1,58 +1,94 @@
-ghost use Rattle.std.specs.Prelude.{◌≡◌, ◌++◌, List, ℕ, OnOk, IfOk, IfErr, MatchResult, None};
+ghost use Rattle.std.specs.Prelude.{◌≡◌, ◌++◌, ◌<◌, ◌≤◌, ◌-◌, ◌^◌, List, ℕ, OnOk, IfOk, IfErr, MatchResult, None};
+ghost use Rattle.std.specs.Option.{ForSome};
 ghost use Rattle.std.specs.Result.{result_err};
+ghost use Rattle.tk_clock.specs.Journal.{accepted_count};
 ghost use Rattle.tk_clock.specs.Refusal.{opening_refusal};
-ghost use Rattle.tk_clock.specs.Run.{reply_to};
 ghost use Rattle.tk_script.specs.Grammar.{Fails, parse_of};
 ghost use Rattle.tk_script.specs.Lines.{IsWritable};
 ghost use Rattle.tk_script.specs.Script.{parse};
-ghost use Rattle.tk_replay.specs.Report.{IsLine, IsLookLine, IsReport, IsReportOf, IsTimeAt, after, event, look_refusal, reply_line};
+ghost use Rattle.tk_replay.specs.Folding.{StandsFor, rule_of};
+ghost use Rattle.tk_replay.specs.Report.{IsLine, IsLookLine, IsReport, IsReportBy, IsReportOf, IsReportUnlimited, IsTimeAt, after, event, look_refusal, reply_by, reply_line};
 
+use crate::applying::apply;
 use std::alloc::Global;
 use tk_clock::{ClockId, Command, ReadError, Refusal, Timespec};
 use tk_keeper::Timekeeper;
 use tk_script::{Row, Script, ScriptError, line_at, line_no, line_ok, line_open};
 
-/// Who gives a script's commands.
-const CALLER: u32 = 0;
-
 /// The report of a script's bytes: a line for the opening, and one for each record after it.
 ///
 /// Commands are applied in their order, all by the caller 0. An accepted one is told with MONOTONIC at its
-/// reading.
+/// reading. One that meets a journal of 1,048,576 entries is refused as Full.
 /// `Memory` may stand in the place of any other answer.
 pub fn report(alloc: Global, script: &[u8]) -> Result<Vec<u8>, ScriptError>
     ensures { MatchResult result
         (λ text. IsReport script.now text.items)
         (λ error. Fails error (parse_of script.now)) }
 {
+    report_by(alloc, script, None)
+}
+
+/// The report of a script's bytes in bounded memory: no command is refused as Full.
+///
+/// A journal of 1,048,576 entries is folded to its last `keep` entries before the next command. All else is as in
+/// `report`, and the lines are those of a journal that lists every command.
+pub fn report_bounded(alloc: Global, script: &[u8], keep: u64) -> Result<Vec<u8>, ScriptError>
+    requires { (1 ≤ keep) × (keep ≤ 524288) }
+    ensures { MatchResult result
+        (λ text. IsReportUnlimited script.now text.items)
+        (λ error. Fails error (parse_of script.now)) }
+{
+    report_by(alloc, script, Some(keep))
+}
+
+/// The report of a script's bytes, by a journal that is folded to its last `keep` entries where it is full, or isn't.
+pub(crate) fn report_by(
+    alloc: Global,
+    script: &[u8],
+    keep: Option<u64>,
+) -> Result<Vec<u8>, ScriptError>
+    requires { ForSome keep (λ n. n ≤ 524288) }
+    ensures { MatchResult result
+        (λ text. IsReportBy (rule_of keep) script.now text.items)
+        (λ error. Fails error (parse_of script.now)) }
+{
     let script = Script::from_bytes(alloc, script)?;
-    report_of(alloc, &script)
+    report_of(alloc, &script, keep)
 }
 
 /// The report of a script.
-fn report_of(alloc: Global, script: &Script) -> Result<Vec<u8>, ScriptError>
-    requires { opening_refusal script.now.desc script.now.reading script.now.real ≡ None }
-    ensures ok { IfOk result (λ text. IsReportOf (parse script.now) text.items) }
+fn report_of(alloc: Global, script: &Script, keep: Option<u64>) -> Result<Vec<u8>, ScriptError>
+    requires opens { opening_refusal script.now.desc script.now.reading script.now.real ≡ None }
+    requires keep { ForSome keep (λ n. n ≤ 524288) }
+    ensures ok { IfOk result (λ text. IsReportOf (rule_of keep) (parse script.now) text.items) }
     ensures err { IfErr result (λ error. error ≡ ScriptError.Memory) }
 {
     let mut keeper = Timekeeper::open(alloc, script.desc, script.reading, script.real).unwrap();
     let mut text = Vec::new(alloc);
     line_open(&mut text, &script.desc)?;
     'rows: for row in &script.rows {
-        add_line(&mut text, &mut keeper, *row)?;
+        add_line(&mut text, &mut keeper, keep, *row)?;
     }
     Ok(text)
 }
 
 /// Adds the line of a record: applies a command, or reads a clock.
-fn add_line(text: &mut Vec<u8>, keeper: &mut Timekeeper, row: Row) -> Result<(), ScriptError>
-    ensures line { OnOk result ((line : List ℕ) × IsLine keeper.old.journal row line
+fn add_line(
+    text: &mut Vec<u8>,
+    keeper: &mut Timekeeper,
+    keep: Option<u64>,
+    row: Row,
+) -> Result<(), ScriptError>
+    requires count { accepted_count keeper.old.journal < 2 ^ 63 - 1 }
+    requires keep { ForSome keep (λ n. n ≤ 524288) }
+    ensures line { OnOk result ((line : List ℕ) × IsLine (rule_of keep) keeper.old.journal row line
         × (text.new.items ≡ text.old.items ++ line)) }
-    ensures after { OnOk result (keeper.new.journal ≡ after keeper.old.journal row) }
+    ensures after { OnOk result
+        (StandsFor keep keeper.new.journal (after (rule_of keep) keeper.old.journal row)) }
     ensures err { IfErr result (λ error. error ≡ ScriptError.Memory) }
 {
     match row {
-        Row::Act { reading, cmd } => add_reply(text, keeper, reading, cmd),
+        Row::Act { reading, cmd } => add_reply(text, keeper, keep, reading, cmd),
         Row::Look { reading, clock } => add_look(text, keeper, reading, clock),
     }
 }
@@ -61,16 +97,19 @@ fn add_line(text: &mut Vec<u8>, keeper: &mut Timekeeper, row: Row) -> Result<(),
 fn add_reply(
     text: &mut Vec<u8>,
     keeper: &mut Timekeeper,
+    keep: Option<u64>,
     reading: u64,
     cmd: Command,
 ) -> Result<(), ScriptError>
-    ensures line { OnOk result (text.new.items
-        ≡ text.old.items ++ reply_line reading (reply_to keeper.old.journal (event reading cmd))) }
-    ensures after { OnOk result
-        (keeper.new.journal ≡ (reply_to keeper.old.journal (event reading cmd)).journal) }
+    requires count { accepted_count keeper.old.journal < 2 ^ 63 - 1 }
+    requires keep { ForSome keep (λ n. n ≤ 524288) }
+    ensures line { OnOk result (text.new.items ≡ text.old.items ++ reply_line reading
+        (reply_by (rule_of keep) keeper.old.journal (event reading cmd))) }
+    ensures after { OnOk result (StandsFor keep keeper.new.journal
+        (reply_by (rule_of keep) keeper.old.journal (event reading cmd)).journal) }
     ensures err { IfErr result (λ error. error ≡ ScriptError.Memory) }
 {
-    match keeper.apply(CALLER, reading, cmd) {
+    match apply(keeper, keep, reading, cmd) {
         Ok(number) => {
             let time = time_at(keeper, ClockId::Monotonic, reading).unwrap();
             line_ok(text, number, time)

@@ -1,0 +1,82 @@
+-- A journal that was folded replies as the whole one does.
+use Rattle.std.proofs.Common.{◌≡◌, ◌∙◌, ℕ, ◌-◌, ◌<◌, ◌≤◌, ◌^◌, List, length, refl, sym, ap, subst, arith, Bool, false}
+use Rattle.std.specs.Prelude.{Option, Some, Result, Ok, Err, max, if◌then◌else◌}
+use Rattle.std.proofs.lemmas.Grind.{common_steps}
+use Rattle.std.proofs.lemmas.List.{take_all}
+use Rattle.tk_clock.specs.declared.command.Entry.{Entry}
+use Rattle.tk_clock.specs.declared.refusal.Refusal.{Refusal}
+use Rattle.tk_clock.specs.declared.refusal.Refusal.TheVariants.{Full, Asleep, Awake, Invalid, Behind, Range, Memory}
+use Rattle.tk_clock.specs.Journal.{Journal, accepted_count}
+use Rattle.tk_clock.specs.Refusal.{clock_refusal, is_full}
+use Rattle.tk_clock.specs.Run.{Reply, reply_if, reply_to}
+use Rattle.tk_clock.specs.State.{state_of}
+use Rattle.tk_keeper.specs.Keeper.{Keeper}
+use Rattle.tk_keeper.specs.Past.{IsFolded, at_front}
+use Rattle.tk_keeper.proofs.Running.{IsAnswer, reply-answer}
+use Rattle.tk_replay.specs.Folding.{IsAlike, IsReplied}
+use Rattle.tk_replay.specs.Report.{reply_by}
+use Rattle.tk_replay.proofs.Alike.{answer-alike, clock_refusal-alike, reply-alike}
+
+-- the journal at its own front
+at_front-last : (journal : Journal) → at_front (accepted_count journal) journal ≡ journal
+at_front-last journal =
+    ap (λ (es : List Entry). record journal { entries = es })
+    (take_all (accepted_count journal - journal.opening.count) journal.entries (omega arith))
+
+-- a folded journal is like the one before
+pub IsAlike-folded : (before after : Journal) → IsFolded before after → IsAlike after before
+IsAlike-folded before after folded = record {
+  state = sym (ap state_of (at_front-last after))
+      ∙ folded.states (accepted_count after) (omega arith)
+      ∙ ap (λ n. state_of (at_front n before)) folded.all
+      ∙ ap state_of (at_front-last before);
+  count = folded.all;
+}
+
+-- and has room
+pub has_room : (before after : Journal) (folded keep : ℕ) → folded ≡ max before.opening.count (accepted_count before - keep) →
+    after.opening.count ≡ folded → IsAlike after before → keep ≤ 524288 → accepted_count before < 2 ^ 63 - 1 → is_full after ≡ false
+has_room before after folded keep told same alike small few =
+    let listed : length after.entries < 1048576 = omega (arith, alike.count) in
+    let counted : accepted_count after < 2 ^ 63 - 1 = omega (arith, alike.count) in
+    grind (arith, common_steps)
+
+-- where there is room, the clocks alone refuse
+not_full : (journal : Journal) (entry : Entry) → is_full journal ≡ false → reply_to journal entry ≡ reply_by clock_refusal journal entry
+not_full journal entry room =
+    ap (λ (b : Bool). reply_if journal entry (if b then Some Full else clock_refusal journal entry)) room
+
+-- what is answered where memory isn't wanting is the whole journal's reply
+replied : (whole : Journal) (kept after : Keeper) (entry : Entry) (result : Result ℕ Refusal) → IsAlike kept.journal whole →
+    is_full kept.journal ≡ false → IsAnswer kept entry result after → (result ≡ Err Memory → ⊥) →
+    ((reply_by clock_refusal whole entry).answer ≡ result) × IsAlike after.journal (reply_by clock_refusal whole entry).journal
+replied whole kept after entry result alike room answered enough =
+    let same : reply_by clock_refusal kept.journal entry ≡ record { answer = result; journal = after.journal } =
+    sym (not_full kept.journal entry room) ∙ reply-answer kept after entry result answered enough in
+    let told = clock_refusal-alike kept.journal whole alike entry in
+    let P : Option Refusal → Type 0 = λ r.
+    ((reply_if whole entry r).answer ≡ result) × IsAlike after.journal (reply_if whole entry r).journal in
+    subst P told (
+      sym (answer-alike kept.journal whole alike entry (clock_refusal kept.journal entry)) ∙ ap (λ (r : Reply). r.answer) same,
+      subst (λ (r : Reply). IsAlike r.journal (reply_if whole entry (clock_refusal kept.journal entry)).journal) same
+          (reply-alike kept.journal whole alike entry (clock_refusal kept.journal entry) refl),
+    )
+
+pub IsReplied-folded : (keep : ℕ) (whole : Journal) (kept after : Keeper) (entry : Entry) (result : Result ℕ Refusal) →
+    IsAlike kept.journal whole → is_full kept.journal ≡ false → IsAnswer kept entry result after →
+    IsReplied (Some keep) (reply_by clock_refusal whole entry) result after.journal
+IsReplied-folded keep whole kept after entry (Ok number) alike room answered =
+    replied whole kept after entry (Ok number) alike room answered (λ e. cc e)
+IsReplied-folded keep whole kept after entry (Err Full) alike room answered =
+    replied whole kept after entry (Err Full) alike room answered (λ e. cc e)
+IsReplied-folded keep whole kept after entry (Err Asleep) alike room answered =
+    replied whole kept after entry (Err Asleep) alike room answered (λ e. cc e)
+IsReplied-folded keep whole kept after entry (Err Awake) alike room answered =
+    replied whole kept after entry (Err Awake) alike room answered (λ e. cc e)
+IsReplied-folded keep whole kept after entry (Err Invalid) alike room answered =
+    replied whole kept after entry (Err Invalid) alike room answered (λ e. cc e)
+IsReplied-folded keep whole kept after entry (Err Behind) alike room answered =
+    replied whole kept after entry (Err Behind) alike room answered (λ e. cc e)
+IsReplied-folded keep whole kept after entry (Err Range) alike room answered =
+    replied whole kept after entry (Err Range) alike room answered (λ e. cc e)
+IsReplied-folded keep whole kept after entry (Err Memory) alike room answered = tt

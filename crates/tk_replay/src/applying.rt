@@ -1,0 +1,53 @@
+//! Commands of a script, done to the clocks.
+ghost use Rattle.std.specs.Prelude.{◌-◌, ◌<◌, ◌≤◌, ◌^◌, None, Some};
+ghost use Rattle.std.specs.Option.{ForSome};
+ghost use Rattle.tk_clock.specs.Journal.{accepted_count};
+ghost use Rattle.tk_replay.specs.Folding.{IsReplied, rule_of};
+ghost use Rattle.tk_replay.specs.Report.{event, reply_by};
+
+use tk_clock::{Command, Refusal};
+use tk_keeper::Timekeeper;
+
+/// Who gives a script's commands.
+const CALLER: u32 = 0;
+
+/// Does a command to the clocks; its number, or its first refusal. Where the journal is full, it is first folded
+/// to its last `keep` entries, or with no such number the command is refused.
+pub(crate) fn apply(
+    keeper: &mut Timekeeper,
+    keep: Option<u64>,
+    reading: u64,
+    cmd: Command,
+) -> Result<u64, Refusal>
+    requires count { accepted_count keeper.old.journal < 2 ^ 63 - 1 }
+    requires keep { ForSome keep (λ n. n ≤ 524288) }
+    ensures { IsReplied keep (reply_by (rule_of keep) keeper.old.journal (event reading cmd))
+        result keeper.new.journal }
+{
+    match keep {
+        Some(keep) => apply_folding(keeper, keep, reading, cmd),
+        None => keeper.apply(CALLER, reading, cmd),
+    }
+}
+
+/// Does a command to clocks whose journal is folded where it is full.
+fn apply_folding(
+    keeper: &mut Timekeeper,
+    keep: u64,
+    reading: u64,
+    cmd: Command,
+) -> Result<u64, Refusal>
+    requires count { accepted_count keeper.old.journal < 2 ^ 63 - 1 }
+    requires keep { keep ≤ 524288 }
+    ensures { IsReplied (Some keep)
+        (reply_by (rule_of (Some keep)) keeper.old.journal (event reading cmd))
+        result keeper.new.journal }
+{
+    match keeper.apply(CALLER, reading, cmd) {
+        Err(Refusal::Full) => {
+            keeper.fold(keep);
+            keeper.apply(CALLER, reading, cmd)
+        }
+        answer => answer,
+    }
+}
