@@ -7,24 +7,23 @@ use Rattle.tk_replay.specs.declared.fault.Fault.{Fault}
 use Rattle.tk_replay.specs.declared.fault.Fault.TheVariants as faults
 use Rattle.tk_replay.specs.Reading.{IsReadToEnd}
 use Rattle.tk_replay.specs.Writing.{IsWrittenUpTo}
-use Rattle.tk_replay.specs.Report.{IsReport}
 
--- the report of all that was read went out. Of a reader the bytes that it had left and has, and of a writer those that
--- it held and holds, where they are known
-abbrev pub IsReplayed : Option (List ℕ) → Option (List ℕ) → Option (List ℕ) → Option (List ℕ) → Type 0
-IsReplayed unread left held holds =
-    (bytes : List ℕ) × (text : List ℕ) × IsReadToEnd unread left bytes × IsReport bytes text × Appends held holds text
+-- the report of all that was read went out, by the fact that tells which text is the report of which bytes. Of a reader
+-- the bytes that it had left and has, and of a writer those that it held and holds, where they are known
+abbrev pub IsReplayed : (List ℕ → List ℕ → Type 0) → Option (List ℕ) → Option (List ℕ) → Option (List ℕ) → Option (List ℕ) → Type 0
+IsReplayed IsTold unread left held holds =
+    (bytes : List ℕ) × (text : List ℕ) × IsReadToEnd unread left bytes × IsTold bytes text × Appends held holds text
 
 -- what each fault leaves of a reader's bytes and of a writer: the first bytes of the report went out, or the writer is as
 -- it was
-abbrev pub Leaves : {W : Type 0} → Option (List ℕ) → Option (List ℕ) → (W → Option (List ℕ)) → W → W → Fault → Type 0
-Leaves unread left contents old new faults.Read = new ≡ old
-Leaves unread left contents old new (faults.Script error) =
+abbrev pub Leaves : (List ℕ → List ℕ → Type 0) → {W : Type 0} → Option (List ℕ) → Option (List ℕ) → (W → Option (List ℕ)) → W → W → Fault → Type 0
+Leaves IsTold unread left contents old new faults.Read = new ≡ old
+Leaves IsTold unread left contents old new (faults.Script error) =
     (bytes : List ℕ) × IsReadToEnd unread left bytes × (parse_of bytes ≡ Err error) × (error ≢ errors.Memory)
     × (new ≡ old)
-Leaves unread left contents old new faults.Memory = new ≡ old
-Leaves unread left contents old new (faults.Write written) =
-    (bytes : List ℕ) × (text : List ℕ) × IsReadToEnd unread left bytes × IsReport bytes text
+Leaves IsTold unread left contents old new faults.Memory = new ≡ old
+Leaves IsTold unread left contents old new (faults.Write written) =
+    (bytes : List ℕ) × (text : List ℕ) × IsReadToEnd unread left bytes × IsTold bytes text
     × IsWrittenUpTo (contents old) (contents new) text written
 
 -- what failed, where a fault is of a read or of a write

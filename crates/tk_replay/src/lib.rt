@@ -5,6 +5,7 @@
 //! | `report` | the report of a script's bytes |
 //! | `report_bounded` | the same with no limit to the commands, in bounded memory |
 //! | `replay` | reads a script to its end and writes its report |
+//! | `replay_bounded` | the same by `report_bounded` |
 //! | `Fault` | why `replay` stopped, and how much of the report had gone out by then |
 //! | `Source`, `Sink` | where the script comes from and where the report goes: any reader, any writer |
 //!
@@ -21,7 +22,7 @@ mod source;
 mod tests;
 
 pub use fault::Fault;
-pub use replaying::replay;
+pub use replaying::{replay, replay_bounded};
 pub use reporting::{report, report_bounded};
 pub use sink::Sink;
 pub use source::Source;

@@ -1,10 +1,13 @@
-ghost use Rattle.std.specs.Prelude.{OnOk, IfErr};
+ghost use Rattle.std.specs.Prelude.{◌≤◌, OnOk, IfErr};
+ghost use Rattle.std.specs.Option.{ForSome};
+ghost use Rattle.tk_replay.specs.Folding.{rule_of};
 ghost use Rattle.tk_replay.specs.Reading.{ReadFailed};
+ghost use Rattle.tk_replay.specs.Report.{IsReport, IsReportBy, IsReportUnlimited};
 ghost use Rattle.tk_replay.specs.Writing.{IsFlushed, WriteFailed};
 ghost use Rattle.tk_replay.specs.Replay.{HasFailed, IsReplayed, Leaves};
 
 use crate::fault::Fault;
-use crate::reporting::report;
+use crate::reporting::report_by;
 use crate::sink::{Sink, write_whole};
 use crate::source::{Source, read_to_end};
 use std::alloc::Global;
@@ -18,11 +21,56 @@ pub fn replay<R: Source, W: Sink>(
     reader: &mut R,
     writer: &mut W,
 ) -> Result<(), Fault>
-    ensures ok { OnOk result (IsReplayed
+    ensures ok { OnOk result (IsReplayed IsReport
         (R.Read.remaining reader.old) (R.Read.remaining reader.new)
         (W.Write.contents writer.old) (W.Write.contents writer.new)) }
     ensures flushed { OnOk result (IsFlushed W.Sink.flush_gives writer.new) }
-    ensures err { IfErr result (Leaves
+    ensures err { IfErr result (Leaves IsReport
+        (R.Read.remaining reader.old) (R.Read.remaining reader.new)
+        W.Write.contents writer.old writer.new) }
+    ensures failed { IfErr result (HasFailed
+        (ReadFailed R.Source.read_gives reader.new)
+        (WriteFailed W.Sink.write_gives W.Sink.flush_gives writer.new)) }
+{
+    replay_by(alloc, reader, writer, None)
+}
+
+/// Reads and writes as `replay` does, and makes the report as `report_bounded` does, in bounded memory.
+pub fn replay_bounded<R: Source, W: Sink>(
+    alloc: Global,
+    reader: &mut R,
+    writer: &mut W,
+    keep: u64,
+) -> Result<(), Fault>
+    requires { (1 ≤ keep) × (keep ≤ 524288) }
+    ensures ok { OnOk result (IsReplayed IsReportUnlimited
+        (R.Read.remaining reader.old) (R.Read.remaining reader.new)
+        (W.Write.contents writer.old) (W.Write.contents writer.new)) }
+    ensures flushed { OnOk result (IsFlushed W.Sink.flush_gives writer.new) }
+    ensures err { IfErr result (Leaves IsReportUnlimited
+        (R.Read.remaining reader.old) (R.Read.remaining reader.new)
+        W.Write.contents writer.old writer.new) }
+    ensures failed { IfErr result (HasFailed
+        (ReadFailed R.Source.read_gives reader.new)
+        (WriteFailed W.Sink.write_gives W.Sink.flush_gives writer.new)) }
+{
+    replay_by(alloc, reader, writer, Some(keep))
+}
+
+/// Reads a script to its end, makes its report by a journal that is folded to its last `keep` entries where it is
+/// full, or isn't, writes it and flushes.
+fn replay_by<R: Source, W: Sink>(
+    alloc: Global,
+    reader: &mut R,
+    writer: &mut W,
+    keep: Option<u64>,
+) -> Result<(), Fault>
+    requires { ForSome keep (λ n. n ≤ 524288) }
+    ensures ok { OnOk result (IsReplayed (IsReportBy (rule_of keep))
+        (R.Read.remaining reader.old) (R.Read.remaining reader.new)
+        (W.Write.contents writer.old) (W.Write.contents writer.new)) }
+    ensures flushed { OnOk result (IsFlushed W.Sink.flush_gives writer.new) }
+    ensures err { IfErr result (Leaves (IsReportBy (rule_of keep))
         (R.Read.remaining reader.old) (R.Read.remaining reader.new)
         W.Write.contents writer.old writer.new) }
     ensures failed { IfErr result (HasFailed
@@ -30,6 +78,6 @@ pub fn replay<R: Source, W: Sink>(
         (WriteFailed W.Sink.write_gives W.Sink.flush_gives writer.new)) }
 {
     let script = read_to_end(alloc, reader)?;
-    let text = report(alloc, script.as_slice())?;
+    let text = report_by(alloc, script.as_slice(), keep)?;
     write_whole(writer, text.as_slice()).map_err(|written| Fault::Write { written })
 }
