@@ -1,5 +1,7 @@
 //! What no clause says: the printed lines, the texts of the faults, and that calls go through at all.
 
+mod fakes;
+mod full;
 mod reports;
 mod streams;
 

@@ -1,23 +1,27 @@
 use super::{REPORT, SCRIPT};
-use crate::{Fault, report};
+use crate::{Fault, report, report_bounded};
 use std::alloc::Global;
 use std::process::Abort;
 use std::test::Fail;
 use tk_script::ScriptError;
 
-/// The report of the script is this text.
+/// Both reports of the script are this text.
 fn assert_report(rt: &impl Abort, alloc: Global, script: &[u8], text: &[u8]) {
-    match report(alloc, script) {
-        Ok(told) => assert_eq!(rt; told.as_slice(), text),
-        Err(error) => assert_eq!(rt; error, ScriptError::Memory),
+    for told in [report(alloc, script), report_bounded(alloc, script, 1)] {
+        match told {
+            Ok(told) => assert_eq!(rt; told.as_slice(), text),
+            Err(error) => assert_eq!(rt; error, ScriptError::Memory),
+        }
     }
 }
 
-/// The script has this fault.
+/// The script has this fault, in both reports.
 fn assert_fault(rt: &impl Abort, alloc: Global, script: &[u8], fault: ScriptError) {
-    match report(alloc, script) {
-        Ok(_) => assert!(rt; false, "a report in place of {fault}"),
-        Err(error) => assert!(rt; error == fault || error == ScriptError::Memory, "{error}"),
+    for told in [report(alloc, script), report_bounded(alloc, script, 1)] {
+        match told {
+            Ok(_) => assert!(rt; false, "a report in place of {fault}"),
+            Err(error) => assert!(rt; error == fault || error == ScriptError::Memory, "{error}"),
+        }
     }
 }
 
@@ -29,17 +33,46 @@ fn tells_each_record_in_a_line(rt: HostRuntime) {
 #[test]
 fn reports_when_memory_is_there(rt: HostRuntime) -> Result<(), Fail> {
     assert_eq!(rt; report(rt.alloc(), SCRIPT)?.as_slice(), REPORT);
+    assert_eq!(rt;
+        report_bounded(rt.alloc(), SCRIPT, 524_288)?.as_slice(),
+        REPORT
+    );
     Ok(())
+}
+
+#[test]
+fn takes_records_that_end_with_two_bytes(rt: HostRuntime) {
+    let script = b"open,32,16777216,24,0,1700000000,0\r\nget,0,monotonic\r\nupdate,2147483647\r\n\
+get,2147483648,monotonic\r\nupdate,0\r\n";
+    assert_report(&rt, rt.alloc(), script, REPORT);
+}
+
+#[test]
+fn takes_a_last_record_without_its_end(rt: HostRuntime) {
+    let opening = b"open,32,16777216,24,0,1700000000,0\n";
+    let cut = [
+        (0, ScriptError::Empty),
+        (3, ScriptError::Opening { row: 1 }),
+        (4, ScriptError::Fields { row: 1 }),
+        (32, ScriptError::Fields { row: 1 }),
+        (33, ScriptError::Number { row: 1 }),
+    ];
+    for (length, fault) in cut {
+        assert_fault(&rt, rt.alloc(), &opening[..length], fault);
+    }
+    assert_report(&rt, rt.alloc(), &opening[..34], b"open,32,16777216,24\n");
 }
 
 #[test]
 fn tells_the_first_fault_of_a_script(rt: HostRuntime) {
     let alloc = rt.alloc();
-    let faults: [(&[u8], ScriptError); 4] = [
+    let faults: [(&[u8], ScriptError); 6] = [
         (b"", ScriptError::Empty),
         (b"update,0\n", ScriptError::Opening { row: 1 }),
+        (b"\"update,0\n", ScriptError::Opening { row: 1 }),
+        (b"\xff", ScriptError::Opening { row: 1 }),
         (
-            b"open,32,16777216,24,0,1700000000,0\nupdate\n",
+            b"open,32,16777216,24,0,1700000000,0\nset,5,7\n",
             ScriptError::Fields { row: 2 },
         ),
         (
