@@ -21,6 +21,10 @@ time_part second nsec =
     codes "T" ++ two_digits (second / 3600) ++ codes ":" ++ two_digits (second / 60 % 60) ++ codes ":"
     ++ two_digits (second % 60) ++ codes "." ++ nine_digits nsec ++ codes "Z"
 
+-- `YYYY-MM-DD`, the date of that day of the calendar, counted from 1970-01-01
+abbrev pub IsDateText : ℕ → List ℕ → Type 0
+IsDateText day text = (date : Date) × (epoch_day date ≡ pos day) × (text ≡ date_text date)
+
 -- `YYYY-MM-DDThh:mm:ss.nnnnnnnnnZ`, where the date is that day of the calendar, counted from 1970-01-01
 abbrev pub IsUtcText : ℕ → ℕ → List ℕ → Type 0
 IsUtcText sec nsec text = (date : Date) × (epoch_day date ≡ pos (sec / 86400))

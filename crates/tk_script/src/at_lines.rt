@@ -1,13 +1,15 @@
 ghost use Rattle.std.specs.Prelude.{◌≡◌, ℕ, ◌++◌, List, OnOk, OnErr, IfErr, codes, length, take};
 ghost use Rattle.tk_script.specs.Lines.{IsWritable, IsAtLine, IsUtcLine, at_text};
 
-use crate::calendar::utc;
+use crate::calendar::{Calendar, day_and_second, time_of_day};
 use crate::script_error::ScriptError;
 use crate::text::{add, add_time, undo_if_err};
 use crate::words::word_of_clock;
 use tk_clock::{ClockId, Timespec};
 
 /// Appends the line of a clock's time: `at,CLOCK,TIME`, and for REALTIME and its coarse form `,UTC` behind it.
+///
+/// Only Memory; `out` is then as it was. For many lines use a `Calendar`, which works out each date once.
 pub fn line_at(out: &mut Vec<u8>, clock: ClockId, time: Timespec) -> Result<(), ScriptError>
     requires { IsWritable time }
     ensures ok { OnOk result ((text : List ℕ) × (out.new.items ≡ out.old.items ++ text)
@@ -15,13 +17,54 @@ pub fn line_at(out: &mut Vec<u8>, clock: ClockId, time: Timespec) -> Result<(), 
     ensures err { OnErr result (out.new.items ≡ out.old.items) }
     ensures memory { IfErr result (λ e. e ≡ ScriptError.Memory) }
 {
-    match clock {
-        ClockId::Realtime | ClockId::RealtimeCoarse => line_at_utc(out, clock, time),
-        ClockId::Monotonic
-        | ClockId::Boottime
-        | ClockId::Tai
-        | ClockId::MonotonicCoarse
-        | ClockId::MonotonicRaw => line_at_plain(out, clock, time),
+    let mut calendar = Calendar::new(*out.allocator());
+    calendar.line_at(out, clock, time)
+}
+
+impl Calendar {
+    /// Appends the line of a clock's time as the function `line_at` does, and keeps its date.
+    ///
+    /// It takes no memory but the growth of `out`, and for the date of a day other than that of the last line with a date.
+    pub fn line_at(
+        &mut self,
+        out: &mut Vec<u8>,
+        clock: ClockId,
+        time: Timespec,
+    ) -> Result<(), ScriptError>
+        requires { IsWritable time }
+        ensures ok { OnOk result ((text : List ℕ) × (out.new.items ≡ out.old.items ++ text)
+            × IsAtLine clock time text) }
+        ensures err { OnErr result (out.new.items ≡ out.old.items) }
+        ensures memory { IfErr result (λ e. e ≡ ScriptError.Memory) }
+    {
+        match clock {
+            ClockId::Realtime | ClockId::RealtimeCoarse => self.line_at_utc(out, clock, time),
+            ClockId::Monotonic
+            | ClockId::Boottime
+            | ClockId::Tai
+            | ClockId::MonotonicCoarse
+            | ClockId::MonotonicRaw => line_at_plain(out, clock, time),
+        }
+    }
+
+    /// Appends the line of a clock's time with UTC text.
+    fn line_at_utc(
+        &mut self,
+        out: &mut Vec<u8>,
+        clock: ClockId,
+        time: Timespec,
+    ) -> Result<(), ScriptError>
+        requires { IsWritable time }
+        ensures ok { OnOk result ((text : List ℕ) × (out.new.items ≡ out.old.items ++ text)
+            × IsUtcLine clock time text) }
+        ensures err { OnErr result (out.new.items ≡ out.old.items) }
+        ensures memory { IfErr result (λ e. e ≡ ScriptError.Memory) }
+    {
+        let seconds = time.sec.unsigned_abs();
+        let (day, second) = day_and_second(seconds);
+        let date = self.date_of(day)?;
+        let time_of_day = time_of_day(second, time.nsec);
+        line_at_with(out, clock, time, date.as_bytes(), &time_of_day)
     }
 }
 
@@ -37,33 +80,22 @@ fn line_at_plain(out: &mut Vec<u8>, clock: ClockId, time: Timespec) -> Result<()
     undo_if_err(out, len, added)
 }
 
-/// Appends the line of a clock's time with UTC text.
-fn line_at_utc(out: &mut Vec<u8>, clock: ClockId, time: Timespec) -> Result<(), ScriptError>
-    requires { IsWritable time }
-    ensures ok { OnOk result ((text : List ℕ) × (out.new.items ≡ out.old.items ++ text)
-        × IsUtcLine clock time text) }
-    ensures err { OnErr result (out.new.items ≡ out.old.items) }
-    ensures memory { IfErr result (λ e. e ≡ ScriptError.Memory) }
-{
-    let text = utc(*out.allocator(), time.sec, time.nsec)?;
-    line_at_with(out, clock, time, text.as_bytes())
-}
-
-/// Appends the line of a clock's time with this text behind it.
+/// Appends the line of a clock's time with this date and time of day behind it.
 fn line_at_with(
     out: &mut Vec<u8>,
     clock: ClockId,
     time: Timespec,
-    utc: &[u8],
+    date: &[u8],
+    time_of_day: &[u8],
 ) -> Result<(), ScriptError>
     requires { IsWritable time }
     ensures ok { OnOk result (out.new.items
-        ≡ out.old.items ++ (at_text clock time ++ codes "," ++ utc.now ++ codes "\n")) }
+        ≡ out.old.items ++ (at_text clock time ++ codes "," ++ (date.now ++ time_of_day.now) ++ codes "\n")) }
     ensures err { OnErr result (out.new.items ≡ out.old.items) }
     ensures memory { IfErr result (λ e. e ≡ ScriptError.Memory) }
 {
     let len = out.len();
-    let added = add_at_utc(out, clock, time, utc);
+    let added = add_at_utc(out, clock, time, date, time_of_day);
     undo_if_err(out, len, added)
 }
 
@@ -83,17 +115,19 @@ fn add_at_utc(
     out: &mut Vec<u8>,
     clock: ClockId,
     time: Timespec,
-    utc: &[u8],
+    date: &[u8],
+    time_of_day: &[u8],
 ) -> Result<(), ScriptError>
     requires { IsWritable time }
     ensures ok { OnOk result (out.new.items
-        ≡ out.old.items ++ (at_text clock time ++ codes "," ++ utc.now ++ codes "\n")) }
+        ≡ out.old.items ++ (at_text clock time ++ codes "," ++ (date.now ++ time_of_day.now) ++ codes "\n")) }
     ensures err { OnErr result (take (length out.old.items) out.new.items ≡ out.old.items) }
     ensures memory { IfErr result (λ e. e ≡ ScriptError.Memory) }
 {
     add_at_text(out, clock, time)?;
     add(out, b",")?;
-    add(out, utc)?;
+    add(out, date)?;
+    add(out, time_of_day)?;
     add(out, b"\n")
 }
 

@@ -1,14 +1,58 @@
-ghost use Rattle.std.specs.Prelude.{◌≡◌, ◌<◌, ◌≤◌, ◌++◌, IfOk, IfErr, OnOk, pos, unsigned_abs, string_bytes};
+ghost use Rattle.std.specs.Prelude.{◌≡◌, ◌<◌, ◌≤◌, ◌++◌, ◌/◌, ◌%◌, IfOk, IfErr, IfSome, OnOk, pos, unsigned_abs, string_bytes};
 ghost use Rattle.jiff.specs.Words.{date_text, epoch_day};
-ghost use Rattle.tk_script.specs.Utc.{IsUtcText, time_part};
+ghost use Rattle.tk_script.specs.Utc.{IsDateText, IsUtcText, time_part};
 ghost use Rattle.tk_script.specs.Lines.{IsWritable};
 
 use crate::script_error::ScriptError;
 use crate::text::{nine_digits_of, two_digits_of};
 use jiff::civil::Date;
 use std::alloc::Global;
+use std::marker::Model;
 
 const SECONDS_PER_DAY: u64 = 86_400;
+
+/// The calendar, open at the day that was asked for last: lines of one day work its date out once.
+#[derive(Drop)]
+pub struct Calendar {
+    /// The day whose date is at hand, counted from 1970-01-01.
+    day: Option<u32>,
+    /// Its date, `YYYY-MM-DD`.
+    date: String,
+}
+
+impl Model for Calendar {
+    ghost Value = { Unit {0} };
+
+    ghost view = { λ _. tt };
+
+    ghost invariant = { λ a. IfSome a.day (λ day. IsDateText day (string_bytes a.date)) };
+}
+
+impl Calendar {
+    /// A calendar that is open at no day. It takes no memory.
+    pub fn new(alloc: Global) -> Calendar {
+        Calendar {
+            day: None,
+            date: String::new(alloc),
+        }
+    }
+
+    /// The date of a day, counted from 1970-01-01. Only a day other than the last one takes memory.
+    pub(crate) fn date_of(&mut self, day: u32) -> Result<&str, ScriptError>
+        requires { day ≤ 2932896 }
+        ensures ok { IfOk result (λ text. IsDateText day text.now) }
+        ensures memory { IfErr result (λ e. e ≡ ScriptError.Memory) }
+    {
+        if let Some(open) = self.day
+            && open == day
+        {
+            return Ok(self.date.as_str());
+        }
+        self.date = date_string(*self.date.allocator(), date_of_day(day))?;
+        self.day = Some(day);
+        Ok(self.date.as_str())
+    }
+}
 
 /// A time since 1970 as UTC text, `YYYY-MM-DDThh:mm:ss.nnnnnnnnnZ`, by the Gregorian calendar without leap seconds.
 pub fn utc(alloc: Global, sec: i64, nsec: u32) -> Result<String, ScriptError>
@@ -17,8 +61,20 @@ pub fn utc(alloc: Global, sec: i64, nsec: u32) -> Result<String, ScriptError>
     ensures memory { IfErr result (λ e. e ≡ ScriptError.Memory) }
 {
     let seconds = sec.unsigned_abs();
-    let date = date_of_day((seconds / SECONDS_PER_DAY) as u32);
-    utc_of(alloc, date, (seconds % SECONDS_PER_DAY) as u32, nsec)
+    let (day, second) = day_and_second(seconds);
+    utc_of(alloc, date_of_day(day), second, nsec)
+}
+
+/// The day of so many seconds after 1970-01-01, and the second in it.
+pub(crate) fn day_and_second(seconds: u64) -> (u32, u32)
+    requires { seconds < 9223372036 }
+    ensures day { result.0 ≡ seconds / 86400 }
+    ensures second { result.1 ≡ seconds % 86400 }
+{
+    (
+        (seconds / SECONDS_PER_DAY) as u32,
+        (seconds % SECONDS_PER_DAY) as u32,
+    )
 }
 
 /// The day of the calendar that is so many days after 1970-01-01.
@@ -43,7 +99,7 @@ fn utc_of(alloc: Global, date: Date, second: u32, nsec: u32) -> Result<String, S
 }
 
 /// `Thh:mm:ss.nnnnnnnnnZ`.
-fn time_of_day(second: u32, nsec: u32) -> [u8; 20]
+pub(crate) fn time_of_day(second: u32, nsec: u32) -> [u8; 20]
     requires second { second < 86400 }
     requires nanoseconds { nsec < 1000000000 }
     ensures { result ≡ time_part second nsec }

@@ -8,6 +8,7 @@
 //! | `number`, `clock_word` | single fields of a script |
 //! | `line_open`, `line_ok`, `line_no`, `line_at` | the lines of a report |
 //! | `utc` | a time as UTC text |
+//! | `Calendar` | the same lines of clocks, with each date worked out once |
 //!
 //! Units: readings in cycles; times in seconds and nanoseconds; records are counted from 1, fields from 0.
 #![tactic(auto)]
@@ -27,7 +28,7 @@ mod text;
 mod words;
 
 pub use at_lines::line_at;
-pub use calendar::utc;
+pub use calendar::{Calendar, utc};
 pub use lines::{line_no, line_ok, line_open};
 pub use numbers::number;
 pub use row::Row;

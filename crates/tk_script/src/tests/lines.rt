@@ -1,4 +1,4 @@
-use crate::{line_at, line_no, line_ok, line_open, utc};
+use crate::{Calendar, line_at, line_no, line_ok, line_open, utc};
 use std::test::Fail;
 use tk_clock::{ClockId, Refusal, Timespec};
 use tk_counter::CounterDesc;
@@ -37,5 +37,22 @@ fn writes_each_line(rt: HostRuntime) -> Result<(), Fail> {
 fn tells_the_last_second_in_utc(rt: HostRuntime) -> Result<(), Fail> {
     let text = utc(rt.alloc(), 9_223_372_035, 999_999_999)?;
     assert_eq!(rt; text.as_str(), "2262-04-11T23:47:15.999999999Z");
+    Ok(())
+}
+
+#[test]
+fn a_calendar_keeps_no_date_for_another_day(rt: HostRuntime) -> Result<(), Fail> {
+    let mut out = Vec::new(rt.alloc());
+    let mut calendar = Calendar::new(rt.alloc());
+    for sec in [951_782_399, 951_782_400, 951_868_799, 951_868_800, 0] {
+        let time = Timespec { sec, nsec: 0 };
+        calendar.line_at(&mut out, ClockId::RealtimeCoarse, time)?;
+    }
+    let want = b"at,realtime_coarse,951782399.000000000,2000-02-28T23:59:59.000000000Z\n\
+        at,realtime_coarse,951782400.000000000,2000-02-29T00:00:00.000000000Z\n\
+        at,realtime_coarse,951868799.000000000,2000-02-29T23:59:59.000000000Z\n\
+        at,realtime_coarse,951868800.000000000,2000-03-01T00:00:00.000000000Z\n\
+        at,realtime_coarse,0.000000000,1970-01-01T00:00:00.000000000Z\n";
+    assert_eq!(rt; out.as_slice(), want.as_slice());
     Ok(())
 }

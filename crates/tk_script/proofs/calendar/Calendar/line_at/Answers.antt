@@ -1,6 +1,6 @@
 use Rattle.std.proofs.Common.{inl, inr}
 use Rattle.std.proofs.lemmas.Result.{on_ok_weaker}
-use Rattle.tk_script.proofs.at_lines.line_at.Goals as goal
+use Rattle.tk_script.proofs.calendar.Calendar.line_at.Goals as goal
 
 pub returns-in-Realtime-clause-ok : goal.returns-in-Realtime-clause-ok
 returns-in-Realtime-clause-ok c =
