@@ -1,0 +1,291 @@
+#!/usr/bin/env python3
+"""The report of a script by the definitions alone: sums over the whole journal, in whole numbers without bounds.
+
+It shares no code and no method with the program, which keeps a running state. The examples' reports were made by it and
+read by hand, and `tools/compare.py` runs random scripts through both.
+
+    tools/model.py < script
+"""
+import csv
+import datetime
+import io
+import sys
+from dataclasses import dataclass, field
+
+NANOS = 10**9
+MONOTONIC_LIMIT = 946_080_000 * NANOS
+VALUE_LIMIT = 9_223_372_036 * NANOS
+SETTABLE_LIMIT = 8_277_292_036
+JOURNAL_LIMIT = 1_048_576
+CLOCKS = ["realtime", "monotonic", "boottime", "tai", "realtime_coarse", "monotonic_coarse", "monotonic_raw"]
+
+
+class Fault(Exception):
+    """A script's first fault, as the program tells it."""
+
+
+@dataclass(frozen=True)
+class Counter:
+    bits: int
+    mult: int
+    shift: int
+
+    def is_described(self):
+        return (8 <= self.bits <= 64 and self.shift <= 32 and self.mult >= 256
+                and self.mult + self.mult * 11 // 100 <= 2**32 - 1)
+
+    def gap(self, a, b):
+        return (b - a) % 2**self.bits
+
+    def is_behind(self, a, b):
+        return self.gap(a, b) > (2**self.bits - 1) >> 1
+
+    def multiplier(self, frequency, tick):
+        held = max(-32_768_000, min(32_768_000, frequency))
+        return self.mult * (tick * 6_553_600 + held) // 65_536_000_000
+
+
+def from_hz(bits, hz, maxsec):
+    """The counter of a frequency, or None: the first shift from 32 down whose mult doesn't overflow in maxsec seconds."""
+    if not (8 <= bits <= 64 and hz >= 1 and 1 <= maxsec <= 600):
+        return None
+    room = 32 - ((maxsec * hz) >> 32).bit_length()
+    shift = next(s for s in range(32, 0, -1) if ((NANOS << s) + hz // 2) // hz >> room == 0)
+    mult = ((NANOS << shift) + hz // 2) // hz
+    if mult + mult * 11 // 100 > 2**32 - 1:
+        mult, shift = mult // 2, shift - 1
+    return Counter(bits, mult, shift)
+
+
+@dataclass
+class Journal:
+    counter: Counter
+    opened_at: int
+    real: int
+    entries: list = field(default_factory=list)
+
+    def reading(self, place):
+        return self.entries[place - 1][1] if place else self.opened_at
+
+    def is_asleep_at(self, place):
+        return place > 0 and self.entries[place - 1][0] == "suspend"
+
+    def prefix(self, place):
+        return Journal(self.counter, self.opened_at, self.real, self.entries[:place])
+
+    def followed_by(self, entry):
+        return Journal(self.counter, self.opened_at, self.real, self.entries + [entry])
+
+    def awake_cycles(self, place):
+        return sum(self.counter.gap(self.reading(k - 1), self.reading(k))
+                   for k in range(1, place + 1) if not self.is_asleep_at(k - 1))
+
+    def in_force(self, word, place, opening):
+        told = [value for name, _, value in self.entries[:place] if name == word]
+        return told[-1] if told else opening
+
+    def multiplier(self, place):
+        return self.counter.multiplier(self.in_force("freq", place, 0), self.in_force("tick", place, 10_000))
+
+    def units(self):
+        """MONOTONIC at the last entry, in 2^-shift ns: cycles times multiplier, summed over the frequency stretches."""
+        steers = [k for k, e in enumerate(self.entries, 1) if e[0] in ("freq", "tick")]
+        bounds = [0] + steers + [len(self.entries)]
+        return sum((self.awake_cycles(b) - self.awake_cycles(a)) * self.multiplier(a) for a, b in zip(bounds, bounds[1:]))
+
+    def forward_gap(self, reading):
+        last = self.reading(len(self.entries))
+        if self.is_asleep_at(len(self.entries)) or self.counter.is_behind(last, reading):
+            return 0
+        return self.counter.gap(last, reading)
+
+    def monotonic(self, reading):
+        return (self.units() + self.forward_gap(reading) * self.multiplier(len(self.entries))) >> self.counter.shift
+
+    def raw(self, reading):
+        cycles = self.awake_cycles(len(self.entries)) + self.forward_gap(reading)
+        return cycles * self.counter.mult >> self.counter.shift
+
+    def real_offset(self):
+        sets = [k for k, e in enumerate(self.entries, 1) if e[0] == "set"]
+        start = sets[-1] if sets else 0
+        base = self.real
+        if sets:
+            _, reading, time = self.entries[start - 1]
+            base = time - self.prefix(start).monotonic(reading)
+        return base + sum(value for name, _, value in self.entries[start:] if name in ("step", "resume"))
+
+    def boot_offset(self):
+        return sum(value for name, _, value in self.entries if name == "resume")
+
+    def value(self, clock, reading):
+        if clock.endswith("_coarse"):
+            clock, reading = clock[:-7], self.reading(len(self.entries))
+        if clock == "monotonic_raw":
+            return self.raw(reading)
+        monotonic = self.monotonic(reading)
+        if clock == "boottime":
+            return monotonic + self.boot_offset()
+        if clock == "realtime":
+            return monotonic + self.real_offset()
+        if clock == "tai":
+            return monotonic + self.real_offset() + NANOS * self.in_force("tai", len(self.entries), 0)
+        return monotonic
+
+
+def limit(clock):
+    return MONOTONIC_LIMIT if clock.startswith("monotonic") and clock != "monotonic_raw" else VALUE_LIMIT
+
+
+def is_settable(sec, nsec):
+    return 0 <= sec < SETTABLE_LIMIT and 0 <= nsec < NANOS
+
+
+def is_bad_setting(word, fields):
+    """Is what a command asks for outside its range?"""
+    if word == "set":
+        return not is_settable(*fields)
+    if word == "step":
+        return fields[1] >= NANOS
+    if word == "tai":
+        return not 0 <= fields[0] <= 100_000
+    if word == "tick":
+        return not 9_000 <= fields[0] <= 11_000
+    if word == "resume":
+        return not (0 <= fields[0] < 9_223_372_036 and fields[1] < NANOS)
+    return False
+
+
+def first_refusal(journal, word, reading, fields, is_bounded):
+    counter, last = journal.counter, journal.reading(len(journal.entries))
+    asleep = journal.is_asleep_at(len(journal.entries))
+    if not is_bounded and len(journal.entries) >= JOURNAL_LIMIT:
+        return "full"
+    if asleep and word != "resume":
+        return "asleep"
+    if not asleep and word == "resume":
+        return "awake"
+    if reading >= 2**counter.bits or is_bad_setting(word, fields):
+        return "invalid"
+    if word != "resume" and counter.is_behind(last, reading):
+        return "behind"
+    after = journal.followed_by((word, reading, value_of(word, fields)))
+    tested = ["monotonic", "boottime"] + (["realtime", "tai"] if word not in ("set", "step") else [])
+    if any(after.value(clock, reading) >= limit(clock) for clock in tested):
+        return "range"
+    monotonic = journal.monotonic(reading)
+    if word == "set" and value_of(word, fields) < monotonic:
+        return "invalid"
+    if word == "step":
+        result = journal.value("realtime", reading) + value_of(word, fields)
+        if result < monotonic or not is_settable(*divmod(result, NANOS)):
+            return "invalid"
+    return None
+
+
+def value_of(word, fields):
+    """What an entry keeps of a command: nanoseconds of a time, or the number."""
+    if word in ("set", "step", "resume"):
+        return fields[0] * NANOS + fields[1]
+    return fields[0] if fields else None
+
+
+U32, U64, I64 = range(2**32), range(2**64), range(-2**63, 2**63)
+FIELDS = {
+    "open": [U32, U32, U32, U64, I64, U32], "openhz": [U32, U32, U32, U64, I64, U32],
+    "update": [U64], "suspend": [U64], "freq": [U64, I64], "tick": [U64, I64], "tai": [U64, I64],
+    "set": [U64, I64, U32], "step": [U64, I64, U32], "resume": [U64, I64, U32], "get": [U64, None],
+}
+
+
+def number(text, within):
+    digits = text[1:] if within is I64 and text.startswith("-") else text
+    if not (digits.isascii() and digits.isdigit()) or int(text) not in within:
+        raise ValueError
+    return int(text)
+
+
+def read_record(row, record):
+    word, *fields = record
+    opens = word in ("open", "openhz")
+    if word not in FIELDS or opens != (row == 1):
+        raise Fault(f"record {row}: " + ("not a valid opening" if row == 1 else "unknown word"))
+    if len(fields) != len(FIELDS[word]):
+        raise Fault(f"record {row}: wrong number of fields")
+    read = []
+    for text, within in zip(fields, FIELDS[word]):
+        if within is None:
+            if text not in CLOCKS:
+                raise Fault(f"record {row}: unknown word")
+            read.append(text)
+            continue
+        try:
+            read.append(number(text, within))
+        except ValueError:
+            raise Fault(f"record {row}: not a number in range") from None
+    return word, read
+
+
+def opened(word, fields):
+    reading, sec, nsec = fields[3:]
+    counter = Counter(*fields[:3]) if word == "open" else from_hz(*fields[:3])
+    if counter is None or not counter.is_described() or reading >= 2**counter.bits or not is_settable(sec, nsec):
+        raise Fault("record 1: not a valid opening")
+    return Journal(counter, reading, sec * NANOS + nsec)
+
+
+def time_text(nanos):
+    return f"{nanos // NANOS}.{nanos % NANOS:09}"
+
+
+def utc_text(nanos):
+    day = datetime.datetime(1970, 1, 1) + datetime.timedelta(seconds=nanos // NANOS)
+    return f"{day:%Y-%m-%dT%H:%M:%S}.{nanos % NANOS:09}Z"
+
+
+def look(journal, reading, clock):
+    if reading >= 2**journal.counter.bits:
+        return "no,invalid"
+    value = journal.value(clock, reading)
+    if value >= limit(clock):
+        return "no,range"
+    line = f"at,{clock},{time_text(value)}"
+    return f"{line},{utc_text(value)}" if clock.startswith("realtime") else line
+
+
+def report(text, is_bounded=False):
+    """The lines of a script's report. `is_bounded`: the journal is folded in time, so it is never full."""
+    if len(text) > 2**24:
+        raise Fault("larger than 16777216 bytes")
+    records = [r for r in csv.reader(io.StringIO(text.decode(), newline="")) if r]
+    if not records:
+        raise Fault("no record")
+    rows = [read_record(row, record) for row, record in enumerate(records[:1], 1)]
+    journal = opened(*rows[0])
+    rows = [read_record(row, record) for row, record in enumerate(records[1:], 2)]
+    counter = journal.counter
+    lines = [f"open,{counter.bits},{counter.mult},{counter.shift}"]
+    for word, (reading, *fields) in rows:
+        if word == "get":
+            lines.append(look(journal, reading, *fields))
+            continue
+        refusal = first_refusal(journal, word, reading, fields, is_bounded)
+        if refusal:
+            lines.append(f"no,{refusal}")
+            continue
+        journal = journal.followed_by((word, reading, value_of(word, fields)))
+        lines.append(f"ok,{len(journal.entries)},{time_text(journal.monotonic(reading))}")
+    return lines
+
+
+def main():
+    try:
+        for line in report(sys.stdin.buffer.read()):
+            print(line)
+    except Fault as fault:
+        print(f"tkcore: script: {fault}", file=sys.stderr)
+        sys.exit(1)
+
+
+if __name__ == "__main__":
+    main()
