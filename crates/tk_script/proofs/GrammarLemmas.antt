@@ -1,12 +1,9 @@
 -- The parse of a whole script, from that of its parts.
-use Rattle.std.proofs.Common.{◌≡◌, ◌<◌, ◌≤◌, ◌^◌, ℕ, List, [], ◌∷◌, length, nat_lt, Result, Ok, Err, true, false, refl, arith}
+use Rattle.std.proofs.Common.{◌≡◌, ◌<◌, ◌≤◌, ◌^◌, ℕ, List, [], ◌∷◌, length, nat_lt, Result, Err, true, false, refl, arith}
 use Rattle.std.proofs.lemmas.Grind.{common_steps}
 use Rattle.tk_script.specs.Opening.{start_of}
-use Rattle.tk_script.specs.Rows.{rows_of}
 use Rattle.tk_script.specs.Records.{records_of}
 use Rattle.tk_script.specs.Grammar.{parse_of, parse_records, Fails}
-use Rattle.tk_script.specs.declared.opening.Start.{Start}
-use Rattle.tk_script.specs.declared.row.Row.{Row}
 use Rattle.tk_script.specs.declared.script_error.ScriptError.{ScriptError}
 use Rattle.tk_script.specs.declared.script_error.ScriptError.TheVariants as errors
 
@@ -40,22 +37,3 @@ pub parse-start_fault : (records later : List (List (List ℕ))) (first : List (
     → records ≡ first ∷ later → start_of first ≡ Err fault → parse_records records ≡ Err fault
 unfolding parse_records
 parse-start_fault records later first fault e f = rw (e, f) refl
-
--- and so is a fault of the rows
-pub parse-rows_fault : (fault : ScriptError) (records later : List (List (List ℕ))) (first : List (List ℕ)) (start : Start)
-    → records ≡ first ∷ later → start_of first ≡ Ok start → Fails fault (rows_of 2 later) → Fails fault (parse_records records)
-unfolding parse_records
-parse-rows_fault errors.Memory records later first start e f h = tt
-parse-rows_fault errors.TooLarge records later first start e f h = rw (e, f, h) refl
-parse-rows_fault errors.Empty records later first start e f h = rw (e, f, h) refl
-parse-rows_fault (errors.Opening row) records later first start e f h = rw (e, f, h) refl
-parse-rows_fault (errors.Word row) records later first start e f h = rw (e, f, h) refl
-parse-rows_fault (errors.Fields row) records later first start e f h = rw (e, f, h) refl
-parse-rows_fault (errors.Number row) records later first start e f h = rw (e, f, h) refl
-
--- an opening and rows
-pub parse-rows : (rows : List Row) (records later : List (List (List ℕ))) (first : List (List ℕ)) (start : Start)
-    → records ≡ first ∷ later → start_of first ≡ Ok start → rows_of 2 later ≡ Ok rows
-    → parse_records records ≡ Ok (record { counter = start.desc; reading = start.reading; real = start.real; rows = rows })
-unfolding parse_records
-parse-rows rows records later first start e f g = rw (e, f, g) refl

@@ -3,5 +3,6 @@ pub mod RecordLemmas
 pub mod ReadingLemmas
 pub mod EachLemmas
 pub mod StampLemmas
+pub mod ComingLemmas
 pub mod GrammarLemmas
 pub mod TextLemmas

@@ -8,5 +8,6 @@ pub mod Reading
 pub mod Grammar
 pub mod Script
 pub mod Stamps
+pub mod Coming
 pub mod Utc
 pub mod Lines

@@ -3,6 +3,7 @@
 //! | Item | What it is |
 //! |---|---|
 //! | `Script`, `Row` | the opening of the clocks, and then commands and reads of clocks |
+//! | `RowReader`, `Start` | the same, read one row after the other |
 //! | `Stamps` | readings of the counter, each with the number of commands before it |
 //! | `ScriptError` | the first fault of a script or of a stamp file |
 //! | `number`, `clock_word` | single fields of a script |
@@ -21,6 +22,7 @@ mod numbers;
 mod opening;
 mod records;
 mod row;
+mod row_reader;
 mod script;
 mod script_error;
 mod stamps;
@@ -31,7 +33,9 @@ pub use at_lines::line_at;
 pub use calendar::{Calendar, utc};
 pub use lines::{line_no, line_ok, line_open};
 pub use numbers::number;
+pub use opening::Start;
 pub use row::Row;
+pub use row_reader::RowReader;
 pub use script::Script;
 pub use script_error::ScriptError;
 pub use stamps::Stamps;

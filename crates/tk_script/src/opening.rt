@@ -9,12 +9,15 @@ use csv::ByteRecord;
 use tk_clock::{Clock, Timespec};
 use tk_counter::CounterDesc;
 
-/// How the clocks are opened: the counter, its reading in cycles, and the real time there.
+/// How a script opens the clocks.
 #[derive(Clone, Copy)]
-pub(crate) struct Start {
-    pub(crate) desc: CounterDesc,
-    pub(crate) reading: u64,
-    pub(crate) real: Timespec,
+pub struct Start {
+    /// The counter.
+    pub desc: CounterDesc,
+    /// Its reading at the opening, in cycles.
+    pub reading: u64,
+    /// The real time at that reading.
+    pub real: Timespec,
 }
 
 /// The opening that the first record tells, by its word.

@@ -1,14 +1,10 @@
-ghost use Rattle.std.specs.Prelude.{◌≡◌, ℕ, List, IfOk, None, Some};
+ghost use Rattle.std.specs.Prelude.{◌≡◌, IfOk, None};
 ghost use Rattle.tk_clock.specs.Refusal.{opening_refusal};
-ghost use Rattle.tk_script.specs.Reading.{IsReading, left_of};
-ghost use Rattle.tk_script.specs.Rows.{rows_of};
 ghost use Rattle.tk_script.specs.Grammar.{Gives, parse_of};
 
-use crate::opening::read_start;
-use crate::records::{SIZE_LIMIT, next_fields, open_reader};
-use crate::row::{Row, read_row};
+use crate::row::Row;
+use crate::row_reader::RowReader;
 use crate::script_error::ScriptError;
-use csv::{ByteRecord, Reader};
 use std::alloc::Global;
 use tk_clock::Timespec;
 use tk_counter::CounterDesc;
@@ -36,16 +32,13 @@ impl Script {
         ensures opens { IfOk result (λ script.
             opening_refusal script.desc script.reading script.real ≡ None) }
     {
-        if bytes.len() > SIZE_LIMIT {
-            return Err(ScriptError::TooLarge);
+        let (start, mut reader) = RowReader::open(alloc, bytes)?;
+        let mut rows = Vec::new(alloc);
+        'rows: while let Some(row) = reader.next_row()? {
+            if rows.push(row).is_err() {
+                return Err(ScriptError::Memory);
+            }
         }
-        let mut reader = open_reader(alloc, bytes);
-        let mut fields = ByteRecord::new(alloc);
-        if !next_fields(&mut reader, &mut fields)? {
-            return Err(ScriptError::Empty);
-        }
-        let start = read_start(&fields)?;
-        let rows = read_rows(alloc, &mut reader, &mut fields)?;
         Ok(Script {
             desc: start.desc,
             reading: start.reading,
@@ -53,27 +46,4 @@ impl Script {
             rows,
         })
     }
-}
-
-/// The rows of the records that are left, the first of which is the second of the script.
-fn read_rows(
-    alloc: Global,
-    reader: &mut Reader<&[u8]>,
-    fields: &mut ByteRecord,
-) -> Result<Vec<Row>, ScriptError>
-    requires { IsReading reader.old }
-    ensures { (rs : List (List (List ℕ))) → left_of reader.old ≡ Some rs
-        → Gives (λ v. v.items) result (rows_of 2 rs) }
-{
-    let mut rows = Vec::new(alloc);
-    for row in 2..u64::MAX {
-        if !next_fields(reader, fields)? {
-            return Ok(rows);
-        }
-        let next = read_row(row, fields)?;
-        if rows.push(next).is_err() {
-            return Err(ScriptError::Memory);
-        }
-    }
-    Err(ScriptError::Memory)
 }

@@ -1,0 +1,40 @@
+-- What a reader of a script's rows has still to read.
+use Rattle.std.specs.Prelude.{◌≡◌, ℕ, ◌+◌, ◌<◌, ◌^◌, List, [], ◌∷◌, length, Option, Some, None, IsSome, Result, Ok, Err, unwrap_or}
+use Rattle.tk_script.specs.Grammar.{Parse}
+use Rattle.tk_script.specs.Reading.{IsReading, left_of}
+use Rattle.tk_script.specs.Rows.{rows_of}
+use Rattle.tk_script.specs.declared.opening.Start.{Start}
+use Rattle.tk_script.specs.declared.row.Row.{Row}
+use Rattle.tk_script.specs.declared.row_reader.RowReader.{RowReader}
+use Rattle.tk_script.specs.declared.script_error.ScriptError.{ScriptError}
+
+-- how many records are left
+unfoldable pub records_left : RowReader → ℕ
+records_left reader = length (unwrap_or (left_of reader.reader) [])
+
+-- the rows that these records tell, or their first fault
+unfoldable pub coming : RowReader → Result (List Row) ScriptError
+coming reader = rows_of reader.row (unwrap_or (left_of reader.reader) [])
+
+-- it has not failed, and there are numbers for the records that are left
+pub record IsReady (reader : RowReader) : Type 0 where
+  pub reading : IsReading reader.reader
+  pub left : IsSome (left_of reader.reader)
+  pub count : reader.row + records_left reader < 2 ^ 32
+
+-- a row, and then those of a later reading, or its fault
+abbrev pub row_and : Row → Result (List Row) ScriptError → Result (List Row) ScriptError
+row_and row (Ok later) = Ok (row ∷ later)
+row_and row (Err fault) = Err fault
+
+-- what a read came to: this row, and the other records are left; or there was none
+abbrev pub Steps : Option Row → RowReader → RowReader → Type 0
+Steps None old new = coming old ≡ Ok []
+Steps (Some row) old new =
+    IsReady new × (records_left old ≡ records_left new + 1) × (coming old ≡ row_and row (coming new))
+
+-- a script that is opened so, with the rows of a reading, or its fault
+abbrev pub opened_with : Start → Result (List Row) ScriptError → Result Parse ScriptError
+opened_with start (Ok rows) =
+    Ok (record { counter = start.desc; reading = start.reading; real = start.real; rows = rows })
+opened_with start (Err fault) = Err fault

@@ -1,0 +1,70 @@
+ghost use Rattle.std.specs.Prelude.{◌≡◌, IfOk, MatchResult, None};
+ghost use Rattle.tk_clock.specs.Refusal.{opening_refusal};
+ghost use Rattle.tk_script.specs.Grammar.{Fails, parse_of};
+ghost use Rattle.tk_script.specs.Coming.{IsReady, Steps, coming, opened_with};
+
+use crate::opening::{Start, read_start};
+use crate::records::{SIZE_LIMIT, next_fields, open_reader};
+use crate::row::{Row, read_row};
+use crate::script_error::ScriptError;
+use csv::{ByteRecord, Reader};
+use std::alloc::Global;
+
+/// The rows of a script, read one after the other: it keeps one record in memory, however long the script is.
+#[derive(Drop)]
+pub struct RowReader<'a> {
+    reader: Reader<&'a [u8]>,
+    /// The record that was read last, whose memory the next one takes.
+    fields: ByteRecord,
+    /// The number of the next record.
+    row: u64,
+}
+
+impl<'a> RowReader<'a> {
+    /// Reads the opening of a script; what is returned beside it reads the rows.
+    ///
+    /// TooLarge above 16,777,216 bytes, then Empty, then the fault of the first record. Memory may stand in the place of any
+    /// other answer.
+    pub fn open(alloc: Global, bytes: &'a [u8]) -> Result<(Start, RowReader<'a>), ScriptError>
+        ensures gives { MatchResult result
+            (λ opened. IsReady opened.1
+            × (parse_of bytes.now ≡ opened_with opened.0 (coming opened.1)))
+            (λ error. Fails error (parse_of bytes.now)) }
+        // clocks can be opened as the script says
+        ensures opens { IfOk result (λ opened.
+            opening_refusal opened.0.desc opened.0.reading opened.0.real ≡ None) }
+    {
+        if bytes.len() > SIZE_LIMIT {
+            return Err(ScriptError::TooLarge);
+        }
+        let mut reader = open_reader(alloc, bytes);
+        let mut fields = ByteRecord::new(alloc);
+        if !next_fields(&mut reader, &mut fields)? {
+            return Err(ScriptError::Empty);
+        }
+        let start = read_start(&fields)?;
+        Ok((
+            start,
+            RowReader {
+                reader,
+                fields,
+                row: 2,
+            },
+        ))
+    }
+
+    /// The next row, or none where no record is left; a fault is that of the next record. After either it reads no more.
+    pub fn next_row(&mut self) -> Result<Option<Row>, ScriptError>
+        requires { IsReady self.old }
+        ensures { MatchResult result
+            (λ row. Steps row self.old self.new)
+            (λ error. Fails error (coming self.old)) }
+    {
+        if !next_fields(&mut self.reader, &mut self.fields)? {
+            return Ok(None);
+        }
+        let row = read_row(self.row, &self.fields)?;
+        self.row += 1;
+        Ok(Some(row))
+    }
+}
