@@ -1,6 +1,6 @@
 -- The lines of a report, one after the other.
 use Rattle.std.proofs.Common.{◌≡◌, ◌∙◌, ℕ, ◌+◌, ◌≤◌, List, [], ◌∷◌, ◌++◌, refl, sym, ap, subst, append_assoc, arith}
-use Rattle.std.specs.Prelude.{pos, Option, Some, None, Ok}
+use Rattle.std.specs.Prelude.{pos, Option, Some, None, Result, Ok, Err}
 use Rattle.std.proofs.lemmas.List.{append-nil, length_push}
 use Rattle.tk_clock.specs.declared.clock_id.ClockId.TheVariants.{Monotonic}
 use Rattle.tk_clock.specs.declared.command.Entry.{Entry}
@@ -12,10 +12,14 @@ use Rattle.tk_clock.specs.Run.{Reply, reply_if}
 use Rattle.tk_clock.specs.Time.{timespec_of}
 use Rattle.tk_script.specs.declared.row.Row.{Row}
 use Rattle.tk_script.specs.declared.row.Row.TheVariants.{Act, Look}
-use Rattle.tk_script.specs.Grammar.{Parse}
+use Rattle.tk_script.specs.Coming.{opened_with, row_and}
+use Rattle.tk_script.specs.Grammar.{Fails, parse_of}
 use Rattle.tk_script.specs.Lines.{ok_line, open_line}
+use Rattle.tk_script.specs.declared.opening.Start.{Start}
+use Rattle.tk_script.specs.declared.script_error.ScriptError.{ScriptError}
+use Rattle.tk_script.specs.declared.script_error.ScriptError.TheVariants as errors
 use Rattle.tk_replay.specs.Folding.{IsReplied, StandsFor, rule_of}
-use Rattle.tk_replay.specs.Report.{Rule, IsLine, IsLines, IsReportOf, IsTimeAt, after, answer_line, event, reply_line}
+use Rattle.tk_replay.specs.Report.{Rule, IsLine, IsLines, IsReportBy, IsTimeAt, after, answer_line, event, reply_line}
 use Rattle.tk_replay.proofs.Alike.{IsAlike-stands, IsLine-stands, StandsFor-after, StandsFor-self, clock_value-alike}
 
 -- the line of an accepted command, by the time that the journal tells which is kept
@@ -31,55 +35,75 @@ reply_line-accepted keep reply kept reading number time replied (nanos, value, s
     ∙ ap (λ n. ok_line number (timespec_of n)) count
     ∙ ap (ok_line number) (sym split)
 
--- a text that becomes the report when the lines of the records that are left are added
-pub record IsBegun (rule : Rule) (parse : Parse) (journal : Journal) (left : List Row) (text : List ℕ) : Type 0 where
-  pub told : (rest : List ℕ) → IsLines rule journal left rest → IsReportOf rule parse (text ++ rest)
+-- a text that becomes the report of the bytes when the lines of the rows to come are added; a fault to come is theirs
+pub record IsBegun (rule : Rule) (bytes : List ℕ) (journal : Journal) (to_come : Result (List Row) ScriptError) (text : List ℕ) : Type 0 where
+  pub told : (rows : List Row) (rest : List ℕ) → to_come ≡ Ok rows → IsLines rule journal rows rest →
+      IsReportBy rule bytes (text ++ rest)
+  pub fails : (fault : ScriptError) → to_come ≡ Err fault → parse_of bytes ≡ Err fault
 
 -- one more line
-IsBegun-next : (rule : Rule) (parse : Parse) (journal : Journal) (row : Row) (left : List Row) (text line : List ℕ) →
-    IsBegun rule parse journal (row ∷ left) text → IsLine rule journal row line →
-    IsBegun rule parse (after rule journal row) left (text ++ line)
-IsBegun-next rule parse journal row left text line begun isLine = record {
-  told = λ rest lines.
-      let R : List ℕ → Type 0 = λ whole. IsReportOf rule parse whole in
-      subst R (sym (append_assoc text line rest)) (begun.told (line ++ rest) (line, rest, isLine, lines, refl));
+IsBegun-next : (rule : Rule) (bytes : List ℕ) (journal : Journal) (row : Row) (to_come later : Result (List Row) ScriptError) (text line : List ℕ) →
+    IsBegun rule bytes journal to_come text → to_come ≡ row_and row later → IsLine rule journal row line →
+    IsBegun rule bytes (after rule journal row) later (text ++ line)
+IsBegun-next rule bytes journal row to_come later text line begun step isLine = record {
+  told = λ rows rest e lines.
+      let R : List ℕ → Type 0 = λ whole. IsReportBy rule bytes whole in
+      subst R (sym (append_assoc text line rest))
+      (begun.told (row ∷ rows) (line ++ rest) (step ∙ ap (row_and row) e) (line, rest, isLine, lines, refl));
+  fails = λ fault e. begun.fails fault (step ∙ ap (row_and row) e);
 }
 
--- no record is left
-IsBegun-end : (rule : Rule) (parse : Parse) (journal : Journal) (text : List ℕ) → IsBegun rule parse journal [] text →
-    IsReportOf rule parse text
-IsBegun-end rule parse journal text begun =
-    let R : List ℕ → Type 0 = λ whole. IsReportOf rule parse whole in
-    subst R (append-nil text) (begun.told [] refl)
+-- no row is to come
+IsBegun-end : (rule : Rule) (bytes : List ℕ) (journal : Journal) (to_come : Result (List Row) ScriptError) (text : List ℕ) →
+    IsBegun rule bytes journal to_come text → to_come ≡ Ok [] → IsReportBy rule bytes text
+IsBegun-end rule bytes journal to_come text begun none =
+    let R : List ℕ → Type 0 = λ whole. IsReportBy rule bytes whole in
+    subst R (append-nil text) (begun.told [] [] none refl)
 
 -- the same by a journal that stands for one that lists every command
-pub record IsBegunBy (keep : Option ℕ) (parse : Parse) (kept : Journal) (left : List Row) (text : List ℕ) : Type 0 where
+pub record IsBegunBy (keep : Option ℕ) (bytes : List ℕ) (kept : Journal) (to_come : Result (List Row) ScriptError) (text : List ℕ) : Type 0 where
   pub whole : Journal
   pub stands : StandsFor keep kept whole
-  pub begun : IsBegun (rule_of keep) parse whole left text
+  pub begun : IsBegun (rule_of keep) bytes whole to_come text
 
--- after the opening's line all records are left
-pub IsBegunBy-start : (keep : Option ℕ) (parse : Parse) →
-    IsBegunBy keep parse (opened parse.counter parse.reading parse.real) parse.rows (open_line parse.counter)
-IsBegunBy-start keep parse = record {
-  whole = opened parse.counter parse.reading parse.real;
-  stands = StandsFor-self keep (opened parse.counter parse.reading parse.real);
-  begun = record { told = λ rest lines. (rest, lines, refl) };
+-- after the opening's line all rows are to come
+pub IsBegunBy-start : (keep : Option ℕ) (bytes : List ℕ) (start : Start) (to_come : Result (List Row) ScriptError) →
+    parse_of bytes ≡ opened_with start to_come →
+    IsBegunBy keep bytes (opened start.desc start.reading start.real) to_come (open_line start.desc)
+IsBegunBy-start keep bytes start to_come opens = record {
+  whole = opened start.desc start.reading start.real;
+  stands = StandsFor-self keep (opened start.desc start.reading start.real);
+  begun = record {
+    told = λ rows rest e lines. (_, opens ∙ ap (opened_with start) e, (rest, lines, refl));
+    fails = λ fault e. opens ∙ ap (opened_with start) e;
+  };
 }
 
-pub IsBegunBy-next : (keep : Option ℕ) (parse : Parse) (kept kept' : Journal) (row : Row) (left : List Row) (text line : List ℕ) →
-    IsBegunBy keep parse kept (row ∷ left) text → IsLine (rule_of keep) kept row line →
-    StandsFor keep kept' (after (rule_of keep) kept row) → IsBegunBy keep parse kept' left (text ++ line)
-IsBegunBy-next keep parse kept kept' row left text line begun isLine moved = record {
+pub IsBegunBy-next : (keep : Option ℕ) (bytes : List ℕ) (kept kept' : Journal) (row : Row) (to_come later : Result (List Row) ScriptError) (text line : List ℕ) →
+    IsBegunBy keep bytes kept to_come text → to_come ≡ row_and row later → IsLine (rule_of keep) kept row line →
+    StandsFor keep kept' (after (rule_of keep) kept row) → IsBegunBy keep bytes kept' later (text ++ line)
+IsBegunBy-next keep bytes kept kept' row to_come later text line begun step isLine moved = record {
   whole = after (rule_of keep) begun.whole row;
   stands = StandsFor-after keep kept begun.whole kept' begun.stands row moved;
-  begun = IsBegun-next (rule_of keep) parse begun.whole row left text line begun.begun
+  begun = IsBegun-next (rule_of keep) bytes begun.whole row to_come later text line begun.begun step
       (IsLine-stands keep kept begun.whole begun.stands row line isLine);
 }
 
-pub IsBegunBy-end : (keep : Option ℕ) (parse : Parse) (kept : Journal) (text : List ℕ) → IsBegunBy keep parse kept [] text →
-    IsReportOf (rule_of keep) parse text
-IsBegunBy-end keep parse kept text begun = IsBegun-end (rule_of keep) parse begun.whole text begun.begun
+pub IsBegunBy-end : (keep : Option ℕ) (bytes : List ℕ) (kept : Journal) (to_come : Result (List Row) ScriptError) (text : List ℕ) →
+    IsBegunBy keep bytes kept to_come text → to_come ≡ Ok [] → IsReportBy (rule_of keep) bytes text
+IsBegunBy-end keep bytes kept to_come text begun none =
+    IsBegun-end (rule_of keep) bytes begun.whole to_come text begun.begun none
+
+-- a fault of the rows to come is the script's
+pub IsBegunBy-fault : (keep : Option ℕ) (bytes : List ℕ) (kept : Journal) (to_come : Result (List Row) ScriptError) (text : List ℕ) (fault : ScriptError) →
+    IsBegunBy keep bytes kept to_come text → Fails fault to_come → Fails fault (parse_of bytes)
+IsBegunBy-fault keep bytes kept to_come text errors.Memory begun fails = tt
+IsBegunBy-fault keep bytes kept to_come text errors.TooLarge begun fails = begun.begun.fails errors.TooLarge fails
+IsBegunBy-fault keep bytes kept to_come text errors.Empty begun fails = begun.begun.fails errors.Empty fails
+IsBegunBy-fault keep bytes kept to_come text (errors.Opening row) begun fails = begun.begun.fails (errors.Opening row) fails
+IsBegunBy-fault keep bytes kept to_come text (errors.Word row) begun fails = begun.begun.fails (errors.Word row) fails
+IsBegunBy-fault keep bytes kept to_come text (errors.Fields row) begun fails = begun.begun.fails (errors.Fields row) fails
+IsBegunBy-fault keep bytes kept to_come text (errors.Number row) begun fails = begun.begun.fails (errors.Number row) fails
 
 -- a record is one command at most
 counted : (journal : Journal) (entry : Entry) (told : Option Refusal) →

@@ -2,18 +2,16 @@ ghost use Rattle.std.specs.Prelude.{◌≡◌, ◌++◌, ◌<◌, ◌≤◌, ◌
 ghost use Rattle.std.specs.Option.{ForSome};
 ghost use Rattle.std.specs.Result.{result_err};
 ghost use Rattle.tk_clock.specs.Journal.{accepted_count};
-ghost use Rattle.tk_clock.specs.Refusal.{opening_refusal};
 ghost use Rattle.tk_script.specs.Grammar.{Fails, parse_of};
 ghost use Rattle.tk_script.specs.Lines.{IsWritable};
-ghost use Rattle.tk_script.specs.Script.{parse};
 ghost use Rattle.tk_replay.specs.Folding.{StandsFor, rule_of};
-ghost use Rattle.tk_replay.specs.Report.{IsLine, IsLookLine, IsReport, IsReportBy, IsReportOf, IsReportUnlimited, IsTimeAt, after, event, look_refusal, reply_by, reply_line};
+ghost use Rattle.tk_replay.specs.Report.{IsLine, IsLookLine, IsReport, IsReportBy, IsReportUnlimited, IsTimeAt, after, event, look_refusal, reply_by, reply_line};
 
 use crate::applying::apply;
 use std::alloc::Global;
 use tk_clock::{ClockId, Command, ReadError, Refusal, Timespec};
 use tk_keeper::Timekeeper;
-use tk_script::{Row, Script, ScriptError, line_at, line_no, line_ok, line_open};
+use tk_script::{Calendar, Row, RowReader, ScriptError, line_no, line_ok, line_open};
 
 /// The report of a script's bytes: a line for the opening, and one for each record after it.
 ///
@@ -52,22 +50,13 @@ pub(crate) fn report_by(
         (λ text. IsReportBy (rule_of keep) script.now text.items)
         (λ error. Fails error (parse_of script.now)) }
 {
-    let script = Script::from_bytes(alloc, script)?;
-    report_of(alloc, &script, keep)
-}
-
-/// The report of a script.
-fn report_of(alloc: Global, script: &Script, keep: Option<u64>) -> Result<Vec<u8>, ScriptError>
-    requires opens { opening_refusal script.now.desc script.now.reading script.now.real ≡ None }
-    requires keep { ForSome keep (λ n. n ≤ 524288) }
-    ensures ok { IfOk result (λ text. IsReportOf (rule_of keep) (parse script.now) text.items) }
-    ensures err { IfErr result (λ error. error ≡ ScriptError.Memory) }
-{
-    let mut keeper = Timekeeper::open(alloc, script.desc, script.reading, script.real).unwrap();
+    let (start, mut rows) = RowReader::open(alloc, script)?;
+    let mut keeper = Timekeeper::open(alloc, start.desc, start.reading, start.real).unwrap();
+    let mut calendar = Calendar::new(alloc);
     let mut text = Vec::new(alloc);
-    line_open(&mut text, &script.desc)?;
-    'rows: for row in &script.rows {
-        add_line(&mut text, &mut keeper, keep, *row)?;
+    line_open(&mut text, &start.desc)?;
+    'rows: while let Some(row) = rows.next_row()? {
+        add_line(&mut text, &mut calendar, &mut keeper, keep, row)?;
     }
     Ok(text)
 }
@@ -75,6 +64,7 @@ fn report_of(alloc: Global, script: &Script, keep: Option<u64>) -> Result<Vec<u8
 /// Adds the line of a record: applies a command, or reads a clock.
 fn add_line(
     text: &mut Vec<u8>,
+    calendar: &mut Calendar,
     keeper: &mut Timekeeper,
     keep: Option<u64>,
     row: Row,
@@ -89,7 +79,7 @@ fn add_line(
 {
     match row {
         Row::Act { reading, cmd } => add_reply(text, keeper, keep, reading, cmd),
-        Row::Look { reading, clock } => add_look(text, keeper, reading, clock),
+        Row::Look { reading, clock } => add_look(text, calendar, keeper, reading, clock),
     }
 }
 
@@ -122,6 +112,7 @@ fn add_reply(
 /// Adds the line of a clock at a reading.
 fn add_look(
     text: &mut Vec<u8>,
+    calendar: &mut Calendar,
     keeper: &Timekeeper,
     reading: u64,
     clock: ClockId,
@@ -133,7 +124,7 @@ fn add_look(
     ensures err { IfErr result (λ error. error ≡ ScriptError.Memory) }
 {
     match time_at(keeper, clock, reading) {
-        Ok(time) => line_at(text, clock, time),
+        Ok(time) => calendar.line_at(text, clock, time),
         Err(refusal) => line_no(text, refusal),
     }
 }

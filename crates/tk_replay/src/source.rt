@@ -38,8 +38,8 @@ impl<R: Read> Source for R {
 /// The most bytes that are read: one more than a script may have.
 const MOST: usize = 16_777_217;
 
-/// The room for the first reads. Doubled twelve times it is `MOST` and a little more.
-const FIRST_ROOM: usize = 4_097;
+/// The room for the first reads, in bytes.
+const FIRST_ROOM: usize = 65_536;
 
 /// Reads to the end, or `MOST` bytes, whichever comes first.
 pub(crate) fn read_to_end<S: Source>(alloc: Global, source: &mut S) -> Result<Vec<u8>, Fault>
@@ -61,7 +61,7 @@ pub(crate) fn read_to_end<S: Source>(alloc: Global, source: &mut S) -> Result<Ve
     Ok(bytes)
 }
 
-/// Doubles the room where it is full, up to `MOST`. What is filled stays.
+/// Makes the room greater by a quarter where it is full, up to `MOST`. What is filled stays.
 fn make_room(room: &mut Vec<u8>, filled: usize) -> Result<(), AllocError>
     requires within { filled ≤ vec_len room.old }
     requires below { filled < 2 ^ 24 + 1 }
@@ -73,7 +73,7 @@ fn make_room(room: &mut Vec<u8>, filled: usize) -> Result<(), AllocError>
     if filled < room.len() {
         return Ok(());
     }
-    let length = (filled * 2).clamp(FIRST_ROOM, MOST);
+    let length = (filled + filled / 4).clamp(FIRST_ROOM, MOST);
     room.resize(length, 0)
 }
 
