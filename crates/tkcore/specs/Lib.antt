@@ -1,1 +1,3 @@
 pub mod Stop
+pub mod Task
+pub mod Words
