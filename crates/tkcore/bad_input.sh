@@ -1,0 +1,83 @@
+#!/usr/bin/env bash
+# Runs the built program on bad words and bytes, on input and output that fail, and on the largest scripts, each within 20
+# seconds and 800 MB of address space. It prints a line for each case, and ends with status 1 at the first that differs.
+# `rt run < /dev/null` in this folder builds the program.
+set -u
+cd "$(dirname "$0")" || exit 1
+export program=$PWD/out/tkcore row=$PWD/stdin opening='open,32,16777216,24,0,1700000000,0'
+work=$(mktemp -d)
+export work
+trap 'rm -rf "$work"' EXIT
+
+# NAME STATUS FAULT LINES LAST COMMAND: with this status the program tells the fault, or nothing, on standard error, and on
+# standard output so many lines, of which this is the last
+expect() {
+    local told=${3:+tkcore: $3} got
+    (ulimit -v 800000 && exec timeout 20 bash -c "$6") >"$work/out" 2>"$work/err"
+    got="$? '$(cat "$work/err")' $(wc -l <"$work/out") '$(tail -n 1 "$work/out")'"
+    if [ "$got" != "$2 '$told' $4 '$5'" ]; then
+        printf 'differs: %s\n  wanted: %s\n  got:    %s\n' "$1" "$2 '$told' $4 '$5'" "$got"
+        exit 1
+    fi
+    echo "as it should be: $1"
+}
+
+# NAME FAULT COMMAND: a fault, and nothing on standard output
+stops() { expect "$1" 1 "$2" 0 '' "$3"; }
+
+# BYTE COUNT: so many of it
+bytes() { head -c "$2" /dev/zero | tr '\0' "$1"; }
+
+words='words refused'
+for given in '--keep 1' 'replay --keep' 'replay --keep 0' 'replay --keep 524289' 'replay --keep +1' 'replay --help' \
+    '--help' 'help' '--version' 'many' "replay --keep \$'\\377'" "\$'\\377'"; do
+    expect "the words $given" 2 "$words" 0 '' "\$program $given <\$row"
+done
+for given in '' 'replay' 'replay --keep 007' 'replay --keep=524288'; do
+    expect "the words '$given'" 0 '' 5 'no,behind' "\$program $given <\$row"
+done
+
+stops 'a folder as input' 'cannot read' '$program </'
+stops 'no input' 'cannot read' '$program <&-'
+stops 'a full disk as output' 'cannot write' '$program <$row >/dev/full'
+stops 'no output' 'cannot write' '$program <$row >&-'
+stops 'a pipe that nobody reads' 'cannot write' \
+    '{ sleep 0.2; $program <$row; echo $? >$work/status; } | true; exit $(cat $work/status)'
+expect 'a fault that nobody hears' 1 '' 0 '' '$program </ 2>/dev/full'
+
+opening_fault='script: record 1: not a valid opening'
+large='script: larger than 16777216 bytes'
+stops 'nothing' 'script: no record' '$program </dev/null'
+stops 'a byte that is no text' "$opening_fault" "printf '\\377' | \$program"
+stops 'a word that is no text' 'script: record 2: unknown word' "printf '%s\\n\\377\\376,0\\n' \$opening | \$program"
+stops 'a zero byte in a number' 'script: record 2: not a number in range' \
+    "printf '%s\\nupdate,\\0\\n' \$opening | \$program"
+stops 'an input without end' "$large" "yes '' | \$program"
+
+bytes '\n' 16777217 >"$work/large"
+stops 'one byte too many' "$large" '$program <$work/large'
+bytes '\n' 16777216 >"$work/empty"
+stops 'empty lines' 'script: no record' '$program <$work/empty'
+bytes '\0' 16777216 >"$work/zeros"
+stops 'zero bytes' "$opening_fault" '$program <$work/zeros'
+{ printf '"' && bytes a 16777215; } >"$work/quote"
+stops 'a quote that is never closed' "$opening_fault" '$program <$work/quote'
+{ printf '%s\n"' "$opening" && bytes a 16777180; } >"$work/later_quote"
+stops 'one in a later record' 'script: record 2: unknown word' '$program <$work/later_quote'
+{ printf '"' && bytes a 16777216; } >"$work/large_quote"
+stops 'one in a large script' "$large" '$program <$work/large_quote'
+bytes ',' 16777216 >"$work/fields"
+stops 'many fields' "$opening_fault" '$program <$work/fields'
+yes a | head -c 16777216 >"$work/records"
+stops 'many records of a byte' "$opening_fault" '$program <$work/records'
+{ echo "$opening" && yes a | head -c 16777180; } >"$work/later_records"
+stops 'many behind an opening' 'script: record 2: unknown word' '$program <$work/later_records'
+
+{ echo "$opening" && yes update,0 | head -n 1864131; } >"$work/updates"
+expect 'a full journal' 0 '' 1864132 'no,full' '$program <$work/updates'
+expect 'a journal that is folded to one entry' 0 '' 1864132 'ok,1864131,0.000000000' '$program replay --keep 1 <$work/updates'
+expect 'a journal that is folded to half' 0 '' 1864132 'ok,1864131,0.000000000' \
+    '$program replay --keep 524288 <$work/updates'
+{ cat "$work/updates" && printf 'x'; } >"$work/last_fault"
+stops 'a fault in the last record' 'script: record 1864133: unknown word' '$program <$work/last_fault'
+stops 'too little memory' 'out of memory' 'ulimit -v 60000 && $program <$work/updates'
