@@ -1,4 +1,4 @@
-use super::{OPENING, act, fault_of, look};
+use super::{act, fault_of, look};
 use crate::{Script, ScriptError, Stamps};
 use std::alloc::Global;
 use std::test::Fail;
@@ -30,17 +30,19 @@ fn tells_where_the_first_record_is_cut(rt: HostRuntime) -> Result<(), Fail> {
     Ok(())
 }
 
+/// A script that begins with this text, and whose other bytes up to the greatest size are line feeds.
+fn filled(alloc: Global, text: &[u8]) -> Result<Vec<u8>, Fail> {
+    let mut bytes = text.to_vec(alloc)?;
+    bytes.resize(16_777_216, b'\n')?;
+    Ok(bytes)
+}
+
 #[test]
 fn takes_an_open_quote_to_the_end_of_the_input(rt: HostRuntime) -> Result<(), Fail> {
     let alloc = rt.alloc();
     let opening = ScriptError::Opening { row: 1 };
     assert_eq!(rt; fault(alloc, b"\"update,0\n")?, opening);
-    let mut long = Vec::from_elem(alloc, b'\n', 16_777_216)?;
-    long[0] = b'"';
-    assert_eq!(rt; fault(alloc, long.as_slice())?, opening);
-    let lines = &mut long[..OPENING.len()];
-    lines.copy_from_slice(OPENING);
-    long[OPENING.len()] = b'"';
+    let long = filled(alloc, b"open,32,16777216,24,0,1700000000,0\n\"update,0")?;
     let word = ScriptError::Word { row: 2 };
     assert_eq!(rt; fault(alloc, long.as_slice())?, word);
     Ok(())
@@ -74,7 +76,7 @@ fn takes_any_byte(rt: HostRuntime) -> Result<(), Fail> {
 
 #[test]
 fn finds_no_record_in_line_feeds(rt: HostRuntime) -> Result<(), Fail> {
-    let mut lines = Vec::from_elem(rt.alloc(), b'\n', 16_777_216)?;
+    let mut lines = filled(rt.alloc(), b"")?;
     assert_eq!(rt; fault(rt.alloc(), lines.as_slice())?, ScriptError::Empty);
     lines.push(b'\n')?;
     assert_eq!(rt; fault(rt.alloc(), lines.as_slice())?, ScriptError::TooLarge);
@@ -101,11 +103,12 @@ fn takes_carriage_returns_before_line_feeds(rt: HostRuntime) -> Result<(), Fail>
     Ok(())
 }
 
-/// A text over and over again, up to 16,777,216 bytes.
+/// A text written 2^23 times.
 fn repeated(alloc: Global, text: &[u8]) -> Result<Vec<u8>, Fail> {
-    let mut bytes = Vec::with_capacity(alloc, 16_777_216)?;
-    for _ in 0..16_777_216 / text.len() {
-        bytes.extend_from_slice(text)?;
+    let mut bytes = text.to_vec(alloc)?;
+    for _ in 0..23 {
+        let half = bytes.clone()?;
+        bytes.extend_from_slice(half.as_slice())?;
     }
     Ok(bytes)
 }
@@ -114,10 +117,8 @@ fn repeated(alloc: Global, text: &[u8]) -> Result<Vec<u8>, Fail> {
 fn tells_the_fault_of_records_of_one_byte(rt: HostRuntime) -> Result<(), Fail> {
     let bytes = repeated(rt.alloc(), b"x\n")?;
     assert_eq!(rt; bytes.len(), 16_777_216);
-    assert_eq!(rt;
-        fault(rt.alloc(), bytes.as_slice())?,
-        ScriptError::Opening { row: 1 }
-    );
+    let opening = ScriptError::Opening { row: 1 };
+    assert_eq!(rt; fault(rt.alloc(), bytes.as_slice())?, opening);
     let told = Stamps::from_bytes(rt.alloc(), bytes.as_slice());
     assert_eq!(rt; fault_of(told)?, ScriptError::Fields { row: 1 });
     Ok(())

@@ -128,11 +128,11 @@ fn refuses_a_script_by_its_length(rt: HostRuntime) -> Result<(), Fail> {
 #[test]
 fn counts_the_records_before_a_fault(rt: HostRuntime) -> Result<(), Fail> {
     let mut bytes = OPENING.to_vec(rt.alloc())?;
-    for _ in 0..1_000_000 {
+    for _ in 0..1000 {
         bytes.extend_from_slice(b"update,1\n\n")?;
     }
     bytes.extend_from_slice(b"update")?;
-    let want = ScriptError::Fields { row: 1_000_002 };
+    let want = ScriptError::Fields { row: 1002 };
     assert_eq!(rt; fault(rt.alloc(), bytes.as_slice())?, want);
     Ok(())
 }
