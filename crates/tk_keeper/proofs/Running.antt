@@ -1,5 +1,5 @@
 -- A list of events, answered one by one.
-use Rattle.std.proofs.Common.{◌≡◌, ℕ, ◌+◌, ◌-◌, ◌<◌, ◌≤◌, min, List, ◌∷◌, length, get_or, drop, refl, sym, ◌∙◌, ap, subst, arith, add-one}
+use Rattle.std.proofs.Common.{◌≡◌, ℕ, ◌+◌, ◌-◌, ◌<◌, ◌≤◌, min, List, [], ◌∷◌, ◌++◌, length, get_or, drop, refl, sym, ◌∙◌, ap, subst, arith, add-one, append_assoc}
 use Rattle.std.specs.Prelude.{Result, Ok, Err, Some, None, MatchResult, IfOk}
 use Rattle.std.proofs.Math.Seq.{drop-cons}
 use Rattle.std.proofs.lemmas.List.{length_push}
@@ -99,3 +99,9 @@ run-next journal after events k answer none within reply =
     let next : drop k events ≡ event ∷ later = rw add-one (drop-cons events k none within) in
     let from_reply : Reply → Run = λ (r : Reply). record { answers = r.answer ∷ (run r.journal later).answers; journal = (run r.journal later).journal } in
     ap (run journal) next ∙ ap from_reply reply
+
+-- the answers so far with those that are left, after one more
+pub one_more : (all before left later after : List (Result ℕ Refusal)) (answer : Result ℕ Refusal) → all ≡ before ++ left →
+    left ≡ answer ∷ later → after ≡ before ++ answer ∷ [] → all ≡ after ++ later
+one_more all before left later after answer e next told =
+    e ∙ ap (λ xs. before ++ xs) next ∙ sym (append_assoc before (answer ∷ []) later) ∙ ap (λ xs. xs ++ later) (sym told)

@@ -5,7 +5,7 @@ mod folding;
 mod past;
 mod running;
 
-use std::alloc::Global;
+use std::alloc::{Allocator, Global};
 use std::marker::Model;
 use tk_clock::{Clock, Entry, Refusal, Snapshot, Timespec};
 use tk_counter::CounterDesc;
@@ -22,22 +22,22 @@ const KEPT_EVERY: usize = 256;
 /// The clocks of a counter, with the journal of all accepted commands.
 ///
 /// Its journal is always legal, and its clocks are always what the journal comes to. It takes no lock: whoever shares
-/// it brings one.
+/// it brings one. Its memory comes from the allocator that it was opened with.
 #[derive(Drop)]
-pub struct Timekeeper {
+pub struct Timekeeper<A: Allocator = Global> {
     /// The clocks as the journal begins.
     start: Clock,
     /// How many commands were accepted before that.
     folded: u64,
     /// The commands accepted since.
-    entries: Vec<Entry>,
+    entries: Vec<Entry, A>,
     /// The clocks after each of them whose number is a multiple of 256, so that past states are near.
-    kept: Vec<Clock>,
+    kept: Vec<Clock, A>,
     /// The clocks now.
     clock: Clock,
 }
 
-impl Model for Timekeeper {
+impl<A: Allocator> Model for Timekeeper<A> {
     ghost use Rattle.std.specs.Prelude.{◌+◌, ◌-◌, length, vec_capacity};
     ghost use Rattle.tk_keeper.specs.Keeper.{Keeper, IsKept, HasKept, journal_from, room_for};
 
@@ -54,7 +54,7 @@ impl Model for Timekeeper {
         × HasKept (journal_from a.folded a.start a.entries.items) a.start a.kept.items };
 }
 
-impl Timekeeper {
+impl<A: Allocator + Copy> Timekeeper<A> {
     ghost use Rattle.tk_clock.specs.Journal.{opened, accepted_count};
     ghost use Rattle.tk_clock.specs.Legal.{IsLegal};
     ghost use Rattle.tk_clock.specs.Refusal.{opening_refusal};
@@ -65,11 +65,11 @@ impl Timekeeper {
     ///
     /// Invalid where the reading is above the mask, or where REALTIME may not be set to `real`.
     pub fn open(
-        alloc: Global,
+        alloc: A,
         desc: CounterDesc,
         reading: u64,
         real: Timespec,
-    ) -> Result<Timekeeper, Refusal>
+    ) -> Result<Timekeeper<A>, Refusal>
         ensures { MatchResult result
             (λ keeper. (opening_refusal desc reading real ≡ None)
             × (keeper.journal ≡ opened desc reading real) × (keeper.spare ≡ 0))

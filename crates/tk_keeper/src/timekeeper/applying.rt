@@ -8,9 +8,10 @@ ghost use Rattle.tk_clock.specs.State.{state_of};
 ghost use Rattle.tk_clock.specs.declared.command.Entry.{Entry};
 
 use super::{COUNTED_LIMIT, KEPT_EVERY, LISTED_LIMIT, Timekeeper};
+use std::alloc::Allocator;
 use tk_clock::{Clock, Command, Entry, Refusal};
 
-impl Timekeeper {
+impl<A: Allocator + Copy> Timekeeper<A> {
     /// Does a command to the clocks and enters it in the journal; the entry's number, counted from 1.
     ///
     /// Full where the journal has no room, then as `Clock::apply` refuses it, then Memory where the room for the entry

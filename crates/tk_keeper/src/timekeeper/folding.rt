@@ -5,8 +5,9 @@ ghost use Rattle.tk_clock.specs.Legal.{IsLegal};
 ghost use Rattle.tk_keeper.specs.Past.{IsFolded, folded_by};
 
 use super::{KEPT_EVERY, Timekeeper};
+use std::alloc::Allocator;
 
-impl Timekeeper {
+impl<A: Allocator + Copy> Timekeeper<A> {
     /// Folds the oldest entries, so that at most `keep` are listed; how many are folded then.
     ///
     /// Numbers and fronts go on as before, and no later value changes. It takes no memory: the listed entries move down
@@ -41,7 +42,7 @@ impl Timekeeper {
 }
 
 /// Takes the first items off, and moves the others down.
-fn discard<T: Copy>(items: &mut Vec<T>, places: usize)
+fn discard<T: Copy, A: Allocator>(items: &mut Vec<T, A>, places: usize)
     requires { places ≤ length items.old.items }
     ensures items { items.new.items ≡ drop places items.old.items }
     ensures capacity { vec_capacity items.new ≡ vec_capacity items.old }

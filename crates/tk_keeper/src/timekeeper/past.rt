@@ -8,9 +8,10 @@ ghost use Rattle.tk_keeper.specs.Past.{at_front, front_refusal};
 
 use super::{KEPT_EVERY, Timekeeper};
 use crate::front_error::FrontError;
+use std::alloc::Allocator;
 use tk_clock::{Clock, Snapshot};
 
-impl Timekeeper {
+impl<A: Allocator + Copy> Timekeeper<A> {
     /// What a reader was given when so many commands were accepted. It takes no memory, and at most 255 steps.
     ///
     /// Unknown where fewer were accepted, then Folded where entries after the front were folded.

@@ -3,14 +3,15 @@ ghost use Rattle.std.specs.Prelude.{◌≡◌, MatchResult};
 ghost use Rattle.tk_clock.specs.Run.{run};
 
 use super::Timekeeper;
+use std::alloc::Allocator;
 use tk_clock::{Entry, Refusal};
 
-impl Timekeeper {
+impl<A: Allocator + Copy> Timekeeper<A> {
     /// Applies the events in their order; the answer to each.
     ///
     /// All room is asked for first, so Memory applies nothing, though `spare` may be greater then, and no answer to an
     /// event is Memory.
-    pub fn run(&mut self, events: &[Entry]) -> Result<Vec<Result<u64, Refusal>>, Refusal>
+    pub fn run(&mut self, events: &[Entry]) -> Result<Vec<Result<u64, Refusal>, A>, Refusal>
         ensures { MatchResult result
             (λ answers. (answers.items ≡ (run self.old.journal events.now).answers)
             × (self.new.journal ≡ (run self.old.journal events.now).journal))

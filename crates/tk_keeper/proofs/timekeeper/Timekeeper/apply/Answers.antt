@@ -10,20 +10,19 @@ use Rattle.tk_clock.specs.Refusal.{is_full, first_refusal}
 use Rattle.tk_clock.specs.State.{state_of}
 use Rattle.tk_clock.proofs.Monotone.{never_falls, agrees}
 use Rattle.tk_clock.proofs.Legal.{first_refusal-state, state_of-followed_by, IsRefusal-told}
-use Rattle.tk_keeper.specs.Keeper.{Keeper}
-use Rattle.tk_keeper.specs.contracts.timekeeper.Timekeeper.{the_view}
+use Rattle.tk_keeper.specs.Keeper.{Keeper, journal_from}
 use Rattle.tk_keeper.proofs.timekeeper.Timekeeper.apply.Goals as goal
 
 pub returns-then-is_full-clause-rises : goal.returns-then-is_full-clause-rises
-returns-then-is_full-clause-rises c = never_falls c.args.self.now.journal
+returns-then-is_full-clause-rises g c = never_falls c.args.self.now.journal
 
 pub returns-in_err-apply-clause-rises : goal.returns-in_err-apply-clause-rises
-returns-in_err-apply-clause-rises c = never_falls c.args.self.now.journal
+returns-in_err-apply-clause-rises g c = never_falls c.args.self.now.journal
 
 pub returns-in_err-apply-clause-answer : goal.returns-in_err-apply-clause-answer
-returns-in_err-apply-clause-answer c =
+returns-in_err-apply-clause-answer g c =
     let keeper = c.self.inside in
-    let journal : Journal = (the_view keeper).journal in
+    let journal : Journal = journal_from keeper.folded keeper.start keeper.entries.items in
     let entry : Entry = record { who = c.args.who; reading = c.args.reading; cmd = c.args.cmd } in
     let room : is_full journal ≡ false = rw (← c.self.view_is) at (sym c.if-is_full.ensures) in
     let p = err_from_is_err_and c.from_residual.result c.from_residual.ensures.1 in
@@ -42,9 +41,9 @@ not_told journal entry refusal room told e =
     cc (none, memory)
 
 pub returns-in_err-apply-clause-memory : goal.returns-in_err-apply-clause-memory
-returns-in_err-apply-clause-memory c = λ e.
+returns-in_err-apply-clause-memory g c = λ e.
     let keeper = c.self.inside in
-    let journal : Journal = (the_view keeper).journal in
+    let journal : Journal = journal_from keeper.folded keeper.start keeper.entries.items in
     let entry : Entry = record { who = c.args.who; reading = c.args.reading; cmd = c.args.cmd } in
     let room : is_full journal ≡ false = rw (← c.self.view_is) at (sym c.if-is_full.ensures) in
     let p = err_from_is_err_and c.from_residual.result c.from_residual.ensures.1 in
@@ -52,9 +51,9 @@ returns-in_err-apply-clause-memory c = λ e.
     absurd (not_told journal entry _ room told cc)
 
 pub returns-in_err-make_room-clause-answer : goal.returns-in_err-make_room-clause-answer
-returns-in_err-make_room-clause-answer c =
+returns-in_err-make_room-clause-answer g c =
     let keeper = c.self.inside in
-    let journal : Journal = (the_view keeper).journal in
+    let journal : Journal = journal_from keeper.folded keeper.start keeper.entries.items in
     let entry : Entry = record { who = c.args.who; reading = c.args.reading; cmd = c.args.cmd } in
     let room : is_full journal ≡ false = rw (← c.self.view_is) at (sym c.if-is_full.ensures) in
     let p = err_from_is_err_and c.from_residual-in_err-make_room.result c.from_residual-in_err-make_room.ensures.1 in
@@ -65,12 +64,12 @@ returns-in_err-make_room-clause-answer c =
     rw (p.1, p.2, refused.0) (accepted, refused.2)
 
 pub returns-in_err-make_room-clause-rises : goal.returns-in_err-make_room-clause-rises
-returns-in_err-make_room-clause-rises c = never_falls c.make_room.new.self.journal
+returns-in_err-make_room-clause-rises g c = never_falls c.make_room.new.self.journal
 
 pub enter-requires-clause-accepted : goal.enter-requires-clause-accepted
-enter-requires-clause-accepted c =
+enter-requires-clause-accepted g c =
     let keeper = c.self.inside in
-    let journal : Journal = (the_view keeper).journal in
+    let journal : Journal = journal_from keeper.folded keeper.start keeper.entries.items in
     let entry : Entry = record { who = c.args.who; reading = c.args.reading; cmd = c.args.cmd } in
     let room : is_full journal ≡ false = rw (← c.self.view_is) at (sym c.if-is_full.ensures) in
     let told = first_refusal-state journal keeper.clock c.args.who c.args.reading c.args.cmd None c.self.invariant.0.running room c.in_ok-apply.ensures.0 in
@@ -78,9 +77,9 @@ enter-requires-clause-accepted c =
     (ap (λ (k : Keeper). k.journal) c.self.view_is ∙ sym c.make_room.ensures.journal) told
 
 pub enter-requires-clause-next : goal.enter-requires-clause-next
-enter-requires-clause-next c =
+enter-requires-clause-next g c =
     let keeper = c.self.inside in
-    let journal : Journal = (the_view keeper).journal in
+    let journal : Journal = journal_from keeper.folded keeper.start keeper.entries.items in
     let entry : Entry = record { who = c.args.who; reading = c.args.reading; cmd = c.args.cmd } in
     let next = c.in_ok-apply.ensures.1
     ∙ state_of-followed_by journal keeper.clock c.args.who c.args.reading c.args.cmd c.self.invariant.0.running c.in_ok-apply.ensures.0 in
@@ -88,9 +87,9 @@ enter-requires-clause-next c =
     (ap (λ (k : Keeper). k.journal) c.self.view_is ∙ sym c.make_room.ensures.journal) next
 
 pub returns-clause-answer : goal.returns-clause-answer
-returns-clause-answer c =
+returns-clause-answer g c =
     let keeper = c.self.inside in
-    let journal : Journal = (the_view keeper).journal in
+    let journal : Journal = journal_from keeper.folded keeper.start keeper.entries.items in
     let entry : Entry = record { who = c.args.who; reading = c.args.reading; cmd = c.args.cmd } in
     let room : is_full journal ≡ false = rw (← c.self.view_is) at (sym c.if-is_full.ensures) in
     let told = first_refusal-state journal keeper.clock c.args.who c.args.reading c.args.cmd None c.self.invariant.0.running room c.in_ok-apply.ensures.0 in (
@@ -100,9 +99,9 @@ returns-clause-answer c =
     )
 
 pub returns-clause-agrees : goal.returns-clause-agrees
-returns-clause-agrees c =
+returns-clause-agrees g c =
     let keeper = c.self.inside in
-    let journal : Journal = (the_view keeper).journal in
+    let journal : Journal = journal_from keeper.folded keeper.start keeper.entries.items in
     let entry : Entry = record { who = c.args.who; reading = c.args.reading; cmd = c.args.cmd } in
     let room : is_full journal ≡ false = rw (← c.self.view_is) at (sym c.if-is_full.ensures) in
     let told = first_refusal-state journal keeper.clock c.args.who c.args.reading c.args.cmd None c.self.invariant.0.running room c.in_ok-apply.ensures.0 in
@@ -111,4 +110,4 @@ returns-clause-agrees c =
     (sym (c.enter.ensures.journal ∙ ap (λ (j : Journal). followed_by j entry) c.make_room.ensures.journal))
 
 pub returns-clause-rises : goal.returns-clause-rises
-returns-clause-rises c = never_falls c.enter.new.self.journal
+returns-clause-rises g c = never_falls c.enter.new.self.journal

@@ -5,16 +5,15 @@ use Rattle.tk_clock.specs.declared.command.Command.TheVariants.{Update}
 use Rattle.tk_clock.specs.Journal.{Journal, prefix}
 use Rattle.tk_clock.specs.State.{state_of, effect}
 use Rattle.tk_clock.specs.Refusal.{state_refusal}
-use Rattle.tk_keeper.specs.Keeper.{Keeper}
-use Rattle.tk_keeper.specs.contracts.timekeeper.Timekeeper.{the_view}
+use Rattle.tk_keeper.specs.Keeper.{Keeper, journal_from}
 use Rattle.tk_keeper.proofs.Steps.{passes, next_state, is_done, effect_of, part_item, whole_part}
 use Rattle.tk_keeper.proofs.timekeeper.Timekeeper.clock_at.Goals as goal
 
 pub unwrap-requires : goal.unwrap-requires
-unwrap-requires c =
+unwrap-requires g c =
     let none : Entry = record { who = 0; reading = 0; cmd = Update } in
     let keeper = c.self.inside in
-    let journal : Journal = (the_view keeper).journal in
+    let journal : Journal = journal_from keeper.folded keeper.start keeper.entries.items in
     let from = c.nearest-clock.result.1 in
     let place = from + c.later.entry-index in
     let items = take (c.args.place - from) (drop from c.deref.result.now) in
@@ -28,15 +27,15 @@ unwrap-requires c =
     is_done _ _ _ c.apply.result passed c.apply.ensures
 
 pub later-init : goal.later-init
-later-init c =
+later-init g c =
     let e : c.nearest-clock.result.1 + 0 ≡ c.nearest-clock.result.1 = omega arith in
     c.nearest-clock.ensures.state ∙ ap (λ k. state_of (prefix k c.args.self.now.journal)) (sym e)
 
 pub later-preserved : goal.later-preserved
-later-preserved c =
+later-preserved g c =
     let none : Entry = record { who = 0; reading = 0; cmd = Update } in
     let keeper = c.self.inside in
-    let journal : Journal = (the_view keeper).journal in
+    let journal : Journal = journal_from keeper.folded keeper.start keeper.entries.items in
     let from = c.nearest-clock.result.1 in
     let place = from + c.later.entry-index in
     let items = take (c.args.place - from) (drop from c.deref.result.now) in
@@ -55,7 +54,7 @@ later-preserved c =
     ∙ ap (λ (k : Keeper). state_of (prefix (from + (c.later.entry-index + 1)) k.journal)) c.self.view_is
 
 pub returns : goal.returns
-returns c =
+returns g c =
     let journal = c.args.self.now.journal in
     let from = c.nearest-clock.result.1 in
     let listed : length c.deref.result.now ≡ length journal.entries =

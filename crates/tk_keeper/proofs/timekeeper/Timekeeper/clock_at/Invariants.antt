@@ -4,4 +4,4 @@ use Rattle.tk_clock.specs.State.{state_of}
 use Rattle.tk_keeper.proofs.timekeeper.Timekeeper.clock_at.Given as goal
 
 abbrev pub invariant-later : goal.invariant-later
-invariant-later l = l.clock ≡ state_of (prefix (l.kept_place + l.entry-index) l.self.journal)
+invariant-later g l = l.clock ≡ state_of (prefix (l.kept_place + l.entry-index) l.self.journal)

@@ -6,17 +6,16 @@ use Rattle.tk_clock.specs.State.{state_of}
 use Rattle.tk_clock.specs.Refusal.{first_refusal}
 use Rattle.tk_keeper.specs.Keeper.{Keeper, IsKept, HasKept, journal_from}
 use Rattle.tk_keeper.specs.declared.timekeeper.Timekeeper.TheInside.{Inside}
-use Rattle.tk_keeper.specs.contracts.timekeeper.Timekeeper.{the_view}
 use Rattle.tk_keeper.proofs.Kept.{HasKept-same, HasKept-more}
 use Rattle.tk_keeper.proofs.Room.{IsKept-followed_by}
 use Rattle.tk_keeper.proofs.timekeeper.Timekeeper.enter.Goals as goal
 use Rattle.tk_keeper.proofs.timekeeper.Timekeeper.enter.Goals.{then-number-eq0, else-number-eq0}
 
 pub invariant_of-self : goal.invariant_of-self
-invariant_of-self c =
+invariant_of-self g c =
     let keeper = c.self.inside in
     let entry = c.args.entry in
-    let journal : Journal = (the_view keeper).journal in
+    let journal : Journal = journal_from keeper.folded keeper.start keeper.entries.items in
     let accepted : first_refusal journal entry ≡ None =
     subst (λ (k : Keeper). first_refusal k.journal entry ≡ None) (sym c.self.view_is) c.requires.accepted in
     let running : c.args.next ≡ state_of (followed_by journal entry) =
@@ -24,7 +23,7 @@ invariant_of-self c =
     let kept = IsKept-followed_by journal entry keeper.clock c.args.next c.self.invariant.0 accepted running in
     let number : keeper.folded + length (keeper.entries.items ++ entry ∷ []) ≡ keeper.folded + c.len.result =
     omega (arith, length_push keeper.entries.items entry) in
-    let holds : Inside → Type 0 = λ a.
+    let holds : Inside g.row.A.Denot → Type 0 = λ a.
     IsKept (journal_from a.folded a.start a.entries.items) c.args.next
     × HasKept (journal_from a.folded a.start a.entries.items) a.start a.kept.items in
     elim c.if-number-eq0.branch [

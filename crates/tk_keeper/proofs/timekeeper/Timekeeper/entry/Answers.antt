@@ -6,7 +6,7 @@ use Rattle.std.proofs.lemmas.Bool.{lt-ltb}
 use Rattle.tk_keeper.proofs.timekeeper.Timekeeper.entry.Goals as goal
 
 pub returns : goal.returns
-returns c =
+returns g c =
     let keeper = c.self.inside in
     let place = c.args.number - keeper.folded - 1 in
     let later : nat_lt keeper.folded c.args.number ≡ true = lt-ltb keeper.folded c.args.number c.if-number-self.false in

@@ -4,15 +4,14 @@ use Rattle.tk_clock.specs.Journal.{Journal, prefix}
 use Rattle.tk_clock.specs.State.{State, state_of}
 use Rattle.tk_keeper.specs.Keeper.{Keeper, IsKept, journal_from}
 use Rattle.tk_keeper.specs.Past.{folded_by}
-use Rattle.tk_keeper.specs.contracts.timekeeper.Timekeeper.{the_view}
 use Rattle.tk_keeper.proofs.Kept.{HasKept-folded}
 use Rattle.tk_keeper.proofs.Room.{IsKept-folded}
 use Rattle.tk_keeper.proofs.timekeeper.Timekeeper.fold_first.Goals as goal
 
 pub invariant_of-self : goal.invariant_of-self
-invariant_of-self c =
+invariant_of-self g c =
     let keeper = c.self.inside in
-    let journal : Journal = (the_view keeper).journal in
+    let journal : Journal = journal_from keeper.folded keeper.start keeper.entries.items in
     let n = c.args.places in
     let start : c.clock_at-start.result ≡ state_of (prefix n journal) =
     c.clock_at-start.ensures ∙ ap (λ (k : Keeper). state_of (prefix n k.journal)) (sym c.self.view_is) in

@@ -7,7 +7,7 @@ use Rattle.tk_keeper.specs.Keeper.{IsKept, HasKept, journal_from}
 use Rattle.tk_keeper.proofs.timekeeper.Timekeeper.open.Goals as goal
 
 pub invariant_of-result : goal.invariant_of-result
-invariant_of-result c =
+invariant_of-result g c =
     let counter = c.args.desc in
     let reading = c.args.reading in
     let real = c.args.real in

@@ -1,12 +1,12 @@
-use Rattle.std.proofs.Common.{◌≡◌, ◌+◌, ◌-◌, ◌<◌, List, [], ◌∷◌, ◌++◌, length, get_or, drop, sym, ◌∙◌, ap, arith, append_assoc}
+use Rattle.std.proofs.Common.{◌≡◌, ◌+◌, ◌-◌, ◌<◌, List, length, get_or, drop, ◌∙◌, ap, arith}
 use Rattle.tk_clock.specs.declared.command.Entry.{Entry}
 use Rattle.tk_clock.specs.declared.command.Command.TheVariants.{Update}
 use Rattle.tk_clock.specs.Run.{Run, run}
-use Rattle.tk_keeper.proofs.Running.{reply-answer, never_short, room_left, run-next}
+use Rattle.tk_keeper.proofs.Running.{reply-answer, never_short, room_left, run-next, one_more}
 use Rattle.tk_keeper.proofs.timekeeper.Timekeeper.run.Goals as goal
 
 pub events-preserved : goal.events-preserved
-events-preserved c =
+events-preserved g c =
     let none : Entry = record { who = 0; reading = 0; cmd = Update } in
     let events : List Entry = c.args.events.now in
     let k = c.events.event-index in
@@ -22,11 +22,8 @@ events-preserved c =
     let fewer : length events - (k + 1) ≡ left - 1 = omega arith in
     let later = (run after.journal (drop (k + 1) events)).answers in
     record {
-      answers =
-          held.answers
-          ∙ ap (λ (r : Run). c.events.answers.items ++ r.answers) next
-          ∙ sym (append_assoc c.events.answers.items (c.apply.result ∷ []) later)
-          ∙ ap (λ xs. xs ++ later) (sym c.push_reserved.ensures.items);
+      answers = one_more _ c.events.answers.items _ later c.push_reserved.new.self.items c.apply.result held.answers
+          (ap (λ (r : Run). r.answers) next) c.push_reserved.ensures.items;
       journal = held.journal ∙ ap (λ (r : Run). r.journal) next;
       room = omega arith;
       spare = rw fewer (room_left before after event c.apply.result left c.apply.ensures.answer c.apply.ensures.spare some held.spare);

@@ -4,7 +4,7 @@ use Rattle.tk_clock.specs.Run.{run}
 use Rattle.tk_keeper.proofs.timekeeper.Timekeeper.run.Given as goal
 
 abbrev pub invariant-events : goal.invariant-events
-invariant-events l = record {
+invariant-events g l = record {
   answers : (run l.fn.self.journal l.events).answers
       ≡ l.answers.items ++ (run l.self.journal (drop l.event-index l.events)).answers;
   journal : (run l.fn.self.journal l.events).journal ≡ (run l.self.journal (drop l.event-index l.events)).journal;

@@ -7,7 +7,7 @@ use Rattle.tk_keeper.specs.Keeper.{Keeper}
 use Rattle.tk_keeper.proofs.timekeeper.Timekeeper.snapshot.Goals as goal
 
 pub returns-clause-clocks : goal.returns-clause-clocks
-returns-clause-clocks c = λ clock reading.
+returns-clause-clocks g c = λ clock reading.
     let told = ap (λ (s : Snapshot). s.base) c.snapshot.ensures in
     let running = ap (λ (s : State). s.base) c.self.invariant.0.running in
     let same = ap (λ (k : Keeper). base_of k.journal) c.self.view_is in
@@ -15,4 +15,4 @@ returns-clause-clocks c = λ clock reading.
     ∙ base_value-base_of c.args.self.now.journal clock reading
 
 pub returns-clause-honest : goal.returns-clause-honest
-returns-clause-honest c = awake_cycles-honest c.args.self.now.journal
+returns-clause-honest g c = awake_cycles-honest c.args.self.now.journal

@@ -8,7 +8,7 @@ use Rattle.tk_keeper.specs.Past.{at_front}
 use Rattle.tk_keeper.proofs.timekeeper.Timekeeper.snapshot_at.Goals as goal
 
 pub returns-clause-clocks : goal.returns-clause-clocks
-returns-clause-clocks c = λ clock reading.
+returns-clause-clocks g c = λ clock reading.
     let journal = c.args.self.now.journal in
     let told = ap (λ (s : Snapshot). s.base) c.snapshot.ensures in
     let count = ap (λ (k : Keeper). k.journal.opening.count) c.self.view_is in
