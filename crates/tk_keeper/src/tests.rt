@@ -2,6 +2,7 @@
 
 mod folding;
 mod full;
+mod heap;
 mod memory;
 mod past;
 mod refusals;
@@ -11,19 +12,19 @@ mod sleep;
 mod steering;
 
 use crate::Timekeeper;
-use std::alloc::Global;
+use std::alloc::Allocator;
 use std::process::Abort;
 use std::test::Fail;
 use tk_clock::{ClockId, Command, Refusal, Snapshot, Timespec};
 use tk_counter::CounterDesc;
 
 /// A timekeeper of one nanosecond a cycle, opened at reading 0, 1,700,000,000 seconds after 1970.
-fn opened(alloc: Global) -> Result<Timekeeper, Fail> {
+fn opened<A: Allocator + Copy>(alloc: A) -> Result<Timekeeper<A>, Fail> {
     opened_at(alloc, 0)
 }
 
 /// The same, opened at another reading.
-fn opened_at(alloc: Global, reading: u64) -> Result<Timekeeper, Fail> {
+fn opened_at<A: Allocator + Copy>(alloc: A, reading: u64) -> Result<Timekeeper<A>, Fail> {
     let desc = CounterDesc::new(32, 16_777_216, 24)?;
     let real = time(1_700_000_000, 0);
     Ok(Timekeeper::open(alloc, desc, reading, real)?)
@@ -33,19 +34,24 @@ fn time(sec: i64, nsec: u32) -> Timespec {
     Timespec { sec, nsec }
 }
 
+/// How many commands were accepted, and the words of the snapshot.
+fn told<A: Allocator + Copy>(keeper: &Timekeeper<A>) -> (usize, [u64; 10]) {
+    (keeper.len(), keeper.snapshot().words())
+}
+
 /// Applies a command, once more where memory was refused, which must have changed nothing.
-fn applied(
+fn applied<A: Allocator + Copy>(
     rt: &impl Abort,
-    keeper: &mut Timekeeper,
+    keeper: &mut Timekeeper<A>,
     reading: u64,
     cmd: Command,
 ) -> Result<u64, Refusal> {
-    let before = (keeper.len(), keeper.spare());
+    let before = (told(keeper), keeper.spare());
     let answer = keeper.apply(0, reading, cmd);
     if answer != Err(Refusal::Memory) {
         return answer;
     }
-    assert_eq!(rt; (keeper.len(), keeper.spare()), before);
+    assert_eq!(rt; (told(keeper), keeper.spare()), before);
     keeper.apply(0, reading, cmd)
 }
 

@@ -1,62 +1,130 @@
-use super::{applied, opened};
+use super::heap::Heap;
+use super::{applied, opened, told};
 use crate::Timekeeper;
+use std::alloc::Allocator;
 use std::process::Abort;
 use std::test::Fail;
-use tk_clock::{Command, Refusal};
+use tk_clock::{Command, Entry, Refusal};
 
-/// Makes room, once more where memory was refused, which must have left the journal.
-fn reserved(rt: &impl Abort, keeper: &mut Timekeeper, extra: usize) -> Result<(), Refusal> {
-    let before = (keeper.len(), keeper.spare());
-    match keeper.reserve(extra) {
-        Ok(()) => Ok(()),
-        Err(refusal) => {
-            assert_eq!(rt; refusal, Refusal::Memory);
-            assert!(rt; keeper.len() == before.0 && keeper.spare() >= before.1);
-            keeper.reserve(extra)
-        }
+/// Brings the clocks forward by one nanosecond, so many times.
+fn updates<A: Allocator + Copy>(rt: &impl Abort, keeper: &mut Timekeeper<A>, many: u64) {
+    for number in 1..=many {
+        assert_eq!(rt; keeper.apply(0, number, Command::Update), Ok(number));
     }
 }
 
 #[test]
-fn reserved_commands_take_no_memory(rt: HostRuntime) -> Result<(), Fail> {
-    let mut keeper = opened(rt.alloc())?;
+fn spare_commands_go_through_while_every_request_is_refused(rt: HostRuntime) -> Result<(), Fail> {
+    let heap = Heap::new(rt.alloc());
+    let mut keeper = opened(&heap)?;
     assert_eq!(rt; keeper.spare(), 0);
-    reserved(&rt, &mut keeper, 1_000)?;
-    assert!(rt; keeper.spare() >= 1_000);
-    for number in 1..=100_000 {
-        let spare = keeper.spare();
-        if spare == 0 {
-            break;
-        }
-        assert_eq!(rt; keeper.apply(0, number, Command::Update), Ok(number));
-        assert_eq!(rt; keeper.spare(), spare - 1);
+    keeper.reserve(1_000)?;
+    heap.refuse_all();
+    let spare = keeper.spare();
+    assert!(rt; spare >= 1_000);
+    for number in 1..=spare {
+        let reading = number as u64;
+        assert_eq!(rt; keeper.apply(0, reading, Command::Update), Ok(reading));
+        assert_eq!(rt; keeper.spare(), spare - number);
     }
-    assert!(rt; keeper.spare() == 0 && keeper.len() >= 1_000);
-    let number = applied(&rt, &mut keeper, 100_000, Command::Update)?;
-    assert_eq!(rt; number, keeper.len() as u64);
+    let before = told(&keeper);
+    let next = keeper.len() as u64 + 1;
+    for _ in 0..2 {
+        let refused = keeper.apply(0, next, Command::Update);
+        assert_eq!(rt; refused, Err(Refusal::Memory));
+        assert_eq!(rt; (told(&keeper), keeper.spare()), (before, 0));
+    }
+    let wrong = keeper.apply(0, 4_294_967_296, Command::Update);
+    assert_eq!(rt; wrong, Err(Refusal::Invalid));
+    heap.grant_all();
+    assert_eq!(rt; keeper.apply(0, next, Command::Update), Ok(next));
     Ok(())
+}
+
+#[test]
+fn each_growth_refused_in_turn_refuses_one_command(rt: HostRuntime) -> Result<(), Fail> {
+    let heap = Heap::new(rt.alloc());
+    for request in 1..=100 {
+        let mut keeper = opened(&heap)?;
+        heap.refuse(request);
+        for number in 1..=600 {
+            let answer = applied(&rt, &mut keeper, number, Command::Update);
+            assert_eq!(rt; answer, Ok(number), "request {request}");
+        }
+        if heap.grant_all() {
+            assert!(rt; request > 4);
+            return Ok(());
+        }
+    }
+    Err("each run met a refusal".into())
+}
+
+#[test]
+fn each_growth_refused_in_turn_leaves_the_journal(rt: HostRuntime) -> Result<(), Fail> {
+    let heap = Heap::new(rt.alloc());
+    for request in 1..=100 {
+        let mut keeper = opened(&heap)?;
+        updates(&rt, &mut keeper, 255);
+        let before = told(&keeper);
+        let spare = keeper.spare();
+        heap.refuse(request);
+        let answer = keeper.reserve(1_000);
+        let granted = heap.grant_all();
+        if answer == Err(Refusal::Memory) {
+            assert!(rt; !granted && keeper.spare() >= spare);
+            assert_eq!(rt; told(&keeper), before);
+            keeper.reserve(1_000)?;
+        }
+        assert_eq!(rt; told(&keeper), before);
+        assert!(rt; keeper.spare() >= 1_000);
+        if granted {
+            assert!(rt; request > 2);
+            return Ok(());
+        }
+    }
+    Err("each call met a refusal".into())
+}
+
+#[test]
+fn each_growth_refused_in_turn_applies_nothing_of_a_run(rt: HostRuntime) -> Result<(), Fail> {
+    let heap = Heap::new(rt.alloc());
+    let event = Entry {
+        who: 3,
+        reading: 1_000,
+        cmd: Command::Update,
+    };
+    let events = [event; 300];
+    for request in 1..=100 {
+        let mut keeper = opened(&heap)?;
+        let before = told(&keeper);
+        heap.refuse(request);
+        let answers = match keeper.run(&events) {
+            Ok(answers) => answers,
+            Err(refusal) => {
+                assert_eq!(rt; refusal, Refusal::Memory);
+                assert_eq!(rt; told(&keeper), before);
+                keeper.run(&events)?
+            }
+        };
+        for (place, answer) in answers.iter().enumerate() {
+            assert_eq!(rt; *answer, Ok(place as u64 + 1));
+        }
+        assert_eq!(rt; (answers.len(), keeper.len()), (300, 300));
+        if heap.grant_all() {
+            assert!(rt; request > 3);
+            return Ok(());
+        }
+    }
+    Err("each run met a refusal".into())
 }
 
 #[test]
 fn room_for_three_holds_three(rt: HostRuntime) -> Result<(), Fail> {
-    let mut keeper = opened(rt.alloc())?;
-    reserved(&rt, &mut keeper, 3)?;
+    let heap = Heap::new(rt.alloc());
+    let mut keeper = opened(&heap)?;
+    keeper.reserve(3)?;
     assert!(rt; keeper.spare() >= 3);
-    for number in 1..=3 {
-        assert_eq!(rt; keeper.apply(0, number, Command::Update), Ok(number));
-    }
-    Ok(())
-}
-
-#[test]
-fn every_growth_comes_before_the_entry(rt: HostRuntime) -> Result<(), Fail> {
-    let mut keeper = opened(rt.alloc())?;
-    for number in 1..=3_000 {
-        assert_eq!(rt;
-            applied(&rt, &mut keeper, number, Command::Update),
-            Ok(number)
-        );
-    }
-    assert_eq!(rt; keeper.len(), 3_000);
+    heap.refuse_all();
+    updates(&rt, &mut keeper, 3);
     Ok(())
 }
