@@ -1,5 +1,5 @@
 //! Many commands at once.
-ghost use Rattle.std.specs.Prelude.{◌≡◌, MatchResult};
+ghost use Rattle.std.specs.Prelude.{◌≡◌, ◌<◌, ◌≤◌, length, MatchResult};
 ghost use Rattle.tk_clock.specs.Run.{run};
 
 use super::Timekeeper;
@@ -10,12 +10,13 @@ impl<A: Allocator + Copy> Timekeeper<A> {
     /// Applies the events in their order; the answer to each.
     ///
     /// All room is asked for first, so Memory applies nothing, though `spare` may be greater then, and no answer to an
-    /// event is Memory.
+    /// event is Memory. Without events it takes no memory.
     pub fn run(&mut self, events: &[Entry]) -> Result<Vec<Result<u64, Refusal>, A>, Refusal>
         ensures { MatchResult result
             (λ answers. (answers.items ≡ (run self.old.journal events.now).answers)
             × (self.new.journal ≡ (run self.old.journal events.now).journal))
-            (λ refusal. (refusal ≡ Refusal.Memory) × (self.new.journal ≡ self.old.journal)) }
+            (λ refusal. (refusal ≡ Refusal.Memory) × (0 < length events.now)
+            × (self.new.journal ≡ self.old.journal) × (self.old.spare ≤ self.new.spare)) }
     {
         let Ok(mut answers) = Vec::with_capacity(*self.entries.allocator(), events.len()) else {
             return Err(Refusal::Memory);
