@@ -18,6 +18,57 @@ use std::test::Fail;
 use tk_clock::{ClockId, Command, Refusal, Snapshot, Timespec};
 use tk_counter::CounterDesc;
 
+/// REALTIME where the clocks are opened, in nanoseconds.
+const OPENED_REAL: u64 = 1_700_000_000_000_000_000;
+
+/// The words of the snapshot at the opening.
+const OPENED_WORDS: [u64; 10] = [0, 0, 16_777_216, 0, 0, OPENED_REAL, 0, 0, 0, 0];
+
+/// A thousand nanoseconds, in the units of MONOTONIC.
+const THOUSAND: u64 = 16_777_216_000;
+
+/// After a Suspend at reading 1,000.
+const ASLEEP_WORDS: [u64; 10] = [
+    1,
+    1_000,
+    16_777_216,
+    THOUSAND,
+    0,
+    OPENED_REAL,
+    0,
+    1,
+    THOUSAND,
+    0,
+];
+
+/// After a Resume at reading 5 as well, 5.5 s later.
+const AWAKE_WORDS: [u64; 10] = [
+    2,
+    5,
+    16_777_216,
+    THOUSAND,
+    0,
+    1_700_000_005_500_000_000,
+    5_500_000_000,
+    0,
+    THOUSAND,
+    0,
+];
+
+/// After a Tick to 11,000 at reading 0, and the highest frequency from reading 10^9 on.
+const TICKED_WORDS: [u64; 10] = [
+    2,
+    1_000_000_000,
+    18_463_326,
+    1_677_721_000_000_000,
+    1,
+    OPENED_REAL,
+    0,
+    0,
+    0,
+    1,
+];
+
 /// A timekeeper of one nanosecond a cycle, opened at reading 0, 1,700,000,000 seconds after 1970.
 fn opened<A: Allocator + Copy>(alloc: A) -> Result<Timekeeper<A>, Fail> {
     opened_at(alloc, 0)

@@ -1,4 +1,4 @@
-use super::{answers, applied, opened, reads, time};
+use super::{ASLEEP_WORDS, AWAKE_WORDS, TICKED_WORDS, answers, applied, opened, reads, time};
 use crate::FrontError;
 use std::test::Fail;
 use tk_clock::{ClockId, Command, Refusal};
@@ -20,6 +20,7 @@ fn folded_entries_are_gone_and_count_on(rt: HostRuntime) -> Result<(), Fail> {
     assert_eq!(rt; keeper.entry(1), None);
     assert!(rt; keeper.entry(2).is_some());
     assert_eq!(rt; keeper.snapshot_at(0).err(), Some(FrontError::Folded));
+    assert_eq!(rt; keeper.snapshot_at(1)?.mult(), 16_785_604);
     reads(
         &rt,
         &keeper.snapshot_at(1)?,
@@ -39,6 +40,7 @@ fn a_sleep_outlasts_folding(rt: HostRuntime) -> Result<(), Fail> {
     let mut keeper = opened(rt.alloc())?;
     answers(&rt, &mut keeper, &[(1_000, Command::Suspend, Ok(1))]);
     assert_eq!(rt; keeper.fold(0), 1);
+    assert_eq!(rt; keeper.snapshot().words(), ASLEEP_WORDS);
     answers(
         &rt,
         &mut keeper,
@@ -47,6 +49,7 @@ fn a_sleep_outlasts_folding(rt: HostRuntime) -> Result<(), Fail> {
             (5, Command::Resume(time(5, 500_000_000)), Ok(2)),
         ],
     );
+    assert_eq!(rt; keeper.snapshot().words(), AWAKE_WORDS);
     reads(
         &rt,
         &keeper.snapshot(),
@@ -66,7 +69,9 @@ fn a_tick_outlasts_folding(rt: HostRuntime) -> Result<(), Fail> {
     let at = 1_000_000_000;
     answers(&rt, &mut keeper, &[(0, Command::Tick(11_000), Ok(1))]);
     assert_eq!(rt; keeper.fold(0), 1);
+    assert_eq!(rt; keeper.snapshot().mult(), 18_454_937);
     answers(&rt, &mut keeper, &[(at, Command::Freq(32_768_000), Ok(2))]);
+    assert_eq!(rt; keeper.snapshot().words(), TICKED_WORDS);
     reads(
         &rt,
         &keeper.snapshot(),

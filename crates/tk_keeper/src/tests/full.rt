@@ -30,6 +30,7 @@ fn a_full_journal_refuses_every_command(rt: HostRuntime) -> Result<(), Fail> {
         &keeper.snapshot(),
         &[(ClockId::Monotonic, 5, time(0, 0))],
     );
+    assert!(rt; keeper.snapshot().asleep());
     assert_eq!(rt; keeper.reserve(5), Ok(()));
     Ok(())
 }

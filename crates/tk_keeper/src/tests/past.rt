@@ -1,4 +1,4 @@
-use super::{answers, applied, opened, reads, time};
+use super::{OPENED_REAL, OPENED_WORDS, answers, applied, opened, reads, time};
 use crate::FrontError;
 use std::test::Fail;
 use tk_clock::{ClockId, Command};
@@ -14,6 +14,12 @@ fn each_front_keeps_its_own_clocks(rt: HostRuntime) -> Result<(), Fail> {
             (0, Command::Freq(65_536_000), Ok(1)),
             (at, Command::Freq(-32_768_000), Ok(2)),
         ],
+    );
+    assert_eq!(rt; keeper.snapshot_at(0)?.words(), OPENED_WORDS);
+    let first = keeper.snapshot_at(1)?;
+    assert_eq!(rt;
+        (first.front(), first.mult(), first.last()),
+        (1, 16_785_604, 0)
     );
     for (front, reading, told) in [
         (0, at, time(1, 0)),
@@ -47,15 +53,31 @@ fn fronts_round_a_kept_state_are_exact(rt: HostRuntime) -> Result<(), Fail> {
         (600, 600_000),
     ] {
         let last = time(0, nanos);
+        let snapshot = keeper.snapshot_at(front)?;
+        assert_eq!(rt; snapshot.last(), u64::from(nanos));
         reads(
             &rt,
-            &keeper.snapshot_at(front)?,
+            &snapshot,
             &[
                 (ClockId::MonotonicCoarse, 0, last),
                 (ClockId::MonotonicRaw, u64::from(nanos), last),
             ],
         );
     }
+    let units = 4_294_967_296_000;
+    let at_256 = [
+        256,
+        256_000,
+        16_777_216,
+        units,
+        0,
+        OPENED_REAL,
+        0,
+        0,
+        units,
+        0,
+    ];
+    assert_eq!(rt; keeper.snapshot_at(256)?.words(), at_256);
     assert_eq!(rt; keeper.snapshot_at(601).err(), Some(FrontError::Unknown));
     Ok(())
 }

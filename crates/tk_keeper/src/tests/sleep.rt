@@ -1,19 +1,21 @@
-use super::{answers, opened, reads, time};
+use super::{ASLEEP_WORDS, AWAKE_WORDS, answers, opened, reads, time};
 use std::test::Fail;
 use tk_clock::{ClockId, Command, Refusal};
 
 #[test]
 fn a_suspension_moves_realtime_and_boottime(rt: HostRuntime) -> Result<(), Fail> {
     let mut keeper = opened(rt.alloc())?;
+    answers(&rt, &mut keeper, &[(1_000, Command::Suspend, Ok(1))]);
+    assert_eq!(rt; keeper.snapshot().words(), ASLEEP_WORDS);
     answers(
         &rt,
         &mut keeper,
         &[
-            (1_000, Command::Suspend, Ok(1)),
             (2_000, Command::Update, Err(Refusal::Asleep)),
             (5, Command::Resume(time(5, 500_000_000)), Ok(2)),
         ],
     );
+    assert_eq!(rt; keeper.snapshot().words(), AWAKE_WORDS);
     reads(
         &rt,
         &keeper.snapshot(),
