@@ -2,7 +2,9 @@
 
 mod fakes;
 mod full;
+mod memory;
 mod reports;
+mod scenarios;
 mod streams;
 
 /// Opens a counter of one nanosecond a cycle, and brings the clocks forward by half of the counter's range.

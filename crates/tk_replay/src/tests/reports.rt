@@ -6,7 +6,7 @@ use std::test::Fail;
 use tk_script::ScriptError;
 
 /// Both reports of the script are this text.
-fn assert_report(rt: &impl Abort, alloc: Global, script: &[u8], text: &[u8]) {
+pub(super) fn assert_report(rt: &impl Abort, alloc: Global, script: &[u8], text: &[u8]) {
     for told in [report(alloc, script), report_bounded(alloc, script, 1)] {
         match told {
             Ok(told) => assert_eq!(rt; told.as_slice(), text),

@@ -98,18 +98,3 @@ fn counts_what_went_out_before_a_write_fails(rt: HostRuntime) {
         }
     }
 }
-
-#[test]
-fn writes_nothing_for_want_of_memory(rt: HostRuntime) {
-    for is_bounded in BOTH {
-        let mut writer = Writer::new(10, NEVER, Turn::Fails);
-        let mut script = SCRIPT;
-        match replayed(rt.alloc(), is_bounded, &mut script, &mut writer) {
-            Ok(()) => assert_eq!(rt; writer.text(), REPORT),
-            Err(fault) => {
-                assert_eq!(rt; fault, Fault::Memory);
-                assert_eq!(rt; writer.len, 0);
-            }
-        }
-    }
-}
