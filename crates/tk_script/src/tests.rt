@@ -2,6 +2,7 @@ mod bytes;
 mod commands;
 mod faults;
 mod lines;
+mod memory;
 mod scripts;
 mod stamps;
 mod words;
