@@ -26,8 +26,8 @@ timed_of row fields =
     else Err (errors.Fields row)
 
 -- a reading and a signed number
-unfoldable pub signed_of : ℕ → List (List ℕ) → Result (ℕ × ℤ) ScriptError
-signed_of row fields =
+unfoldable pub valued_of : ℕ → List (List ℕ) → Result (ℕ × ℤ) ScriptError
+valued_of row fields =
     if length fields == 3 then (do
       reading ← number_at row fields 1
       value ← signed_at row fields 2
@@ -62,9 +62,9 @@ row_of row fields =
     else if is_word (field fields 0) (codes "get") then look (look_of row fields)
     else if is_word (field fields 0) (codes "set") then with_operand SetTime (timed_of row fields)
     else if is_word (field fields 0) (codes "step") then with_operand Step (timed_of row fields)
-    else if is_word (field fields 0) (codes "freq") then with_operand Freq (signed_of row fields)
-    else if is_word (field fields 0) (codes "tick") then with_operand Tick (signed_of row fields)
-    else if is_word (field fields 0) (codes "tai") then with_operand Tai (signed_of row fields)
+    else if is_word (field fields 0) (codes "freq") then with_operand Freq (valued_of row fields)
+    else if is_word (field fields 0) (codes "tick") then with_operand Tick (valued_of row fields)
+    else if is_word (field fields 0) (codes "tai") then with_operand Tai (valued_of row fields)
     else if is_word (field fields 0) (codes "suspend") then plain Suspend (plain_of row fields)
     else if is_word (field fields 0) (codes "resume") then with_operand Resume (timed_of row fields)
     else Err (errors.Word row)

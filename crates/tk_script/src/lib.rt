@@ -1,4 +1,4 @@
-//! Scripts of commands and reads and lists of stamps, taken from bytes, and the lines of a report on a script.
+//! Scripts of commands and reads, and lists of stamps, taken from bytes, and the lines of a report.
 //!
 //! | Item | What it is |
 //! |---|---|
@@ -11,7 +11,7 @@
 //! | `utc` | a time as UTC text |
 //! | `Calendar` | the same lines of clocks, with each date worked out once |
 //!
-//! Units: readings in cycles; times in seconds and nanoseconds; records are counted from 1, fields from 0.
+//! Readings in cycles; times in seconds and nanoseconds; records count from 1, fields from 0.
 #![tactic(auto)]
 
 mod at_lines;

@@ -10,7 +10,8 @@ use std::alloc::Global;
 /// How many bytes a script or a stamp file may have.
 pub(crate) const SIZE_LIMIT: usize = 16_777_216;
 
-/// A reader of the bytes by the crate's defaults, but that no record is a header and that lengths may differ.
+/// A reader of the bytes by the crate's defaults, but that no record is a header and that lengths
+/// may differ.
 pub(crate) fn open_reader(alloc: Global, bytes: &[u8]) -> Reader<&[u8]>
     ensures reading { IsReading result }
     ensures left { left_of result ≡ Some (records_of bytes.now) }
@@ -21,7 +22,8 @@ pub(crate) fn open_reader(alloc: Global, bytes: &[u8]) -> Reader<&[u8]>
         .from_reader(alloc, bytes)
 }
 
-/// Reads the next record, if there is one. From bytes in memory a read fails for want of memory alone.
+/// Reads the next record, if there is one. From bytes in memory a read fails for want of memory
+/// alone.
 pub(crate) fn next_fields(
     reader: &mut Reader<&[u8]>,
     fields: &mut ByteRecord,

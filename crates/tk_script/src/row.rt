@@ -32,11 +32,11 @@ pub(crate) fn read_row(row: u64, fields: &ByteRecord) -> Result<Row, ScriptError
     } else if has_word(word, b"step") {
         read_timed(row, fields).map(|(reading, time)| act(reading, Command::Step(time)))
     } else if has_word(word, b"freq") {
-        read_signed(row, fields).map(|(reading, freq)| act(reading, Command::Freq(freq)))
+        read_valued(row, fields).map(|(reading, freq)| act(reading, Command::Freq(freq)))
     } else if has_word(word, b"tick") {
-        read_signed(row, fields).map(|(reading, tick)| act(reading, Command::Tick(tick)))
+        read_valued(row, fields).map(|(reading, tick)| act(reading, Command::Tick(tick)))
     } else if has_word(word, b"tai") {
-        read_signed(row, fields).map(|(reading, tai)| act(reading, Command::Tai(tai)))
+        read_valued(row, fields).map(|(reading, tai)| act(reading, Command::Tai(tai)))
     } else if has_word(word, b"suspend") {
         read_plain(row, fields).map(|reading| act(reading, Command::Suspend))
     } else if has_word(word, b"resume") {
@@ -78,9 +78,9 @@ fn read_timed(row: u64, fields: &ByteRecord) -> Result<(u64, Timespec), ScriptEr
 }
 
 /// A reading and a signed number.
-#[tactic(auto, unfolding(crate::specs::Rows::signed_of))]
-fn read_signed(row: u64, fields: &ByteRecord) -> Result<(u64, i64), ScriptError>
-    ensures { result ≡ spec.signed_of row (fields_of fields.now) }
+#[tactic(auto, unfolding(crate::specs::Rows::valued_of))]
+fn read_valued(row: u64, fields: &ByteRecord) -> Result<(u64, i64), ScriptError>
+    ensures { result ≡ spec.valued_of row (fields_of fields.now) }
 {
     if fields.len() != 3 {
         return Err(ScriptError::Fields { row });

@@ -25,7 +25,7 @@ pub struct Script {
 impl Script {
     ghost use Rattle.tk_script.specs.Script.{parse};
 
-    /// The script that the bytes spell, or its first fault.
+    /// The script that the bytes spell, or its first fault, in the order that `ScriptError` tells.
     pub fn from_bytes(alloc: Global, bytes: &[u8]) -> Result<Script, ScriptError>
         ensures gives { Gives parse result (parse_of bytes.now) }
         // clocks can be opened as the script says

@@ -1,15 +1,16 @@
 use thiserror::Error;
 
-/// What is wrong with a script or a stamp file: its first fault, or want of memory, in the order of the tests.
+/// What is wrong with a script or a stamp file: its first fault in the order of the tests, or want
+/// of memory.
 ///
-/// The first record with a fault decides. Within it the word comes first, then the number of fields, then the fields
-/// from left to right, and last what the opening says.
+/// The first record with a fault decides. In it the word comes first, then the number of fields,
+/// then the fields from left to right, and last what the opening says.
 #[derive(Clone, Copy, Debug, PartialEq, Eq, Error)]
 pub enum ScriptError {
     /// It has more than 16,777,216 bytes.
     #[error("larger than 16777216 bytes")]
     TooLarge,
-    /// It has no record, and is a script.
+    /// A script has no record.
     #[error("no record")]
     Empty,
     /// The first record isn't an opening, or the clocks can't be opened as it says.

@@ -1,4 +1,4 @@
-ghost use Rattle.std.specs.Prelude.{◌≡◌, ℕ, List, IfOk, IfErr, OnOk, OnErr, Some, length, ◌++◌, ◌∷◌, []};
+ghost use Rattle.std.specs.Prelude.{◌≡◌, ℕ, List, IfOk, IfErr, OnOk, Some, length, ◌++◌, ◌∷◌, []};
 ghost use Rattle.csv.specs.Records.{fields_of};
 ghost use Rattle.tk_script.specs.Reading.{IsReading, left_of};
 ghost use Rattle.tk_script.specs.Grammar.{Gives};
@@ -10,17 +10,19 @@ use crate::script_error::ScriptError;
 use csv::{ByteRecord, Reader};
 use std::alloc::Global;
 
-/// Stamps to be told in a clock's time, each with its front: how many accepted commands come before it.
+/// Stamps to be told in a clock's time, each with its front: how many accepted commands come before
+/// it in a script.
 #[derive(Drop)]
 pub struct Stamps {
-    /// Each item's front. Reads and refused commands of the script count for nothing.
+    /// Each item's front. Reads and refused commands count for nothing.
     pub fronts: Vec<u64>,
     /// In the same order, each item's stamp: a reading of the counter, in cycles.
     pub stamps: Vec<u64>,
 }
 
 impl Stamps {
-    /// The stamps that the bytes of a stamp file spell, or its first fault. A file without a record has none.
+    /// The stamps that the bytes of a file spell, or its first fault: too many bytes, and then of
+    /// each record the number of fields, the front and the stamp. Without a record it has no stamps.
     pub fn from_bytes(alloc: Global, bytes: &[u8]) -> Result<Stamps, ScriptError>
         ensures gives { Gives spec.items result (spec.stamps_of bytes.now) }
         ensures paired { IfOk result (λ s. length s.fronts.items ≡ length s.stamps.items) }

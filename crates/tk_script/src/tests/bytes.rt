@@ -30,7 +30,7 @@ fn tells_where_the_first_record_is_cut(rt: HostRuntime) -> Result<(), Fail> {
     Ok(())
 }
 
-/// A script that begins with this text, and whose other bytes up to the greatest size are line feeds.
+/// A script that begins with this text, and is filled to the greatest size by line feeds.
 fn filled(alloc: Global, text: &[u8]) -> Result<Vec<u8>, Fail> {
     let mut bytes = text.to_vec(alloc)?;
     bytes.resize(16_777_216, b'\n')?;

@@ -107,7 +107,7 @@ fn tells_the_fault_of_a_later_record(rt: HostRuntime) -> Result<(), Fail> {
     Ok(())
 }
 
-/// The fault of a script with one record of an unknown word, and then empty lines up to this length.
+/// The fault of a record of an unknown word, with empty lines behind it up to this length.
 fn fault_of_size(alloc: Global, len: usize) -> Result<ScriptError, Fail> {
     let mut bytes = b"x\n".to_vec(alloc)?;
     bytes.resize(len, b'\n')?;

@@ -1,4 +1,4 @@
-//! Each call gives its answer, or `Memory` where memory is refused. A test that met `Memory` ends by it.
+//! Each call gives its answer, or `Memory` where memory is refused, by which a test then ends.
 
 use super::{act, look};
 use crate::{Script, ScriptError, Stamps, line_at, line_no, line_ok, line_open, utc};
