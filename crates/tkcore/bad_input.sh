@@ -75,7 +75,8 @@ stops 'many behind an opening' 'script: record 2: unknown word' '$program <$work
 
 { echo "$opening" && yes update,0 | head -n 1864131; } >"$work/updates"
 expect 'a full journal' 0 '' 1864132 'no,full' '$program <$work/updates'
-expect 'a journal that is folded to one entry' 0 '' 1864132 'ok,1864131,0.000000000' '$program replay --keep 1 <$work/updates'
+expect 'a journal that is folded to one entry' 0 '' 1864132 'ok,1864131,0.000000000' \
+    '$program replay --keep 1 <$work/updates'
 expect 'a journal that is folded to half' 0 '' 1864132 'ok,1864131,0.000000000' \
     '$program replay --keep 524288 <$work/updates'
 { cat "$work/updates" && printf 'x'; } >"$work/last_fault"

@@ -72,8 +72,8 @@ clock_refusal-alike journal whole alike entry =
     ∙ sym (clock_refusal-state whole entry.who entry.reading entry.cmd)
 
 -- one more accepted entry leaves them alike
-pub IsAlike-followed_by : (journal whole : Journal) → IsAlike journal whole → (entry : Entry) → clock_refusal journal entry ≡ None →
-    IsAlike (followed_by journal entry) (followed_by whole entry)
+pub IsAlike-followed_by : (journal whole : Journal) → IsAlike journal whole → (entry : Entry) →
+    clock_refusal journal entry ≡ None → IsAlike (followed_by journal entry) (followed_by whole entry)
 IsAlike-followed_by journal whole alike entry accepted =
     let passes : state_refusal (state_of journal) entry.reading entry.cmd ≡ None =
     sym (clock_refusal-state journal entry.who entry.reading entry.cmd) ∙ accepted in
@@ -84,8 +84,8 @@ IsAlike-followed_by journal whole alike entry accepted =
     }
 
 -- a reply leaves them alike, its answer is the same, and so is its line
-pub reply-alike : (journal whole : Journal) → IsAlike journal whole → (entry : Entry) (told : Option Refusal) → clock_refusal journal entry ≡ told →
-    IsAlike (reply_if journal entry told).journal (reply_if whole entry told).journal
+pub reply-alike : (journal whole : Journal) → IsAlike journal whole → (entry : Entry) (told : Option Refusal) →
+    clock_refusal journal entry ≡ told → IsAlike (reply_if journal entry told).journal (reply_if whole entry told).journal
 reply-alike journal whole alike entry None accepted = IsAlike-followed_by journal whole alike entry accepted
 reply-alike journal whole alike entry (Some refusal) refused = alike
 
@@ -94,7 +94,8 @@ pub answer-alike : (journal whole : Journal) → IsAlike journal whole → (entr
 answer-alike journal whole alike entry None = ap (λ n. Ok (n + 1)) alike.count
 answer-alike journal whole alike entry (Some refusal) = refl
 
-line-alike : (journal whole : Journal) → IsAlike journal whole → (entry : Entry) (told : Option Refusal) → clock_refusal journal entry ≡ told →
+line-alike : (journal whole : Journal) → IsAlike journal whole → (entry : Entry) (told : Option Refusal) →
+    clock_refusal journal entry ≡ told →
     reply_line entry.reading (reply_if journal entry told) ≡ reply_line entry.reading (reply_if whole entry told)
 line-alike journal whole alike entry None accepted =
     let next = IsAlike-followed_by journal whole alike entry accepted in
@@ -103,8 +104,8 @@ line-alike journal whole alike entry None accepted =
     (monotonic-alike (followed_by journal entry) (followed_by whole entry) next entry.reading)
 line-alike journal whole alike entry (Some refusal) refused = refl
 
-IsLookLine-alike : (journal whole : Journal) → IsAlike journal whole → (clock : ClockId) (reading : ℕ) (told : Option Refusal) (line : List ℕ) →
-    IsLookLine journal clock reading told line → IsLookLine whole clock reading told line
+IsLookLine-alike : (journal whole : Journal) → IsAlike journal whole → (clock : ClockId) (reading : ℕ)
+    (told : Option Refusal) (line : List ℕ) → IsLookLine journal clock reading told line → IsLookLine whole clock reading told line
 IsLookLine-alike journal whole alike clock reading None line (time, (nanos, value, split), text) =
     (time, (nanos, sym (clock_value-alike journal whole alike clock reading) ∙ value, split), text)
 IsLookLine-alike journal whole alike clock reading (Some refusal) line text = text
@@ -116,22 +117,25 @@ is_line-alike journal whole alike (Act reading cmd) line told =
     told ∙ line-alike journal whole alike entry (clock_refusal journal entry) refl
     ∙ ap (λ r. reply_line reading (reply_if whole entry r)) (clock_refusal-alike journal whole alike entry)
 is_line-alike journal whole alike (Look reading clock) line told =
-    subst (λ (r : Option Refusal). IsLookLine whole clock reading r line) (look_refusal-alike journal whole alike clock reading)
+    subst (λ (r : Option Refusal). IsLookLine whole clock reading r line)
+    (look_refusal-alike journal whole alike clock reading)
     (IsLookLine-alike journal whole alike clock reading (look_refusal journal clock reading) line told)
 
 after-alike : (journal whole : Journal) → IsAlike journal whole → (row : Row) →
     IsAlike (after clock_refusal journal row) (after clock_refusal whole row)
 after-alike journal whole alike (Act reading cmd) =
     let entry = event reading cmd in
-    subst (λ (r : Option Refusal). IsAlike (reply_by clock_refusal journal entry).journal (reply_if whole entry r).journal)
+    let next = (reply_by clock_refusal journal entry).journal in
+    subst (λ (r : Option Refusal). IsAlike next (reply_if whole entry r).journal)
     (clock_refusal-alike journal whole alike entry)
     (reply-alike journal whole alike entry (clock_refusal journal entry) refl)
 after-alike journal whole alike (Look reading clock) = alike
 
 -- the line of a record on a journal is that on the one that it stands for
-pub IsLine-stands : (keep : Option ℕ) (journal whole : Journal) → StandsFor keep journal whole → (row : Row) (line : List ℕ) →
-    IsLine (rule_of keep) journal row line → IsLine (rule_of keep) whole row line
-IsLine-stands None journal whole same row line told = subst (λ (j : Journal). IsLine (rule_of None) j row line) same told
+pub IsLine-stands : (keep : Option ℕ) (journal whole : Journal) → StandsFor keep journal whole →
+    (row : Row) (line : List ℕ) → IsLine (rule_of keep) journal row line → IsLine (rule_of keep) whole row line
+IsLine-stands None journal whole same row line told =
+    subst (λ (j : Journal). IsLine (rule_of None) j row line) same told
 IsLine-stands (Some keep) journal whole alike row line told = is_line-alike journal whole alike row line told
 
 -- and so is the journal after it
@@ -140,4 +144,5 @@ pub StandsFor-after : (keep : Option ℕ) (journal whole next : Journal) → Sta
 StandsFor-after None journal whole next same row told =
     told ∙ ap (λ (j : Journal). after (rule_of None) j row) same
 StandsFor-after (Some keep) journal whole next alike row told =
-    IsAlike-trans next (after clock_refusal journal row) (after clock_refusal whole row) told (after-alike journal whole alike row)
+    IsAlike-trans next (after clock_refusal journal row) (after clock_refusal whole row) told
+    (after-alike journal whole alike row)

@@ -34,22 +34,27 @@ IsAlike-folded before after folded = record {
 }
 
 -- and has room
-pub has_room : (before after : Journal) (folded keep : ℕ) → folded ≡ max before.opening.count (accepted_count before - keep) →
-    after.opening.count ≡ folded → IsAlike after before → keep ≤ 524288 → accepted_count before < 2 ^ 63 - 1 → is_full after ≡ false
+pub has_room : (before after : Journal) (folded keep : ℕ) →
+    folded ≡ max before.opening.count (accepted_count before - keep) →
+    after.opening.count ≡ folded → IsAlike after before → keep ≤ 524288 → accepted_count before < 2 ^ 63 - 1 →
+    is_full after ≡ false
 has_room before after folded keep told same alike small few =
     let listed : length after.entries < 1048576 = omega (arith, alike.count) in
     let counted : accepted_count after < 2 ^ 63 - 1 = omega (arith, alike.count) in
     grind (arith, common_steps)
 
 -- where there is room, the clocks alone refuse
-not_full : (journal : Journal) (entry : Entry) → is_full journal ≡ false → reply_to journal entry ≡ reply_by clock_refusal journal entry
+not_full : (journal : Journal) (entry : Entry) → is_full journal ≡ false →
+    reply_to journal entry ≡ reply_by clock_refusal journal entry
 not_full journal entry room =
     ap (λ (b : Bool). reply_if journal entry (if b then Some Full else clock_refusal journal entry)) room
 
 -- what is answered where memory isn't wanting is the whole journal's reply
-replied : (whole : Journal) (kept after : Keeper) (entry : Entry) (result : Result ℕ Refusal) → IsAlike kept.journal whole →
-    is_full kept.journal ≡ false → IsAnswer kept entry result after → (result ≡ Err Memory → ⊥) →
-    ((reply_by clock_refusal whole entry).answer ≡ result) × IsAlike after.journal (reply_by clock_refusal whole entry).journal
+replied : (whole : Journal) (kept after : Keeper) (entry : Entry) (result : Result ℕ Refusal) →
+    IsAlike kept.journal whole → is_full kept.journal ≡ false → IsAnswer kept entry result after →
+    (result ≡ Err Memory → ⊥) →
+    ((reply_by clock_refusal whole entry).answer ≡ result)
+    × IsAlike after.journal (reply_by clock_refusal whole entry).journal
 replied whole kept after entry result alike room answered enough =
     let same : reply_by clock_refusal kept.journal entry ≡ record { answer = result; journal = after.journal } =
     sym (not_full kept.journal entry room) ∙ reply-answer kept after entry result answered enough in
@@ -57,7 +62,8 @@ replied whole kept after entry result alike room answered enough =
     let P : Option Refusal → Type 0 = λ r.
     ((reply_if whole entry r).answer ≡ result) × IsAlike after.journal (reply_if whole entry r).journal in
     subst P told (
-      sym (answer-alike kept.journal whole alike entry (clock_refusal kept.journal entry)) ∙ ap (λ (r : Reply). r.answer) same,
+      sym (answer-alike kept.journal whole alike entry (clock_refusal kept.journal entry))
+          ∙ ap (λ (r : Reply). r.answer) same,
       subst (λ (r : Reply). IsAlike r.journal (reply_if whole entry (clock_refusal kept.journal entry)).journal) same
           (reply-alike kept.journal whole alike entry (clock_refusal kept.journal entry) refl),
     )

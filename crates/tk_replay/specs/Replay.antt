@@ -10,13 +10,15 @@ use Rattle.tk_replay.specs.Writing.{IsWrittenUpTo}
 
 -- the report of all that was read went out, by the fact that tells which text is the report of which bytes. Of a reader
 -- the bytes that it had left and has, and of a writer those that it held and holds, where they are known
-abbrev pub IsReplayed : (List ℕ → List ℕ → Type 0) → Option (List ℕ) → Option (List ℕ) → Option (List ℕ) → Option (List ℕ) → Type 0
+abbrev pub IsReplayed :
+    (List ℕ → List ℕ → Type 0) → Option (List ℕ) → Option (List ℕ) → Option (List ℕ) → Option (List ℕ) → Type 0
 IsReplayed IsTold unread left held holds =
     (bytes : List ℕ) × (text : List ℕ) × IsReadToEnd unread left bytes × IsTold bytes text × Appends held holds text
 
--- what each fault leaves of a reader's bytes and of a writer: the first bytes of the report went out, or the writer is as
--- it was
-abbrev pub Leaves : (List ℕ → List ℕ → Type 0) → {W : Type 0} → Option (List ℕ) → Option (List ℕ) → (W → Option (List ℕ)) → W → W → Fault → Type 0
+-- what each fault leaves of a reader's bytes and of a writer: the first bytes of the report went out, or the writer is
+-- as it was
+abbrev pub Leaves : (List ℕ → List ℕ → Type 0) → {W : Type 0} →
+    Option (List ℕ) → Option (List ℕ) → (W → Option (List ℕ)) → W → W → Fault → Type 0
 Leaves IsTold unread left contents old new faults.Read = new ≡ old
 Leaves IsTold unread left contents old new (faults.Script error) =
     (bytes : List ℕ) × IsReadToEnd unread left bytes × (parse_of bytes ≡ Err error) × (error ≢ errors.Memory)

@@ -11,8 +11,10 @@ use tk_keeper::Timekeeper;
 /// Who gives a script's commands.
 const CALLER: u32 = 0;
 
-/// Does a command to the clocks; its number, or its first refusal. Where the journal is full, it is first folded
-/// to its last `keep` entries, or with no such number the command is refused.
+/// Does a command to the clocks; its number, or its first refusal.
+///
+/// Where the journal is full, it is first folded to its last `keep` entries. Without that the command is
+/// refused as Full.
 pub(crate) fn apply(
     keeper: &mut Timekeeper,
     keep: Option<u64>,

@@ -57,8 +57,8 @@ pub fn replay_bounded<R: Source, W: Sink>(
     replay_by(alloc, reader, writer, Some(keep))
 }
 
-/// Reads a script to its end, makes its report by a journal that is folded to its last `keep` entries where it is
-/// full, or isn't, writes it and flushes.
+/// Reads a script to its end, makes its report, writes it and flushes. A full journal is folded to its last
+/// `keep` entries, or refuses commands.
 fn replay_by<R: Source, W: Sink>(
     alloc: Global,
     reader: &mut R,

@@ -28,8 +28,8 @@ pub fn report(alloc: Global, script: &[u8]) -> Result<Vec<u8>, ScriptError>
 
 /// The report of a script's bytes in bounded memory: no command is refused as Full.
 ///
-/// A journal of 1,048,576 entries is folded to its last `keep` entries before the next command. All else is as in
-/// `report`, and the lines are those of a journal that lists every command.
+/// A journal of 1,048,576 entries is folded to its last `keep` entries before the next command. The lines are
+/// those of a journal that lists every command. All else is as in `report`.
 pub fn report_bounded(alloc: Global, script: &[u8], keep: u64) -> Result<Vec<u8>, ScriptError>
     requires { (1 ≤ keep) × (keep ≤ 524288) }
     ensures { MatchResult result
@@ -39,7 +39,7 @@ pub fn report_bounded(alloc: Global, script: &[u8], keep: u64) -> Result<Vec<u8>
     report_by(alloc, script, Some(keep))
 }
 
-/// The report of a script's bytes, by a journal that is folded to its last `keep` entries where it is full, or isn't.
+/// The report of a script's bytes. A full journal is folded to its last `keep` entries, or refuses commands.
 pub(crate) fn report_by(
     alloc: Global,
     script: &[u8],

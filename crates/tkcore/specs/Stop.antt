@@ -35,6 +35,8 @@ IsOfWords (stops.Fault (faults.Write written)) = ⊥
 
 -- what a stop leaves of a reader's bytes and of a writer: refused words leave the writer as it was, and a fault what it
 -- leaves of some task
-abbrev pub StopLeaves : {W : Type 0} → Option (List ℕ) → Option (List ℕ) → (W → Option (List ℕ)) → W → W → Stop → Type 0
+abbrev pub StopLeaves :
+    {W : Type 0} → Option (List ℕ) → Option (List ℕ) → (W → Option (List ℕ)) → W → W → Stop → Type 0
 StopLeaves unread left contents old new stops.Words = new ≡ old
-StopLeaves unread left contents old new (stops.Fault fault) = (task : Task) × Leaves (told_by task) unread left contents old new fault
+StopLeaves unread left contents old new (stops.Fault fault) =
+    (task : Task) × Leaves (told_by task) unread left contents old new fault

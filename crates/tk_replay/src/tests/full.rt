@@ -10,7 +10,7 @@ const COMMANDS: usize = 1_048_577;
 /// How the report ends where the last of them is accepted.
 const LAST: &[u8] = b"ok,1048576,0.000000000\nok,1048577,0.000000000\n";
 
-/// How long it is then: the opening's line of 20 bytes, 16 bytes for each command, and their numbers' 6,228,935 digits.
+/// How long it is then: 20 bytes for the opening, 16 for each command, and 6,228,935 digits of their numbers.
 const LENGTH: usize = 20 + 16 * COMMANDS + 6_228_935;
 
 /// A script of so many updates that the journal has no room for the last one.

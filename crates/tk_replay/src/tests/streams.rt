@@ -70,7 +70,7 @@ fn stops_reading_at_the_limit(rt: HostRuntime) {
     }
 }
 
-/// A piece of this many bytes a write, the turn after so many calls, whether flushes go through, and how much goes out.
+/// So many bytes a write, the turn after so many calls, whether flushes go through, and how much goes out.
 const TURNS: [(usize, u32, Turn, bool, usize); 4] = [
     (10, 3, Turn::Fails, true, 30),
     (10, 9, Turn::TakesNone, true, 90),

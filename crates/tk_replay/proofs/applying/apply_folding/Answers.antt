@@ -16,8 +16,8 @@ returns-in-Err-Full c =
     let few : accepted_count before.journal < 2 ^ 63 - 1 =
     subst (λ (k : Keeper). accepted_count k.journal < 2 ^ 63 - 1) same c.requires.count in
     let alike = IsAlike-folded before.journal folded.journal c.fold.ensures.same in
-    let room = has_room before.journal folded.journal c.fold.result c.args.keep c.fold.ensures.answer c.fold.ensures.folded
-    alike c.requires.keep few in
+    let room = has_room before.journal folded.journal c.fold.result c.args.keep c.fold.ensures.answer
+    c.fold.ensures.folded alike c.requires.keep few in
     let entry = event c.args.reading c.args.cmd in
     let P : Keeper → Type 0 = λ k. IsReplied (Some c.args.keep) (reply_by clock_refusal k.journal entry)
     c.apply-in-Err-Full.result c.apply-in-Err-Full.new.self.journal in

@@ -16,7 +16,8 @@ IsOk-no_err (Err error) e = cc
 pub unwrap-time-requires : goal.unwrap-time-requires
 unwrap-time-requires c =
     let entry = event c.args.reading c.args.cmd in
-    let free = look_refusal-replied c.args.keep c.args.keeper.now.journal c.apply.new.keeper.journal entry c.in-Ok.number c.in-Ok.ensures in
+    let free = look_refusal-replied c.args.keep c.args.keeper.now.journal c.apply.new.keeper.journal entry c.in-Ok.number
+    c.in-Ok.ensures in
     IsOk-no_err c.time_at.result (sym c.time_at.ensures.refusal ∙ free)
 
 pub returns-in-Ok-clause-line : goal.returns-in-Ok-clause-line

@@ -9,8 +9,8 @@ use Rattle.tkcore.specs.Stop.{IsOfWords, StopLeaves}
 use Rattle.tkcore.proofs.words.run.Goals as goal
 
 -- what comes of the words alone leaves the writer as it was
-leaves_all : {W : Type 0} (unread left : Option (List ℕ)) (contents : W → Option (List ℕ)) (writer : W) (stop : Stop) → IsOfWords stop →
-    StopLeaves unread left contents writer writer stop
+leaves_all : {W : Type 0} (unread left : Option (List ℕ)) (contents : W → Option (List ℕ)) (writer : W) (stop : Stop) →
+    IsOfWords stop → StopLeaves unread left contents writer writer stop
 leaves_all unread left contents writer stops.Words ofWords = refl
 leaves_all unread left contents writer (stops.Fault faults.Memory) ofWords = (tasks.Replay, refl)
 leaves_all unread left contents writer (stops.Fault faults.Read) ofWords = absurd ofWords
@@ -21,5 +21,5 @@ pub returns-in_err-task_of-clause-err : goal.returns-in_err-task_of-clause-err
 returns-in_err-task_of-clause-err g c =
     let told = err_from_is_err_and c.from_residual-in_err-task_of.result c.from_residual-in_err-task_of.ensures.1 in
     rw (told.1, told.2)
-    (leaves_all (g.R.Read.remaining c.args.reader.now) (g.R.Read.remaining c.args.reader.now) g.W.Write.contents c.args.writer.now
-    c.in_err-task_of.field-0.0 c.in_err-task_of.ensures.err)
+    (leaves_all (g.R.Read.remaining c.args.reader.now) (g.R.Read.remaining c.args.reader.now) g.W.Write.contents
+    c.args.writer.now c.in_err-task_of.field-0.0 c.in_err-task_of.ensures.err)
