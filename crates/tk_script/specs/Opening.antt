@@ -1,6 +1,6 @@
 -- The first record of a script: the counter, its reading and the real time at which the clocks are opened.
-use Rattle.std.specs.Option.{ok_or}
 use Rattle.std.specs.Prelude.{ℕ, List, length, is_none, Result, Ok, Err, ◌==◌, if◌then◌else◌, codes}
+use Rattle.std.specs.Option.{ok_or}
 use Rattle.tk_counter.specs.Counter.{Counter}
 use Rattle.tk_counter.specs.Description.{first_fault}
 use Rattle.tk_counter.specs.Frequency as frequency
@@ -26,7 +26,8 @@ running bits hz maxsec =
 -- clocks with this counter, opened at a reading and a real time, if they can be
 abbrev pub started : Counter → ℕ → Timespec → Result Start ScriptError
 started counter reading real =
-    if is_none (opening_refusal counter reading real) then Ok (record { desc = counter; reading = reading; real = real })
+    if is_none (opening_refusal counter reading real)
+    then Ok (record { desc = counter; reading = reading; real = real })
     else Err (errors.Opening 1)
 
 -- `open` with bits, mult, shift, reading, sec and nsec
