@@ -1,5 +1,6 @@
 mod bytes;
 mod commands;
+mod dates;
 mod faults;
 mod lines;
 mod memory;
