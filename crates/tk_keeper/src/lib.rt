@@ -4,6 +4,7 @@
 //! |---|---|
 //! | `Timekeeper` | the clocks and their journal: opened, changed by commands, read by snapshots, folded |
 //! | `FrontError` | why a front has no snapshot |
+//! | `TraceError` | why a trace isn't converted |
 //!
 //! Units are those of `tk_clock`. Entries are numbered from 1, and a front is how many commands were accepted: both
 //! count the folded ones too.
@@ -11,9 +12,11 @@
 
 mod front_error;
 mod timekeeper;
+mod trace_error;
 
 pub use front_error::FrontError;
 pub use timekeeper::Timekeeper;
+pub use trace_error::TraceError;
 
 #[cfg(test)]
 mod tests;

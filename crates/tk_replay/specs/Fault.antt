@@ -2,13 +2,16 @@
 use Rattle.std.specs.Prelude.{ℕ, List, Option, Some, None, codes}
 use Rattle.tk_script.specs.declared.script_error.ScriptError.{ScriptError}
 use Rattle.tk_script.specs.declared.script_error.ScriptError.TheVariants as errors
+use Rattle.tk_keeper.specs.TraceError.{trace_text}
 use Rattle.tk_replay.specs.declared.fault.Fault.{Fault}
 use Rattle.tk_replay.specs.declared.fault.Fault.TheVariants as faults
 
--- the text of a fault; that of a script's error is not said here
+-- the text of a fault; that of a script's or a stamp file's error is not said here
 abbrev pub fault_text : Fault → Option (List ℕ)
 fault_text faults.Read = Some (codes "cannot read")
 fault_text (faults.Script error) = None
+fault_text (faults.Stamps error) = None
+fault_text (faults.Trace error) = trace_text error
 fault_text faults.Memory = Some (codes "out of memory")
 fault_text (faults.Write written) = Some (codes "cannot write")
 

@@ -17,4 +17,6 @@ abbrev pub StopsReading : {S : Type 0} → (S → Option ℕ → S → Type 0) �
 StopsReading read_gives now faults.Read = ReadFailed read_gives now
 StopsReading read_gives now faults.Memory = Unit {0}
 StopsReading read_gives now (faults.Script error) = ⊥
+StopsReading read_gives now (faults.Stamps error) = ⊥
+StopsReading read_gives now (faults.Trace error) = ⊥
 StopsReading read_gives now (faults.Write written) = ⊥

@@ -16,13 +16,15 @@ IsReplayed IsTold unread left held holds =
     (bytes : List ℕ) × (text : List ℕ) × IsReadToEnd unread left bytes × IsTold bytes text × Appends held holds text
 
 -- what each fault leaves of a reader's bytes and of a writer: the first bytes of the report went out, or the writer is
--- as it was
+-- as it was. The faults of a trace don't come
 abbrev pub Leaves : (List ℕ → List ℕ → Type 0) → {W : Type 0} →
     Option (List ℕ) → Option (List ℕ) → (W → Option (List ℕ)) → W → W → Fault → Type 0
 Leaves IsTold unread left contents old new faults.Read = new ≡ old
 Leaves IsTold unread left contents old new (faults.Script error) =
     (bytes : List ℕ) × IsReadToEnd unread left bytes × (parse_of bytes ≡ Err error) × (error ≢ errors.Memory)
     × (new ≡ old)
+Leaves IsTold unread left contents old new (faults.Stamps error) = ⊥
+Leaves IsTold unread left contents old new (faults.Trace error) = ⊥
 Leaves IsTold unread left contents old new faults.Memory = new ≡ old
 Leaves IsTold unread left contents old new (faults.Write written) =
     (bytes : List ℕ) × (text : List ℕ) × IsReadToEnd unread left bytes × IsTold bytes text
@@ -32,5 +34,7 @@ Leaves IsTold unread left contents old new (faults.Write written) =
 abbrev pub HasFailed : Type 0 → Type 0 → Fault → Type 0
 HasFailed read write faults.Read = read
 HasFailed read write (faults.Script error) = Unit {0}
+HasFailed read write (faults.Stamps error) = Unit {0}
+HasFailed read write (faults.Trace error) = Unit {0}
 HasFailed read write faults.Memory = Unit {0}
 HasFailed read write (faults.Write written) = write

@@ -5,6 +5,7 @@ ghost use Rattle.tk_replay.specs.declared.fault.Fault.TheVariants.{Memory};
 use std::alloc::AllocError;
 use std::error::Error;
 use std::fmt;
+use tk_keeper::TraceError;
 use tk_script::ScriptError;
 
 /// Why a replay stopped. In every fault but `Write` nothing was written.
@@ -14,6 +15,10 @@ pub enum Fault {
     Read,
     /// The bytes are no script. This is never `ScriptError::Memory`.
     Script(ScriptError),
+    /// The bytes are no stamp file, and never `ScriptError::Memory`. Only a trace reads one.
+    Stamps(ScriptError),
+    /// A stamp can't be converted, and never `TraceError::Memory`. Only a trace converts them.
+    Trace(TraceError),
     /// Memory was refused, before anything was written.
     Memory,
     /// A write or the flush answered an error, or a write took nothing.
@@ -30,6 +35,8 @@ impl fmt::Display for Fault {
         match self {
             Fault::Read => write!(f, "cannot read"),
             Fault::Script(error) => write!(f, "script: {error}"),
+            Fault::Stamps(error) => write!(f, "stamps: {error}"),
+            Fault::Trace(error) => write!(f, "{error}"),
             Fault::Memory => write!(f, "out of memory"),
             Fault::Write { .. } => write!(f, "cannot write"),
         }

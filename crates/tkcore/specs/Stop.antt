@@ -31,6 +31,8 @@ IsOfWords stops.Words = Unit {0}
 IsOfWords (stops.Fault faults.Memory) = Unit {0}
 IsOfWords (stops.Fault faults.Read) = ⊥
 IsOfWords (stops.Fault (faults.Script error)) = ⊥
+IsOfWords (stops.Fault (faults.Stamps error)) = ⊥
+IsOfWords (stops.Fault (faults.Trace error)) = ⊥
 IsOfWords (stops.Fault (faults.Write written)) = ⊥
 
 -- what a stop leaves of a reader's bytes and of a writer: refused words leave the writer as it was, and a fault what it

@@ -3,6 +3,7 @@ use crate::{Fault, report, report_bounded};
 use std::alloc::Global;
 use std::process::Abort;
 use std::test::Fail;
+use tk_keeper::TraceError;
 use tk_script::ScriptError;
 
 /// Both reports of the script are this text.
@@ -119,6 +120,26 @@ fn names_each_fault(rt: HostRuntime) -> Result<(), Fail> {
         (
             Fault::Script(ScriptError::Number { row: 4 }),
             "script: record 4: not a number in range",
+        ),
+        (
+            Fault::Stamps(ScriptError::Fields { row: 5 }),
+            "stamps: record 5: wrong number of fields",
+        ),
+        (
+            Fault::Trace(TraceError::Unknown { index: 3 }),
+            "item 3: unknown front",
+        ),
+        (
+            Fault::Trace(TraceError::Folded { index: 0 }),
+            "item 0: folded front",
+        ),
+        (
+            Fault::Trace(TraceError::Invalid { index: 1 }),
+            "item 1: stamp above the mask",
+        ),
+        (
+            Fault::Trace(TraceError::Range { index: 2 }),
+            "item 2: value out of range",
         ),
     ];
     for (fault, text) in texts {

@@ -15,6 +15,8 @@ leaves_all unread left contents writer stops.Words ofWords = refl
 leaves_all unread left contents writer (stops.Fault faults.Memory) ofWords = (tasks.Replay, refl)
 leaves_all unread left contents writer (stops.Fault faults.Read) ofWords = absurd ofWords
 leaves_all unread left contents writer (stops.Fault (faults.Script error)) ofWords = absurd ofWords
+leaves_all unread left contents writer (stops.Fault (faults.Stamps error)) ofWords = absurd ofWords
+leaves_all unread left contents writer (stops.Fault (faults.Trace error)) ofWords = absurd ofWords
 leaves_all unread left contents writer (stops.Fault (faults.Write written)) ofWords = absurd ofWords
 
 pub returns-in_err-task_of-clause-err : goal.returns-in_err-task_of-clause-err
