@@ -72,3 +72,10 @@ no,invalid\n\
 no,invalid\n";
     assert_report(&rt, rt.alloc(), script, text);
 }
+
+#[test]
+fn a_tai_offset_is_a_command(rt: HostRuntime) {
+    let script = b"open,32,16777216,24,0,1700000000,0\ntai,0,1\nget,0,tai\n";
+    let text = b"open,32,16777216,24\nok,1,0.000000000\nat,tai,1700000001.000000000\n";
+    assert_report(&rt, rt.alloc(), script, text);
+}
