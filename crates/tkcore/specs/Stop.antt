@@ -4,7 +4,7 @@ use Rattle.clap.specs.declared.error.ErrorKind.{ErrorKind}
 use Rattle.clap.specs.declared.error.ErrorKind.TheVariants.{OutOfMemory}
 use Rattle.tk_replay.specs.declared.fault.Fault.TheVariants as faults
 use Rattle.tk_replay.specs.Fault.{fault_text}
-use Rattle.tk_replay.specs.Replay.{Leaves}
+use Rattle.tk_replay.specs.Replay.{HasFailed, Leaves}
 use Rattle.tkcore.specs.declared.stop.Stop.{Stop}
 use Rattle.tkcore.specs.declared.stop.Stop.TheVariants as stops
 use Rattle.tkcore.specs.declared.task.Task.{Task}
@@ -42,3 +42,8 @@ abbrev pub StopLeaves :
 StopLeaves unread left contents old new stops.Words = new ≡ old
 StopLeaves unread left contents old new (stops.Fault fault) =
     (task : Task) × Leaves (told_by task) unread left contents old new fault
+
+-- what failed, where a stop is of a read or of a write
+abbrev pub StopFailed : Type 0 → Type 0 → Stop → Type 0
+StopFailed read write stops.Words = Unit {0}
+StopFailed read write (stops.Fault fault) = HasFailed read write fault

@@ -1,5 +1,7 @@
 ghost use Rattle.std.specs.Prelude.{IfErr, OnOk};
-ghost use Rattle.tk_replay.specs.Replay.{IsReplayed, Leaves};
+ghost use Rattle.tk_replay.specs.Reading.{ReadFailed};
+ghost use Rattle.tk_replay.specs.Replay.{HasFailed, IsReplayed, Leaves};
+ghost use Rattle.tk_replay.specs.Writing.{IsFlushed, WriteFailed};
 ghost use Rattle.tkcore.specs.Task.{IsAllowed, told_by};
 
 use std::alloc::Global;
@@ -29,9 +31,13 @@ impl Task {
         ensures ok { OnOk result (IsReplayed (told_by self)
             (R.Read.remaining reader.old) (R.Read.remaining reader.new)
             (W.Write.contents writer.old) (W.Write.contents writer.new)) }
+        ensures flushed { OnOk result (IsFlushed W.Sink.flush_gives writer.new) }
         ensures err { IfErr result (Leaves (told_by self)
             (R.Read.remaining reader.old) (R.Read.remaining reader.new)
             W.Write.contents writer.old writer.new) }
+        ensures failed { IfErr result (HasFailed
+            (ReadFailed R.Source.read_gives reader.new)
+            (WriteFailed W.Sink.write_gives W.Sink.flush_gives writer.new)) }
     {
         match self {
             Task::Replay => replay(alloc, reader, writer),

@@ -4,6 +4,7 @@ use crate::stop::Stop;
 use crate::task::Task;
 use crate::words::task_of;
 use std::alloc::{AllocError, Global};
+use std::io::{Error, ErrorKind};
 use std::process::Abort;
 use std::test::Fail;
 use tk_replay::Fault;
@@ -93,6 +94,14 @@ fn refuses_other_words(rt: HostRuntime) -> Result<(), Fail> {
         assert_words(&rt, rt.alloc(), words, Err(Stop::Words))?;
     }
     Ok(())
+}
+
+#[test]
+fn refuses_words_that_could_not_be_taken(rt: HostRuntime) {
+    let words = Stop::from(Error::from(ErrorKind::InvalidData));
+    assert_eq!(rt; words, Stop::Words);
+    let memory = Stop::from(Error::from(ErrorKind::OutOfMemory));
+    assert_eq!(rt; memory, Stop::Fault(Fault::Memory));
 }
 
 /// What the script's replay tells where it stops.

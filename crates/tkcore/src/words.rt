@@ -1,9 +1,12 @@
-ghost use Rattle.std.specs.Prelude.{◌≡◌, IfErr, IfOk, OnOk};
+ghost use Rattle.std.specs.Prelude.{◌≡◌, codes, IfErr, IfOk, OnOk};
+ghost use Rattle.clap.specs.Words.{first_value, found_of};
+ghost use Rattle.tk_replay.specs.Reading.{ReadFailed};
 ghost use Rattle.tk_replay.specs.Replay.{IsReplayed};
+ghost use Rattle.tk_replay.specs.Writing.{IsFlushed, WriteFailed};
 ghost use Rattle.tkcore.specs.declared.task.Task.{Task};
-ghost use Rattle.tkcore.specs.Stop.{IsOfWords, StopLeaves};
+ghost use Rattle.tkcore.specs.Stop.{IsOfWords, StopFailed, StopLeaves};
 ghost use Rattle.tkcore.specs.Task.{IsAllowed, told_by};
-ghost use Rattle.tkcore.specs.Words.{keep_of};
+ghost use Rattle.tkcore.specs.Words.{keep_of, replay_by};
 
 use crate::stop::Stop;
 use crate::task::Task;
@@ -23,9 +26,13 @@ pub(crate) fn run<R: Source, W: Sink>(
     ensures ok { OnOk result ((task : Task) × IsReplayed (told_by task)
         (R.Read.remaining reader.old) (R.Read.remaining reader.new)
         (W.Write.contents writer.old) (W.Write.contents writer.new)) }
+    ensures flushed { OnOk result (IsFlushed W.Sink.flush_gives writer.new) }
     ensures err { IfErr result (StopLeaves
         (R.Read.remaining reader.old) (R.Read.remaining reader.new)
         W.Write.contents writer.old writer.new) }
+    ensures failed { IfErr result (StopFailed
+        (ReadFailed R.Source.read_gives reader.new)
+        (WriteFailed W.Sink.write_gives W.Sink.flush_gives writer.new)) }
 {
     let given: Vec<String> = given.collect(alloc)?;
     task_of(alloc, given.as_slice())?.run(alloc, reader, writer)?;
@@ -46,6 +53,7 @@ pub(crate) fn task_of(alloc: Global, given: &[String]) -> Result<Task, Stop>
 
 /// How a script is to be replayed.
 fn replay_of(found: &ArgMatches) -> Result<Task, Stop>
+    ensures told { result ≡ replay_by (first_value (found_of found.now) (codes "keep")) }
     ensures ok { IfOk result IsAllowed }
     ensures err { IfErr result IsOfWords }
 {
