@@ -13,7 +13,7 @@ use Rattle.tk_clock.specs.declared.refusal.Refusal.TheVariants.{Asleep, Awake, I
 use Rattle.tk_clock.specs.Command.{is_resume}
 use Rattle.tk_clock.specs.Monotonic.{cycles_since}
 use Rattle.tk_clock.specs.State.{State, base_monotonic, base_value, forwarded, effect}
-use Rattle.tk_clock.specs.Limits.{limit, is_well_formed, is_past_limit, is_bad_setting, sets_real}
+use Rattle.tk_clock.specs.Limits.{limit, is_well_formed, is_past_limit, is_bad_setting, sets_real, monotonic_end}
 use Rattle.tk_clock.specs.Refusal.{first_of, value_refusal, state_value_refusal}
 use Rattle.tk_clock.specs.Effect.{IsEarly, IsEffect, IsSettled, is_settled_past}
 use Rattle.tk_clock.proofs.Forwarding.{base_monotonic-last}
@@ -104,13 +104,13 @@ told_none before after cmd past good =
     ∙ ap (λ (b : Bool). if b then Some Invalid else None) good
 
 -- MONOTONIC at its limit is past it
-past_monotonic : (after : ClockId → ℤ) (cmd : Command) (now : ℕ) → after Monotonic ≡ pos now → 946080000 * 10 ^ 9 ≤ now → is_past_limit after cmd ≡ true
+past_monotonic : (after : ClockId → ℤ) (cmd : Command) (now : ℕ) → after Monotonic ≡ pos now → monotonic_end * 10 ^ 9 ≤ now → is_past_limit after cmd ≡ true
 unfolding is_past_limit
 past_monotonic after cmd now e far =
     let over : int_lt (pos now) (limit Monotonic) ≡ false = grind (arith, common_steps, ints) in
     rw (e, over) refl
 
-pub past_effect : (state : State) (reading : ℕ) (cmd : Command) → is_resume cmd ≡ false → 946080000 * 10 ^ 9 ≤ now_of (forwarded state.base reading) →
+pub past_effect : (state : State) (reading : ℕ) (cmd : Command) → is_resume cmd ≡ false → monotonic_end * 10 ^ 9 ≤ now_of (forwarded state.base reading) →
     state_value_refusal state reading cmd ≡ Some Range
 past_effect state reading cmd awake far =
     let after : ClockId → ℤ = λ clock. base_value (effect state reading cmd).base clock reading in

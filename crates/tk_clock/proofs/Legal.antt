@@ -14,7 +14,7 @@ use Rattle.tk_clock.specs.Journal.{Opening, Journal, opened, prefix, followed_by
 use Rattle.tk_clock.specs.Monotonic.{current_multiplier}
 use Rattle.tk_clock.specs.Time.{nanoseconds}
 use Rattle.tk_clock.specs.Clocks.{clock_value}
-use Rattle.tk_counter.specs.Counter.{Counter, IsCounter, mask, half, gap}
+use Rattle.tk_counter.specs.Counter.{Counter, IsCounter, mask, half, gap, usual_tick}
 use Rattle.tk_clock.specs.State.{State, state_of, effect}
 use Rattle.tk_clock.specs.Refusal.{first_of, clock_refusal, state_refusal, first_refusal, opening_refusal, is_full, IsRefusal}
 use Rattle.tk_clock.specs.Limits.{is_well_formed, is_past_limit, is_bad_setting}
@@ -141,7 +141,7 @@ opened-folded counter reading real =
       amount = amount;
       raw_amount = raw;
       frequency = pos 0;
-      tick = pos 10000;
+      tick = usual_tick;
       real_offset = real;
       boot_offset = boot;
       tai = pos 0;

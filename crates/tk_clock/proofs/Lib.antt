@@ -1,4 +1,4 @@
-pub mod Rows
+pub mod Worked
 pub mod Append
 pub mod Stretches
 pub mod Offsets

@@ -12,7 +12,7 @@ use Rattle.tk_clock.specs.declared.clock_id.ClockId.TheVariants.{Realtime, Monot
 use Rattle.tk_clock.specs.declared.refusal.Refusal.TheVariants.{Invalid, Range}
 use Rattle.tk_clock.specs.Time.{nanoseconds}
 use Rattle.tk_clock.specs.State.{ReadBase, State, base_monotonic, base_value, forwarded, effect}
-use Rattle.tk_clock.specs.Limits.{limit, is_past_limit, is_bad_setting, sets_real}
+use Rattle.tk_clock.specs.Limits.{limit, is_past_limit, is_bad_setting, sets_real, settable_end, greatest_tai}
 use Rattle.tk_clock.specs.Refusal.{state_value_refusal}
 use Rattle.tk_clock.specs.Effect.{IsEarly}
 use Rattle.tk_clock.specs.Running.{IsRunning, IsRated}
@@ -118,12 +118,12 @@ abbrev pub stepped : ReadBase → Timespec → ℤ
 stepped now by = pos (now_of now) +ℤ now.real_offset +ℤ nanoseconds by
 
 step_setting : (state : State) (now : ReadBase) (by : Timespec) (b : Bool) → IsEarly state now.last (Step by) → now ≡ forwarded state.base now.last →
-    (int_lt (stepped now by) (pos (now_of now)) || not (int_lt (stepped now by) (pos (8277292036 * 10 ^ 9)))) ≡ b →
+    (int_lt (stepped now by) (pos (now_of now)) || not (int_lt (stepped now by) (pos (settable_end * 10 ^ 9)))) ≡ b →
     is_bad_setting (λ clock. base_value state.base clock now.last) (Step by) ≡ b
 unfolding is_bad_setting
 step_setting state now by b early e told =
     let test : ℕ → ℤ → Bool = λ n offset.
-    int_lt (pos n +ℤ offset +ℤ nanoseconds by) (pos n) || not (int_lt (pos n +ℤ offset +ℤ nanoseconds by) (pos (8277292036 * 10 ^ 9))) in
+    int_lt (pos n +ℤ offset +ℤ nanoseconds by) (pos n) || not (int_lt (pos n +ℤ offset +ℤ nanoseconds by) (pos (settable_end * 10 ^ 9))) in
     ap (λ n. test n state.base.real_offset) (same_now state now (Step by) e (monotonic-before state now.last (Step by) early refl))
     ∙ ap (λ (f : ReadBase). test (now_of now) f.real_offset) (sym e)
     ∙ told
@@ -143,17 +143,17 @@ good_step x low high above below =
 
 pub step_invalid : (state : State) (now : ReadBase) (by : Timespec) → IsEarly state now.last (Step by) → now ≡ forwarded state.base now.last →
     is_past_limit (λ clock. base_value now clock now.last) (Step by) ≡ false →
-    (stepped now by <ℤ pos (now_of now)) ⊎ (pos (8277292036 * 10 ^ 9) ≤ℤ stepped now by) →
+    (stepped now by <ℤ pos (now_of now)) ⊎ (pos (settable_end * 10 ^ 9) ≤ℤ stepped now by) →
     state_value_refusal state now.last (Step by) ≡ Some Invalid
 step_invalid state now by early e past out =
-    told_invalid _ _ _ (step_past state now by false e past) (step_setting state now by true early e (bad_step (stepped now by) (pos (now_of now)) (pos (8277292036 * 10 ^ 9)) out))
+    told_invalid _ _ _ (step_past state now by false e past) (step_setting state now by true early e (bad_step (stepped now by) (pos (now_of now)) (pos (settable_end * 10 ^ 9)) out))
 
 pub step_none : (state : State) (now : ReadBase) (by : Timespec) → IsEarly state now.last (Step by) → now ≡ forwarded state.base now.last →
     is_past_limit (λ clock. base_value now clock now.last) (Step by) ≡ false →
-    pos (now_of now) ≤ℤ stepped now by → stepped now by <ℤ pos (8277292036 * 10 ^ 9) →
+    pos (now_of now) ≤ℤ stepped now by → stepped now by <ℤ pos (settable_end * 10 ^ 9) →
     state_value_refusal state now.last (Step by) ≡ None
 step_none state now by early e past above below =
-    told_none _ _ _ (step_past state now by false e past) (step_setting state now by false early e (good_step (stepped now by) (pos (now_of now)) (pos (8277292036 * 10 ^ 9)) above below))
+    told_none _ _ _ (step_past state now by false e past) (step_setting state now by false early e (good_step (stepped now by) (pos (now_of now)) (pos (settable_end * 10 ^ 9)) above below))
 
 pub step_state : (state : State) (now : ReadBase) (by : Timespec) (offset : ℕ) → now ≡ forwarded state.base now.last →
     pos offset ≡ now.real_offset +ℤ nanoseconds by →
@@ -166,7 +166,7 @@ step_state state now by offset e told =
 
 -- running clocks whose REALTIME is set to a time that may be set
 pub IsRunning-set : (base now : ReadBase) (frequency tick : ℤ) (offset : ℕ) → IsRunning base frequency tick → now ≡ forwarded base now.last → IsRated now →
-    now_of now + offset < 8277292036 * 10 ^ 9 → now.tai ≤ℤ pos 100000 → base_value now Boottime now.last <ℤ limit Boottime →
+    now_of now + offset < settable_end * 10 ^ 9 → now.tai ≤ℤ pos greatest_tai → base_value now Boottime now.last <ℤ limit Boottime →
     IsRunning (record now { real_offset = pos offset }) frequency tick
 IsRunning-set base now frequency tick offset held e rated low tai boot =
     let after : ReadBase = record now { real_offset = pos offset } in

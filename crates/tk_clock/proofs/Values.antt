@@ -3,10 +3,10 @@ use Rattle.std.proofs.Common.{◌≡◌, ℕ, ◌+◌, ◌*◌, ◌/◌, ◌^◌
 use Rattle.std.specs.Prelude.{pos, ◌<ℤ◌, ◌+ℤ◌, ◌*ℤ◌}
 use Rattle.std.proofs.lemmas.Int.{ints}
 use Rattle.std.proofs.lemmas.Nat.{pow_pos, div_below}
-use Rattle.tk_counter.specs.Counter.{Counter, second, multiplier}
+use Rattle.tk_counter.specs.Counter.{Counter, second, multiplier, usual_tick}
 use Rattle.tk_clock.specs.declared.clock_id.ClockId.TheVariants.{Realtime, Monotonic, Boottime, Tai as TaiClock}
 use Rattle.tk_clock.specs.State.{ReadBase, base_value}
-use Rattle.tk_clock.specs.Limits.{limit}
+use Rattle.tk_clock.specs.Limits.{limit, clock_end, settable_end}
 use Rattle.tk_clock.specs.Running.{IsRunning}
 use Rattle.tk_clock.proofs.Forwarding.{base_monotonic-last}
 
@@ -27,7 +27,7 @@ pub tai-last : (base : ReadBase) → base_value base TaiClock base.last ≡ pos 
 tai-last base = ap (λ n. pos n +ℤ base.real_offset +ℤ base.tai *ℤ pos (10 ^ 9)) (base_monotonic-last base)
 
 -- the usual rate leaves the mult as it is
-pub usual_rate : (counter : Counter) (mult : ℕ) → mult ≡ counter.mult → mult ≡ multiplier counter (pos 0) (pos 10000)
+pub usual_rate : (counter : Counter) (mult : ℕ) → mult ≡ counter.mult → mult ≡ multiplier counter (pos 0) usual_tick
 usual_rate counter mult e = omega (arith, e)
 
 -- nothing is no nanoseconds
@@ -37,7 +37,7 @@ nothing-nanos second shift =
     omega arith
 
 -- the clocks as they are opened
-pub IsRunning-opened : (counter : Counter) (reading mult real : ℕ) → mult ≡ counter.mult → real < 8277292036 * 10 ^ 9 →
+pub IsRunning-opened : (counter : Counter) (reading mult real : ℕ) → mult ≡ counter.mult → real < settable_end * 10 ^ 9 →
     IsRunning (record {
       counter = counter;
       last = reading;
@@ -48,7 +48,7 @@ pub IsRunning-opened : (counter : Counter) (reading mult real : ℕ) → mult �
       boot_offset = pos 0;
       tai = pos 0;
       asleep = false;
-    }) (pos 0) (pos 10000)
+    }) (pos 0) usual_tick
 IsRunning-opened counter reading mult real same low =
     let base : ReadBase = record {
       counter = counter;
@@ -78,7 +78,7 @@ IsRunning-opened counter reading mult real same low =
 
 -- REALTIME below its limit is no further than that from MONOTONIC
 pub real_offset_low : (base : ReadBase) (offset : ℕ) → base.real_offset ≡ pos offset → base_value base Realtime base.last <ℤ limit Realtime →
-    offset < 9223372036 * 10 ^ 9
+    offset < clock_end * 10 ^ 9
 real_offset_low base offset e low =
     let told = rw (real-last base) at low in
     omega (arith, ints, told, e)

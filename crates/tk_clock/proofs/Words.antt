@@ -10,7 +10,7 @@ use Rattle.tk_clock.specs.declared.clock_id.ClockId.TheVariants.{Realtime, Monot
 use Rattle.tk_clock.specs.declared.command.Command.TheVariants.{Update}
 use Rattle.tk_clock.specs.Amount.{units_of, amount_of, amount_of-units_of}
 use Rattle.tk_clock.specs.State.{ReadBase, base_value}
-use Rattle.tk_clock.specs.Limits.{limit, is_past_limit}
+use Rattle.tk_clock.specs.Limits.{limit, is_past_limit, monotonic_end, raw_end, greatest_tai}
 use Rattle.tk_clock.specs.Running.{IsReadBase, IsWithin}
 use Rattle.tk_clock.specs.Snapshot.{Snapshot}
 use Rattle.tk_clock.proofs.Units.{below_nanos}
@@ -72,10 +72,10 @@ pub record IsInRange (counter : Counter) (words : List ℕ) : Type 0 where
   pub mult_some : 1 ≤ get_or words 2 0
   pub mult_low : get_or words 2 0 ≤ fastest counter
   pub frac_low : get_or words 3 0 < second counter
-  pub sec_low : get_or words 4 0 < 946080000
-  pub tai_low : get_or words 7 0 / 2 ≤ 100000
+  pub sec_low : get_or words 4 0 < monotonic_end
+  pub tai_low : get_or words 7 0 / 2 ≤ greatest_tai
   pub raw_frac_low : get_or words 8 0 < second counter
-  pub raw_sec_low : get_or words 9 0 < 1060000000
+  pub raw_sec_low : get_or words 9 0 < raw_end
 
 first_true : (a b : Bool) → (a && b) ≡ true → a ≡ true
 first_true true b e = refl
@@ -151,12 +151,12 @@ fails_within base low past =
     not_within _ _ _ _ (is_below (base_value base Monotonic base.last) (limit Monotonic) low) past
 
 -- MONOTONIC of parts is below its limit
-pub monotonic_within : (base : ReadBase) (monotonic : Amount) → base.amount ≡ units_of base.counter monotonic → monotonic.sec < 946080000 →
+pub monotonic_within : (base : ReadBase) (monotonic : Amount) → base.amount ≡ units_of base.counter monotonic → monotonic.sec < monotonic_end →
     monotonic.frac < second base.counter → base_value base Monotonic base.last <ℤ limit Monotonic
 monotonic_within base monotonic e sec_low frac_low =
-    let units : base.amount < 946080000 * second base.counter =
-    rw e (below_seconds monotonic.sec monotonic.frac 946080000 (second base.counter) sec_low frac_low) in
-    let low = below_nanos 946080000 base.amount base.counter.shift units in
+    let units : base.amount < monotonic_end * second base.counter =
+    rw e (below_seconds monotonic.sec monotonic.frac monotonic_end (second base.counter) sec_low frac_low) in
+    let low = below_nanos monotonic_end base.amount base.counter.shift units in
     rw (monotonic-last base) (omega (arith, ints, low))
 
 -- the words of the snapshot that words tell are those words
@@ -211,7 +211,7 @@ restored-words counter front last mult monotonic raw real boot tai asleep held w
     let word = tai * 2 + (if asleep then 1 else 0) in
     let words = parts front last mult monotonic raw real boot word in
     let half = half_of tai asleep in
-    let low : word / 2 ≤ 100000 = rw half held.tai_low in
+    let low : word / 2 ≤ greatest_tai = rw half held.tai_low in
     let range : IsInRange counter words = record {
       last_low = held.last_low;
       mult_some = held.mult_some;

@@ -1,6 +1,6 @@
 -- A journal: how the clocks were opened, and each command that was accepted since.
 use Rattle.std.specs.Prelude.{ℕ, ◌+◌, ℤ, pos, List, [], ◌∷◌, ◌++◌, map, take, length, get_or, Bool, false, if◌then◌else◌}
-use Rattle.tk_counter.specs.Counter.{Counter}
+use Rattle.tk_counter.specs.Counter.{Counter, usual_tick}
 use Rattle.tk_clock.specs.declared.command.Entry.{Entry}
 use Rattle.tk_clock.specs.declared.timespec.Timespec.{Timespec}
 use Rattle.tk_clock.specs.Time.{nanoseconds}
@@ -42,7 +42,7 @@ opened counter reading real =
         amount = 0;
         raw_amount = 0;
         frequency = pos 0;
-        tick = pos 10000;
+        tick = usual_tick;
         real_offset = nanoseconds real;
         boot_offset = pos 0;
         tai = pos 0;

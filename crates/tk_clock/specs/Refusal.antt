@@ -13,7 +13,7 @@ use Rattle.tk_clock.specs.Command.{is_resume}
 use Rattle.tk_clock.specs.Journal.{Journal, followed_by, last_reading, is_asleep, accepted_count}
 use Rattle.tk_clock.specs.Clocks.{clock_value}
 use Rattle.tk_clock.specs.State.{ReadBase, State, base_value, effect}
-use Rattle.tk_clock.specs.Limits.{limit, is_settable, is_well_formed, is_past_limit, is_bad_setting}
+use Rattle.tk_clock.specs.Limits.{limit, listed_most, counted_most, is_settable, is_well_formed, is_past_limit, is_bad_setting}
 
 -- the first of two refusals
 abbrev pub first_of : Option Refusal → Option Refusal → Option Refusal
@@ -70,9 +70,9 @@ state_refusal state reading cmd =
     (early_refusal state.base.counter state.base.asleep state.base.last reading cmd)
     (state_value_refusal state reading cmd)
 
--- has the journal no room for another entry? It lists at most 1,048,576, and counts at most 2^63 - 1
+-- has the journal no room for another entry, listed or counted?
 abbrev pub is_full : Journal → Bool
-is_full journal = nat_le 1048576 (length journal.entries) || nat_le (2 ^ 63 - 1) (accepted_count journal)
+is_full journal = nat_le listed_most (length journal.entries) || nat_le counted_most (accepted_count journal)
 
 -- why an entry is refused after a journal: want of room first
 abbrev pub first_refusal : Journal → Entry → Option Refusal

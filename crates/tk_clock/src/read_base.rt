@@ -78,7 +78,7 @@ impl Model for ReadBase {
 
 impl ReadBase {
     ghost use Rattle.tk_counter.specs.Counter.{mask, fastest, half, gap};
-    ghost use Rattle.tk_clock.specs.Limits.{limit, is_past_limit};
+    ghost use Rattle.tk_clock.specs.Limits.{limit, is_past_limit, clock_end, raw_end, monotonic_end, greatest_tai};
     ghost use Rattle.tk_clock.specs.Refusal.{read_refusal};
     ghost use Rattle.tk_clock.specs.State.{base_cycles, base_monotonic, base_raw, base_value, forwarded};
     ghost use Rattle.tk_clock.specs.Time.{nanoseconds};
@@ -108,8 +108,8 @@ impl ReadBase {
     /// MONOTONIC at a reading, in ns. None where the cycles since the last one are beyond every clock's limit.
     fn monotonic_at(&self, reading: u64) -> Option<u64>
         ensures { MatchOption result
-            (9223372036 * 10 ^ 9 ≤ base_monotonic self.now reading)
-            (λ nanos. (nanos ≡ base_monotonic self.now reading) × (nanos ≤ 10283372036 * 10 ^ 9)) }
+            (clock_end * 10 ^ 9 ≤ base_monotonic self.now reading)
+            (λ nanos. (nanos ≡ base_monotonic self.now reading) × (nanos ≤ (clock_end + raw_end) * 10 ^ 9)) }
     {
         let cycles = self.cycles_since(reading);
         self.monotonic.nanos_after(&self.desc, cycles, self.mult)
@@ -118,7 +118,7 @@ impl ReadBase {
     /// MONOTONIC_RAW at a reading, in ns. None as for MONOTONIC.
     fn raw_at(&self, reading: u64) -> Option<u64>
         ensures { MatchOption result
-            (9223372036 * 10 ^ 9 ≤ base_raw self.now reading)
+            (clock_end * 10 ^ 9 ≤ base_raw self.now reading)
             (λ nanos. nanos ≡ base_raw self.now reading) }
     {
         let cycles = self.cycles_since(reading);
@@ -164,8 +164,8 @@ impl ReadBase {
     pub fn monotonic_now(&self) -> u64
         ensures value { result ≡ base_monotonic self.now self.now.last }
         ensures amount { result ≡ self.now.amount / 2 ^ self.now.counter.shift }
-        ensures low { result < 946080000 * 10 ^ 9 }
-        ensures tai { self.now.tai ≤ℤ pos 100000 }
+        ensures low { result < monotonic_end * 10 ^ 9 }
+        ensures tai { self.now.tai ≤ℤ pos greatest_tai }
     {
         self.monotonic.nanos(&self.desc)
     }
@@ -173,7 +173,7 @@ impl ReadBase {
     /// TAI less REALTIME, in ns.
     fn tai_nanos(&self) -> u64
         ensures value { pos result ≡ self.now.tai *ℤ pos (10 ^ 9) }
-        ensures low { result ≤ 100000 * 10 ^ 9 }
+        ensures low { result ≤ greatest_tai * 10 ^ 9 }
     {
         u64::from(self.tai) * NANOS_PER_SECOND
     }

@@ -13,9 +13,10 @@ use Rattle.tk_clock.proofs.Legal.{IsLegal-followed_by}
 use Rattle.tk_keeper.specs.Keeper.{IsKept}
 use Rattle.tk_keeper.specs.Past.{folded_by}
 use Rattle.tk_keeper.proofs.Folding.{IsLegal-folded, state_of-whole}
+use Rattle.tk_clock.specs.Limits.{listed_most, counted_most}
 
 -- a journal that isn't full lists and counts fewer than it may
-pub not_full : (journal : Journal) → is_full journal ≡ false → (length journal.entries < 1048576) × (accepted_count journal < 2 ^ 63 - 1)
+pub not_full : (journal : Journal) → is_full journal ≡ false → (length journal.entries < listed_most) × (accepted_count journal < counted_most)
 not_full journal e = (grind (arith, common_steps), grind (arith, common_steps))
 
 has_room : (full : Bool) (told : Option Refusal) → (if full then Some Full else told) ≡ None → full ≡ false

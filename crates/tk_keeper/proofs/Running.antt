@@ -11,6 +11,7 @@ use Rattle.tk_clock.specs.Refusal.{first_refusal, IsRefusal}
 use Rattle.tk_clock.specs.Run.{Reply, Run, reply_if, reply_to, run}
 use Rattle.tk_keeper.specs.Keeper.{Keeper}
 use Rattle.tk_keeper.proofs.Room.{not_full, accepts-not_full}
+use Rattle.tk_clock.specs.Limits.{listed_most}
 
 -- what `apply` answers and leaves
 abbrev pub IsAnswer : Keeper → Entry → Result ℕ Refusal → Keeper → Type 0
@@ -45,16 +46,16 @@ reply-answer before after entry (Err Range) told enough = refused before after e
 reply-answer before after entry (Err Memory) told enough = absurd (enough refl)
 
 -- where there is room for the events that are left, an accepted one finds room
-some_room : (left listed spare : ℕ) → 0 < left → listed < 1048576 → min left (1048576 - listed) ≤ spare → 0 < spare
+some_room : (left listed spare : ℕ) → 0 < left → listed < listed_most → min left (listed_most - listed) ≤ spare → 0 < spare
 some_room left listed spare some low enough = omega arith
 
-pub finds_room : (journal : Journal) (entry : Entry) (left spare : ℕ) → 0 < left → min left (1048576 - length journal.entries) ≤ spare →
+pub finds_room : (journal : Journal) (entry : Entry) (left spare : ℕ) → 0 < left → min left (listed_most - length journal.entries) ≤ spare →
     first_refusal journal entry ≡ None → 0 < spare
 finds_room journal entry left spare some enough accepted =
     some_room left (length journal.entries) spare some (not_full journal (accepts-not_full journal entry accepted)).0 enough
 
 pub never_short : (before after : Keeper) (entry : Entry) (result : Result ℕ Refusal) (left : ℕ) → IsAnswer before entry result after →
-    (result ≡ Err Memory → before.spare ≡ 0) → 0 < left → min left (1048576 - length before.journal.entries) ≤ before.spare →
+    (result ≡ Err Memory → before.spare ≡ 0) → 0 < left → min left (listed_most - length before.journal.entries) ≤ before.spare →
     result ≡ Err Memory → ⊥
 never_short before after entry (Ok number) left told short some enough e = cc e
 never_short before after entry (Err Full) left told short some enough e = cc e
@@ -69,23 +70,23 @@ never_short before after entry (Err Memory) left told short some enough e =
     omega arith
 
 -- and leaves room for those after it
-less_room : (left listed listed' spare spare' : ℕ) → spare' + 1 ≡ spare → listed' ≡ listed + 1 → min left (1048576 - listed) ≤ spare →
-    min (left - 1) (1048576 - listed') ≤ spare'
+less_room : (left listed listed' spare spare' : ℕ) → spare' + 1 ≡ spare → listed' ≡ listed + 1 → min left (listed_most - listed) ≤ spare →
+    min (left - 1) (listed_most - listed') ≤ spare'
 less_room left listed listed' spare spare' e longer enough = omega arith
 
-same_room : (left listed spare : ℕ) → min left (1048576 - listed) ≤ spare → min (left - 1) (1048576 - listed) ≤ spare
+same_room : (left listed spare : ℕ) → min left (listed_most - listed) ≤ spare → min (left - 1) (listed_most - listed) ≤ spare
 same_room left listed spare enough = omega arith
 
 pub room_left : (before after : Keeper) (entry : Entry) (result : Result ℕ Refusal) (left : ℕ) → IsAnswer before entry result after →
     IfOk result (λ _. 0 < before.spare → after.spare + 1 ≡ before.spare) → 0 < left →
-    min left (1048576 - length before.journal.entries) ≤ before.spare →
-    min (left - 1) (1048576 - length after.journal.entries) ≤ after.spare
+    min left (listed_most - length before.journal.entries) ≤ before.spare →
+    min (left - 1) (listed_most - length after.journal.entries) ≤ after.spare
 room_left before after entry (Ok number) left told less some enough =
     less_room left (length before.journal.entries) (length after.journal.entries) before.spare after.spare
     (less (finds_room before.journal entry left before.spare some enough told.0))
     (ap (λ (j : Journal). length j.entries) told.1 ∙ length_push before.journal.entries entry) enough
 room_left before after entry (Err refusal) left told less some enough =
-    subst (λ (k : Keeper). min (left - 1) (1048576 - length k.journal.entries) ≤ k.spare) (sym told.1)
+    subst (λ (k : Keeper). min (left - 1) (listed_most - length k.journal.entries) ≤ k.spare) (sym told.1)
     (same_room left (length before.journal.entries) before.spare enough)
 
 -- the run of the events from one on

@@ -7,6 +7,7 @@ use Rattle.tk_clock.specs.Monotonic.{awake_cycles}
 use Rattle.tk_clock.specs.Clocks.{clock_value}
 use Rattle.tk_clock.specs.Honest.{IsHonest, counted_cycles}
 use Rattle.tk_clock.specs.Legal.{IsLegal, folded_opening}
+use Rattle.tk_clock.specs.Limits.{listed_most, counted_most}
 use Rattle.tk_clock.specs.State.{ReadBase, State, base_value, state_of}
 
 -- its journal, and how many accepted commands will take no memory
@@ -22,8 +23,8 @@ journal_from count start entries = record { opening = folded_opening count start
 pub record IsKept (journal : Journal) (state : State) : Type 0 where
   pub legal : IsLegal journal
   pub running : state ≡ state_of journal
-  pub room : length journal.entries ≤ 1048576
-  pub counted : accepted_count journal < 2 ^ 63
+  pub room : length journal.entries ≤ listed_most
+  pub counted : accepted_count journal ≤ counted_most
 
 -- the state before all entries is at hand, and that after each listed entry whose number is a multiple of 256
 pub record HasKept (journal : Journal) (start : State) (kept : List State) : Type 0 where

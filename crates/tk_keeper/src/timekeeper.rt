@@ -1,4 +1,4 @@
-ghost use Rattle.std.specs.Prelude.{◌≡◌, ◌<◌, ◌^◌, MatchResult, Some, None};
+ghost use Rattle.std.specs.Prelude.{◌≡◌, ◌≤◌, MatchResult, Some, None};
 
 mod applying;
 mod folding;
@@ -57,6 +57,7 @@ impl<A: Allocator> Model for Timekeeper<A> {
 impl<A: Allocator + Copy> Timekeeper<A> {
     ghost use Rattle.tk_clock.specs.Journal.{opened, accepted_count};
     ghost use Rattle.tk_clock.specs.Legal.{IsLegal};
+    ghost use Rattle.tk_clock.specs.Limits.{counted_most};
     ghost use Rattle.tk_clock.specs.Refusal.{opening_refusal};
     ghost use Rattle.tk_clock.specs.Snapshot.{snapshot_of};
     ghost use Rattle.tk_keeper.specs.Keeper.{entry_at, ReadsAs, CountsTrue};
@@ -88,7 +89,7 @@ impl<A: Allocator + Copy> Timekeeper<A> {
     /// How many commands were accepted, the folded ones among them.
     pub fn len(&self) -> usize
         ensures value { result ≡ accepted_count self.now.journal }
-        ensures most { result < 2 ^ 63 }
+        ensures most { result ≤ counted_most }
         ensures legal { IsLegal self.now.journal }
     {
         self.folded as usize + self.entries.len()

@@ -6,7 +6,7 @@ ghost use Rattle.tk_clock.specs.Running.{IsRated};
 ghost use Rattle.tk_clock.specs.Effect.{IsEarly, IsEffect, IsSettled};
 ghost use Rattle.tk_clock.specs.Command.{is_resume};
 ghost use Rattle.tk_clock.specs.Time.{nanoseconds};
-ghost use Rattle.tk_counter.specs.Counter.{mask, multiplier};
+ghost use Rattle.tk_counter.specs.Counter.{mask, multiplier, least_tick, greatest_tick};
 
 use super::Clock;
 use crate::command::Command;
@@ -115,8 +115,8 @@ impl Clock {
 
     /// The clocks with another rate from the base's last reading on, unless one is at its limit.
     fn steered(now: ReadBase, frequency: i64, tick: i64, cmd: Command) -> Result<Clock, Refusal>
-        requires slowest { pos 9000 ≤ℤ tick }
-        requires fastest { tick ≤ℤ pos 11000 }
+        requires slowest { least_tick ≤ℤ tick }
+        requires fastest { tick ≤ℤ greatest_tick }
         requires rated { IsRated now }
         requires plain { sets_real cmd ≡ false }
         ensures { IsSettled (record {

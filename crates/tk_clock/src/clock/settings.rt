@@ -1,7 +1,7 @@
 //! REALTIME set to a time, and moved by an amount.
 ghost use Rattle.std.specs.Prelude.{◌≡◌, ◌+◌, ◌*◌, ◌/◌, ◌^◌, ◌<◌, ◌≤◌, MatchOption, pos, ◌≤ℤ◌, ◌<ℤ◌, ◌+ℤ◌, ◌⊎◌};
 ghost use Rattle.tk_clock.specs.State.{base_value, forwarded};
-ghost use Rattle.tk_clock.specs.Limits.{limit};
+ghost use Rattle.tk_clock.specs.Limits.{limit, clock_end, monotonic_end, settable_end, greatest_tai};
 ghost use Rattle.tk_clock.specs.Running.{IsRated};
 ghost use Rattle.tk_clock.specs.Effect.{IsEarly, IsEffect};
 ghost use Rattle.tk_clock.specs.Time.{nanoseconds};
@@ -56,8 +56,8 @@ impl Clock {
     fn set_to(&self, now: ReadBase, offset: u64) -> Clock
         requires forwarded { now ≡ forwarded self.now.base now.last }
         requires rated { IsRated now }
-        requires settable { now.amount / 2 ^ now.counter.shift + offset < 8277292036 * 10 ^ 9 }
-        requires tai { now.tai ≤ℤ pos 100000 }
+        requires settable { now.amount / 2 ^ now.counter.shift + offset < settable_end * 10 ^ 9 }
+        requires tai { now.tai ≤ℤ pos greatest_tai }
         requires boot { base_value now ClockId.Boottime now.last <ℤ limit ClockId.Boottime }
         ensures { result ≡ record self.now { base = record now { real_offset = pos offset } } }
     {
@@ -68,7 +68,7 @@ impl Clock {
 
 /// A time in ns moved by an amount. None where it would come before 1970, or beyond what a word of ns holds.
 fn moved(real: u64, by: Timespec) -> Option<u64>
-    requires real { real < 10169452036 * 10 ^ 9 }
+    requires real { real < (clock_end + monotonic_end) * 10 ^ 9 }
     requires rest { by.nsec < 10 ^ 9 }
     ensures { let moved = pos real +ℤ nanoseconds by in
         MatchOption result ((moved <ℤ pos 0) ⊎ (pos (2 ^ 64) ≤ℤ moved)) (λ nanos. pos nanos ≡ moved) }

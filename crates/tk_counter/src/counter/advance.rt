@@ -6,7 +6,7 @@ use super::{CounterDesc, NANOS_PER_SECOND};
 const SECONDS_LIMIT: u64 = 9_223_372_036;
 
 impl CounterDesc {
-    ghost use Rattle.tk_counter.specs.Counter.{second};
+    ghost use Rattle.tk_counter.specs.Counter.{second, seconds_end};
 
     /// The whole seconds of `frac` and `delta` cycles at `mult`, and what is left, in units of `2^-shift` ns.
     ///
@@ -15,7 +15,7 @@ impl CounterDesc {
     pub fn advance(&self, frac: u64, delta: u64, mult: u32) -> Option<(u64, u64)>
         requires { frac < second self.now }
         ensures { let units = frac + delta * mult in
-            SomeIff result (units / second self.now < SECONDS_LIMIT)
+            SomeIff result (units / second self.now < seconds_end)
             (units / second self.now, units % second self.now) }
     {
         let (seconds, rest) = match word_of(frac, delta, mult) {
@@ -65,7 +65,7 @@ impl CounterDesc {
         requires { frac < second self.now }
         ensures { let units = frac + delta * mult in
             MatchOption result
-            (SECONDS_LIMIT ≤ units / second self.now)
+            (seconds_end ≤ units / second self.now)
             (λ parts. parts ≡ (units / second self.now, units % second self.now)) }
     {
         let cycle = u64::from(mult);

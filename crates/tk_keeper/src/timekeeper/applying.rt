@@ -2,6 +2,7 @@
 ghost use Rattle.std.specs.Prelude.{◌≡◌, ◌+◌, ◌-◌, ◌<◌, ◌≤◌, length, min, MatchResult, IfOk, IsErrOf, None, false};
 ghost use Rattle.tk_clock.specs.Journal.{followed_by, accepted_count};
 ghost use Rattle.tk_clock.specs.Life.{NeverFalls};
+ghost use Rattle.tk_clock.specs.Limits.{listed_most};
 ghost use Rattle.tk_clock.specs.Monotonic.{monotonic};
 ghost use Rattle.tk_clock.specs.Refusal.{first_refusal, is_full, IsRefusal};
 ghost use Rattle.tk_clock.specs.State.{state_of};
@@ -78,7 +79,7 @@ impl<A: Allocator + Copy> Timekeeper<A> {
     ///
     /// Only Memory. `spare` may be greater then too; nothing else changes.
     pub fn reserve(&mut self, extra: usize) -> Result<(), Refusal>
-        ensures answer { let wanted = min extra (1048576 - length self.old.journal.entries) in
+        ensures answer { let wanted = min extra (listed_most - length self.old.journal.entries) in
             MatchResult result
             (λ _. wanted ≤ self.new.spare)
             (λ refusal. (refusal ≡ Refusal.Memory) × (self.new.spare < wanted)) }

@@ -12,6 +12,7 @@ use Rattle.tk_clock.proofs.Effects.{ready}
 use Rattle.tk_clock.proofs.Settings.{stepped, step_range, step_invalid, step_none, step_state, within_boot}
 use Rattle.tk_clock.proofs.clock.Clock.step.Goals as goal
 use Rattle.tk_clock.proofs.clock.Clock.step.Goals.{then-real-monotonic-via-then-real-monotonic, then-real-monotonic-via-else-real-monotonic+then-real-settable_limit}
+use Rattle.tk_clock.specs.Limits.{settable_end}
 
 pub returns-then-is_past_limit : goal.returns-then-is_past_limit
 returns-then-is_past_limit c = step_range c.args.self.now c.args.now c.args.by c.requires.forwarded (sym c.if-is_past_limit.ensures)
@@ -85,7 +86,7 @@ returns c =
     let told = c.in-Some.ensures in
     let amount = c.monotonic_now-monotonic.ensures.amount in
     let above : pos (now_of now) ≤ℤ stepped now c.args.by = let high = c.if-real-monotonic.false in omega (arith, ints, told, real, amount, high) in
-    let below : stepped now c.args.by <ℤ pos (8277292036 * 10 ^ 9) =
+    let below : stepped now c.args.by <ℤ pos (settable_end * 10 ^ 9) =
     let low = c.if-real-settable_limit.false in let limit = c.settable_limit.ensures in omega (arith, ints, told, real, low, limit) in
     let offset : pos (c.in-Some.real - c.monotonic_now-monotonic.result) ≡ now.real_offset +ℤ nanoseconds c.args.by =
     let high = c.if-real-monotonic.false in omega (arith, ints, told, real, amount, high) in (

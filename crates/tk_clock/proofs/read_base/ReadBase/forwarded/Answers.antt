@@ -7,14 +7,15 @@ use Rattle.tk_clock.specs.contracts.read_base.ReadBase.{the_view}
 use Rattle.tk_clock.proofs.Units.{end_nanos}
 use Rattle.tk_clock.proofs.Rates.{IsRated-forwarded, raw_low, fewer_seconds, below_seconds, at_least_seconds}
 use Rattle.tk_clock.proofs.read_base.ReadBase.forwarded.Goals as goal
+use Rattle.tk_clock.specs.Limits.{monotonic_end, raw_end}
 
 pub returns-in_default : goal.returns-in_default
 returns-in_default c =
     let base = c.self.inside in
     let units = units_of base.desc base.monotonic in
     let same = ap (λ k. units + k * base.mult) c.gap-cycles.ensures.value in
-    let far : 946080000 * second base.desc ≤ units + gap base.desc base.last c.args.reading * base.mult = omega (arith, same, c.in_default.ensures) in
-    rw (← c.self.view_is) (end_nanos 946080000 _ base.desc.shift far)
+    let far : monotonic_end * second base.desc ≤ units + gap base.desc base.last c.args.reading * base.mult = omega (arith, same, c.in_default.ensures) in
+    rw (← c.self.view_is) (end_nanos monotonic_end _ base.desc.shift far)
 
 pub returns-then-monotonic-ge-MONOTONIC_SEC_LIMIT : goal.returns-then-monotonic-ge-MONOTONIC_SEC_LIMIT
 returns-then-monotonic-ge-MONOTONIC_SEC_LIMIT c =
@@ -22,10 +23,10 @@ returns-then-monotonic-ge-MONOTONIC_SEC_LIMIT c =
     let after = c.in-Some.monotonic in
     let units = units_of base.desc base.monotonic in
     let same = c.in-Some.ensures.0 ∙ ap (λ k. units + k * base.mult) c.gap-cycles.ensures.value in
-    let many = at_least_seconds after.sec after.frac 946080000 (second base.desc) c.if-monotonic-ge-MONOTONIC_SEC_LIMIT.true in
-    let far : 946080000 * second base.desc ≤ units + gap base.desc base.last c.args.reading * base.mult =
-    subst (λ n. 946080000 * second base.desc ≤ n) same many in
-    rw (← c.self.view_is) (end_nanos 946080000 _ base.desc.shift far)
+    let many = at_least_seconds after.sec after.frac monotonic_end (second base.desc) c.if-monotonic-ge-MONOTONIC_SEC_LIMIT.true in
+    let far : monotonic_end * second base.desc ≤ units + gap base.desc base.last c.args.reading * base.mult =
+    subst (λ n. monotonic_end * second base.desc ≤ n) same many in
+    rw (← c.self.view_is) (end_nanos monotonic_end _ base.desc.shift far)
 
 pub returns-in_default-grown : goal.returns-in_default-grown
 returns-in_default-grown c =
@@ -35,8 +36,8 @@ returns-in_default-grown c =
     let steered = rw (← c.self.view_is) at c.requires.steered in
     let rated = rw (← c.self.view_is) at c.requires.rated in
     let same = c.in-Some.ensures.0 ∙ ap (λ k. units_of base.desc base.monotonic + k * base.mult) c.gap-cycles.ensures.value in
-    let low = subst (λ n. n < 946080000 * second base.desc) same
-    (below_seconds monotonic.sec monotonic.frac 946080000 (second base.desc) c.if-monotonic-ge-MONOTONIC_SEC_LIMIT.false c.in-Some.ensures.1) in
+    let low = subst (λ n. n < monotonic_end * second base.desc) same
+    (below_seconds monotonic.sec monotonic.frac monotonic_end (second base.desc) c.if-monotonic-ge-MONOTONIC_SEC_LIMIT.false c.in-Some.ensures.1) in
     let below = raw_low (forwarded before c.args.reading) c.self.invariant.described (IsRated-forwarded before c.args.reading steered rated) low in
     let mult = ap (λ m. units_of base.desc base.raw + c.gap-cycles.result * m) c.mult.ensures.value in
     let cycles = ap (λ k. units_of base.desc base.raw + k * base.desc.mult) c.gap-cycles.ensures.value in
@@ -52,8 +53,8 @@ invariant_of-result c =
     let steered = rw (← c.self.view_is) at c.requires.steered in
     let rated = rw (← c.self.view_is) at c.requires.rated in
     let same = c.in-Some.ensures.0 ∙ ap (λ k. units_of base.desc base.monotonic + k * base.mult) c.gap-cycles.ensures.value in
-    let low = subst (λ n. n < 946080000 * second base.desc) same
-    (below_seconds monotonic.sec monotonic.frac 946080000 (second base.desc) c.if-monotonic-ge-MONOTONIC_SEC_LIMIT.false c.in-Some.ensures.1) in
+    let low = subst (λ n. n < monotonic_end * second base.desc) same
+    (below_seconds monotonic.sec monotonic.frac monotonic_end (second base.desc) c.if-monotonic-ge-MONOTONIC_SEC_LIMIT.false c.in-Some.ensures.1) in
     let below = raw_low (forwarded before c.args.reading) held.described (IsRated-forwarded before c.args.reading steered rated) low in
     let raw_same = c.in-Some-grown.ensures.0
     ∙ ap (λ m. units_of base.desc base.raw + c.gap-cycles.result * m) c.mult.ensures.value
@@ -66,8 +67,8 @@ invariant_of-result c =
       frac_low = c.in-Some.ensures.1;
       sec_low = c.if-monotonic-ge-MONOTONIC_SEC_LIMIT.false;
       raw_frac_low = c.in-Some-grown.ensures.1;
-      raw_sec_low = fewer_seconds raw.sec raw.frac 1060000000 (second base.desc)
-          (subst (λ n. n < 1060000000 * second base.desc) (sym raw_same) below);
+      raw_sec_low = fewer_seconds raw.sec raw.frac raw_end (second base.desc)
+          (subst (λ n. n < raw_end * second base.desc) (sym raw_same) below);
       tai_low = held.tai_low;
     }
 

@@ -1,5 +1,5 @@
 -- Worked journals, by computation: what the definitions give is what was worked out by hand.
-use Rattle.std.proofs.Common.{◌≡◌, ℕ, List, [], ◌∷◌, refl, false}
+use Rattle.std.proofs.Common.{◌≡◌, ℕ, ◌-◌, List, [], ◌∷◌, refl, false}
 use Rattle.std.specs.Prelude.{ℤ, pos, negsuc, neg_ℤ, Some, None}
 use Rattle.tk_counter.specs.Counter.{Counter}
 use Rattle.tk_clock.specs.declared.timespec.Timespec.{Timespec}
@@ -13,7 +13,7 @@ use Rattle.tk_clock.specs.Journal.{Journal, opened}
 use Rattle.tk_clock.specs.Monotonic.{monotonic}
 use Rattle.tk_clock.specs.Clocks.{clock_value}
 use Rattle.tk_clock.specs.State.{base_of, state_of}
-use Rattle.tk_clock.specs.Limits.{is_settable, is_suspension, is_well_formed, is_past_limit, is_bad_setting}
+use Rattle.tk_clock.specs.Limits.{settable_end, clock_end, monotonic_end, is_settable, is_suspension, is_well_formed, is_past_limit, is_bad_setting}
 use Rattle.tk_clock.specs.Refusal.{first_refusal, read_refusal, opening_refusal}
 
 -- one nanosecond a cycle, readings of 32 bits
@@ -36,6 +36,10 @@ journal_of entries = record (opened nanosecond_counter 0 (time (pos 1700000000) 
 
 abbrev wide_journal : List Entry → Journal
 wide_journal entries = record (opened wide_counter 0 (time (pos 1700000000) 0)) { entries = entries }
+
+-- REALTIME may be set until as long before its end as MONOTONIC lasts
+settable_until : settable_end ≡ clock_end - monotonic_end
+settable_until = refl
 
 opens : opening_refusal nanosecond_counter 0 (time (pos 1700000000) 0) ≡ None
 unfolding is_settable
