@@ -16,4 +16,4 @@ returns c =
     let tick = word ∙ ap (λ (s : State). s.tick) c.self.view_is in
     let put : ReadBase → State = λ b. record { base = record b { mult = multiplier b.counter frequency state.tick }; frequency = frequency; tick = state.tick } in
     let told = rw (to_z-of_z w64 frequency c.ranges.frequency, tick) at c.steered.ensures in
-    settled_effect state c.args.now.last (Freq frequency) (put c.args.now) c.steered.result refl (ap put c.requires.forwarded) told
+    settled_effect state c.args.now.last (Freq frequency) (put c.args.now) c.steered.result refl (ap put c.requires.forwarded.told) told

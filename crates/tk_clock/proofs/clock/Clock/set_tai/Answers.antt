@@ -30,6 +30,6 @@ returns c =
     let put : ℤ → ReadBase → State = λ tai base. record state { base = record base { tai = tai } } in
     let e = ap (λ (b : ReadBase). let after : State = record state { base = b } in after) c.with_tai.ensures
     ∙ ap (λ z. put z c.args.now) seconds
-    ∙ ap (put c.args.seconds) c.requires.forwarded in
+    ∙ ap (put c.args.seconds) c.requires.forwarded.told in
     settled_effect state c.args.now.last (Tai c.args.seconds) (record state { base = c.with_tai.result }) c.settled.result refl e
     (rw same at c.settled.ensures)

@@ -27,4 +27,4 @@ returns c =
     let frequency = word ∙ ap (λ (s : State). s.frequency) c.self.view_is in
     let put : ReadBase → State = λ b. record { base = record b { mult = multiplier b.counter state.frequency tick }; frequency = state.frequency; tick = tick } in
     let told = rw (to_z-of_z w64 tick c.ranges.tick, frequency) at c.steered.ensures in
-    settled_effect state c.args.now.last (Tick tick) (put c.args.now) c.steered.result refl (ap put c.requires.forwarded) told
+    settled_effect state c.args.now.last (Tick tick) (put c.args.now) c.steered.result refl (ap put c.requires.forwarded.told) told

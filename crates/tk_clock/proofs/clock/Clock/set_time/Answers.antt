@@ -12,7 +12,7 @@ use Rattle.tk_clock.proofs.clock.Clock.set_time.Goals as goal
 
 pub returns-then-is_past_limit : goal.returns-then-is_past_limit
 returns-then-is_past_limit c =
-    set_range c.args.self.now c.args.now c.args.time c.requires.forwarded (sym c.if-is_past_limit.ensures)
+    set_range c.args.self.now c.args.now c.args.time c.requires.forwarded.told (sym c.if-is_past_limit.ensures)
 
 pub nanos_of-requires-clause-since : goal.nanos_of-requires-clause-since
 nanos_of-requires-clause-since c =
@@ -31,7 +31,7 @@ pub returns-in_default : goal.returns-in_default
 returns-in_default c =
     let low : nanoseconds c.args.time <ℤ pos (now_of c.args.now) =
     omega (arith, ints, c.in_default.ensures, c.nanos_of.ensures.value, c.monotonic_now.ensures.amount) in
-    set_invalid c.args.self.now c.args.now c.args.time c.requires.early c.requires.forwarded (sym c.if-is_past_limit.ensures) low
+    set_invalid c.args.self.now c.args.now c.args.time c.requires.early c.requires.forwarded.told (sym c.if-is_past_limit.ensures) low
 
 pub set_to-requires-clause-settable : goal.set_to-requires-clause-settable
 set_to-requires-clause-settable c =
@@ -49,6 +49,6 @@ returns c =
     omega (arith, ints, c.in-Some.ensures, c.nanos_of.ensures.value, c.monotonic_now.ensures.amount) in
     let offset : pos c.in-Some.offset ≡ nanoseconds c.args.time -ℤ pos (now_of now) =
     omega (arith, ints, c.in-Some.ensures, c.nanos_of.ensures.value, c.monotonic_now.ensures.amount) in (
-      set_none c.args.self.now now c.args.time c.requires.early c.requires.forwarded (sym c.if-is_past_limit.ensures) high,
-      c.set_to.ensures ∙ set_state c.args.self.now now c.args.time c.in-Some.offset c.requires.forwarded offset,
+      set_none c.args.self.now now c.args.time c.requires.early c.requires.forwarded.told (sym c.if-is_past_limit.ensures) high,
+      c.set_to.ensures ∙ set_state c.args.self.now now c.args.time c.in-Some.offset c.requires.forwarded.told offset,
     )

@@ -15,7 +15,7 @@ use Rattle.tk_clock.proofs.clock.Clock.step.Goals.{then-real-monotonic-via-then-
 use Rattle.tk_clock.specs.Limits.{settable_end}
 
 pub returns-then-is_past_limit : goal.returns-then-is_past_limit
-returns-then-is_past_limit c = step_range c.args.self.now c.args.now c.args.by c.requires.forwarded (sym c.if-is_past_limit.ensures)
+returns-then-is_past_limit c = step_range c.args.self.now c.args.now c.args.by c.requires.forwarded.told (sym c.if-is_past_limit.ensures)
 
 pub moved-requires-clause-rest : goal.moved-requires-clause-rest
 moved-requires-clause-rest c = step-rest c.args.by (ready c.args.self.now c.args.now.last (Step c.args.by) c.requires.early).well
@@ -54,8 +54,8 @@ returns-in_default c =
     let held = ap (λ (i : Inside). i.base.real_offset) (sym c.self-inside.view_is) in
     let base = ap (λ (s : State). s.base) c.self.view_is in
     let real = real_is c.args.self.now c.self.inside.base now c.args.by c.monotonic_now-monotonic.result c.self-inside.inside.0.0.real_offset
-    c.requires.forwarded base held c.monotonic_now-monotonic.ensures.amount in
-    step_invalid c.args.self.now now c.args.by c.requires.early c.requires.forwarded (sym c.if-is_past_limit.ensures)
+    c.requires.forwarded.told base held c.monotonic_now-monotonic.ensures.amount in
+    step_invalid c.args.self.now now c.args.by c.requires.early c.requires.forwarded.told (sym c.if-is_past_limit.ensures)
     (elim c.in_default.ensures [ inl under ↦ inl (omega (arith, ints, under, real)) | inr over ↦ inr (omega (arith, ints, over, real)) ])
 
 pub returns-then-real-monotonic : goal.returns-then-real-monotonic
@@ -64,10 +64,10 @@ returns-then-real-monotonic c =
     let held = ap (λ (i : Inside). i.base.real_offset) (sym c.self-inside.view_is) in
     let base = ap (λ (s : State). s.base) c.self.view_is in
     let real = real_is c.args.self.now c.self.inside.base now c.args.by c.monotonic_now-monotonic.result c.self-inside.inside.0.0.real_offset
-    c.requires.forwarded base held c.monotonic_now-monotonic.ensures.amount in
+    c.requires.forwarded.told base held c.monotonic_now-monotonic.ensures.amount in
     let told = c.in-Some.ensures in
     let amount = c.monotonic_now-monotonic.ensures.amount in
-    step_invalid c.args.self.now now c.args.by c.requires.early c.requires.forwarded (sym c.if-is_past_limit.ensures)
+    step_invalid c.args.self.now now c.args.by c.requires.early c.requires.forwarded.told (sym c.if-is_past_limit.ensures)
     (elim c.then-real-monotonic.branch [
       | then-real-monotonic-via-then-real-monotonic w ↦ let low = w.if-real-monotonic.true in inl (omega (arith, ints, told, real, amount, low))
       | then-real-monotonic-via-else-real-monotonic+then-real-settable_limit w ↦
@@ -82,7 +82,7 @@ returns c =
     let held = ap (λ (i : Inside). i.base.real_offset) (sym c.self-inside.view_is) in
     let base = ap (λ (s : State). s.base) c.self.view_is in
     let real = real_is c.args.self.now c.self.inside.base now c.args.by c.monotonic_now-monotonic.result c.self-inside.inside.0.0.real_offset
-    c.requires.forwarded base held c.monotonic_now-monotonic.ensures.amount in
+    c.requires.forwarded.told base held c.monotonic_now-monotonic.ensures.amount in
     let told = c.in-Some.ensures in
     let amount = c.monotonic_now-monotonic.ensures.amount in
     let above : pos (now_of now) ≤ℤ stepped now c.args.by = let high = c.if-real-monotonic.false in omega (arith, ints, told, real, amount, high) in
@@ -90,6 +90,6 @@ returns c =
     let low = c.if-real-settable_limit.false in let limit = c.settable_limit.ensures in omega (arith, ints, told, real, low, limit) in
     let offset : pos (c.in-Some.real - c.monotonic_now-monotonic.result) ≡ now.real_offset +ℤ nanoseconds c.args.by =
     let high = c.if-real-monotonic.false in omega (arith, ints, told, real, amount, high) in (
-      step_none c.args.self.now now c.args.by c.requires.early c.requires.forwarded (sym c.if-is_past_limit.ensures) above below,
-      c.set_to.ensures ∙ step_state c.args.self.now now c.args.by (c.in-Some.real - c.monotonic_now-monotonic.result) c.requires.forwarded offset,
+      step_none c.args.self.now now c.args.by c.requires.early c.requires.forwarded.told (sym c.if-is_past_limit.ensures) above below,
+      c.set_to.ensures ∙ step_state c.args.self.now now c.args.by (c.in-Some.real - c.monotonic_now-monotonic.result) c.requires.forwarded.told offset,
     )
