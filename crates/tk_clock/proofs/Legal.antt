@@ -1,7 +1,7 @@
 -- An accepted entry keeps a journal legal, and its state the one that it comes to.
-use Rattle.std.proofs.Common.{◌≡◌, ℕ, zero, suc, ◌+◌, ◌<◌, ◌≤◌, List, [], ◌∷◌, ◌++◌, length, refl, sym, ◌∙◌, ap, arith, Bool, true, false, inl, inr}
+use Rattle.std.proofs.Common.{◌≡◌, ℕ, zero, suc, ◌+◌, ◌<◌, ◌≤◌, List, [], ◌∷◌, ◌++◌, length, take, take-take, refl, sym, ◌∙◌, ap, subst, arith, Bool, true, false, inl, inr}
 use Rattle.std.specs.Prelude.{ℤ, pos, ◌-◌, ◌*◌, nat_lt, Option, Some, None, not, ◌&&◌, ◌||◌, if◌then◌else◌, slice_get}
-use Rattle.std.proofs.lemmas.List.{take-append-le, take_at, length_push}
+use Rattle.std.proofs.lemmas.List.{take-append-le, take_at, take_all, length-take, length_push}
 use Rattle.std.proofs.lemmas.Bool.{cases_lt}
 use Rattle.std.proofs.lemmas.Option.{slice_get_within}
 use Rattle.tk_clock.specs.declared.command.Entry.{Entry}
@@ -113,15 +113,54 @@ IsAccepted-followed_by journal entry all accepted =
     elim (cases_lt k (length journal.entries))
     [ inl low ↦ earlier_accepted journal entry all k other low found | inr high ↦ last_accepted journal entry accepted k other high found ]
 
--- an entry that nothing refuses passes the clock's tests
+slice_get-take : {X : Type 0} (n : ℕ) (xs : List X) (k : ℕ) (x : X) → slice_get (take n xs) k ≡ Some x →
+    slice_get xs k ≡ Some x
+slice_get-take zero xs k x e = absurd (cc e)
+slice_get-take (suc n) [] k x e = e
+slice_get-take (suc n) (y ∷ xs) zero x e = e
+slice_get-take (suc n) (y ∷ xs) (suc k) x e = slice_get-take n xs k x e
+
+-- and so are those that came first
+pub IsAccepted-prefix : (journal : Journal) (n : ℕ) → IsAccepted journal → IsAccepted (prefix n journal)
+IsAccepted-prefix journal n all =
+    λ k (entry : Entry) found.
+    let within = slice_get_within (take n journal.entries) k entry found in
+    let low : k < n = omega (arith, length-take n journal.entries) in
+    let same : prefix k (prefix n journal) ≡ prefix k journal =
+    ap (λ (es : List Entry). record journal { entries = es }) (take-take k n journal.entries (omega arith)) in
+    ap (λ (j : Journal). clock_refusal j entry) same
+    ∙ all k entry (slice_get-take n journal.entries k entry found)
+
 not_full : (b : Bool) (told : Option Refusal) → (if b then Some Full else told) ≡ None → told ≡ None
 not_full true told e = cc
 not_full false told e = e
 
-pub IsLegal-followed_by : (journal : Journal) (entry : Entry) → IsLegal journal → first_refusal journal entry ≡ None → IsLegal (followed_by journal entry)
-IsLegal-followed_by journal entry legal accepted = record {
-  past = legal.past;
-  accepted = IsAccepted-followed_by journal entry legal.accepted (not_full (is_full journal) (clock_refusal journal entry) accepted);
+-- an entry that nothing refuses passes the clock's tests
+pub passes_clock : (journal : Journal) (entry : Entry) → first_refusal journal entry ≡ None →
+    clock_refusal journal entry ≡ None
+passes_clock journal entry accepted = not_full (is_full journal) (clock_refusal journal entry) accepted
+
+-- a legal journal stays legal
+pub IsLegal-followed_by : (journal : Journal) (entry : Entry) → IsLegal journal → clock_refusal journal entry ≡ None →
+    IsLegal (followed_by journal entry)
+IsLegal-followed_by journal entry legal accepted =
+    record { past = legal.past; accepted = IsAccepted-followed_by journal entry legal.accepted accepted }
+
+-- and a whole one whole
+pub IsWhole-followed_by : (journal : Journal) (entry : Entry) → IsWhole journal → clock_refusal journal entry ≡ None →
+    IsWhole (followed_by journal entry)
+IsWhole-followed_by journal entry whole accepted = record {
+  described = whole.described;
+  opens = whole.opens;
+  accepted = IsAccepted-followed_by journal entry whole.accepted accepted;
+}
+
+-- what came first of a whole journal is whole
+pub IsWhole-prefix : (journal : Journal) (n : ℕ) → IsWhole journal → IsWhole (prefix n journal)
+IsWhole-prefix journal n whole = record {
+  described = whole.described;
+  opens = whole.opens;
+  accepted = IsAccepted-prefix journal n whole.accepted;
 }
 
 -- a journal without entries comes to its opening
@@ -169,6 +208,49 @@ IsLegal-opened counter reading real described opens = record {
   past = (opened counter reading real, IsWhole-opened counter reading real described opens, opened-folded counter reading real);
   accepted = λ k entry e. absurd (none_listed k entry e);
 }
+
+-- a whole journal is legal: before its first entry no command was accepted
+pub IsLegal-whole : (journal : Journal) → IsWhole journal → IsLegal journal
+IsLegal-whole journal whole =
+    let reading = whole.opens.0 in
+    let real = whole.opens.1 in
+    let counter = journal.opening.counter in
+    record {
+      past = (
+        opened counter reading real,
+        IsWhole-opened counter reading real whole.described whole.opens.2,
+        whole.opens.3 ∙ opened-folded counter reading real,
+      );
+      accepted = whole.accepted;
+    }
+
+nothing_before : (journal : Journal) → length journal.entries ≡ 0 → prefix 0 journal ≡ journal
+nothing_before journal none =
+    ap (λ (es : List Entry). record journal { entries = es }) (take_all 0 journal.entries (omega arith))
+
+-- a legal journal before whose first entry no command was accepted is whole
+pub IsWhole-legal : (journal : Journal) → IsLegal journal → journal.opening.count ≡ 0 → IsWhole journal
+IsWhole-legal journal legal none =
+    let past = legal.past.0 in
+    let whole = legal.past.1 in
+    let reading = whole.opens.0 in
+    let real = whole.opens.1 in
+    let counter = past.opening.counter in
+    let start = opened counter reading real in
+    let few : length past.entries ≡ 0 = sym (ap (λ (o : Opening). o.count) legal.past.2) ∙ none in
+    let empty : past ≡ start =
+    sym (nothing_before past few) ∙ ap (λ (o : Opening). let j : Journal = record { opening = o; entries = [] } in j) whole.opens.3 in
+    let opening : journal.opening ≡ start.opening =
+    legal.past.2 ∙ ap (λ k. folded_opening k (state_of past)) few ∙ ap (λ (j : Journal). folded_opening 0 (state_of j)) empty
+    ∙ sym (opened-folded counter reading real) in
+    let same : journal.opening.counter ≡ counter = ap (λ (o : Opening). o.counter) opening in
+    record {
+      described = subst IsCounter (sym same) whole.described;
+      opens = subst
+          (λ (k : Counter). (r : ℕ) × (t : Timespec) × (opening_refusal k r t ≡ None) × (journal.opening ≡ (opened k r t).opening))
+          (sym same) (reading, real, whole.opens.2, opening);
+      accepted = legal.accepted;
+    }
 
 -- the answer to a refused entry is told as such
 pub IsRefusal-told : (journal : Journal) (entry : Entry) (refusal : Refusal) → is_full journal ≡ false →

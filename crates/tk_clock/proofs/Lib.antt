@@ -5,6 +5,10 @@ pub mod Offsets
 pub mod Ledger
 pub mod Legal
 pub mod Monotone
+pub mod Alike
+pub mod Later
+pub mod Start
+pub mod Folding
 pub mod Honest
 pub mod Units
 pub mod Forwarding

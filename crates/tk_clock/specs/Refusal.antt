@@ -94,3 +94,8 @@ read_refusal base clock reading =
     if nat_lt (mask base.counter) reading then Some InvalidReading
     else if not (int_lt (base_value base clock reading) (limit clock)) then Some PastLimit
     else None
+
+-- the refusal of a command that says what a refused read says
+abbrev pub refusal_of : ReadError → Refusal
+refusal_of InvalidReading = Invalid
+refusal_of PastLimit = Range

@@ -134,7 +134,8 @@ impl ReadBase {
 
     /// MONOTONIC_RAW at the last reading.
     pub fn raw_amount(&self) -> Amount
-        ensures { result ≡ amount_of self.now.counter self.now.raw_amount }
+        ensures value { result ≡ amount_of self.now.counter self.now.raw_amount }
+        ensures below { result.sec < raw_end }
     {
         self.raw
     }

@@ -34,6 +34,7 @@ impl Model for Snapshot {
 }
 
 impl Snapshot {
+    ghost use Rattle.tk_clock.specs.Limits.{raw_end};
     ghost use Rattle.tk_clock.specs.Refusal.{read_refusal};
     ghost use Rattle.tk_clock.specs.State.{base_value};
     ghost use Rattle.tk_clock.specs.Time.{nanoseconds};
@@ -130,9 +131,10 @@ impl Snapshot {
         self.base.raw_amount().frac
     }
 
-    /// MONOTONIC_RAW at the last reading: whole seconds.
+    /// MONOTONIC_RAW at the last reading: whole seconds. It never comes to 1,060,000,000.
     pub fn raw_sec(&self) -> u64
-        ensures { result ≡ self.now.base.raw_amount / second self.now.base.counter }
+        ensures value { result ≡ self.now.base.raw_amount / second self.now.base.counter }
+        ensures below { result < raw_end }
     {
         self.base.raw_amount().sec
     }

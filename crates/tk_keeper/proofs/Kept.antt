@@ -8,8 +8,8 @@ use Rattle.tk_clock.specs.Journal.{Journal, prefix, followed_by, accepted_count}
 use Rattle.tk_clock.specs.Legal.{IsAccepted}
 use Rattle.tk_clock.specs.State.{State, state_of}
 use Rattle.tk_keeper.specs.Keeper.{HasKept}
-use Rattle.tk_keeper.specs.Past.{folded_by}
-use Rattle.tk_keeper.proofs.Folding.{state_of-folded}
+use Rattle.tk_clock.proofs.Folding.{state_of-folded}
+use Rattle.tk_clock.specs.Folding.{folded_by}
 
 slice_get-append : {X : Type 0} (xs : List X) (y : X) (k : ℕ) → k < length xs → slice_get (xs ++ y ∷ []) k ≡ slice_get xs k
 slice_get-append [] y k within = absurd (omega arith)

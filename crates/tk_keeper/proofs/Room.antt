@@ -9,11 +9,11 @@ use Rattle.tk_clock.specs.declared.refusal.Refusal.TheVariants.{Full}
 use Rattle.tk_clock.specs.Journal.{Journal, followed_by, accepted_count}
 use Rattle.tk_clock.specs.Refusal.{is_full, clock_refusal, first_refusal}
 use Rattle.tk_clock.specs.State.{State, state_of}
-use Rattle.tk_clock.proofs.Legal.{IsLegal-followed_by}
+use Rattle.tk_clock.proofs.Legal.{IsLegal-followed_by, passes_clock}
 use Rattle.tk_keeper.specs.Keeper.{IsKept}
-use Rattle.tk_keeper.specs.Past.{folded_by}
-use Rattle.tk_keeper.proofs.Folding.{IsLegal-folded, state_of-whole}
+use Rattle.tk_clock.proofs.Folding.{IsLegal-folded, state_of-whole}
 use Rattle.tk_clock.specs.Limits.{listed_most, counted_most}
+use Rattle.tk_clock.specs.Folding.{folded_by}
 
 -- a journal that isn't full lists and counts fewer than it may
 pub not_full : (journal : Journal) → is_full journal ≡ false → (length journal.entries < listed_most) × (accepted_count journal < counted_most)
@@ -33,7 +33,7 @@ pub IsKept-followed_by : (journal : Journal) (entry : Entry) (before after : Sta
 IsKept-followed_by journal entry before after held accepted running =
     let more = not_full journal (accepts-not_full journal entry accepted) in
     record {
-      legal = IsLegal-followed_by journal entry held.legal accepted;
+      legal = IsLegal-followed_by journal entry held.legal (passes_clock journal entry accepted);
       running = running;
       room = omega (arith, more.0, length_push journal.entries entry);
       counted = omega (arith, more.1, length_push journal.entries entry);

@@ -6,7 +6,7 @@ use Rattle.tk_clock.specs.Journal.{Journal, prefix, accepted_count}
 use Rattle.tk_clock.specs.Monotonic.{awake_cycles}
 use Rattle.tk_clock.specs.Clocks.{clock_value}
 use Rattle.tk_clock.specs.Honest.{IsHonest, counted_cycles}
-use Rattle.tk_clock.specs.Legal.{IsLegal, folded_opening}
+use Rattle.tk_clock.specs.Legal.{IsLegal}
 use Rattle.tk_clock.specs.Limits.{listed_most, counted_most}
 use Rattle.tk_clock.specs.State.{ReadBase, State, base_value, state_of}
 
@@ -14,10 +14,6 @@ use Rattle.tk_clock.specs.State.{ReadBase, State, base_value, state_of}
 pub record Keeper : Type 0 where
   pub journal : Journal
   pub spare : ℕ
-
--- the journal that begins with a state, so many commands after the clocks were opened
-abbrev pub journal_from : ℕ → State → List Entry → Journal
-journal_from count start entries = record { opening = folded_opening count start; entries = entries }
 
 -- the journal is legal, the running state is what it comes to, and it isn't overfull
 pub record IsKept (journal : Journal) (state : State) : Type 0 where

@@ -7,7 +7,6 @@ use Rattle.tk_clock.specs.Snapshot.{snapshot_of}
 use Rattle.tk_clock.specs.State.{state_of}
 use Rattle.tk_keeper.specs.declared.front_error.FrontError.{FrontError}
 use Rattle.tk_keeper.specs.declared.front_error.FrontError.TheVariants.{Unknown, Folded}
-use Rattle.tk_keeper.specs.Keeper.{journal_from}
 
 -- the journal as it was when so many commands were accepted, the folded ones among them
 abbrev pub at_front : ℕ → Journal → Journal
@@ -19,11 +18,6 @@ front_refusal journal front =
     if nat_lt (accepted_count journal) front then Some Unknown
     else if nat_lt front journal.opening.count then Some Folded
     else None
-
--- the journal with its first entries, so many, folded into its opening
-abbrev pub folded_by : ℕ → Journal → Journal
-folded_by places journal =
-    journal_from (journal.opening.count + places) (state_of (prefix places journal)) (drop places journal.entries)
 
 -- a folded journal says of each front that it still has what the journal before said
 pub record IsFolded (before after : Journal) : Type 0 where

@@ -2,7 +2,8 @@
 ghost use Rattle.std.specs.Prelude.{◌≡◌, ◌-◌, ◌≤◌, length, drop, max, vec_capacity};
 ghost use Rattle.tk_clock.specs.Journal.{accepted_count};
 ghost use Rattle.tk_clock.specs.Legal.{IsLegal};
-ghost use Rattle.tk_keeper.specs.Past.{IsFolded, folded_by};
+ghost use Rattle.tk_keeper.specs.Past.{IsFolded};
+ghost use Rattle.tk_clock.specs.Folding.{folded_by};
 
 use super::{KEPT_EVERY, Timekeeper};
 use std::alloc::Allocator;
@@ -16,6 +17,8 @@ impl<A: Allocator + Copy> Timekeeper<A> {
         ensures answer { let before = self.old.journal in
             result ≡ max before.opening.count (accepted_count before - keep) }
         ensures folded { self.new.journal.opening.count ≡ result }
+        ensures journal { let before = self.old.journal in
+            self.new.journal ≡ folded_by (result - before.opening.count) before }
         ensures same { IsFolded self.old.journal self.new.journal }
         ensures legal { IsLegal self.new.journal }
         ensures spare { self.old.spare ≤ self.new.spare }

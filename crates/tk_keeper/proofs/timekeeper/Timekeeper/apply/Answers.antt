@@ -10,8 +10,9 @@ use Rattle.tk_clock.specs.Refusal.{is_full, first_refusal}
 use Rattle.tk_clock.specs.State.{state_of}
 use Rattle.tk_clock.proofs.Monotone.{never_falls, agrees}
 use Rattle.tk_clock.proofs.Legal.{first_refusal-state, state_of-followed_by, IsRefusal-told}
-use Rattle.tk_keeper.specs.Keeper.{Keeper, journal_from}
+use Rattle.tk_keeper.specs.Keeper.{Keeper}
 use Rattle.tk_keeper.proofs.timekeeper.Timekeeper.apply.Goals as goal
+use Rattle.tk_clock.specs.Folding.{journal_from}
 
 pub returns-then-is_full-clause-rises : goal.returns-then-is_full-clause-rises
 returns-then-is_full-clause-rises g c = never_falls c.args.self.now.journal

@@ -4,12 +4,13 @@ use Rattle.std.proofs.lemmas.List.{length_push}
 use Rattle.tk_clock.specs.Journal.{Journal, followed_by}
 use Rattle.tk_clock.specs.State.{state_of}
 use Rattle.tk_clock.specs.Refusal.{first_refusal}
-use Rattle.tk_keeper.specs.Keeper.{Keeper, IsKept, HasKept, journal_from}
+use Rattle.tk_keeper.specs.Keeper.{Keeper, IsKept, HasKept}
 use Rattle.tk_keeper.specs.declared.timekeeper.Timekeeper.TheInside.{Inside}
 use Rattle.tk_keeper.proofs.Kept.{HasKept-same, HasKept-more}
 use Rattle.tk_keeper.proofs.Room.{IsKept-followed_by}
 use Rattle.tk_keeper.proofs.timekeeper.Timekeeper.enter.Goals as goal
 use Rattle.tk_keeper.proofs.timekeeper.Timekeeper.enter.Goals.{then-number-eq0, else-number-eq0}
+use Rattle.tk_clock.specs.Folding.{journal_from}
 
 pub invariant_of-self : goal.invariant_of-self
 invariant_of-self g c =

@@ -2,11 +2,11 @@ use Rattle.std.proofs.Common.{◌≡◌, ◌∙◌, ◌+◌, ◌≤◌, List, le
 use Rattle.tk_clock.specs.declared.command.Entry.{Entry}
 use Rattle.tk_clock.specs.Journal.{Journal, prefix}
 use Rattle.tk_clock.specs.State.{State, state_of}
-use Rattle.tk_keeper.specs.Keeper.{Keeper, IsKept, journal_from}
-use Rattle.tk_keeper.specs.Past.{folded_by}
+use Rattle.tk_keeper.specs.Keeper.{Keeper, IsKept}
 use Rattle.tk_keeper.proofs.Kept.{HasKept-folded}
 use Rattle.tk_keeper.proofs.Room.{IsKept-folded}
 use Rattle.tk_keeper.proofs.timekeeper.Timekeeper.fold_first.Goals as goal
+use Rattle.tk_clock.specs.Folding.{journal_from, folded_by}
 
 pub invariant_of-self : goal.invariant_of-self
 invariant_of-self g c =

@@ -3,8 +3,9 @@ use Rattle.tk_clock.specs.declared.command.Entry.{Entry}
 use Rattle.tk_clock.specs.Journal.{Opening, Journal, opened}
 use Rattle.tk_clock.specs.State.{State}
 use Rattle.tk_clock.proofs.Legal.{IsLegal-opened, opened-folded}
-use Rattle.tk_keeper.specs.Keeper.{IsKept, HasKept, journal_from}
+use Rattle.tk_keeper.specs.Keeper.{IsKept, HasKept}
 use Rattle.tk_keeper.proofs.timekeeper.Timekeeper.open.Goals as goal
+use Rattle.tk_clock.specs.Folding.{journal_from}
 
 pub invariant_of-result : goal.invariant_of-result
 invariant_of-result g c =

@@ -14,7 +14,7 @@ use Rattle.tk_clock.specs.Monotonic.{current_multiplier, current_frequency, curr
 use Rattle.tk_clock.specs.State.{State, state_of}
 use Rattle.tk_clock.proofs.Stretches.{current_multiplier-followed_by, current_frequency-followed_by, current_tick-followed_by}
 use Rattle.tk_clock.proofs.Monotone.{prefix-next}
-use Rattle.tk_keeper.specs.Keeper.{journal_from}
+use Rattle.tk_clock.specs.Folding.{journal_from}
 
 -- the multiplier is that of the frequency and tick in force
 abbrev IsSteered : Journal → Type 0

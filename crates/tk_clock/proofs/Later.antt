@@ -6,10 +6,10 @@ use Rattle.std.proofs.Math.Seq.{take-append_seam}
 use Rattle.tk_clock.specs.declared.command.Entry.{Entry}
 use Rattle.tk_clock.specs.Journal.{Journal, prefix, followed_by}
 use Rattle.tk_clock.specs.Legal.{IsAccepted}
-use Rattle.tk_clock.specs.Refusal.{clock_refusal, state_refusal}
+use Rattle.tk_clock.specs.Refusal.{clock_refusal}
 use Rattle.tk_clock.specs.State.{state_of}
-use Rattle.tk_clock.proofs.Ledger.{clock_refusal-state}
-use Rattle.tk_clock.proofs.Legal.{IsAccepted-followed_by, state_of-followed_by}
+use Rattle.tk_clock.proofs.Alike.{clock_refusal-alike, state_of-next}
+use Rattle.tk_clock.proofs.Legal.{IsAccepted-followed_by}
 
 -- the journal with more entries
 abbrev pub extended_by : Journal → List Entry → Journal
@@ -54,30 +54,13 @@ Follows-take journal zero entries later = tt
 Follows-take journal (suc n) [] later = tt
 Follows-take journal (suc n) (entry ∷ entries) later = (later.0, Follows-take (followed_by journal entry) n entries later.1)
 
--- an entry is accepted after a journal as after another one that comes to the same state
-accepted_alike : (before other : Journal) (entry : Entry) → state_of before ≡ state_of other → clock_refusal before entry ≡ None →
-    clock_refusal other entry ≡ None
-accepted_alike before other entry same accepted =
-    clock_refusal-state other entry.who entry.reading entry.cmd
-    ∙ ap (λ s. state_refusal s entry.reading entry.cmd) (sym same)
-    ∙ sym (clock_refusal-state before entry.who entry.reading entry.cmd)
-    ∙ accepted
-
--- and leaves the same state
-state_alike : (before other : Journal) (entry : Entry) → state_of before ≡ state_of other → clock_refusal before entry ≡ None →
-    state_of (followed_by before entry) ≡ state_of (followed_by other entry)
-state_alike before other entry same accepted =
-    let passes : state_refusal (state_of before) entry.reading entry.cmd ≡ None =
-    sym (clock_refusal-state before entry.who entry.reading entry.cmd) ∙ accepted in
-    sym (state_of-followed_by before (state_of before) entry.who entry.reading entry.cmd refl passes)
-    ∙ state_of-followed_by other (state_of before) entry.who entry.reading entry.cmd same passes
-
 pub Follows-alike : (before other : Journal) (entries : List Entry) → state_of before ≡ state_of other → Follows before entries →
     Follows other entries
 Follows-alike before other [] same later = tt
 Follows-alike before other (entry ∷ entries) same later = (
-  accepted_alike before other entry same later.0,
-  Follows-alike (followed_by before entry) (followed_by other entry) entries (state_alike before other entry same later.0) later.1,
+  sym (clock_refusal-alike before other same entry) ∙ later.0,
+  Follows-alike (followed_by before entry) (followed_by other entry) entries
+      (state_of-next before other same entry later.0) later.1,
 )
 
 pub state_of-alike : (before other : Journal) (entries : List Entry) → state_of before ≡ state_of other → Follows before entries →
@@ -88,5 +71,6 @@ state_of-alike before other [] same later =
     ∙ sym (ap (λ (es : List Entry). state_of (record other { entries = es })) (append-nil other.entries))
 state_of-alike before other (entry ∷ entries) same later =
     ap state_of (regroup before entry entries)
-    ∙ state_of-alike (followed_by before entry) (followed_by other entry) entries (state_alike before other entry same later.0) later.1
+    ∙ state_of-alike (followed_by before entry) (followed_by other entry) entries
+    (state_of-next before other same entry later.0) later.1
     ∙ sym (ap state_of (regroup other entry entries))
