@@ -1,6 +1,6 @@
 -- Ten words and the snapshot that they tell.
 use Rattle.std.proofs.Common.{◌≡◌, ℕ, ◌+◌, ◌*◌, ◌/◌, ◌%◌, ◌<◌, ◌≤◌, ◌∙◌, refl, ap, arith, Bool, true, false, List, [], ◌∷◌, length, get_or}
-use Rattle.std.specs.Prelude.{ℤ, zero, suc, ◌==◌, pos, ◌<ℤ◌, int_lt, ◌&&◌, ◌||◌, not, Some, None, if◌then◌else◌}
+use Rattle.std.specs.Prelude.{ℤ, zero, suc, ◌==◌, pos, ◌<ℤ◌, int_lt, ◌&&◌, ◌||◌, not, Some, None, IsSome, if◌then◌else◌}
 use Rattle.std.proofs.lemmas.Int.{ints}
 use Rattle.std.proofs.lemmas.Bool.{lt-ltb, le-leb, ltb-true, leb-true}
 use Rattle.tk_counter.specs.Counter.{Counter, mask, fastest, second}
@@ -228,3 +228,30 @@ restored-words counter front last mult monotonic raw real boot tai asleep held w
     ap (restored counter) (words_of-parts counter front last mult monotonic raw real boot tai asleep held.frac_low held.raw_frac_low)
     ∙ restored-told counter words (passes_range counter words range) (ap (λ (s : Snapshot). is_within s.base) same ∙ passes_within snapshot.base within)
     ∙ ap (λ (s : Snapshot). Some s) same
+
+-- no clock of words that tell a snapshot is at its limit
+pub is_within-told : (base : ReadBase) → is_within base ≡ true → IsWithin base
+unfolding is_within
+is_within-told base e =
+    let at : ClockId → ℤ = λ clock. base_value base clock base.last in
+    let boot_real = first_true _ _ e in
+    record {
+      real_low = below-of (at Realtime) (limit Realtime) (then_true _ _ boot_real);
+      boot_low = below-of (at Boottime) (limit Boottime) (first_true _ _ boot_real);
+      tai_low = below-of (at TaiClock) (limit TaiClock) (then_true _ _ e);
+    }
+
+-- what is known of words that tell a snapshot
+pub record IsTold (counter : Counter) (words : List ℕ) : Type 0 where
+  pub range : are_in_range counter words ≡ true
+  pub within : is_within (snapshot_told counter words).base ≡ true
+
+pub told-restored : (counter : Counter) (words : List ℕ) → IsSome (restored counter words) → IsTold counter words
+told-restored counter words some_told =
+    by (are_in_range counter words) (is_within (snapshot_told counter words).base) refl refl some_told
+  where
+    by : (a b : Bool) → are_in_range counter words ≡ a → is_within (snapshot_told counter words).base ≡ b →
+        IsSome (if a && b then Some (snapshot_told counter words) else None) → IsTold counter words
+    by true true p q h = record { range = p; within = q }
+    by true false p q h = absurd cc
+    by false b p q h = absurd cc

@@ -1,5 +1,6 @@
 ghost use Rattle.std.specs.Prelude.{◌≡◌, ◌/◌, ◌%◌, ◌^◌, ◌<◌, pos, ◌≤ℤ◌, MatchResult, Some, None};
 
+mod known_words;
 mod words;
 
 use crate::clock_id::ClockId;

@@ -3,10 +3,9 @@ ghost use Rattle.tk_counter.specs.Counter.{IsCounter};
 ghost use Rattle.tk_clock.specs.Words.{words_of, restored, are_in_range};
 
 use super::Snapshot;
-use crate::amount::Amount;
+use super::known_words::base_told;
 use crate::command::Command;
 use crate::limits::{MONOTONIC_SEC_LIMIT, RAW_SEC_LIMIT, TAI_OFFSET_MOST};
-use crate::read_base::ReadBase;
 use tk_counter::CounterDesc;
 
 impl Snapshot {
@@ -31,36 +30,14 @@ impl Snapshot {
         if !are_in_range(&desc, &words) {
             return None;
         }
-        let [
-            front,
-            last,
-            mult,
-            frac,
-            sec,
-            real_offset,
-            boot_offset,
-            tai,
-            raw_frac,
-            raw_sec,
-        ] = words;
-        let base = ReadBase {
-            desc,
-            last,
-            mult: mult as u32,
-            monotonic: Amount { sec, frac },
-            raw: Amount {
-                sec: raw_sec,
-                frac: raw_frac,
-            },
-            real_offset,
-            boot_offset,
-            tai: (tai / 2) as u32,
-            asleep: tai % 2 == 1,
-        };
+        let base = base_told(desc, &words);
         if base.is_past_limit(Command::Update) {
             return None;
         }
-        Some(Snapshot { front, base })
+        Some(Snapshot {
+            front: words[0],
+            base,
+        })
     }
 }
 
