@@ -2,11 +2,12 @@
 use Rattle.std.proofs.Common.{◌≡◌, ℕ, ◌+◌, ◌*◌, ◌/◌, ◌^◌, refl, sym, ◌∙◌, ap, arith, Bool, true, false}
 use Rattle.std.specs.Prelude.{ℤ, pos, ◌+ℤ◌, ◌-ℤ◌, if◌then◌else◌, Option, Some, None, not, ◌&&◌}
 use Rattle.std.proofs.lemmas.Int.{ints}
-use Rattle.tk_counter.specs.Counter.{Counter, gap}
+use Rattle.std.specs.Option.{option_map_or}
+use Rattle.tk_counter.specs.Counter.{Counter, gap, multiplier}
 use Rattle.tk_clock.specs.declared.command.Entry.{Entry}
 use Rattle.tk_clock.specs.declared.command.Command.{Command}
 use Rattle.tk_clock.specs.declared.command.Command.TheVariants.{Update, SetTime, Step, Freq, Tick, Tai, Suspend, Resume}
-use Rattle.tk_clock.specs.Command.{is_resume}
+use Rattle.tk_clock.specs.Command.{is_resume, boot_amount, tai_set, frequency_set, tick_set, sets_multiplier}
 use Rattle.tk_clock.specs.Journal.{Journal, followed_by, is_asleep, last_reading}
 use Rattle.tk_clock.specs.Monotonic.{monotonic, monotonic_units, current_multiplier, current_frequency, current_tick}
 use Rattle.tk_clock.specs.State.{State, base_of, state_of, base_value, effect}
@@ -89,52 +90,76 @@ raw_grown journal entry awake =
 plus_nothing : (x u : ℕ) → x + 0 * u ≡ x
 plus_nothing x u = omega arith
 
+-- the frequency and the tick that a command leaves, and the multiplier with them
+abbrev frequency_left : Journal → Command → ℤ
+frequency_left journal cmd = option_map_or (λ x. x) (frequency_set cmd) (current_frequency journal)
+
+abbrev tick_left : Journal → Command → ℤ
+tick_left journal cmd = option_map_or (λ x. x) (tick_set cmd) (current_tick journal)
+
+abbrev multiplier_left : Journal → Command → ℕ
+multiplier_left journal cmd =
+    if sets_multiplier cmd then multiplier journal.opening.counter (frequency_left journal cmd) (tick_left journal cmd)
+    else current_multiplier journal
+
+-- what every command but Resume does alike; what it makes of REALTIME and of sleep is its own
+forward : (journal : Journal) (entry : Entry) (real' : ℤ) (asleep' : Bool) → false ≡ is_asleep journal →
+    boot_amount entry.cmd ≡ pos 0 → real_offset (followed_by journal entry) ≡ real' →
+    is_asleep (followed_by journal entry) ≡ asleep' →
+    let counter = journal.opening.counter in
+    let cycles = gap counter (last_reading journal) entry.reading in
+    state_of (followed_by journal entry)
+    ≡ state counter entry.reading (multiplier_left journal entry.cmd)
+    (monotonic_units journal + cycles * current_multiplier journal) (raw_units journal + cycles * counter.mult)
+    real' (boot_offset journal) (option_map_or (λ x. x) (tai_set entry.cmd) (tai_offset journal)) asleep'
+    (frequency_left journal entry.cmd) (tick_left journal entry.cmd)
+forward journal entry real' asleep' awake boot real sleep =
+    told_state journal entry _ _ _ _ _ _ _ _ _ _ (last_reading-followed_by journal entry)
+    (current_multiplier-followed_by journal entry) (grown journal entry awake) (raw_grown journal entry awake) real
+    (boot_offset-followed_by journal entry ∙ ap (λ z. boot_offset journal +ℤ z) boot ∙ no_more (boot_offset journal))
+    (tai_offset-followed_by journal entry) sleep (current_frequency-followed_by journal entry)
+    (current_tick-followed_by journal entry)
+
 pub ledger : (journal : Journal) (who reading : ℕ) (cmd : Command) → is_resume cmd ≡ is_asleep journal →
     state_of (followed_by journal (record { who = who; reading = reading; cmd = cmd })) ≡ effect (state_of journal) reading cmd
 ledger journal who reading Update awake =
     let entry : Entry = record { who = who; reading = reading; cmd = Update } in
-    told_state journal entry _ _ _ _ _ _ _ _ _ _ (last_reading-followed_by journal entry) (current_multiplier-followed_by journal entry) (grown journal entry awake) (raw_grown journal entry awake)
-    (real_offset-followed_by journal entry ∙ no_more _) (boot_offset-followed_by journal entry ∙ no_more _)
-    (tai_offset-followed_by journal entry) (is_asleep-followed_by journal entry ∙ awake) (current_frequency-followed_by journal entry) (current_tick-followed_by journal entry)
+    forward journal entry _ _ awake refl (real_offset-followed_by journal entry ∙ no_more _)
+    (is_asleep-followed_by journal entry ∙ awake)
 ledger journal who reading (SetTime time) awake =
     let entry : Entry = record { who = who; reading = reading; cmd = SetTime time } in
     let after = followed_by journal entry in
     let scale = 2 ^ journal.opening.counter.shift in
-    told_state journal entry _ _ _ _ _ _ _ _ _ _ (last_reading-followed_by journal entry) (current_multiplier-followed_by journal entry) (grown journal entry awake) (raw_grown journal entry awake)
+    forward journal entry _ _ awake refl
     (real_offset-followed_by journal entry
     ∙ ap (λ r. nanoseconds time -ℤ pos (monotonic after r)) (sym (last_reading-followed_by journal entry))
     ∙ ap (λ n. nanoseconds time -ℤ pos n) (monotonic-last after)
     ∙ ap (λ n. nanoseconds time -ℤ pos (n / scale)) (grown journal entry awake))
-    (boot_offset-followed_by journal entry ∙ no_more _)
-    (tai_offset-followed_by journal entry) (is_asleep-followed_by journal entry ∙ awake) (current_frequency-followed_by journal entry) (current_tick-followed_by journal entry)
+    (is_asleep-followed_by journal entry ∙ awake)
 ledger journal who reading (Step by) awake =
     let entry : Entry = record { who = who; reading = reading; cmd = Step by } in
-    told_state journal entry _ _ _ _ _ _ _ _ _ _ (last_reading-followed_by journal entry) (current_multiplier-followed_by journal entry) (grown journal entry awake) (raw_grown journal entry awake)
-    (real_offset-followed_by journal entry) (boot_offset-followed_by journal entry ∙ no_more _)
-    (tai_offset-followed_by journal entry) (is_asleep-followed_by journal entry ∙ awake) (current_frequency-followed_by journal entry) (current_tick-followed_by journal entry)
+    forward journal entry _ _ awake refl (real_offset-followed_by journal entry)
+    (is_asleep-followed_by journal entry ∙ awake)
 ledger journal who reading (Freq frequency) awake =
     let entry : Entry = record { who = who; reading = reading; cmd = Freq frequency } in
-    told_state journal entry _ _ _ _ _ _ _ _ _ _ (last_reading-followed_by journal entry) (current_multiplier-followed_by journal entry) (grown journal entry awake) (raw_grown journal entry awake)
-    (real_offset-followed_by journal entry ∙ no_more _) (boot_offset-followed_by journal entry ∙ no_more _)
-    (tai_offset-followed_by journal entry) (is_asleep-followed_by journal entry ∙ awake) (current_frequency-followed_by journal entry) (current_tick-followed_by journal entry)
+    forward journal entry _ _ awake refl (real_offset-followed_by journal entry ∙ no_more _)
+    (is_asleep-followed_by journal entry ∙ awake)
 ledger journal who reading (Tick tick) awake =
     let entry : Entry = record { who = who; reading = reading; cmd = Tick tick } in
-    told_state journal entry _ _ _ _ _ _ _ _ _ _ (last_reading-followed_by journal entry) (current_multiplier-followed_by journal entry) (grown journal entry awake) (raw_grown journal entry awake)
-    (real_offset-followed_by journal entry ∙ no_more _) (boot_offset-followed_by journal entry ∙ no_more _)
-    (tai_offset-followed_by journal entry) (is_asleep-followed_by journal entry ∙ awake) (current_frequency-followed_by journal entry) (current_tick-followed_by journal entry)
+    forward journal entry _ _ awake refl (real_offset-followed_by journal entry ∙ no_more _)
+    (is_asleep-followed_by journal entry ∙ awake)
 ledger journal who reading (Tai seconds) awake =
     let entry : Entry = record { who = who; reading = reading; cmd = Tai seconds } in
-    told_state journal entry _ _ _ _ _ _ _ _ _ _ (last_reading-followed_by journal entry) (current_multiplier-followed_by journal entry) (grown journal entry awake) (raw_grown journal entry awake)
-    (real_offset-followed_by journal entry ∙ no_more _) (boot_offset-followed_by journal entry ∙ no_more _)
-    (tai_offset-followed_by journal entry) (is_asleep-followed_by journal entry ∙ awake) (current_frequency-followed_by journal entry) (current_tick-followed_by journal entry)
+    forward journal entry _ _ awake refl (real_offset-followed_by journal entry ∙ no_more _)
+    (is_asleep-followed_by journal entry ∙ awake)
 ledger journal who reading Suspend awake =
     let entry : Entry = record { who = who; reading = reading; cmd = Suspend } in
-    told_state journal entry _ _ _ _ _ _ _ _ _ _ (last_reading-followed_by journal entry) (current_multiplier-followed_by journal entry) (grown journal entry awake) (raw_grown journal entry awake)
-    (real_offset-followed_by journal entry ∙ no_more _) (boot_offset-followed_by journal entry ∙ no_more _)
-    (tai_offset-followed_by journal entry) (is_asleep-followed_by journal entry) (current_frequency-followed_by journal entry) (current_tick-followed_by journal entry)
+    forward journal entry _ _ awake refl (real_offset-followed_by journal entry ∙ no_more _)
+    (is_asleep-followed_by journal entry)
 ledger journal who reading (Resume away) asleep =
     let entry : Entry = record { who = who; reading = reading; cmd = Resume away } in
-    told_state journal entry _ _ _ _ _ _ _ _ _ _ (last_reading-followed_by journal entry) (current_multiplier-followed_by journal entry)
+    told_state journal entry _ _ _ _ _ _ _ _ _ _ (last_reading-followed_by journal entry)
+    (current_multiplier-followed_by journal entry)
     (monotonic_units-followed_by journal entry
     ∙ ap (λ k. monotonic_units journal + k * current_multiplier journal) (cycles_asleep journal reading asleep)
     ∙ plus_nothing (monotonic_units journal) (current_multiplier journal))
@@ -142,7 +167,8 @@ ledger journal who reading (Resume away) asleep =
     ∙ ap (λ k. raw_units journal + k * journal.opening.counter.mult) (cycles_asleep journal reading asleep)
     ∙ plus_nothing (raw_units journal) journal.opening.counter.mult)
     (real_offset-followed_by journal entry) (boot_offset-followed_by journal entry)
-    (tai_offset-followed_by journal entry) (is_asleep-followed_by journal entry) (current_frequency-followed_by journal entry) (current_tick-followed_by journal entry)
+    (tai_offset-followed_by journal entry) (is_asleep-followed_by journal entry)
+    (current_frequency-followed_by journal entry) (current_tick-followed_by journal entry)
 
 -- a clock of a journal is that of its read base
 pub base_value-base_of : (journal : Journal) (clock : ClockId) (reading : ℕ) →
