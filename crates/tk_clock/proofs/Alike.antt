@@ -16,7 +16,8 @@ use Rattle.tk_clock.proofs.Legal.{state_of-followed_by}
 
 -- each clock tells the same at each reading
 pub clock_value-alike : (journal other : Journal) → state_of journal ≡ state_of other →
-    (clock : ClockId) (reading : ℕ) → clock_value journal clock reading ≡ clock_value other clock reading
+    (clock : ClockId) (reading : ℕ) →
+    clock_value journal clock reading ≡ clock_value other clock reading
 clock_value-alike journal other same clock reading =
     sym (base_value-base_of journal clock reading)
     ∙ ap (λ (s : State). base_value s.base clock reading) same
@@ -41,7 +42,8 @@ pub state_of-next : (journal other : Journal) → state_of journal ≡ state_of 
 state_of-next journal other same entry accepted =
     let passes : state_refusal (state_of journal) entry.reading entry.cmd ≡ None =
     sym (clock_refusal-state journal entry.who entry.reading entry.cmd) ∙ accepted in
-    sym (state_of-followed_by journal (state_of journal) entry.who entry.reading entry.cmd refl passes)
+    sym (state_of-followed_by journal (state_of journal) entry.who entry.reading entry.cmd refl
+    passes)
     ∙ state_of-followed_by other (state_of journal) entry.who entry.reading entry.cmd same passes
 
 -- a journal is like itself
@@ -59,7 +61,12 @@ pub IsAlike-followed_by : (journal other : Journal) → IsAlike journal other �
     IsAlike (followed_by journal entry) (followed_by other entry)
 IsAlike-followed_by journal other alike entry accepted = record {
   state = state_of-next journal other alike.state entry accepted;
-  count = omega (arith, alike.count, length_push journal.entries entry, length_push other.entries entry);
+  count = omega (
+    arith,
+    alike.count,
+    length_push journal.entries entry,
+    length_push other.entries entry,
+  );
 }
 
 -- journals that are alike have the same snapshot

@@ -17,10 +17,12 @@ use Rattle.tk_clock.proofs.Later.{extended_by, Follows, Follows-accepted, Follow
 use Rattle.tk_clock.proofs.Start.{state_of-started}
 
 -- the entries that are left follow the folded ones
-left : (journal : Journal) (n : ℕ) → IsAccepted journal → Follows (prefix n journal) (drop n journal.entries)
+left : (journal : Journal) (n : ℕ) → IsAccepted journal →
+    Follows (prefix n journal) (drop n journal.entries)
 left journal n all =
     Follows-accepted (prefix n journal) (drop n journal.entries)
-    (subst (λ (es : List Entry). IsAccepted (record journal { entries = es })) (sym (take-append-drop n journal.entries)) all)
+    (subst (λ (es : List Entry). IsAccepted (record journal { entries = es }))
+    (sym (take-append-drop n journal.entries)) all)
 
 -- a folded journal, so far, comes to what the journal came to
 pub state_of-folded : (journal : Journal) (n p : ℕ) → IsAccepted journal →
@@ -29,23 +31,28 @@ state_of-folded journal n p all =
     let before = prefix n journal in
     let start = journal_from (journal.opening.count + n) (state_of before) [] in
     let rest = take p (drop n journal.entries) in
-    sym (state_of-alike before start rest (sym (state_of-started (journal.opening.count + n) before))
+    sym (state_of-alike before start rest
+    (sym (state_of-started (journal.opening.count + n) before))
     (Follows-take before p (drop n journal.entries) (left journal n all)))
-    ∙ ap (λ (es : List Entry). state_of (record journal { entries = es })) (sym (take-add n p journal.entries))
+    ∙ ap (λ (es : List Entry). state_of (record journal { entries = es }))
+    (sym (take-add n p journal.entries))
 
 none_listed : (k : ℕ) (entry : Entry) → slice_get [] k ≡ Some entry → ⊥
 none_listed k entry e = cc e
 
 -- each entry that is left is accepted as before
-accepted-folded : (journal : Journal) (n : ℕ) → IsAccepted journal → IsAccepted (folded_by n journal)
+accepted-folded : (journal : Journal) (n : ℕ) → IsAccepted journal →
+    IsAccepted (folded_by n journal)
 accepted-folded journal n all =
     let before = prefix n journal in
     let start = journal_from (journal.opening.count + n) (state_of before) [] in
     IsAccepted-extended start (drop n journal.entries) (λ k entry e. absurd (none_listed k entry e))
-    (Follows-alike before start (drop n journal.entries) (sym (state_of-started (journal.opening.count + n) before)) (left journal n all))
+    (Follows-alike before start (drop n journal.entries)
+    (sym (state_of-started (journal.opening.count + n) before)) (left journal n all))
 
 -- a legal journal stays legal
-pub IsLegal-folded : (journal : Journal) (n : ℕ) → n ≤ length journal.entries → IsLegal journal → IsLegal (folded_by n journal)
+pub IsLegal-folded : (journal : Journal) (n : ℕ) → n ≤ length journal.entries → IsLegal journal →
+    IsLegal (folded_by n journal)
 IsLegal-folded journal n within legal =
     let whole = legal.past.0 in
     let is_whole = legal.past.1 in
@@ -53,21 +60,32 @@ IsLegal-folded journal n within legal =
     let gone = take n journal.entries in
     let longer = extended_by whole gone in
     let begins : state_of start ≡ state_of whole =
-    ap (λ (o : Opening). let j : Journal = record { opening = o; entries = [] } in state_of j) legal.past.2
+    ap (λ (o : Opening). let j : Journal = record { opening = o; entries = [] }
+    in state_of j) legal.past.2
     ∙ state_of-started (length whole.entries) whole in
-    let later : Follows start gone = Follows-take start n journal.entries (Follows-accepted start journal.entries legal.accepted) in
-    let same : state_of (prefix n journal) ≡ state_of longer = state_of-alike start whole gone begins later in
+    let later : Follows start gone =
+    Follows-take start n journal.entries (Follows-accepted start journal.entries legal.accepted)
+    in
+    let same : state_of (prefix n journal) ≡ state_of longer =
+    state_of-alike start whole gone begins later in
     let number : journal.opening.count + n ≡ length (whole.entries ++ gone) =
-    omega (arith, ap (λ (o : Opening). o.count) legal.past.2, length-append whole.entries gone, length-take-le n journal.entries within) in
+    omega (
+      arith,
+      ap (λ (o : Opening). o.count) legal.past.2,
+      length-append whole.entries gone,
+      length-take-le n journal.entries within,
+    ) in
     record {
       past = (
         longer,
         record {
           described = is_whole.described;
           opens = is_whole.opens;
-          accepted = IsAccepted-extended whole gone is_whole.accepted (Follows-alike start whole gone begins later);
+          accepted = IsAccepted-extended whole gone is_whole.accepted
+              (Follows-alike start whole gone begins later);
         },
-        ap (λ k. folded_opening k (state_of (prefix n journal))) number ∙ ap (folded_opening (length (whole.entries ++ gone))) same,
+        ap (λ k. folded_opening k (state_of (prefix n journal))) number
+            ∙ ap (folded_opening (length (whole.entries ++ gone))) same,
       );
       accepted = accepted-folded journal n legal.accepted;
     }
@@ -79,9 +97,11 @@ state_of-whole journal n within all =
     let rest = drop n journal.entries in
     let fewer = length-drop n journal.entries in
     let after : prefix (length rest) (folded_by n journal) ≡ folded_by n journal =
-    ap (λ (es : List Entry). record (folded_by n journal) { entries = es }) (take_all (length rest) rest (omega arith)) in
+    ap (λ (es : List Entry). record (folded_by n journal) { entries = es })
+    (take_all (length rest) rest (omega arith)) in
     let before : prefix (n + length rest) journal ≡ journal =
-    ap (λ (es : List Entry). record journal { entries = es }) (take_all (n + length rest) journal.entries (omega arith)) in
+    ap (λ (es : List Entry). record journal { entries = es })
+    (take_all (n + length rest) journal.entries (omega arith)) in
     sym (ap state_of after) ∙ state_of-folded journal n (length rest) all ∙ ap state_of before
 
 -- a folded journal is like the one before
@@ -93,19 +113,22 @@ IsAlike-folded journal n within all = record {
 }
 
 -- so it refuses an entry alike, want of room apart
-pub clock_refusal-folded : (journal : Journal) (n : ℕ) → n ≤ length journal.entries → IsAccepted journal →
+pub clock_refusal-folded : (journal : Journal) (n : ℕ) → n ≤ length journal.entries →
+    IsAccepted journal →
     (entry : Entry) → clock_refusal (folded_by n journal) entry ≡ clock_refusal journal entry
 clock_refusal-folded journal n within all entry =
     clock_refusal-alike (folded_by n journal) journal (state_of-whole journal n within all) entry
 
 -- has the same snapshot
-pub snapshot_of-folded : (journal : Journal) (n : ℕ) → n ≤ length journal.entries → IsAccepted journal →
+pub snapshot_of-folded : (journal : Journal) (n : ℕ) → n ≤ length journal.entries →
+    IsAccepted journal →
     snapshot_of (folded_by n journal) ≡ snapshot_of journal
 snapshot_of-folded journal n within all =
     snapshot_of-alike (folded_by n journal) journal (IsAlike-folded journal n within all)
 
 -- and the same frequency and tick in force
-pub frequency-folded : (journal : Journal) (n : ℕ) → n ≤ length journal.entries → IsAccepted journal →
+pub frequency-folded : (journal : Journal) (n : ℕ) → n ≤ length journal.entries →
+    IsAccepted journal →
     current_frequency (folded_by n journal) ≡ current_frequency journal
 frequency-folded journal n within all =
     ap (λ (s : State). s.frequency) (state_of-whole journal n within all)
@@ -120,7 +143,8 @@ folded_by-nothing journal legal =
     let whole = legal.past.0 in
     let start = prefix 0 journal in
     let begins : state_of start ≡ state_of whole =
-    ap (λ (o : Opening). let j : Journal = record { opening = o; entries = [] } in state_of j) legal.past.2
+    ap (λ (o : Opening). let j : Journal = record { opening = o; entries = [] }
+    in state_of j) legal.past.2
     ∙ state_of-started (length whole.entries) whole in
     let count : journal.opening.count + 0 ≡ length whole.entries =
     omega (arith, ap (λ (o : Opening). o.count) legal.past.2) in
@@ -128,15 +152,18 @@ folded_by-nothing journal legal =
     ap (λ k. folded_opening k (state_of start)) count
     ∙ ap (folded_opening (length whole.entries)) begins
     ∙ sym legal.past.2 in
-    ap (λ (o : Opening). let j : Journal = record { opening = o; entries = journal.entries } in j) opening
+    ap (λ (o : Opening). let j : Journal = record { opening = o; entries = journal.entries }
+    in j) opening
 
 -- an entry may come before the fold or after it
-pub followed_by-folded : (journal : Journal) (n : ℕ) → n ≤ length journal.entries → (entry : Entry) →
+pub followed_by-folded : (journal : Journal) (n : ℕ) → n ≤ length journal.entries →
+    (entry : Entry) →
     followed_by (folded_by n journal) entry ≡ folded_by n (followed_by journal entry)
 followed_by-folded journal n within entry =
     let from : State → List Entry → Journal = journal_from (journal.opening.count + n) in
     ap (λ (es : List Entry). from (state_of (record journal { entries = es }))
-    (drop n journal.entries ++ entry ∷ [])) (sym (take-append-le n journal.entries (entry ∷ []) within))
+    (drop n journal.entries ++ entry ∷ []))
+    (sym (take-append-le n journal.entries (entry ∷ []) within))
     ∙ ap (from (state_of (prefix n (followed_by journal entry))))
     (sym (drop-append-le n journal.entries (entry ∷ []) within))
 
@@ -148,7 +175,8 @@ pub folded_by-folded : (journal : Journal) (n m : ℕ) → IsAccepted journal �
     folded_by m (folded_by n journal) ≡ folded_by (n + m) journal
 folded_by-folded journal n m all =
     let count = journal.opening.count in
-    ap (λ k. journal_from k (state_of (prefix m (folded_by n journal))) (drop m (drop n journal.entries)))
+    ap (λ k. journal_from k (state_of (prefix m (folded_by n journal)))
+    (drop m (drop n journal.entries)))
     (sum_of_three count n m)
     ∙ ap (λ (s : State). journal_from (count + (n + m)) s (drop m (drop n journal.entries)))
     (state_of-folded journal n m all)

@@ -15,27 +15,41 @@ pub record IsTimeBelow (time : Timespec) (end : ℕ) : Type 0 where
 
 pub settable-below : (time : Timespec) → is_settable time ≡ true → IsTimeBelow time settable_end
 unfolding is_settable
-settable-below time e = record { since = grind (arith, common_steps); until = grind (arith, common_steps); rest = grind (arith, common_steps) }
+settable-below time e =
+    record {
+      since = grind (arith, common_steps);
+      until = grind (arith, common_steps);
+      rest = grind (arith, common_steps);
+    }
 
 pub suspension-below : (time : Timespec) → is_suspension time ≡ true → IsTimeBelow time clock_end
 unfolding is_suspension
-suspension-below time e = record { since = grind (arith, common_steps); until = grind (arith, common_steps); rest = grind (arith, common_steps) }
+suspension-below time e =
+    record {
+      since = grind (arith, common_steps);
+      until = grind (arith, common_steps);
+      rest = grind (arith, common_steps);
+    }
 
-pub tick-between : (tick : ℤ) → is_well_formed (Tick tick) ≡ true → (least_tick ≤ℤ tick) × (tick ≤ℤ greatest_tick)
+pub tick-between : (tick : ℤ) → is_well_formed (Tick tick) ≡ true →
+    (least_tick ≤ℤ tick) × (tick ≤ℤ greatest_tick)
 unfolding is_well_formed
 tick-between tick e = (grind (arith, common_steps), grind (arith, common_steps))
 
-pub tai-between : (seconds : ℤ) → is_well_formed (Tai seconds) ≡ true → (pos 0 ≤ℤ seconds) × (seconds ≤ℤ pos greatest_tai)
+pub tai-between : (seconds : ℤ) → is_well_formed (Tai seconds) ≡ true →
+    (pos 0 ≤ℤ seconds) × (seconds ≤ℤ pos greatest_tai)
 unfolding is_well_formed
 tai-between seconds e = (grind (arith, common_steps), grind (arith, common_steps))
 
 -- a setting is to a time that may be set
-pub set-below : (time : Timespec) → is_well_formed (SetTime time) ≡ true → IsTimeBelow time settable_end
+pub set-below : (time : Timespec) → is_well_formed (SetTime time) ≡ true →
+    IsTimeBelow time settable_end
 unfolding is_well_formed
 set-below time e = settable-below time e
 
 -- a resume ends a suspension that a clock outlasts
-pub resumed-below : (away : Timespec) → is_well_formed (Resume away) ≡ true → IsTimeBelow away clock_end
+pub resumed-below : (away : Timespec) → is_well_formed (Resume away) ≡ true →
+    IsTimeBelow away clock_end
 unfolding is_well_formed
 resumed-below away e = suspension-below away e
 

@@ -20,13 +20,16 @@ rate_low frequency tick low = let held = clamped_low frequency in omega (arith, 
 by_rate : (mult slow fast : ℕ) → slow ≤ fast → mult * slow / 65536000000 ≤ mult * fast / 65536000000
 by_rate mult slow fast low = omega (arith, mul-le-mul_left mult low)
 
-pub slowest-≤ : (counter : Counter) (frequency tick : ℤ) → least_tick ≤ℤ tick → slowest counter ≤ multiplier counter frequency tick
-slowest-≤ counter frequency tick low = by_rate counter.mult 58949632000 (rate frequency tick) (rate_low frequency tick low)
+pub slowest-≤ : (counter : Counter) (frequency tick : ℤ) → least_tick ≤ℤ tick →
+    slowest counter ≤ multiplier counter frequency tick
+slowest-≤ counter frequency tick low =
+    by_rate counter.mult 58949632000 (rate frequency tick) (rate_low frequency tick low)
 
 slowest_some : (mult : ℕ) → 256 ≤ mult → 1 ≤ mult * 58949632000 / 65536000000
 slowest_some mult some = omega arith
 
-pub multiplier_some : (counter : Counter) (frequency tick : ℤ) → 256 ≤ counter.mult → least_tick ≤ℤ tick → 1 ≤ multiplier counter frequency tick
+pub multiplier_some : (counter : Counter) (frequency tick : ℤ) → 256 ≤ counter.mult →
+    least_tick ≤ℤ tick → 1 ≤ multiplier counter frequency tick
 multiplier_some counter frequency tick some low =
     let one = slowest_some counter.mult some in
     let most = slowest-≤ counter frequency tick low in

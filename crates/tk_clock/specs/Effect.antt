@@ -15,7 +15,8 @@ pub record IsForwarded (state : State) (base : ReadBase) : Type 0 where
 
 -- the tests that need no clock's value let the command pass
 abbrev pub IsEarly : State → ℕ → Command → Type 0
-IsEarly state reading cmd = early_refusal state.base.counter state.base.asleep state.base.last reading cmd ≡ None
+IsEarly state reading cmd =
+    early_refusal state.base.counter state.base.asleep state.base.last reading cmd ≡ None
 
 -- the state after the command, or the first of the later tests that fails
 abbrev pub IsEffect : State → ℕ → Command → Result State Refusal → Type 0

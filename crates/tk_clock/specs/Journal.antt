@@ -31,7 +31,8 @@ pub record Journal : Type 0 where
   pub opening : Opening
   pub entries : List Entry
 
--- a journal without entries: MONOTONIC is 0, REALTIME is handed in, and the clocks are awake at their usual rate
+-- a journal without entries: MONOTONIC is 0, REALTIME is handed in, and the clocks are awake at
+-- their usual rate
 abbrev pub opened : Counter → ℕ → Timespec → Journal
 opened counter reading real =
     record {
@@ -69,11 +70,14 @@ at_place opening f entries place = get_or (opening ∷ map f entries) place open
 
 -- the reading of the entry at a place
 abbrev pub reading_at : Journal → ℕ → ℕ
-reading_at journal place = at_place journal.opening.reading (λ (e : Entry). e.reading) journal.entries place
+reading_at journal place =
+    at_place journal.opening.reading (λ (e : Entry). e.reading) journal.entries place
 
--- is the clock asleep from this place on? A suspension puts it to sleep, and the entry after that is a resume
+-- is the clock asleep from this place on? A suspension puts it to sleep, and the entry after that
+-- is a resume
 abbrev pub is_asleep_at : Journal → ℕ → Bool
-is_asleep_at journal place = at_place journal.opening.asleep (λ (e : Entry). is_suspend e.cmd) journal.entries place
+is_asleep_at journal place =
+    at_place journal.opening.asleep (λ (e : Entry). is_suspend e.cmd) journal.entries place
 
 -- the reading of the last entry
 abbrev pub last_reading : Journal → ℕ
@@ -92,4 +96,5 @@ latest before (value ∷ values) = latest value values
 abbrev pub places : (Entry → Bool) → ℕ → List Entry → List ℕ
 places test before [] = []
 places test before (entry ∷ entries) =
-    if test entry then (before + 1) ∷ places test (before + 1) entries else places test (before + 1) entries
+    if test entry then (before + 1) ∷ places test (before + 1) entries
+    else places test (before + 1) entries

@@ -16,13 +16,13 @@ clock_end = seconds_end
 abbrev pub monotonic_end : ℕ
 monotonic_end = 946080000
 
--- what MONOTONIC_RAW stays below, in seconds, while MONOTONIC is below its end: it gains most on MONOTONIC at the least
--- tick and frequency
+-- what MONOTONIC_RAW stays below, in seconds, while MONOTONIC is below its end: it gains most on
+-- MONOTONIC at the least tick and frequency
 abbrev pub raw_end : ℕ
 raw_end = 1060000000
 
--- where the times end that REALTIME may be set to, in seconds: as long before its own end as MONOTONIC lasts
--- (TIME_SETTOD_SEC_MAX)
+-- where the times end that REALTIME may be set to, in seconds: as long before its own end as
+-- MONOTONIC lasts (TIME_SETTOD_SEC_MAX)
 abbrev pub settable_end : ℕ
 settable_end = 8277292036
 
@@ -50,11 +50,13 @@ limit MonotonicRaw = pos (clock_end * 10 ^ 9)
 
 -- a time that may be set leaves REALTIME room for 30 years (TIME_SETTOD_SEC_MAX)
 unfoldable pub is_settable : Timespec → Bool
-is_settable time = int_le (pos 0) time.sec && int_lt time.sec (pos settable_end) && nat_lt time.nsec (10 ^ 9)
+is_settable time =
+    int_le (pos 0) time.sec && int_lt time.sec (pos settable_end) && nat_lt time.nsec (10 ^ 9)
 
 -- a suspension is none of negative length, and is shorter than a clock lasts
 unfoldable pub is_suspension : Timespec → Bool
-is_suspension away = int_le (pos 0) away.sec && int_lt away.sec (pos clock_end) && nat_lt away.nsec (10 ^ 9)
+is_suspension away =
+    int_le (pos 0) away.sec && int_lt away.sec (pos clock_end) && nat_lt away.nsec (10 ^ 9)
 
 -- are the command's numbers in range?
 unfoldable pub is_well_formed : Command → Bool
@@ -73,14 +75,18 @@ sets_real (SetTime time) = true
 sets_real (Step by) = true
 sets_real _ = false
 
--- is a clock, by its value after the command, at its limit or beyond it? Where the command sets REALTIME, that and TAI are
--- left to the test below
+-- is a clock, by its value after the command, at its limit or beyond it? Where the command sets
+-- REALTIME, that and TAI are left to the test below
 unfoldable pub is_past_limit : (ClockId → ℤ) → Command → Bool
 is_past_limit after cmd =
-    not (int_lt (after Monotonic) (limit Monotonic)) || not (int_lt (after Boottime) (limit Boottime))
-    || (not (sets_real cmd) && (not (int_lt (after Realtime) (limit Realtime)) || not (int_lt (after TaiClock) (limit TaiClock))))
+    not (int_lt (after Monotonic) (limit Monotonic))
+    || not (int_lt (after Boottime) (limit Boottime))
+    || (not (sets_real cmd)
+    && (not (int_lt (after Realtime) (limit Realtime))
+    || not (int_lt (after TaiClock) (limit TaiClock))))
 
--- would the command, by the clocks' values before it, set REALTIME below MONOTONIC or beyond what may be set?
+-- would the command, by the clocks' values before it, set REALTIME below MONOTONIC or beyond what
+-- may be set?
 unfoldable pub is_bad_setting : (ClockId → ℤ) → Command → Bool
 is_bad_setting before (SetTime time) = int_lt (nanoseconds time) (before Monotonic)
 is_bad_setting before (Step by) =

@@ -7,7 +7,8 @@ use Rattle.tk_clock.specs.State.{ReadBase, base_value}
 use Rattle.tk_clock.specs.Limits.{limit, monotonic_end, raw_end, greatest_tai}
 
 -- the numbers of a read base lie in their ranges
-pub record IsReadBase (counter : Counter) (last mult : ℕ) (monotonic raw : Amount) (tai : ℕ) : Type 0 where
+pub record IsReadBase (counter : Counter) (last mult : ℕ) (monotonic raw : Amount)
+    (tai : ℕ) : Type 0 where
   pub described : IsCounter counter
   pub last_low : last ≤ mask counter
   pub mult_some : 1 ≤ mult
@@ -32,7 +33,8 @@ pub record IsWithin (base : ReadBase) : Type 0 where
   pub boot_low : base_value base Boottime base.last <ℤ limit Boottime
   pub tai_low : base_value base Tai base.last <ℤ limit Tai
 
--- the running clocks: the multiplier is that of the frequency and tick, and no clock is at its limit
+-- the running clocks: the multiplier is that of the frequency and tick, and no clock is at its
+-- limit
 pub record IsRunning (base : ReadBase) (frequency tick : ℤ) : Type 0 where
   pub steered : base.mult ≡ multiplier base.counter frequency tick
   pub frequency_low : neg_ℤ (pos (2 ^ 63)) ≤ℤ frequency

@@ -6,9 +6,10 @@ use Rattle.tk_clock.specs.State.{ReadBase, base_value}
 use Rattle.tk_clock.specs.Limits.{limit, monotonic_end, raw_end, greatest_tai}
 use Rattle.tk_clock.specs.Snapshot.{Snapshot}
 
--- the words of a snapshot: its front; the last reading; the multiplier; MONOTONIC there, below a second in units of 2^-shift
--- nanoseconds, and seconds; REALTIME and BOOTTIME less MONOTONIC, in nanoseconds; the TAI offset in seconds times 2, plus 1
--- while asleep; and MONOTONIC_RAW as MONOTONIC
+-- the words of a snapshot: its front; the last reading; the multiplier; MONOTONIC there, below a
+-- second in units of 2^-shift nanoseconds, and seconds; REALTIME and BOOTTIME less MONOTONIC, in
+-- nanoseconds; the TAI offset in seconds times 2, plus 1 while asleep; and MONOTONIC_RAW as
+-- MONOTONIC
 abbrev pub words_of : Snapshot → List ℕ
 words_of snapshot =
     let base = snapshot.base in
@@ -59,4 +60,5 @@ is_within base =
 -- the snapshot that words tell, if they tell one
 abbrev pub restored : Counter → List ℕ → Option Snapshot
 restored counter words =
-    if are_in_range counter words && is_within (snapshot_told counter words).base then Some (snapshot_told counter words) else None
+    if are_in_range counter words && is_within (snapshot_told counter words).base
+    then Some (snapshot_told counter words) else None

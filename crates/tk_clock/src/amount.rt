@@ -24,8 +24,8 @@ impl Amount {
         Amount { sec: 0, frac: 0 }
     }
 
-    /// The amount with so many cycles at `mult` on top. Nothing below a nanosecond is lost. None where the cycles
-    /// alone come to 9,223,372,036 seconds, which is beyond every clock's limit.
+    /// The amount with so many cycles at `mult` on top. Nothing below a nanosecond is lost. None
+    /// where the cycles alone come to 9,223,372,036 seconds, which is beyond every clock's limit.
     pub fn grown(self, desc: &CounterDesc, cycles: u64, mult: u32) -> Option<Amount>
         requires rest { self.frac < second desc.now }
         requires few { self.sec ≤ raw_end }

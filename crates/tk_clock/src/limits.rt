@@ -13,7 +13,8 @@ pub(crate) const MONOTONIC_SEC_LIMIT: u64 = 946_080_000;
 /// MONOTONIC at the least tick and frequency.
 pub(crate) const RAW_SEC_LIMIT: u64 = 1_060_000_000;
 
-/// Where the other clocks end, in seconds: as many as 63 bits of nanoseconds hold (`KTIME_SEC_MAX`).
+/// Where the other clocks end, in seconds: as many as 63 bits of nanoseconds hold
+/// (`KTIME_SEC_MAX`).
 const CLOCK_SEC_LIMIT: i64 = 9_223_372_036;
 
 /// Where the times end that REALTIME may be set to, in seconds: 30 years before its own end

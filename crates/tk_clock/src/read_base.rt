@@ -71,9 +71,11 @@ impl Model for ReadBase {
     } };
 
     ghost inverse_ok = { λ a h.
-        ap (λ (m : Amount). record a { monotonic = m; raw = amount_of a.desc (units_of a.desc a.raw) })
+        ap
+        (λ (m : Amount). record a { monotonic = m; raw = amount_of a.desc (units_of a.desc a.raw) })
         (amount_of-units_of a.desc a.monotonic h.frac_low)
-        ∙ ap (λ (r : Amount). record a { raw = r }) (amount_of-units_of a.desc a.raw h.raw_frac_low) };
+        ∙ ap (λ (r : Amount). record a { raw = r })
+        (amount_of-units_of a.desc a.raw h.raw_frac_low) };
 }
 
 impl ReadBase {
@@ -88,7 +90,8 @@ impl ReadBase {
 
     /// Does a reading lie behind the last one?
     pub fn is_behind(&self, reading: u64) -> bool
-        ensures { result ≡ nat_lt (half self.now.counter) (gap self.now.counter self.now.last reading) }
+        ensures { let counter = self.now.counter in
+            result ≡ nat_lt (half counter) (gap counter self.now.last reading) }
     {
         self.desc.is_behind(self.desc.gap(self.last, reading))
     }
@@ -105,11 +108,13 @@ impl ReadBase {
         }
     }
 
-    /// MONOTONIC at a reading, in ns. None where the cycles since the last one are beyond every clock's limit.
+    /// MONOTONIC at a reading, in ns. None where the cycles since the last one are beyond every
+    /// clock's limit.
     fn monotonic_at(&self, reading: u64) -> Option<u64>
         ensures { MatchOption result
             (clock_end * 10 ^ 9 ≤ base_monotonic self.now reading)
-            (λ nanos. (nanos ≡ base_monotonic self.now reading) × (nanos ≤ (clock_end + raw_end) * 10 ^ 9)) }
+            (λ nanos. (nanos ≡ base_monotonic self.now reading)
+            × (nanos ≤ (clock_end + raw_end) * 10 ^ 9)) }
     {
         let cycles = self.cycles_since(reading);
         self.monotonic.nanos_after(&self.desc, cycles, self.mult)

@@ -13,8 +13,8 @@ pub enum Refusal {
     Asleep,
     /// The clocks are awake, and the command is `Resume`.
     Awake,
-    /// The reading is above the mask, a number of the command is out of its range, or REALTIME would
-    /// fall below MONOTONIC or go beyond what may be set.
+    /// The reading is above the mask, a number of the command is out of its range, or REALTIME
+    /// would fall below MONOTONIC or go beyond what may be set.
     Invalid,
     /// The reading lies behind that of the last accepted command.
     Behind,

@@ -10,11 +10,11 @@ use crate::timespec::Timespec;
 use std::marker::Model;
 use tk_counter::CounterDesc;
 
-/// What a reader of the clocks is given: how many commands were accepted, and what reading the clocks takes after
-/// them.
+/// What a reader of the clocks is given: how many commands were accepted, and what reading the
+/// clocks takes after them.
 ///
-/// It may be used until the reading of the next accepted command. With a later reading it may give more than a later
-/// snapshot does, as in the kernel.
+/// It may be used until the reading of the next accepted command. With a later reading it may give
+/// more than a later snapshot does, as in the kernel.
 #[derive(Clone, Copy, Debug)]
 pub struct Snapshot {
     pub(crate) front: u64,
@@ -43,8 +43,9 @@ impl Snapshot {
 
     /// A clock's time at a reading (clock_gettime(2)).
     ///
-    /// Invalid where the reading is above the mask, for every clock; Range where the clock is at its limit or beyond.
-    /// A reading behind the last command gets the value at that command, and so does every reading while asleep.
+    /// Invalid where the reading is above the mask, for every clock; Range where the clock is at
+    /// its limit or beyond. A reading behind the last command gets the value at that command, and
+    /// so does every reading while asleep.
     pub fn get(&self, clock: ClockId, reading: u64) -> Result<Timespec, ReadError>
         ensures { MatchResult result
             (λ time. (read_refusal self.now.base clock reading ≡ None)

@@ -15,8 +15,8 @@ pub struct Timespec {
     pub nsec: u32,
 }
 
-/// A time or an amount of time in nanoseconds (`timespec64_to_ns`), where it is none before 1970 and no longer than a
-/// clock lasts.
+/// A time or an amount of time in nanoseconds (`timespec64_to_ns`), where it is none before 1970
+/// and no longer than a clock lasts.
 pub(crate) fn nanos_of(time: Timespec) -> u64
     requires since { pos 0 ≤ℤ time.sec }
     requires until { time.sec <ℤ pos clock_end }

@@ -28,7 +28,8 @@ fastest counter = counter.mult + max_adjustment counter
 abbrev pub second : Counter → ℕ
 second counter = 10 ^ 9 * 2 ^ counter.shift
 
--- the cycles that convert within 64 bits, and no more than a reading can tell apart (clocks_calc_max_nsecs)
+-- the cycles that convert within 64 bits, and no more than a reading can tell apart
+-- (clocks_calc_max_nsecs)
 abbrev pub max_cycles : Counter → ℕ
 max_cycles counter = min ((2 ^ 64 - 1) / fastest counter) (mask counter)
 
@@ -56,7 +57,8 @@ seconds_end = 9223372036
 abbrev pub greatest_frequency : ℤ
 greatest_frequency = pos 32768000
 
--- ticks in microseconds, a hundredth of a second as a rule (USER_TICK_USEC): within a tenth of that (adjtimex(2))
+-- ticks in microseconds, a hundredth of a second as a rule (USER_TICK_USEC): within a tenth of that
+-- (adjtimex(2))
 abbrev pub usual_tick : ℤ
 usual_tick = pos 10000
 
@@ -70,7 +72,8 @@ greatest_tick = pos 11000
 abbrev pub clamped : ℤ → ℤ
 clamped frequency = int_max (neg_ℤ greatest_frequency) (int_min frequency greatest_frequency)
 
--- how fast the clock runs at a frequency in 2^-16 ppm and a tick in microseconds, where 65,536,000,000 is its usual rate
+-- how fast the clock runs at a frequency in 2^-16 ppm and a tick in microseconds, where
+-- 65,536,000,000 is its usual rate
 abbrev pub rate : ℤ → ℤ → ℕ
 rate frequency tick = unsigned_abs (tick *ℤ pos 6553600 +ℤ clamped frequency)
 

@@ -16,20 +16,26 @@ use Rattle.tk_clock.specs.Limits.{listed_most, counted_most}
 use Rattle.tk_clock.specs.Folding.{folded_by}
 
 -- a journal that isn't full lists and counts fewer than it may
-pub not_full : (journal : Journal) → is_full journal ≡ false → (length journal.entries < listed_most) × (accepted_count journal < counted_most)
+pub not_full : (journal : Journal) → is_full journal ≡ false →
+    (length journal.entries < listed_most) × (accepted_count journal < counted_most)
 not_full journal e = (grind (arith, common_steps), grind (arith, common_steps))
 
-has_room : (full : Bool) (told : Option Refusal) → (if full then Some Full else told) ≡ None → full ≡ false
+has_room : (full : Bool) (told : Option Refusal) → (if full then Some Full else told) ≡ None →
+    full ≡ false
 has_room true told e = cc
 has_room false told e = refl
 
 -- a journal that takes an entry isn't full
-pub accepts-not_full : (journal : Journal) (entry : Entry) → first_refusal journal entry ≡ None → is_full journal ≡ false
-accepts-not_full journal entry accepted = has_room (is_full journal) (clock_refusal journal entry) accepted
+pub accepts-not_full : (journal : Journal) (entry : Entry) → first_refusal journal entry ≡ None →
+    is_full journal ≡ false
+accepts-not_full journal entry accepted =
+    has_room (is_full journal) (clock_refusal journal entry) accepted
 
 -- an accepted entry keeps the journal legal, and within its room
-pub IsKept-followed_by : (journal : Journal) (entry : Entry) (before after : State) → IsKept journal before →
-    first_refusal journal entry ≡ None → after ≡ state_of (followed_by journal entry) → IsKept (followed_by journal entry) after
+pub IsKept-followed_by : (journal : Journal) (entry : Entry) (before after : State) →
+    IsKept journal before →
+    first_refusal journal entry ≡ None → after ≡ state_of (followed_by journal entry) →
+    IsKept (followed_by journal entry) after
 IsKept-followed_by journal entry before after held accepted running =
     let more = not_full journal (accepts-not_full journal entry accepted) in
     record {
@@ -40,7 +46,8 @@ IsKept-followed_by journal entry before after held accepted running =
     }
 
 -- and so does folding
-pub IsKept-folded : (journal : Journal) (n : ℕ) (state : State) → n ≤ length journal.entries → IsKept journal state →
+pub IsKept-folded : (journal : Journal) (n : ℕ) (state : State) → n ≤ length journal.entries →
+    IsKept journal state →
     IsKept (folded_by n journal) state
 IsKept-folded journal n state within held =
     let fewer = length-drop n journal.entries in

@@ -22,7 +22,8 @@ pub record IsKept (journal : Journal) (state : State) : Type 0 where
   pub room : length journal.entries ≤ listed_most
   pub counted : accepted_count journal ≤ counted_most
 
--- the state before all entries is at hand, and that after each listed entry whose number is a multiple of 256
+-- the state before all entries is at hand, and that after each listed entry whose number is a
+-- multiple of 256
 pub record HasKept (journal : Journal) (start : State) (kept : List State) : Type 0 where
   pub first : start ≡ state_of (prefix 0 journal)
   pub all : length kept + journal.opening.count / 256 ≡ accepted_count journal / 256
@@ -30,18 +31,22 @@ pub record HasKept (journal : Journal) (start : State) (kept : List State) : Typ
       journal.opening.count + place ≡ 256 * (journal.opening.count / 256 + 1 + i) →
       slice_get kept i ≡ Some (state_of (prefix place journal))
 
--- how many commands fit into so many free places for entries and for kept states, after so many commands
+-- how many commands fit into so many free places for entries and for kept states, after so many
+-- commands
 abbrev pub room_for : ℕ → ℕ → ℕ → ℕ
 room_for places kept count = min places (256 * (kept + 1) - count % 256 - 1)
 
--- the entry of a number, counted from 1 over all accepted commands; none where it was folded or is yet to come
+-- the entry of a number, counted from 1 over all accepted commands; none where it was folded or is
+-- yet to come
 abbrev pub entry_at : Journal → ℕ → Option Entry
 entry_at journal number =
-    if nat_lt journal.opening.count number then slice_get journal.entries (number - journal.opening.count - 1) else None
+    if nat_lt journal.opening.count number
+    then slice_get journal.entries (number - journal.opening.count - 1) else None
 
 -- a read base gives each clock the journal's own value at every reading
 abbrev pub ReadsAs : Journal → ReadBase → Type 0
-ReadsAs journal base = (clock : ClockId) (reading : ℕ) → base_value base clock reading ≡ clock_value journal clock reading
+ReadsAs journal base = (clock : ClockId) (reading : ℕ) →
+    base_value base clock reading ≡ clock_value journal clock reading
 
 -- where the counter's readings are true counts, the journal's cycles are true ones
 abbrev pub CountsTrue : Journal → Type 0

@@ -26,8 +26,11 @@ pub record IsFolded (before after : Journal) : Type 0 where
   -- the same entries after those that were folded
   pub entries : after.entries ≡ drop (after.opening.count - before.opening.count) before.entries
   -- the same state, the frequency and tick in force among it
-  pub states : (front : ℕ) → after.opening.count ≤ front → state_of (at_front front after) ≡ state_of (at_front front before)
-  pub snapshots : (front : ℕ) → after.opening.count ≤ front → snapshot_of (at_front front after) ≡ snapshot_of (at_front front before)
+  pub states : (front : ℕ) → after.opening.count ≤ front →
+      state_of (at_front front after) ≡ state_of (at_front front before)
+  pub snapshots : (front : ℕ) → after.opening.count ≤ front →
+      snapshot_of (at_front front after) ≡ snapshot_of (at_front front before)
   -- the same value of each clock at each reading, in nanoseconds
   pub clocks : (front : ℕ) (clock : ClockId) (reading : ℕ) → after.opening.count ≤ front →
-      clock_value (at_front front after) clock reading ≡ clock_value (at_front front before) clock reading
+      clock_value (at_front front after) clock reading
+      ≡ clock_value (at_front front before) clock reading

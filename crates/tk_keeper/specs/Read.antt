@@ -10,7 +10,8 @@ use Rattle.tk_clock.specs.Journal.{Journal}
 use Rattle.tk_clock.specs.Limits.{limit}
 use Rattle.tk_clock.specs.Time.{nanoseconds}
 
--- why a clock of a journal can't be read: the reading is above the mask, or the clock has come to its end
+-- why a clock of a journal can't be read: the reading is above the mask, or the clock has come to
+-- its end
 abbrev pub read_fault : Journal → ClockId → ℕ → Option ReadError
 read_fault journal clock reading =
     if nat_lt (mask journal.opening.counter) reading then Some Invalid
@@ -25,5 +26,6 @@ IsTimeOf nanos time = (nanoseconds time ≡ nanos) × (time.nsec < 10 ^ 9) × (p
 abbrev pub IsRead : Journal → ClockId → ℕ → Result Timespec ReadError → Type 0
 IsRead journal clock reading result =
     MatchResult result
-    (λ time. (read_fault journal clock reading ≡ None) × IsTimeOf (clock_value journal clock reading) time)
+    (λ time. (read_fault journal clock reading ≡ None)
+    × IsTimeOf (clock_value journal clock reading) time)
     (λ error. read_fault journal clock reading ≡ Some error)

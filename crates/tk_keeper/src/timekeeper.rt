@@ -21,8 +21,8 @@ const KEPT_EVERY: usize = 256;
 
 /// The clocks of a counter, with the journal of all accepted commands.
 ///
-/// Its journal is always legal, and its clocks are always what the journal comes to. It takes no lock:
-/// whoever shares it brings one. Its memory comes from the allocator that it was opened with.
+/// Its journal is always legal, and its clocks are always what the journal comes to. It takes no
+/// lock: whoever shares it brings one. Its memory comes from the allocator that it was opened with.
 #[derive(Drop)]
 pub struct Timekeeper<A: Allocator = Global> {
     /// The clocks as the journal begins.
@@ -31,7 +31,8 @@ pub struct Timekeeper<A: Allocator = Global> {
     folded: u64,
     /// The commands accepted since.
     entries: Vec<Entry, A>,
-    /// The clocks after each of them whose number is a multiple of 256, so that past states are near.
+    /// The clocks after each of them whose number is a multiple of 256, so that past states are
+    /// near.
     kept: Vec<Clock, A>,
     /// The clocks now.
     clock: Clock,
@@ -65,8 +66,8 @@ impl<A: Allocator + Copy> Timekeeper<A> {
     ghost use Rattle.tk_keeper.specs.Keeper.{entry_at, ReadsAs, CountsTrue};
     ghost use Rattle.tk_keeper.specs.Read.{IsRead};
 
-    /// The clocks from this reading on, with an empty journal: MONOTONIC is 0, and REALTIME `real`. It
-    /// takes no memory.
+    /// The clocks from this reading on, with an empty journal: MONOTONIC is 0, and REALTIME `real`.
+    /// It takes no memory.
     ///
     /// Invalid where the reading is above the mask, or where REALTIME may not be set to `real`.
     pub fn open(
@@ -132,11 +133,12 @@ impl<A: Allocator + Copy> Timekeeper<A> {
         self.clock.snapshot(self.len() as u64)
     }
 
-    /// A clock's time at a reading, as the journal has it (clock_gettime(2)): seconds since 1970 or since
-    /// opening, and nanoseconds.
+    /// A clock's time at a reading, as the journal has it (clock_gettime(2)): seconds since 1970 or
+    /// since opening, and nanoseconds.
     ///
-    /// Invalid where the reading is above the mask; then Range where the clock is at its limit or beyond.
-    /// A reading behind the last command gets the value at that command, as does every one while asleep.
+    /// Invalid where the reading is above the mask; then Range where the clock is at its limit or
+    /// beyond. A reading behind the last command gets the value at that command, as does every one
+    /// while asleep.
     pub fn get(&self, clock: ClockId, reading: u64) -> Result<Timespec, ReadError>
         ensures { IsRead self.now.journal clock reading result }
     {

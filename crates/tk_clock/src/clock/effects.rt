@@ -28,7 +28,10 @@ impl Clock {
             Command::Update => self.update(self.forwarded(reading, cmd)?),
             Command::SetTime(time) => self.set_time(self.forwarded(reading, cmd)?, time),
             Command::Step(by) => self.step(self.forwarded(reading, cmd)?, by),
-            Command::Freq(frequency) => self.set_frequency(self.forwarded(reading, cmd)?, frequency),
+            Command::Freq(frequency) => self.set_frequency(
+                self.forwarded(reading, cmd)?,
+                frequency,
+            ),
             Command::Tick(tick) => self.set_tick(self.forwarded(reading, cmd)?, tick),
             Command::Tai(seconds) => self.set_tai(self.forwarded(reading, cmd)?, seconds),
             Command::Suspend => self.suspend(self.forwarded(reading, cmd)?),

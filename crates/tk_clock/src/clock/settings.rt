@@ -63,12 +63,15 @@ impl Clock {
     }
 }
 
-/// A time in ns moved by an amount. None where it would come before 1970, or beyond what a word of ns holds.
+/// A time in ns moved by an amount. None where it would come before 1970, or beyond what a word of
+/// ns holds.
 fn moved(real: u64, by: Timespec) -> Option<u64>
     requires real { real < (clock_end + monotonic_end) * 10 ^ 9 }
     requires rest { by.nsec < 10 ^ 9 }
     ensures { let moved = pos real +ℤ nanoseconds by in
-        MatchOption result ((moved <ℤ pos 0) ⊎ (pos (2 ^ 64) ≤ℤ moved)) (λ nanos. pos nanos ≡ moved) }
+        MatchOption result
+        ((moved <ℤ pos 0) ⊎ (pos (2 ^ 64) ≤ℤ moved))
+        (λ nanos. pos nanos ≡ moved) }
 {
     let upward = real + u64::from(by.nsec);
     let whole = by.sec.unsigned_abs().checked_mul(NANOS_PER_SECOND)?;

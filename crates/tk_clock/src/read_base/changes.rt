@@ -1,4 +1,5 @@
-//! What commands make of a read base: each function gives another one, and leaves its own as it was.
+//! What commands make of a read base: each function gives another one, and leaves its own as it
+//! was.
 ghost use Rattle.std.specs.Prelude.{◌≡◌, ◌*◌, ◌/◌, ◌^◌, ◌≤◌, MatchOption, pos, ◌≤ℤ◌, ◌+ℤ◌, ◌<ℤ◌, not, int_lt, true, false};
 ghost use Rattle.tk_counter.specs.Counter.{mask, fastest};
 ghost use Rattle.tk_clock.specs.Limits.{is_past_limit, clock_end, monotonic_end, greatest_tai};
@@ -11,8 +12,8 @@ use crate::command::Command;
 use crate::limits::{MONOTONIC_SEC_LIMIT, limit, sets_real};
 
 impl ReadBase {
-    /// The base with its amounts brought forward to a reading (`timekeeping_forward_now`). Nothing below a nanosecond
-    /// is lost. None where MONOTONIC would be at its limit.
+    /// The base with its amounts brought forward to a reading (`timekeeping_forward_now`). Nothing
+    /// below a nanosecond is lost. None where MONOTONIC would be at its limit.
     pub fn forwarded(&self, reading: u64) -> Option<ReadBase>
         requires reading { reading ≤ mask self.now.counter }
         requires steered { slowest self.now.counter ≤ self.now.mult }
@@ -40,8 +41,8 @@ impl ReadBase {
         })
     }
 
-    /// Is a clock at its limit at the last reading, as a command left it? REALTIME and TAI are left out where the
-    /// command sets REALTIME, which a test of its own bounds.
+    /// Is a clock at its limit at the last reading, as a command left it? REALTIME and TAI are left
+    /// out where the command sets REALTIME, which a test of its own bounds.
     #[tactic(auto, unfolding(crate::specs::Limits::is_past_limit))]
     pub fn is_past_limit(&self, cmd: Command) -> bool
         ensures { result ≡ is_past_limit (λ clock. base_value self.now clock self.now.last) cmd }
@@ -118,7 +119,8 @@ impl ReadBase {
     }
 }
 
-/// Is an offset from MONOTONIC, or from TAI less REALTIME, at the limit of the clocks but MONOTONIC?
+/// Is an offset from MONOTONIC, or from TAI less REALTIME, at the limit of the clocks but
+/// MONOTONIC?
 fn is_at_limit(elapsed: u64, offset: u64) -> bool
     ensures { result ≡ not (int_lt (pos elapsed +ℤ pos offset) (pos (clock_end * 10 ^ 9))) }
 {

@@ -11,9 +11,10 @@ use tk_counter::CounterDesc;
 impl Snapshot {
     /// The snapshot as ten words.
     ///
-    /// The front; the last reading; the multiplier; MONOTONIC there below a second, in `2^-shift` ns, and in whole
-    /// seconds; REALTIME and BOOTTIME less MONOTONIC, in ns; the TAI offset times 2, plus 1 while asleep; and
-    /// MONOTONIC_RAW as MONOTONIC. With the description they give the snapshot back.
+    /// The front; the last reading; the multiplier; MONOTONIC there below a second, in `2^-shift`
+    /// ns, and in whole seconds; REALTIME and BOOTTIME less MONOTONIC, in ns; the TAI offset times
+    /// 2, plus 1 while asleep; and MONOTONIC_RAW as MONOTONIC. With the description they give the
+    /// snapshot back.
     pub fn words(&self) -> [u64; 10]
         ensures value { result ≡ words_of self.now }
         ensures back { restored self.now.base.counter (words_of self.now) ≡ Some self.now }
@@ -21,8 +22,8 @@ impl Snapshot {
         self.base.words(self.front)
     }
 
-    /// The snapshot of a counter that ten words tell; None where a word is out of its range, or a clock would be at its
-    /// limit at the last reading.
+    /// The snapshot of a counter that ten words tell; None where a word is out of its range, or a
+    /// clock would be at its limit at the last reading.
     pub fn from_words(desc: CounterDesc, words: [u64; 10]) -> Option<Snapshot>
         ensures value { result ≡ restored desc words }
         ensures again { IfSome result (λ snapshot. words_of snapshot ≡ words) }

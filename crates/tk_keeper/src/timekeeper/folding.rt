@@ -11,8 +11,8 @@ use std::alloc::Allocator;
 impl<A: Allocator + Copy> Timekeeper<A> {
     /// Folds the oldest entries, so that at most `keep` are listed; how many are folded then.
     ///
-    /// Numbers and fronts go on as before, and no later value changes. It takes no memory: the listed entries move down
-    /// once, so fold many at a time.
+    /// Numbers and fronts go on as before, and no later value changes. It takes no memory: the
+    /// listed entries move down once, so fold many at a time.
     pub fn fold(&mut self, keep: u64) -> u64
         ensures answer { let before = self.old.journal in
             result ≡ max before.opening.count (accepted_count before - keep) }

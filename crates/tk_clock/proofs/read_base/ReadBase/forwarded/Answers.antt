@@ -14,7 +14,9 @@ returns-in_default c =
     let base = c.self.inside in
     let units = units_of base.desc base.monotonic in
     let same = ap (λ k. units + k * base.mult) c.gap-cycles.ensures.value in
-    let far : monotonic_end * second base.desc ≤ units + gap base.desc base.last c.args.reading * base.mult = omega (arith, same, c.in_default.ensures) in
+    let far : monotonic_end * second base.desc
+    ≤ units + gap base.desc base.last c.args.reading * base.mult =
+    omega (arith, same, c.in_default.ensures) in
     rw (← c.self.view_is) (end_nanos monotonic_end _ base.desc.shift far)
 
 pub returns-then-monotonic-ge-MONOTONIC_SEC_LIMIT : goal.returns-then-monotonic-ge-MONOTONIC_SEC_LIMIT
@@ -23,8 +25,10 @@ returns-then-monotonic-ge-MONOTONIC_SEC_LIMIT c =
     let after = c.in-Some.monotonic in
     let units = units_of base.desc base.monotonic in
     let same = c.in-Some.ensures.0 ∙ ap (λ k. units + k * base.mult) c.gap-cycles.ensures.value in
-    let many = at_least_seconds after.sec after.frac monotonic_end (second base.desc) c.if-monotonic-ge-MONOTONIC_SEC_LIMIT.true in
-    let far : monotonic_end * second base.desc ≤ units + gap base.desc base.last c.args.reading * base.mult =
+    let many = at_least_seconds after.sec after.frac monotonic_end
+    (second base.desc) c.if-monotonic-ge-MONOTONIC_SEC_LIMIT.true in
+    let far : monotonic_end * second base.desc
+    ≤ units + gap base.desc base.last c.args.reading * base.mult =
     subst (λ n. monotonic_end * second base.desc ≤ n) same many in
     rw (← c.self.view_is) (end_nanos monotonic_end _ base.desc.shift far)
 
@@ -35,12 +39,17 @@ returns-in_default-grown c =
     let monotonic = c.in-Some.monotonic in
     let steered = rw (← c.self.view_is) at c.requires.steered in
     let rated = rw (← c.self.view_is) at c.requires.rated in
-    let same = c.in-Some.ensures.0 ∙ ap (λ k. units_of base.desc base.monotonic + k * base.mult) c.gap-cycles.ensures.value in
+    let same = c.in-Some.ensures.0
+    ∙ ap (λ k. units_of base.desc base.monotonic + k * base.mult) c.gap-cycles.ensures.value in
     let low = subst (λ n. n < monotonic_end * second base.desc) same
-    (below_seconds monotonic.sec monotonic.frac monotonic_end (second base.desc) c.if-monotonic-ge-MONOTONIC_SEC_LIMIT.false c.in-Some.ensures.1) in
-    let below = raw_low (forwarded before c.args.reading) c.self.invariant.described (IsRated-forwarded before c.args.reading steered rated) low in
-    let mult = ap (λ m. units_of base.desc base.raw + c.gap-cycles.result * m) c.mult.ensures.value in
-    let cycles = ap (λ k. units_of base.desc base.raw + k * base.desc.mult) c.gap-cycles.ensures.value in
+    (below_seconds monotonic.sec monotonic.frac monotonic_end
+    (second base.desc) c.if-monotonic-ge-MONOTONIC_SEC_LIMIT.false c.in-Some.ensures.1) in
+    let below = raw_low (forwarded before c.args.reading) c.self.invariant.described
+    (IsRated-forwarded before c.args.reading steered rated) low in
+    let mult = ap (λ m. units_of base.desc base.raw + c.gap-cycles.result * m) c.mult.ensures.value
+    in
+    let cycles = ap (λ k. units_of base.desc base.raw + k * base.desc.mult)
+    c.gap-cycles.ensures.value in
     absurd (omega (arith, below, mult, cycles, c.in_default-grown.ensures))
 
 pub invariant_of-result : goal.invariant_of-result
@@ -52,10 +61,13 @@ invariant_of-result c =
     let raw = c.in-Some-grown.raw in
     let steered = rw (← c.self.view_is) at c.requires.steered in
     let rated = rw (← c.self.view_is) at c.requires.rated in
-    let same = c.in-Some.ensures.0 ∙ ap (λ k. units_of base.desc base.monotonic + k * base.mult) c.gap-cycles.ensures.value in
+    let same = c.in-Some.ensures.0
+    ∙ ap (λ k. units_of base.desc base.monotonic + k * base.mult) c.gap-cycles.ensures.value in
     let low = subst (λ n. n < monotonic_end * second base.desc) same
-    (below_seconds monotonic.sec monotonic.frac monotonic_end (second base.desc) c.if-monotonic-ge-MONOTONIC_SEC_LIMIT.false c.in-Some.ensures.1) in
-    let below = raw_low (forwarded before c.args.reading) held.described (IsRated-forwarded before c.args.reading steered rated) low in
+    (below_seconds monotonic.sec monotonic.frac monotonic_end
+    (second base.desc) c.if-monotonic-ge-MONOTONIC_SEC_LIMIT.false c.in-Some.ensures.1) in
+    let below = raw_low (forwarded before c.args.reading) held.described
+    (IsRated-forwarded before c.args.reading steered rated) low in
     let raw_same = c.in-Some-grown.ensures.0
     ∙ ap (λ m. units_of base.desc base.raw + c.gap-cycles.result * m) c.mult.ensures.value
     ∙ ap (λ k. units_of base.desc base.raw + k * base.desc.mult) c.gap-cycles.ensures.value in
@@ -79,10 +91,18 @@ returns c =
     let after = forwarded before c.args.reading in
     let steered = rw (← c.self.view_is) at c.requires.steered in
     let rated = rw (← c.self.view_is) at c.requires.rated in
-    let same = c.in-Some.ensures.0 ∙ ap (λ k. units_of base.desc base.monotonic + k * base.mult) c.gap-cycles.ensures.value in
+    let same = c.in-Some.ensures.0
+    ∙ ap (λ k. units_of base.desc base.monotonic + k * base.mult) c.gap-cycles.ensures.value in
     let raw_same = c.in-Some-grown.ensures.0
     ∙ ap (λ m. units_of base.desc base.raw + c.gap-cycles.result * m) c.mult.ensures.value
     ∙ ap (λ k. units_of base.desc base.raw + k * base.desc.mult) c.gap-cycles.ensures.value in
-    let told = ap (λ m. record after { amount = m; raw_amount = units_of base.desc c.in-Some-grown.raw }) same
+    let told = ap (λ m. record after {
+      amount = m;
+      raw_amount = units_of base.desc c.in-Some-grown.raw;
+    }) same
     ∙ ap (λ r. record after { raw_amount = r }) raw_same in
-    rw (← c.self.view_is) (told, subst (λ (b : ReadBase). IsRated b) (sym told) (IsRated-forwarded before c.args.reading steered rated))
+    rw (← c.self.view_is) (
+      told,
+      subst (λ (b : ReadBase). IsRated b) (sym told)
+          (IsRated-forwarded before c.args.reading steered rated),
+    )

@@ -16,7 +16,11 @@ returns-then-is_past_limit-clause-value c =
     let base = (snapshot_told c.args.desc c.args.words).base in
     let past = ap is_past (sym c.base_told-base.ensures.value) ∙ sym c.if-is_past_limit.ensures in
     sym (restored-none c.args.desc c.args.words
-    (fails_within base (monotonic_within base (record { sec = get_or c.args.words 4 0; frac = get_or c.args.words 3 0 }) refl range.sec_low range.frac_low) past))
+    (fails_within base
+    (monotonic_within base (record {
+      sec = get_or c.args.words 4 0;
+      frac = get_or c.args.words 3 0;
+    }) refl range.sec_low range.frac_low) past))
 
 pub invariant_of-result : goal.invariant_of-result
 invariant_of-result c = within_told c.base_told-base.result (sym c.if-is_past_limit.ensures)
@@ -25,13 +29,16 @@ pub returns-clause-value : goal.returns-clause-value
 returns-clause-value c =
     let base = (snapshot_told c.args.desc c.args.words).base in
     let low = ap is_past (sym c.base_told-base.ensures.value) ∙ sym c.if-is_past_limit.ensures in
-    let with_base : ReadBase → Snapshot = λ base. record { front = get_or c.args.words 0 0; base = base } in
+    let with_base : ReadBase →
+    Snapshot = λ base. record { front = get_or c.args.words 0 0; base = base } in
     ap (λ base. Some (with_base base)) c.base_told-base.ensures.value
-    ∙ sym (restored-told c.args.desc c.args.words (sym c.if-not-are_in_range.ensures.value) (passes_within base (within_told base low)))
+    ∙ sym (restored-told c.args.desc c.args.words (sym c.if-not-are_in_range.ensures.value)
+    (passes_within base (within_told base low)))
 
 pub returns-clause-again : goal.returns-clause-again
 returns-clause-again c =
     let range = in_range c.args.desc c.args.words (sym c.if-not-are_in_range.ensures.value) in
-    let with_base : ReadBase → Snapshot = λ base. record { front = get_or c.args.words 0 0; base = base } in
+    let with_base : ReadBase →
+    Snapshot = λ base. record { front = get_or c.args.words 0 0; base = base } in
     ap (λ base. words_of (with_base base)) c.base_told-base.ensures.value
     ∙ words_again c.args.desc c.args.words c.are_in_range.ensures.ten range

@@ -22,9 +22,11 @@ unwrap-requires g c =
     let here : slice_get journal.entries place ≡ Some entry =
     ap (λ es. slice_get es place) (sym c.deref.ensures.value)
     ∙ part_item c.deref.result.now from c.args.place c.later.entry-index none c.later-test.true in
-    let state = subst (λ (k : Keeper). c.later.clock ≡ state_of (prefix place k.journal)) (sym c.self.view_is) c.later.invariant in
+    let state = subst (λ (k : Keeper). c.later.clock ≡ state_of (prefix place k.journal))
+    (sym c.self.view_is) c.later.invariant in
     let passed : state_refusal c.later.clock entry.reading entry.cmd ≡ None =
-    ap (λ s. state_refusal s entry.reading entry.cmd) state ∙ passes journal place entry c.self.invariant.0.legal.accepted here in
+    ap (λ s. state_refusal s entry.reading entry.cmd) state
+    ∙ passes journal place entry c.self.invariant.0.legal.accepted here in
     is_done _ _ _ c.apply.result passed c.apply.ensures
 
 pub later-init : goal.later-init
@@ -44,22 +46,28 @@ later-preserved g c =
     let here : slice_get journal.entries place ≡ Some entry =
     ap (λ es. slice_get es place) (sym c.deref.ensures.value)
     ∙ part_item c.deref.result.now from c.args.place c.later.entry-index none c.later-test.true in
-    let state = subst (λ (k : Keeper). c.later.clock ≡ state_of (prefix place k.journal)) (sym c.self.view_is) c.later.invariant in
+    let state = subst (λ (k : Keeper). c.later.clock ≡ state_of (prefix place k.journal))
+    (sym c.self.view_is) c.later.invariant in
     let passed : state_refusal c.later.clock entry.reading entry.cmd ≡ None =
-    ap (λ s. state_refusal s entry.reading entry.cmd) state ∙ passes journal place entry c.self.invariant.0.legal.accepted here in
+    ap (λ s. state_refusal s entry.reading entry.cmd) state
+    ∙ passes journal place entry c.self.invariant.0.legal.accepted here in
     let next : place + 1 ≡ from + (c.later.entry-index + 1) = omega arith in
-    effect_of (c.apply.new.self ≡ effect c.later.clock entry.reading entry.cmd) _ _ c.apply.result passed c.apply.ensures
+    effect_of (c.apply.new.self ≡ effect c.later.clock entry.reading entry.cmd) _ _ c.apply.result
+    passed c.apply.ensures
     ∙ ap (λ s. effect s entry.reading entry.cmd) state
     ∙ next_state journal place entry c.self.invariant.0.legal.accepted here
     ∙ ap (λ k. state_of (prefix k journal)) next
-    ∙ ap (λ (k : Keeper). state_of (prefix (from + (c.later.entry-index + 1)) k.journal)) c.self.view_is
+    ∙ ap (λ (k : Keeper). state_of (prefix (from + (c.later.entry-index + 1)) k.journal))
+    c.self.view_is
 
 pub returns : goal.returns
 returns g c =
     let journal = c.args.self.now.journal in
     let from = c.nearest-clock.result.1 in
     let listed : length c.deref.result.now ≡ length journal.entries =
-    ap length c.deref.ensures.value ∙ ap (λ (k : Keeper). length k.journal.entries) c.self.view_is in
-    let end = whole_part c.deref.result.now from c.args.place c.later.entry-index c.nearest-clock.ensures.before (omega arith)
+    ap length c.deref.ensures.value ∙ ap (λ (k : Keeper). length k.journal.entries) c.self.view_is
+    in
+    let end = whole_part c.deref.result.now from c.args.place c.later.entry-index
+    c.nearest-clock.ensures.before (omega arith)
     c.later.auto.entry-index-end c.later-test.false in
     c.later.invariant ∙ ap (λ k. state_of (prefix k journal)) end

@@ -18,11 +18,15 @@ invariant_of-self g c =
     let entry = c.args.entry in
     let journal : Journal = journal_from keeper.folded keeper.start keeper.entries.items in
     let accepted : first_refusal journal entry ≡ None =
-    subst (λ (k : Keeper). first_refusal k.journal entry ≡ None) (sym c.self.view_is) c.requires.accepted in
+    subst (λ (k : Keeper). first_refusal k.journal entry ≡ None)
+    (sym c.self.view_is) c.requires.accepted in
     let running : c.args.next ≡ state_of (followed_by journal entry) =
-    subst (λ (k : Keeper). c.args.next ≡ state_of (followed_by k.journal entry)) (sym c.self.view_is) c.requires.next in
-    let kept = IsKept-followed_by journal entry keeper.clock c.args.next c.self.invariant.0 accepted running in
-    let number : keeper.folded + length (keeper.entries.items ++ entry ∷ []) ≡ keeper.folded + c.len.result =
+    subst (λ (k : Keeper). c.args.next ≡ state_of (followed_by k.journal entry))
+    (sym c.self.view_is) c.requires.next in
+    let kept = IsKept-followed_by journal entry keeper.clock c.args.next c.self.invariant.0 accepted
+    running in
+    let number : keeper.folded + length (keeper.entries.items ++ entry ∷ [])
+    ≡ keeper.folded + c.len.result =
     omega (arith, length_push keeper.entries.items entry) in
     let holds : Inside g.row.A.Denot → Type 0 = λ a.
     IsKept (journal_from a.folded a.start a.entries.items) c.args.next
@@ -30,10 +34,15 @@ invariant_of-self g c =
     elim c.if-number-eq0.branch [
       | then-number-eq0 w ↦
           let even = ap (λ n. n % 256) number ∙ w.if-number-eq0.true in
-          let more = HasKept-more journal entry keeper.start keeper.kept.items c.self.invariant.1 even in
+          let more = HasKept-more journal entry keeper.start keeper.kept.items c.self.invariant.1
+          even in
           subst holds (sym w.self-inside-is) (
             rw c.push_reserved.ensures.items kept,
-            rw (c.push_reserved.ensures.items, w.push_reserved-then-number-eq0.ensures.items, running) more,
+            rw (
+              c.push_reserved.ensures.items,
+              w.push_reserved-then-number-eq0.ensures.items,
+              running,
+            ) more,
           )
       | else-number-eq0 w ↦
           let more = HasKept-same journal entry keeper.start keeper.kept.items c.self.invariant.1
