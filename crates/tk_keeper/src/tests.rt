@@ -2,7 +2,6 @@
 
 mod folding;
 mod full;
-mod heap;
 mod memory;
 mod past;
 mod refusals;
@@ -10,6 +9,7 @@ mod runs;
 mod settings;
 mod sleep;
 mod steering;
+mod times;
 
 use crate::Timekeeper;
 use std::alloc::Allocator;
