@@ -3,7 +3,7 @@ use Rattle.std.proofs.Common.{◌≡◌, ℕ, ◌+◌, ◌*◌, ◌/◌, ◌%◌
 use Rattle.std.specs.Int.Count.{count_leading_zeros}
 use Rattle.tk_counter.specs.Counter.{Counter, max_adjustment, max_cycles, fast_span, second, multiplier, gap, half}
 use Rattle.tk_counter.specs.Description.{first_fault}
-use Rattle.tk_counter.specs.Frequency.{described, frequency_fault, shifts}
+use Rattle.tk_counter.specs.Frequency.{from_frequency, frequency_fault, shifts}
 use Rattle.tk_counter.specs.declared.desc_error.DescError.TheVariants.{Bits, Shift, Mult, Adjust, Rate}
 
 -- a counter of 16,777,216 Hz and 32 bits
@@ -51,11 +51,11 @@ no_fault : first_fault usual ≡ None
 no_fault = refl
 
 -- ---- descriptions from a frequency
-megahertz : described 32 24000000 600 ≡ Some fast
+megahertz : from_frequency 32 24000000 600 ≡ Some fast
 unfolding shifts count_leading_zeros
 megahertz = refl
 
-one_hertz : described 32 1 1 ≡ Some (record { bits = 32; mult = 2000000000; shift = 1 })
+one_hertz : from_frequency 32 1 1 ≡ Some (record { bits = 32; mult = 2000000000; shift = 1 })
 unfolding shifts count_leading_zeros
 one_hertz = refl
 

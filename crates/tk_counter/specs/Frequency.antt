@@ -37,8 +37,8 @@ halved counter =
     else counter
 
 -- the description of a counter of so many bits at so many hz, for gaps of up to maxsec seconds
-abbrev pub described : ℕ → ℕ → ℕ → Option Counter
-described bits hz maxsec =
+abbrev pub from_frequency : ℕ → ℕ → ℕ → Option Counter
+from_frequency bits hz maxsec =
     option_map
     (λ shift. halved (record { bits = bits; mult = rounded_mult hz shift; shift = shift }))
     (chosen_shift hz maxsec)

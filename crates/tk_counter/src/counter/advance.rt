@@ -19,7 +19,7 @@ impl CounterDesc {
             SomeIff result (units / second self.now < seconds_end)
             (units / second self.now, units % second self.now) }
     {
-        let (seconds, rest) = match word_of(frac, delta, mult) {
+        let (seconds, rest) = match narrow_units(frac, delta, mult) {
             Some(units) => self.split(units),
             None => self.split_long(frac, delta, mult)?,
         };
@@ -52,7 +52,7 @@ impl CounterDesc {
         (units >> self.shift) / NANOS_PER_SECOND
     }
 
-    /// As `advance`, where the units don't fit a word: the upper half of `delta`, its lower half,
+    /// As `advance`, where the units don't fit 64 bits: the upper half of `delta`, its lower half,
     /// and what both leave are divided in turn.
     ///
     /// A second is `10^9 * 2^shift` units, and `2^32` units of the upper half are `2^(32 - shift)`
@@ -84,8 +84,8 @@ impl CounterDesc {
     }
 }
 
-/// `frac` and `delta` cycles at `mult`, where they fit a word.
-fn word_of(frac: u64, delta: u64, mult: u32) -> Option<u64>
+/// `frac` and `delta` cycles at `mult`, where they fit 64 bits.
+fn narrow_units(frac: u64, delta: u64, mult: u32) -> Option<u64>
     ensures { SomeIff result (frac + delta * mult < 2 ^ 64) (frac + delta * mult) }
 {
     delta.checked_mul(u64::from(mult))?.checked_add(frac)

@@ -1,5 +1,5 @@
 ghost use Rattle.std.specs.Prelude.{◌≡◌, ℕ, ◌+◌, ◌*◌, ◌/◌, ◌^◌, ◌<◌, ◌≤◌, MatchResult, IfOk, Some, None};
-ghost use Rattle.tk_counter.specs.Frequency.{rounded_mult, mult_bits, chosen_shift, described, frequency_fault};
+ghost use Rattle.tk_counter.specs.Frequency.{rounded_mult, mult_bits, chosen_shift, from_frequency, frequency_fault};
 
 use super::{CounterDesc, NANOS_PER_SECOND, fastest};
 use crate::desc_error::DescError;
@@ -12,7 +12,7 @@ impl CounterDesc {
     /// room for 11 percent more is then halved. Refused with Bits first, and then with Rate.
     pub fn from_hz(bits: u32, hz: u32, maxsec: u32) -> Result<CounterDesc, DescError>
         ensures value { MatchResult result
-            (λ desc. (described bits hz maxsec ≡ Some desc)
+            (λ desc. (from_frequency bits hz maxsec ≡ Some desc)
             × (frequency_fault bits hz maxsec ≡ None))
             (λ fault. frequency_fault bits hz maxsec ≡ Some fault) }
         ensures converts { IfOk result (λ desc. maxsec * hz * desc.mult < 2 ^ 64) }
