@@ -1,7 +1,7 @@
 -- An accepted entry keeps a journal legal, and its state the one that it comes to.
-use Rattle.std.proofs.Common.{◌≡◌, ℕ, zero, suc, ◌+◌, ◌<◌, ◌≤◌, List, [], ◌∷◌, ◌++◌, length, refl, sym, ◌∙◌, ap, arith, Bool, true, false, inl, inr}
+use Rattle.std.proofs.Common.{◌≡◌, ℕ, zero, suc, ◌+◌, ◌<◌, ◌≤◌, List, [], ◌∷◌, ◌++◌, length, take, take-take, refl, sym, ◌∙◌, ap, subst, arith, Bool, true, false, inl, inr}
 use Rattle.std.specs.Prelude.{ℤ, pos, ◌-◌, ◌*◌, nat_lt, Option, Some, None, not, ◌&&◌, ◌||◌, if◌then◌else◌, slice_get}
-use Rattle.std.proofs.lemmas.List.{take-append-le, take_at, length_push}
+use Rattle.std.proofs.lemmas.List.{take-append-le, take_at, take_all, length-take, length_push}
 use Rattle.std.proofs.lemmas.Bool.{cases_lt}
 use Rattle.std.proofs.lemmas.Option.{slice_get_within}
 use Rattle.tk_clock.specs.declared.command.Entry.{Entry}
@@ -14,14 +14,15 @@ use Rattle.tk_clock.specs.Journal.{Opening, Journal, opened, prefix, followed_by
 use Rattle.tk_clock.specs.Monotonic.{current_multiplier}
 use Rattle.tk_clock.specs.Time.{nanoseconds}
 use Rattle.tk_clock.specs.Clocks.{clock_value}
-use Rattle.tk_counter.specs.Counter.{Counter, IsCounter, mask, half, gap}
+use Rattle.tk_counter.specs.Counter.{Counter, IsCounter, mask, half, gap, usual_tick}
 use Rattle.tk_clock.specs.State.{State, state_of, effect}
 use Rattle.tk_clock.specs.Refusal.{first_of, clock_refusal, state_refusal, first_refusal, opening_refusal, is_full, IsRefusal}
 use Rattle.tk_clock.specs.Limits.{is_well_formed, is_past_limit, is_bad_setting}
 use Rattle.tk_clock.specs.Legal.{IsLegal, IsAccepted, IsWhole, folded_opening}
 use Rattle.tk_clock.proofs.Ledger.{ledger, fits_sleep, clock_refusal-state, no_more}
 
-slice_get-append : {X : Type 0} (xs : List X) (y : X) (k : ℕ) → k < length xs → slice_get (xs ++ y ∷ []) k ≡ slice_get xs k
+slice_get-append : {X : Type 0} (xs : List X) (y : X) (k : ℕ) → k < length xs →
+    slice_get (xs ++ y ∷ []) k ≡ slice_get xs k
 slice_get-append [] y k within = absurd (omega arith)
 slice_get-append (x ∷ xs) y zero within = refl
 slice_get-append (x ∷ xs) y (suc k) within = slice_get-append xs y k (omega arith)
@@ -55,13 +56,16 @@ never_memory journal entry told =
     (is_asleep journal && not (is_resume entry.cmd))
     (not (is_asleep journal) && is_resume entry.cmd)
     (nat_lt (mask journal.opening.counter) entry.reading || not (is_well_formed entry.cmd))
-    (not (is_resume entry.cmd) && nat_lt (half journal.opening.counter) (gap journal.opening.counter (last_reading journal) entry.reading))
+    (not (is_resume entry.cmd)
+    && nat_lt (half journal.opening.counter)
+    (gap journal.opening.counter (last_reading journal) entry.reading))
     (is_past_limit (λ clock. clock_value (followed_by journal entry) clock entry.reading) entry.cmd)
     (is_bad_setting (λ clock. clock_value journal clock entry.reading) entry.cmd)
     told
 
 -- a journal that has room refuses an entry as its state does
-pub first_refusal-state : (journal : Journal) (state : State) (who reading : ℕ) (cmd : Command) (told : Option Refusal) →
+pub first_refusal-state : (journal : Journal) (state : State) (who reading : ℕ) (cmd : Command)
+    (told : Option Refusal) →
     state ≡ state_of journal → is_full journal ≡ false → state_refusal state reading cmd ≡ told →
     first_refusal journal (record { who = who; reading = reading; cmd = cmd }) ≡ told
 first_refusal-state journal state who reading cmd told running room e =
@@ -72,56 +76,122 @@ first_refusal-state journal state who reading cmd told running room e =
     ∙ e
 
 -- a full journal refuses every entry
-pub first_refusal-full : (journal : Journal) (entry : Entry) → is_full journal ≡ true → first_refusal journal entry ≡ Some Full
-first_refusal-full journal entry full = ap (λ (b : Bool). if b then Some Full else clock_refusal journal entry) full
+pub first_refusal-full : (journal : Journal) (entry : Entry) → is_full journal ≡ true →
+    first_refusal journal entry ≡ Some Full
+first_refusal-full journal entry full =
+    ap (λ (b : Bool). if b then Some Full else clock_refusal journal entry) full
 
 -- an accepted command leaves the state that the longer journal comes to
 pub state_of-followed_by : (journal : Journal) (state : State) (who reading : ℕ) (cmd : Command) →
     state ≡ state_of journal → state_refusal state reading cmd ≡ None →
-    effect state reading cmd ≡ state_of (followed_by journal (record { who = who; reading = reading; cmd = cmd }))
+    effect state reading cmd
+    ≡ state_of (followed_by journal (record { who = who; reading = reading; cmd = cmd }))
 state_of-followed_by journal state who reading cmd running e =
-    let accepted : clock_refusal journal (record { who = who; reading = reading; cmd = cmd }) ≡ None =
-    clock_refusal-state journal who reading cmd ∙ ap (λ s. state_refusal s reading cmd) (sym running) ∙ e in
+    let accepted : clock_refusal journal (record { who = who; reading = reading; cmd = cmd })
+    ≡ None =
+    clock_refusal-state journal who reading cmd
+    ∙ ap (λ s. state_refusal s reading cmd) (sym running) ∙ e in
     ap (λ s. effect s reading cmd) running
-    ∙ sym (ledger journal who reading cmd (fits_sleep (is_asleep journal) (is_resume cmd) _ (early_none _ _ accepted)))
+    ∙ sym (ledger journal who reading cmd
+    (fits_sleep (is_asleep journal) (is_resume cmd) _ (early_none _ _ accepted)))
 
-earlier_accepted : (journal : Journal) (entry : Entry) → IsAccepted journal → (k : ℕ) (other : Entry) → k < length journal.entries →
-    slice_get (journal.entries ++ entry ∷ []) k ≡ Some other → clock_refusal (prefix k (followed_by journal entry)) other ≡ None
+earlier_accepted : (journal : Journal) (entry : Entry) → IsAccepted journal →
+    (k : ℕ) (other : Entry) → k < length journal.entries →
+    slice_get (journal.entries ++ entry ∷ []) k ≡ Some other →
+    clock_refusal (prefix k (followed_by journal entry)) other ≡ None
 earlier_accepted journal entry all k other low found =
     let same : prefix k (followed_by journal entry) ≡ prefix k journal =
-    ap (λ (es : List Entry). record journal { entries = es }) (take-append-le k journal.entries (entry ∷ []) (omega arith)) in
+    ap (λ (es : List Entry). record journal { entries = es })
+    (take-append-le k journal.entries (entry ∷ []) (omega arith)) in
     ap (λ (j : Journal). clock_refusal j other) same
     ∙ all k other (sym (slice_get-append journal.entries entry k low) ∙ found)
 
-last_accepted : (journal : Journal) (entry : Entry) → clock_refusal journal entry ≡ None → (k : ℕ) (other : Entry) → length journal.entries ≤ k →
-    slice_get (journal.entries ++ entry ∷ []) k ≡ Some other → clock_refusal (prefix k (followed_by journal entry)) other ≡ None
+last_accepted : (journal : Journal) (entry : Entry) → clock_refusal journal entry ≡ None →
+    (k : ℕ) (other : Entry) → length journal.entries ≤ k →
+    slice_get (journal.entries ++ entry ∷ []) k ≡ Some other →
+    clock_refusal (prefix k (followed_by journal entry)) other ≡ None
 last_accepted journal entry accepted k other high found =
     let within = slice_get_within (journal.entries ++ entry ∷ []) k other found in
     let last : length journal.entries ≡ k = omega (arith, length_push journal.entries entry) in
     let same : prefix k (followed_by journal entry) ≡ journal =
-    ap (λ (es : List Entry). record journal { entries = es }) (take_at journal.entries (entry ∷ []) k last) in
+    ap (λ (es : List Entry). record journal { entries = es }) (take_at journal.entries (entry
+    ∷ []) k last) in
     let told : Some entry ≡ Some other =
-    sym (slice_get-push journal.entries entry) ∙ ap (slice_get (journal.entries ++ entry ∷ [])) last ∙ found in
+    sym (slice_get-push journal.entries entry) ∙ ap (slice_get (journal.entries ++ entry ∷ [])) last
+    ∙ found in
     let it : entry ≡ other = cc in
-    ap (λ (j : Journal). clock_refusal j other) same ∙ ap (λ e. clock_refusal journal e) (sym it) ∙ accepted
+    ap (λ (j : Journal). clock_refusal j other) same ∙ ap (λ e. clock_refusal journal e) (sym it)
+    ∙ accepted
 
 -- one more accepted entry
-pub IsAccepted-followed_by : (journal : Journal) (entry : Entry) → IsAccepted journal → clock_refusal journal entry ≡ None →
+pub IsAccepted-followed_by : (journal : Journal) (entry : Entry) → IsAccepted journal →
+    clock_refusal journal entry ≡ None →
     IsAccepted (followed_by journal entry)
 IsAccepted-followed_by journal entry all accepted =
     λ k (other : Entry) found.
-    elim (cases_lt k (length journal.entries))
-    [ inl low ↦ earlier_accepted journal entry all k other low found | inr high ↦ last_accepted journal entry accepted k other high found ]
+    elim (cases_lt k (length journal.entries)) [
+      | inl low ↦ earlier_accepted journal entry all k other low found
+      | inr high ↦ last_accepted
+          journal entry accepted k other high found
+    ]
 
--- an entry that nothing refuses passes the clock's tests
+slice_get-take : {X : Type 0} (n : ℕ) (xs : List X) (k : ℕ) (x : X) →
+    slice_get (take n xs) k ≡ Some x →
+    slice_get xs k ≡ Some x
+slice_get-take zero xs k x e = absurd (cc e)
+slice_get-take (suc n) [] k x e = e
+slice_get-take (suc n) (y ∷ xs) zero x e = e
+slice_get-take (suc n) (y ∷ xs) (suc k) x e = slice_get-take n xs k x e
+
+-- and so are those that came first
+pub IsAccepted-prefix : (journal : Journal) (n : ℕ) → IsAccepted journal →
+    IsAccepted (prefix n journal)
+IsAccepted-prefix journal n all =
+    λ k (entry : Entry) found.
+    let within = slice_get_within (take n journal.entries) k entry found in
+    let low : k < n = omega (arith, length-take n journal.entries) in
+    let same : prefix k (prefix n journal) ≡ prefix k journal =
+    ap (λ (es : List Entry). record journal { entries = es })
+    (take-take k n journal.entries (omega arith)) in
+    ap (λ (j : Journal). clock_refusal j entry) same
+    ∙ all k entry (slice_get-take n journal.entries k entry found)
+
 not_full : (b : Bool) (told : Option Refusal) → (if b then Some Full else told) ≡ None → told ≡ None
 not_full true told e = cc
 not_full false told e = e
 
-pub IsLegal-followed_by : (journal : Journal) (entry : Entry) → IsLegal journal → first_refusal journal entry ≡ None → IsLegal (followed_by journal entry)
-IsLegal-followed_by journal entry legal accepted = record {
-  past = legal.past;
-  accepted = IsAccepted-followed_by journal entry legal.accepted (not_full (is_full journal) (clock_refusal journal entry) accepted);
+-- an entry that nothing refuses passes the clock's tests
+pub passes_clock : (journal : Journal) (entry : Entry) → first_refusal journal entry ≡ None →
+    clock_refusal journal entry ≡ None
+passes_clock journal entry accepted =
+    not_full (is_full journal) (clock_refusal journal entry) accepted
+
+-- a legal journal stays legal
+pub IsLegal-followed_by : (journal : Journal) (entry : Entry) → IsLegal journal →
+    clock_refusal journal entry ≡ None →
+    IsLegal (followed_by journal entry)
+IsLegal-followed_by journal entry legal accepted =
+    record {
+      past = legal.past;
+      accepted = IsAccepted-followed_by journal entry legal.accepted accepted;
+    }
+
+-- and a whole one whole
+pub IsWhole-followed_by : (journal : Journal) (entry : Entry) → IsWhole journal →
+    clock_refusal journal entry ≡ None →
+    IsWhole (followed_by journal entry)
+IsWhole-followed_by journal entry whole accepted = record {
+  described = whole.described;
+  opens = whole.opens;
+  accepted = IsAccepted-followed_by journal entry whole.accepted accepted;
+}
+
+-- what came first of a whole journal is whole
+pub IsWhole-prefix : (journal : Journal) (n : ℕ) → IsWhole journal → IsWhole (prefix n journal)
+IsWhole-prefix journal n whole = record {
+  described = whole.described;
+  opens = whole.opens;
+  accepted = IsAccepted-prefix journal n whole.accepted;
 }
 
 -- a journal without entries comes to its opening
@@ -132,7 +202,8 @@ nothing_raw : (u : ℕ) → 0 + 0 * u ≡ 0
 nothing_raw u = omega arith
 
 pub opened-folded : (counter : Counter) (reading : ℕ) (real : Timespec) →
-    (opened counter reading real).opening ≡ folded_opening 0 (state_of (opened counter reading real))
+    (opened counter reading real).opening
+    ≡ folded_opening 0 (state_of (opened counter reading real))
 opened-folded counter reading real =
     let opening : ℕ → ℕ → ℤ → ℤ → Opening = λ amount raw real boot. record {
       counter = counter;
@@ -141,20 +212,24 @@ opened-folded counter reading real =
       amount = amount;
       raw_amount = raw;
       frequency = pos 0;
-      tick = pos 10000;
+      tick = usual_tick;
       real_offset = real;
       boot_offset = boot;
       tai = pos 0;
       asleep = false;
     } in
-    ap (λ n. opening n 0 (nanoseconds real) (pos 0)) (sym (nothing (current_multiplier (opened counter reading real))))
-    ∙ ap (λ n. opening (0 + (0 - 0) * current_multiplier (opened counter reading real)) n (nanoseconds real) (pos 0)) (sym (nothing_raw counter.mult))
-    ∙ ap (λ z. opening (0 + (0 - 0) * current_multiplier (opened counter reading real)) (0 + 0 * counter.mult) z (pos 0)) (sym (no_more (nanoseconds real)))
+    ap (λ n. opening n 0 (nanoseconds real) (pos 0))
+    (sym (nothing (current_multiplier (opened counter reading real))))
+    ∙ ap (λ n. opening (0 + (0 - 0) * current_multiplier (opened counter reading real)) n
+    (nanoseconds real) (pos 0)) (sym (nothing_raw counter.mult))
+    ∙ ap (λ z. opening (0 + (0 - 0) * current_multiplier (opened counter reading real))
+    (0 + 0 * counter.mult) z (pos 0)) (sym (no_more (nanoseconds real)))
 
 none_listed : (k : ℕ) (entry : Entry) → slice_get [] k ≡ Some entry → ⊥
 none_listed k entry e = cc e
 
-pub IsWhole-opened : (counter : Counter) (reading : ℕ) (real : Timespec) → IsCounter counter → opening_refusal counter reading real ≡ None →
+pub IsWhole-opened : (counter : Counter) (reading : ℕ) (real : Timespec) → IsCounter counter →
+    opening_refusal counter reading real ≡ None →
     IsWhole (opened counter reading real)
 IsWhole-opened counter reading real described opens = record {
   described = described;
@@ -163,15 +238,70 @@ IsWhole-opened counter reading real described opens = record {
 }
 
 -- clocks that may be opened begin with a legal journal
-pub IsLegal-opened : (counter : Counter) (reading : ℕ) (real : Timespec) → IsCounter counter → opening_refusal counter reading real ≡ None →
+pub IsLegal-opened : (counter : Counter) (reading : ℕ) (real : Timespec) → IsCounter counter →
+    opening_refusal counter reading real ≡ None →
     IsLegal (opened counter reading real)
 IsLegal-opened counter reading real described opens = record {
-  past = (opened counter reading real, IsWhole-opened counter reading real described opens, opened-folded counter reading real);
+  past = (
+    opened counter reading real,
+    IsWhole-opened counter reading real described opens,
+    opened-folded counter reading real,
+  );
   accepted = λ k entry e. absurd (none_listed k entry e);
 }
 
+-- a whole journal is legal: before its first entry no command was accepted
+pub IsLegal-whole : (journal : Journal) → IsWhole journal → IsLegal journal
+IsLegal-whole journal whole =
+    let reading = whole.opens.0 in
+    let real = whole.opens.1 in
+    let counter = journal.opening.counter in
+    record {
+      past = (
+        opened counter reading real,
+        IsWhole-opened counter reading real whole.described whole.opens.2,
+        whole.opens.3 ∙ opened-folded counter reading real,
+      );
+      accepted = whole.accepted;
+    }
+
+nothing_before : (journal : Journal) → length journal.entries ≡ 0 → prefix 0 journal ≡ journal
+nothing_before journal none =
+    ap (λ (es : List Entry). record journal { entries = es })
+    (take_all 0 journal.entries (omega arith))
+
+-- a legal journal before whose first entry no command was accepted is whole
+pub IsWhole-legal : (journal : Journal) → IsLegal journal → journal.opening.count ≡ 0 →
+    IsWhole journal
+IsWhole-legal journal legal none =
+    let past = legal.past.0 in
+    let whole = legal.past.1 in
+    let reading = whole.opens.0 in
+    let real = whole.opens.1 in
+    let counter = past.opening.counter in
+    let start = opened counter reading real in
+    let few : length past.entries ≡ 0 = sym (ap (λ (o : Opening). o.count) legal.past.2) ∙ none in
+    let empty : past ≡ start =
+    sym (nothing_before past few)
+    ∙ ap (λ (o : Opening). let j : Journal = record { opening = o; entries = [] }
+    in j) whole.opens.3 in
+    let opening : journal.opening ≡ start.opening =
+    legal.past.2 ∙ ap (λ k. folded_opening k (state_of past)) few
+    ∙ ap (λ (j : Journal). folded_opening 0 (state_of j)) empty
+    ∙ sym (opened-folded counter reading real) in
+    let same : journal.opening.counter ≡ counter = ap (λ (o : Opening). o.counter) opening in
+    record {
+      described = subst IsCounter (sym same) whole.described;
+      opens = subst
+          (λ (k : Counter). (r : ℕ) × (t : Timespec) × (opening_refusal k r t ≡ None)
+          × (journal.opening ≡ (opened k r t).opening))
+          (sym same) (reading, real, whole.opens.2, opening);
+      accepted = legal.accepted;
+    }
+
 -- the answer to a refused entry is told as such
-pub IsRefusal-told : (journal : Journal) (entry : Entry) (refusal : Refusal) → is_full journal ≡ false →
+pub IsRefusal-told : (journal : Journal) (entry : Entry) (refusal : Refusal) →
+    is_full journal ≡ false →
     first_refusal journal entry ≡ Some refusal → IsRefusal journal entry refusal
 IsRefusal-told journal entry Full room told = told
 IsRefusal-told journal entry Asleep room told = told
@@ -180,4 +310,5 @@ IsRefusal-told journal entry Invalid room told = told
 IsRefusal-told journal entry Behind room told = told
 IsRefusal-told journal entry Range room told = told
 IsRefusal-told journal entry Memory room told =
-    absurd (never_memory journal entry (sym (ap (λ (b : Bool). if b then Some Full else clock_refusal journal entry) room) ∙ told))
+    absurd (never_memory journal entry
+    (sym (ap (λ (b : Bool). if b then Some Full else clock_refusal journal entry) room) ∙ told))

@@ -1,10 +1,14 @@
-pub mod Rows
+pub mod Worked
 pub mod Append
 pub mod Stretches
 pub mod Offsets
 pub mod Ledger
 pub mod Legal
 pub mod Monotone
+pub mod Alike
+pub mod Later
+pub mod Start
+pub mod Folding
 pub mod Honest
 pub mod Units
 pub mod Forwarding

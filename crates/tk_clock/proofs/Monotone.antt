@@ -21,25 +21,32 @@ use Rattle.tk_clock.proofs.Stretches.{cycles_to, monotonic_units-followed_by, la
 use Rattle.tk_clock.proofs.Offsets.{monotonic-last}
 
 -- a longer journal has no fewer units
-pub monotonic_units-≤ : (journal : Journal) (entry : Entry) → monotonic_units journal ≤ monotonic_units (followed_by journal entry)
+pub monotonic_units-≤ : (journal : Journal) (entry : Entry) →
+    monotonic_units journal ≤ monotonic_units (followed_by journal entry)
 monotonic_units-≤ journal entry = omega (arith, monotonic_units-followed_by journal entry)
 
 -- the first entries of a journal, and the next one
-pub prefix-next : (journal : Journal) (n : ℕ) → n < length journal.entries → (entry : Entry) × (prefix (n + 1) journal ≡ followed_by (prefix n journal) entry)
+pub prefix-next : (journal : Journal) (n : ℕ) → n < length journal.entries →
+    (entry : Entry) × (prefix (n + 1) journal ≡ followed_by (prefix n journal) entry)
 prefix-next journal n within =
-    let none : Entry = record { who = 0; reading = 0; cmd = Update } in
-    (get_or journal.entries n none, ap (λ (es : List Entry). record journal { entries = es }) (take_more journal.entries n none within))
+    let none : Entry = record { who = 0; reading = 0; cmd = Update } in (
+      get_or journal.entries n none,
+      ap (λ (es : List Entry). record journal { entries = es })
+          (take_more journal.entries n none within),
+    )
 
 chain : (a b c : ℕ) → a ≤ b → b ≤ c → a ≤ c
 chain a b c p q = omega arith
 
-pub prefix-≤ : (journal : Journal) (i k : ℕ) → i + k ≤ length journal.entries → monotonic_units (prefix i journal) ≤ monotonic_units (prefix (i + k) journal)
+pub prefix-≤ : (journal : Journal) (i k : ℕ) → i + k ≤ length journal.entries →
+    monotonic_units (prefix i journal) ≤ monotonic_units (prefix (i + k) journal)
 prefix-≤ journal i zero within = rw add-zero (omega arith)
 prefix-≤ journal i (suc k) within =
     let next = prefix-next journal (i + k) (omega arith) in
     let before = prefix-≤ journal i k (omega arith) in
     let e : i + suc k ≡ i + k + 1 = omega arith in
-    subst (λ (j : Journal). monotonic_units (prefix i journal) ≤ monotonic_units j) (sym (ap (λ n. prefix n journal) e ∙ next.1))
+    subst (λ (j : Journal). monotonic_units (prefix i journal) ≤ monotonic_units j)
+    (sym (ap (λ n. prefix n journal) e ∙ next.1))
     (chain _ _ _ before (monotonic_units-≤ (prefix (i + k) journal) next.0))
 
 at_most : (b : Bool) (x y : ℕ) → x ≤ y → (if b then 0 else x) ≤ y
@@ -48,27 +55,34 @@ at_most false x y low = low
 
 -- while an entry is not yet reached, its prefix tells no more than the entry's own journal
 since_low : (counter : Counter) (asleep : Bool) (last reading next : ℕ) →
-    (asleep ≡ true) ⊎ (half counter < gap counter last reading) ⊎ (gap counter last reading ≤ gap counter last next) →
+    (asleep ≡ true) ⊎ (half counter < gap counter last reading)
+    ⊎ (gap counter last reading ≤ gap counter last next) →
     cycles_since counter asleep last reading ≤ (if asleep then 0 else gap counter last next)
 since_low counter true last reading next life = omega arith
 since_low counter false last reading next (inl e) = absurd cc
 since_low counter false last reading next (inr (inl behind)) =
     let none : cycles_since counter false last reading ≡ 0 =
-    ap (λ (b : Bool). if b then 0 else gap counter last reading) (lt-ltb (half counter) (gap counter last reading) behind) in
+    ap (λ (b : Bool). if b then 0 else gap counter last reading)
+    (lt-ltb (half counter) (gap counter last reading) behind) in
     omega (arith, none)
-since_low counter false last reading next (inr (inr low)) = at_most (nat_lt (half counter) (gap counter last reading)) _ _ low
+since_low counter false last reading next (inr (inr low)) =
+    at_most (nat_lt (half counter) (gap counter last reading)) _ _ low
 
 pub in_life : (journal : Journal) (entry : Entry) (reading : ℕ) →
-    (is_asleep journal ≡ true) ⊎ (half journal.opening.counter < gap journal.opening.counter (last_reading journal) reading)
-    ⊎ (gap journal.opening.counter (last_reading journal) reading ≤ gap journal.opening.counter (last_reading journal) entry.reading) →
+    (is_asleep journal ≡ true)
+    ⊎ (half journal.opening.counter < gap journal.opening.counter (last_reading journal) reading)
+    ⊎ (gap journal.opening.counter (last_reading journal) reading
+    ≤ gap journal.opening.counter (last_reading journal) entry.reading) →
     monotonic_units_at journal reading ≤ monotonic_units (followed_by journal entry)
 in_life journal entry reading life =
-    let low = since_low journal.opening.counter (is_asleep journal) (last_reading journal) reading entry.reading life in
+    let low = since_low journal.opening.counter (is_asleep journal) (last_reading journal) reading
+    entry.reading life in
     let units = mul-le-mul_right (current_multiplier journal) low in
     omega (arith, units, monotonic_units-followed_by journal entry)
 
 -- at each reading a journal has at least the units of its last entry
-pub units_at-≤ : (journal : Journal) (reading : ℕ) → monotonic_units journal ≤ monotonic_units_at journal reading
+pub units_at-≤ : (journal : Journal) (reading : ℕ) →
+    monotonic_units journal ≤ monotonic_units_at journal reading
 units_at-≤ journal reading = omega arith
 
 -- at its end a prefix tells what the journal tells there
@@ -78,51 +92,71 @@ taken x d f entries zero within = refl
 taken x d f [] (suc n) within = absurd (omega arith)
 taken x d f (entry ∷ entries) (suc n) within = taken (f entry) d f entries n (omega arith)
 
-at_end : {X : Type 0} (opening : X) (f : Entry → X) (entries : List Entry) (n : ℕ) → n ≤ length entries →
+at_end : {X : Type 0} (opening : X) (f : Entry → X) (entries : List Entry) (n : ℕ) →
+    n ≤ length entries →
     at_place opening f (take n entries) (length (take n entries)) ≡ at_place opening f entries n
 at_end opening f entries n within =
-    ap (at_place opening f (take n entries)) (length-take-le n entries within) ∙ taken opening opening f entries n within
+    ap (at_place opening f (take n entries)) (length-take-le n entries within)
+    ∙ taken opening opening f entries n within
 
-is_asleep-prefix : (journal : Journal) (n : ℕ) → n ≤ length journal.entries → is_asleep (prefix n journal) ≡ is_asleep_at journal n
-is_asleep-prefix journal n within = at_end journal.opening.asleep (λ (e : Entry). is_suspend e.cmd) journal.entries n within
+is_asleep-prefix : (journal : Journal) (n : ℕ) → n ≤ length journal.entries →
+    is_asleep (prefix n journal) ≡ is_asleep_at journal n
+is_asleep-prefix journal n within =
+    at_end journal.opening.asleep (λ (e : Entry). is_suspend e.cmd) journal.entries n within
 
-last_reading-prefix : (journal : Journal) (n : ℕ) → n ≤ length journal.entries → last_reading (prefix n journal) ≡ reading_at journal n
-last_reading-prefix journal n within = at_end journal.opening.reading (λ (e : Entry). e.reading) journal.entries n within
+last_reading-prefix : (journal : Journal) (n : ℕ) → n ≤ length journal.entries →
+    last_reading (prefix n journal) ≡ reading_at journal n
+last_reading-prefix journal n within =
+    at_end journal.opening.reading (λ (e : Entry). e.reading) journal.entries n within
 
 -- the life of a prefix, by the prefix and the entry behind it
-life_of : (journal : Journal) (n reading next : ℕ) → n < length journal.entries → reading_at journal (n + 1) ≡ next → IsInLife journal n reading →
+life_of : (journal : Journal) (n reading next : ℕ) → n < length journal.entries →
+    reading_at journal (n + 1) ≡ next → IsInLife journal n reading →
     (is_asleep (prefix n journal) ≡ true)
-    ⊎ (half journal.opening.counter < gap journal.opening.counter (last_reading (prefix n journal)) reading)
-    ⊎ (gap journal.opening.counter (last_reading (prefix n journal)) reading ≤ gap journal.opening.counter (last_reading (prefix n journal)) next)
+    ⊎ (half journal.opening.counter
+    < gap journal.opening.counter (last_reading (prefix n journal)) reading)
+    ⊎ (gap journal.opening.counter (last_reading (prefix n journal)) reading
+    ≤ gap journal.opening.counter (last_reading (prefix n journal)) next)
 life_of journal n reading next within e (inl whole) = absurd (omega arith)
-life_of journal n reading next within e (inr (inl asleep)) = inl (is_asleep-prefix journal n (omega arith) ∙ asleep)
+life_of journal n reading next within e (inr (inl asleep)) =
+    inl (is_asleep-prefix journal n (omega arith) ∙ asleep)
 life_of journal n reading next within e (inr (inr (inl behind))) =
     let last = last_reading-prefix journal n (omega arith) in inr (inl (rw last behind))
 life_of journal n reading next within e (inr (inr (inr low))) =
     let last = last_reading-prefix journal n (omega arith) in inr (inr (rw (last, sym e) low))
 
--- MONOTONIC of a prefix, read in its life, is no later than that of the whole journal at any reading
+-- MONOTONIC of a prefix, read in its life, is no later than that of the whole journal at any
+-- reading
 pub never_falls : (journal : Journal) → NeverFalls journal
 never_falls journal n reading reading' within life =
     let next = prefix-next journal n within in
     let entry : Entry = next.0 in
     let told : reading_at journal (n + 1) ≡ entry.reading =
-    sym (last_reading-prefix journal (n + 1) (omega arith)) ∙ ap last_reading next.1 ∙ last_reading-followed_by (prefix n journal) entry in
+    sym (last_reading-prefix journal (n + 1) (omega arith)) ∙ ap last_reading next.1
+    ∙ last_reading-followed_by (prefix n journal) entry in
     let whole : prefix (length journal.entries) journal ≡ journal =
-    ap (λ (es : List Entry). record journal { entries = es }) (take_all (length journal.entries) journal.entries (omega arith)) in
+    ap (λ (es : List Entry). record journal { entries = es })
+    (take_all (length journal.entries) journal.entries (omega arith)) in
     let rest = prefix-≤ journal (n + 1) (length journal.entries - (n + 1)) (omega arith) in
     let e : n + 1 + (length journal.entries - (n + 1)) ≡ length journal.entries = omega arith in
     let to_end : monotonic_units (prefix (n + 1) journal) ≤ monotonic_units journal =
-    subst (λ (j : Journal). monotonic_units (prefix (n + 1) journal) ≤ monotonic_units j) (ap (λ k. prefix k journal) e ∙ whole) rest in
-    let first : monotonic_units_at (prefix n journal) reading ≤ monotonic_units (prefix (n + 1) journal) =
-    subst (λ (j : Journal). monotonic_units_at (prefix n journal) reading ≤ monotonic_units j) (sym next.1)
-    (in_life (prefix n journal) entry reading (life_of journal n reading entry.reading within told life)) in
-    shr_mono journal.opening.counter.shift (chain _ _ _ first (chain _ _ _ to_end (units_at-≤ journal reading')))
+    subst (λ (j : Journal). monotonic_units (prefix (n + 1) journal) ≤ monotonic_units j)
+    (ap (λ k. prefix k journal) e ∙ whole) rest in
+    let first : monotonic_units_at (prefix n journal) reading
+    ≤ monotonic_units (prefix (n + 1) journal) =
+    subst (λ (j : Journal). monotonic_units_at (prefix n journal) reading ≤ monotonic_units j)
+    (sym next.1)
+    (in_life (prefix n journal) entry reading
+    (life_of journal n reading entry.reading within told life)) in
+    shr_mono journal.opening.counter.shift
+    (chain _ _ _ first (chain _ _ _ to_end (units_at-≤ journal reading')))
 
 -- the cycles that an accepted command counts are those that a read at its reading counts
 counted_alike : (asleep resumes invalid behind : Bool) (gap : ℕ) (later : Option Refusal) →
-    first_of (first_of (if asleep && not resumes then Some Asleep else if not asleep && resumes then Some Awake else None)
-    (first_of (if invalid then Some Invalid else None) (if not resumes && behind then Some Behind else None))) later ≡ None →
+    first_of (first_of (if asleep && not resumes then Some Asleep else if not asleep
+    && resumes then Some Awake else None)
+    (first_of (if invalid then Some Invalid else None) (if not resumes && behind then Some Behind
+    else None))) later ≡ None →
     (if asleep || behind then 0 else gap) ≡ (if asleep then 0 else gap)
 counted_alike true resumes invalid behind gap later e = refl
 counted_alike false true invalid behind gap later e = cc
@@ -147,7 +181,8 @@ agrees journal entry accepted =
     (nat_lt (mask counter) entry.reading || not (is_well_formed entry.cmd))
     (nat_lt (half counter) (gap counter (last_reading journal) entry.reading))
     (gap counter (last_reading journal) entry.reading)
-    (value_refusal (λ clock. clock_value journal clock entry.reading) (λ clock. clock_value after clock entry.reading) entry.cmd)
+    (value_refusal (λ clock. clock_value journal clock entry.reading)
+    (λ clock. clock_value after clock entry.reading) entry.cmd)
     told in
     ap (λ k. (monotonic_units journal + k * current_multiplier journal) / scale) same
     ∙ ap (λ n. n / scale) (sym (monotonic_units-followed_by journal entry))

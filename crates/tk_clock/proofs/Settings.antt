@@ -12,7 +12,7 @@ use Rattle.tk_clock.specs.declared.clock_id.ClockId.TheVariants.{Realtime, Monot
 use Rattle.tk_clock.specs.declared.refusal.Refusal.TheVariants.{Invalid, Range}
 use Rattle.tk_clock.specs.Time.{nanoseconds}
 use Rattle.tk_clock.specs.State.{ReadBase, State, base_monotonic, base_value, forwarded, effect}
-use Rattle.tk_clock.specs.Limits.{limit, is_past_limit, is_bad_setting, sets_real}
+use Rattle.tk_clock.specs.Limits.{limit, is_past_limit, is_bad_setting, sets_real, settable_end, greatest_tai}
 use Rattle.tk_clock.specs.Refusal.{state_value_refusal}
 use Rattle.tk_clock.specs.Effect.{IsEarly}
 use Rattle.tk_clock.specs.Running.{IsRunning, IsRated}
@@ -35,78 +35,109 @@ both true true true e = absurd cc
 both true false c e = absurd cc
 both false b c e = absurd cc
 
-pub either : (p a b : Bool) → p ≡ false → (not p && (not a || not b)) ≡ false → (a ≡ true) × (b ≡ true)
+pub either : (p a b : Bool) → p ≡ false → (not p && (not a || not b)) ≡ false →
+    (a ≡ true) × (b ≡ true)
 either false true true q e = (refl, refl)
 either false true false q e = absurd cc
 either false false b q e = absurd cc
 either true a b q e = absurd cc
 
-pub within_boot : (values : ClockId → ℤ) (cmd : Command) → is_past_limit values cmd ≡ false → values Boottime <ℤ limit Boottime
+pub within_boot : (values : ClockId → ℤ) (cmd : Command) → is_past_limit values cmd ≡ false →
+    values Boottime <ℤ limit Boottime
 unfolding is_past_limit
 within_boot values cmd e =
     below-of (values Boottime) (limit Boottime)
-    ((both (int_lt (values Monotonic) (limit Monotonic)) (int_lt (values Boottime) (limit Boottime)) _ e).1)
+    ((both (int_lt (values Monotonic) (limit Monotonic)) (int_lt (values Boottime) (limit Boottime))
+    _ e).1)
 
-pub within_plain : (values : ClockId → ℤ) (cmd : Command) → sets_real cmd ≡ false → is_past_limit values cmd ≡ false →
+pub within_plain : (values : ClockId → ℤ) (cmd : Command) → sets_real cmd ≡ false →
+    is_past_limit values cmd ≡ false →
     (values Realtime <ℤ limit Realtime) × (values TaiClock <ℤ limit TaiClock)
 unfolding is_past_limit
 within_plain values cmd plain e =
-    let parts = either (sets_real cmd) (int_lt (values Realtime) (limit Realtime)) (int_lt (values TaiClock) (limit TaiClock)) plain
-    ((both (int_lt (values Monotonic) (limit Monotonic)) (int_lt (values Boottime) (limit Boottime)) _ e).2) in
-    (below-of (values Realtime) (limit Realtime) parts.0, below-of (values TaiClock) (limit TaiClock) parts.1)
+    let parts = either (sets_real cmd) (int_lt (values Realtime) (limit Realtime))
+    (int_lt (values TaiClock) (limit TaiClock)) plain
+    ((both (int_lt (values Monotonic) (limit Monotonic)) (int_lt (values Boottime) (limit Boottime))
+    _ e).2) in (
+      below-of (values Realtime) (limit Realtime) parts.0,
+      below-of (values TaiClock) (limit TaiClock) parts.1,
+    )
 
 -- a setting of REALTIME doesn't move the clocks that its test of limits looks at
-set_past : (state : State) (now : ReadBase) (time : Timespec) (b : Bool) → now ≡ forwarded state.base now.last →
+set_past : (state : State) (now : ReadBase) (time : Timespec) (b : Bool) →
+    now ≡ forwarded state.base now.last →
     is_past_limit (λ clock. base_value now clock now.last) (SetTime time) ≡ b →
-    is_past_limit (λ clock. base_value (effect state now.last (SetTime time)).base clock now.last) (SetTime time) ≡ b
+    is_past_limit (λ clock. base_value (effect state now.last (SetTime time)).base clock now.last)
+    (SetTime time) ≡ b
 unfolding is_past_limit
 set_past state now time b e past =
-    subst (λ (f : ReadBase). is_past_limit (λ clock. base_value f clock now.last) (SetTime time) ≡ b) e past
+    subst (λ (f : ReadBase). is_past_limit (λ clock. base_value f clock now.last) (SetTime time)
+    ≡ b) e past
 
-step_past : (state : State) (now : ReadBase) (by : Timespec) (b : Bool) → now ≡ forwarded state.base now.last →
+step_past : (state : State) (now : ReadBase) (by : Timespec) (b : Bool) →
+    now ≡ forwarded state.base now.last →
     is_past_limit (λ clock. base_value now clock now.last) (Step by) ≡ b →
-    is_past_limit (λ clock. base_value (effect state now.last (Step by)).base clock now.last) (Step by) ≡ b
+    is_past_limit (λ clock. base_value (effect state now.last (Step by)).base clock now.last)
+    (Step by) ≡ b
 unfolding is_past_limit
 step_past state now by b e past =
-    subst (λ (f : ReadBase). is_past_limit (λ clock. base_value f clock now.last) (Step by) ≡ b) e past
+    subst (λ (f : ReadBase). is_past_limit (λ clock. base_value f clock now.last) (Step by)
+    ≡ b) e past
 
-pub set_range : (state : State) (now : ReadBase) (time : Timespec) → now ≡ forwarded state.base now.last →
-    is_past_limit (λ clock. base_value now clock now.last) (SetTime time) ≡ true → state_value_refusal state now.last (SetTime time) ≡ Some Range
+pub set_range : (state : State) (now : ReadBase) (time : Timespec) →
+    now ≡ forwarded state.base now.last →
+    is_past_limit (λ clock. base_value now clock now.last) (SetTime time) ≡ true →
+    state_value_refusal state now.last (SetTime time) ≡ Some Range
 set_range state now time e past = told_range _ _ _ (set_past state now time true e past)
 
-pub step_range : (state : State) (now : ReadBase) (by : Timespec) → now ≡ forwarded state.base now.last →
-    is_past_limit (λ clock. base_value now clock now.last) (Step by) ≡ true → state_value_refusal state now.last (Step by) ≡ Some Range
+pub step_range : (state : State) (now : ReadBase) (by : Timespec) →
+    now ≡ forwarded state.base now.last →
+    is_past_limit (λ clock. base_value now clock now.last) (Step by) ≡ true →
+    state_value_refusal state now.last (Step by) ≡ Some Range
 step_range state now by e past = told_range _ _ _ (step_past state now by true e past)
 
 -- MONOTONIC before the command is that of the base brought forward
-same_now : (state : State) (now : ReadBase) (cmd : Command) → now ≡ forwarded state.base now.last → base_monotonic state.base now.last ≡ now_of (forwarded state.base now.last) →
+same_now : (state : State) (now : ReadBase) (cmd : Command) → now ≡ forwarded state.base now.last →
+    base_monotonic state.base now.last ≡ now_of (forwarded state.base now.last) →
     base_monotonic state.base now.last ≡ now_of now
 same_now state now cmd e before = before ∙ ap now_of (sym e)
 
-set_setting : (state : State) (now : ReadBase) (time : Timespec) (b : Bool) → IsEarly state now.last (SetTime time) → now ≡ forwarded state.base now.last →
-    int_lt (nanoseconds time) (pos (now_of now)) ≡ b → is_bad_setting (λ clock. base_value state.base clock now.last) (SetTime time) ≡ b
+set_setting : (state : State) (now : ReadBase) (time : Timespec) (b : Bool) →
+    IsEarly state now.last (SetTime time) → now ≡ forwarded state.base now.last →
+    int_lt (nanoseconds time) (pos (now_of now)) ≡ b →
+    is_bad_setting (λ clock. base_value state.base clock now.last) (SetTime time) ≡ b
 unfolding is_bad_setting
 set_setting state now time b early e told =
     ap (λ n. int_lt (nanoseconds time) (pos n))
-    (same_now state now (SetTime time) e (monotonic-before state now.last (SetTime time) early refl))
+    (same_now state now (SetTime time) e
+    (monotonic-before state now.last (SetTime time) early refl))
     ∙ told
 
-pub set_invalid : (state : State) (now : ReadBase) (time : Timespec) → IsEarly state now.last (SetTime time) → now ≡ forwarded state.base now.last →
-    is_past_limit (λ clock. base_value now clock now.last) (SetTime time) ≡ false → nanoseconds time <ℤ pos (now_of now) →
+pub set_invalid : (state : State) (now : ReadBase) (time : Timespec) →
+    IsEarly state now.last (SetTime time) → now ≡ forwarded state.base now.last →
+    is_past_limit (λ clock. base_value now clock now.last) (SetTime time) ≡ false →
+    nanoseconds time <ℤ pos (now_of now) →
     state_value_refusal state now.last (SetTime time) ≡ Some Invalid
 set_invalid state now time early e past low =
-    told_invalid _ _ _ (set_past state now time false e past) (set_setting state now time true early e (is_below (nanoseconds time) (pos (now_of now)) low))
+    told_invalid _ _ _ (set_past state now time false e past)
+    (set_setting state now time true early e (is_below (nanoseconds time) (pos (now_of now)) low))
 
-pub set_none : (state : State) (now : ReadBase) (time : Timespec) → IsEarly state now.last (SetTime time) → now ≡ forwarded state.base now.last →
-    is_past_limit (λ clock. base_value now clock now.last) (SetTime time) ≡ false → pos (now_of now) ≤ℤ nanoseconds time →
+pub set_none : (state : State) (now : ReadBase) (time : Timespec) →
+    IsEarly state now.last (SetTime time) → now ≡ forwarded state.base now.last →
+    is_past_limit (λ clock. base_value now clock now.last) (SetTime time) ≡ false →
+    pos (now_of now) ≤ℤ nanoseconds time →
     state_value_refusal state now.last (SetTime time) ≡ None
 set_none state now time early e past high =
-    told_none _ _ _ (set_past state now time false e past) (set_setting state now time false early e (not_below (nanoseconds time) (pos (now_of now)) high))
+    told_none _ _ _ (set_past state now time false e past)
+    (set_setting state now time false early e
+    (not_below (nanoseconds time) (pos (now_of now)) high))
 
 -- the new state
-pub set_state : (state : State) (now : ReadBase) (time : Timespec) (offset : ℕ) → now ≡ forwarded state.base now.last →
+pub set_state : (state : State) (now : ReadBase) (time : Timespec) (offset : ℕ) →
+    now ≡ forwarded state.base now.last →
     pos offset ≡ nanoseconds time -ℤ pos (now_of now) →
-    (let after : State = record state { base = record now { real_offset = pos offset } } in after ≡ effect state now.last (SetTime time))
+    (let after : State = record state { base = record now { real_offset = pos offset } }
+    in after ≡ effect state now.last (SetTime time))
 set_state state now time offset e told =
     let fwd = forwarded state.base now.last in
     let put : ReadBase → ℤ → State = λ b z. record state { base = record b { real_offset = z } } in
@@ -117,18 +148,23 @@ set_state state now time offset e told =
 abbrev pub stepped : ReadBase → Timespec → ℤ
 stepped now by = pos (now_of now) +ℤ now.real_offset +ℤ nanoseconds by
 
-step_setting : (state : State) (now : ReadBase) (by : Timespec) (b : Bool) → IsEarly state now.last (Step by) → now ≡ forwarded state.base now.last →
-    (int_lt (stepped now by) (pos (now_of now)) || not (int_lt (stepped now by) (pos (8277292036 * 10 ^ 9)))) ≡ b →
+step_setting : (state : State) (now : ReadBase) (by : Timespec) (b : Bool) →
+    IsEarly state now.last (Step by) → now ≡ forwarded state.base now.last →
+    (int_lt (stepped now by) (pos (now_of now))
+    || not (int_lt (stepped now by) (pos (settable_end * 10 ^ 9)))) ≡ b →
     is_bad_setting (λ clock. base_value state.base clock now.last) (Step by) ≡ b
 unfolding is_bad_setting
 step_setting state now by b early e told =
     let test : ℕ → ℤ → Bool = λ n offset.
-    int_lt (pos n +ℤ offset +ℤ nanoseconds by) (pos n) || not (int_lt (pos n +ℤ offset +ℤ nanoseconds by) (pos (8277292036 * 10 ^ 9))) in
-    ap (λ n. test n state.base.real_offset) (same_now state now (Step by) e (monotonic-before state now.last (Step by) early refl))
+    int_lt (pos n +ℤ offset +ℤ nanoseconds by) (pos n)
+    || not (int_lt (pos n +ℤ offset +ℤ nanoseconds by) (pos (settable_end * 10 ^ 9))) in
+    ap (λ n. test n state.base.real_offset)
+    (same_now state now (Step by) e (monotonic-before state now.last (Step by) early refl))
     ∙ ap (λ (f : ReadBase). test (now_of now) f.real_offset) (sym e)
     ∙ told
 
-bad_step : (x low high : ℤ) → (x <ℤ low) ⊎ (high ≤ℤ x) → (int_lt x low || not (int_lt x high)) ≡ true
+bad_step : (x low high : ℤ) → (x <ℤ low) ⊎ (high ≤ℤ x) →
+    (int_lt x low || not (int_lt x high)) ≡ true
 bad_step x low high (inl under) = ap (λ b. b || not (int_lt x high)) (is_below x low under)
 bad_step x low high (inr over) = by_over (int_lt x low) (int_lt x high) (not_below x high over)
   where
@@ -139,25 +175,34 @@ bad_step x low high (inr over) = by_over (int_lt x low) (int_lt x high) (not_bel
 
 good_step : (x low high : ℤ) → low ≤ℤ x → x <ℤ high → (int_lt x low || not (int_lt x high)) ≡ false
 good_step x low high above below =
-    ap (λ b. b || not (int_lt x high)) (not_below x low above) ∙ ap (λ b. not b) (is_below x high below)
+    ap (λ b. b || not (int_lt x high)) (not_below x low above)
+    ∙ ap (λ b. not b) (is_below x high below)
 
-pub step_invalid : (state : State) (now : ReadBase) (by : Timespec) → IsEarly state now.last (Step by) → now ≡ forwarded state.base now.last →
+pub step_invalid : (state : State) (now : ReadBase) (by : Timespec) →
+    IsEarly state now.last (Step by) → now ≡ forwarded state.base now.last →
     is_past_limit (λ clock. base_value now clock now.last) (Step by) ≡ false →
-    (stepped now by <ℤ pos (now_of now)) ⊎ (pos (8277292036 * 10 ^ 9) ≤ℤ stepped now by) →
+    (stepped now by <ℤ pos (now_of now)) ⊎ (pos (settable_end * 10 ^ 9) ≤ℤ stepped now by) →
     state_value_refusal state now.last (Step by) ≡ Some Invalid
 step_invalid state now by early e past out =
-    told_invalid _ _ _ (step_past state now by false e past) (step_setting state now by true early e (bad_step (stepped now by) (pos (now_of now)) (pos (8277292036 * 10 ^ 9)) out))
+    told_invalid _ _ _ (step_past state now by false e past)
+    (step_setting state now by true early e
+    (bad_step (stepped now by) (pos (now_of now)) (pos (settable_end * 10 ^ 9)) out))
 
-pub step_none : (state : State) (now : ReadBase) (by : Timespec) → IsEarly state now.last (Step by) → now ≡ forwarded state.base now.last →
+pub step_none : (state : State) (now : ReadBase) (by : Timespec) →
+    IsEarly state now.last (Step by) → now ≡ forwarded state.base now.last →
     is_past_limit (λ clock. base_value now clock now.last) (Step by) ≡ false →
-    pos (now_of now) ≤ℤ stepped now by → stepped now by <ℤ pos (8277292036 * 10 ^ 9) →
+    pos (now_of now) ≤ℤ stepped now by → stepped now by <ℤ pos (settable_end * 10 ^ 9) →
     state_value_refusal state now.last (Step by) ≡ None
 step_none state now by early e past above below =
-    told_none _ _ _ (step_past state now by false e past) (step_setting state now by false early e (good_step (stepped now by) (pos (now_of now)) (pos (8277292036 * 10 ^ 9)) above below))
+    told_none _ _ _ (step_past state now by false e past)
+    (step_setting state now by false early e
+    (good_step (stepped now by) (pos (now_of now)) (pos (settable_end * 10 ^ 9)) above below))
 
-pub step_state : (state : State) (now : ReadBase) (by : Timespec) (offset : ℕ) → now ≡ forwarded state.base now.last →
+pub step_state : (state : State) (now : ReadBase) (by : Timespec) (offset : ℕ) →
+    now ≡ forwarded state.base now.last →
     pos offset ≡ now.real_offset +ℤ nanoseconds by →
-    (let after : State = record state { base = record now { real_offset = pos offset } } in after ≡ effect state now.last (Step by))
+    (let after : State = record state { base = record now { real_offset = pos offset } }
+    in after ≡ effect state now.last (Step by))
 step_state state now by offset e told =
     let fwd = forwarded state.base now.last in
     let put : ReadBase → ℤ → State = λ b z. record state { base = record b { real_offset = z } } in
@@ -165,13 +210,16 @@ step_state state now by offset e told =
     ∙ ap (λ z. put fwd z) (told ∙ ap (λ (b : ReadBase). b.real_offset +ℤ nanoseconds by) e)
 
 -- running clocks whose REALTIME is set to a time that may be set
-pub IsRunning-set : (base now : ReadBase) (frequency tick : ℤ) (offset : ℕ) → IsRunning base frequency tick → now ≡ forwarded base now.last → IsRated now →
-    now_of now + offset < 8277292036 * 10 ^ 9 → now.tai ≤ℤ pos 100000 → base_value now Boottime now.last <ℤ limit Boottime →
+pub IsRunning-set : (base now : ReadBase) (frequency tick : ℤ) (offset : ℕ) →
+    IsRunning base frequency tick → now ≡ forwarded base now.last → IsRated now →
+    now_of now + offset < settable_end * 10 ^ 9 → now.tai ≤ℤ pos greatest_tai →
+    base_value now Boottime now.last <ℤ limit Boottime →
     IsRunning (record now { real_offset = pos offset }) frequency tick
 IsRunning-set base now frequency tick offset held e rated low tai boot =
     let after : ReadBase = record now { real_offset = pos offset } in
     record {
-      steered = ap (λ (b : ReadBase). b.mult) e ∙ held.steered ∙ ap (λ (b : ReadBase). multiplier b.counter frequency tick) (sym e);
+      steered = ap (λ (b : ReadBase). b.mult) e ∙ held.steered
+          ∙ ap (λ (b : ReadBase). multiplier b.counter frequency tick) (sym e);
       frequency_low = held.frequency_low;
       frequency_high = held.frequency_high;
       tick_low = held.tick_low;

@@ -3,10 +3,10 @@ use Rattle.std.proofs.Common.{◌≡◌, ℕ, ◌+◌, ◌*◌, ◌/◌, ◌^◌
 use Rattle.std.specs.Prelude.{pos, ◌<ℤ◌, ◌+ℤ◌, ◌*ℤ◌}
 use Rattle.std.proofs.lemmas.Int.{ints}
 use Rattle.std.proofs.lemmas.Nat.{pow_pos, div_below}
-use Rattle.tk_counter.specs.Counter.{Counter, second, multiplier}
+use Rattle.tk_counter.specs.Counter.{Counter, second, multiplier, usual_tick}
 use Rattle.tk_clock.specs.declared.clock_id.ClockId.TheVariants.{Realtime, Monotonic, Boottime, Tai as TaiClock}
 use Rattle.tk_clock.specs.State.{ReadBase, base_value}
-use Rattle.tk_clock.specs.Limits.{limit}
+use Rattle.tk_clock.specs.Limits.{limit, clock_end, settable_end}
 use Rattle.tk_clock.specs.Running.{IsRunning}
 use Rattle.tk_clock.proofs.Forwarding.{base_monotonic-last}
 
@@ -17,27 +17,35 @@ now_of base = base.amount / 2 ^ base.counter.shift
 pub monotonic-last : (base : ReadBase) → base_value base Monotonic base.last ≡ pos (now_of base)
 monotonic-last base = ap pos (base_monotonic-last base)
 
-pub real-last : (base : ReadBase) → base_value base Realtime base.last ≡ pos (now_of base) +ℤ base.real_offset
+pub real-last : (base : ReadBase) →
+    base_value base Realtime base.last ≡ pos (now_of base) +ℤ base.real_offset
 real-last base = ap (λ n. pos n +ℤ base.real_offset) (base_monotonic-last base)
 
-pub boot-last : (base : ReadBase) → base_value base Boottime base.last ≡ pos (now_of base) +ℤ base.boot_offset
+pub boot-last : (base : ReadBase) →
+    base_value base Boottime base.last ≡ pos (now_of base) +ℤ base.boot_offset
 boot-last base = ap (λ n. pos n +ℤ base.boot_offset) (base_monotonic-last base)
 
-pub tai-last : (base : ReadBase) → base_value base TaiClock base.last ≡ pos (now_of base) +ℤ base.real_offset +ℤ base.tai *ℤ pos (10 ^ 9)
-tai-last base = ap (λ n. pos n +ℤ base.real_offset +ℤ base.tai *ℤ pos (10 ^ 9)) (base_monotonic-last base)
+pub tai-last : (base : ReadBase) →
+    base_value base TaiClock base.last
+    ≡ pos (now_of base) +ℤ base.real_offset +ℤ base.tai *ℤ pos (10 ^ 9)
+tai-last base = ap (λ n. pos n +ℤ base.real_offset +ℤ base.tai *ℤ pos (10 ^ 9))
+    (base_monotonic-last base)
 
 -- the usual rate leaves the mult as it is
-pub usual_rate : (counter : Counter) (mult : ℕ) → mult ≡ counter.mult → mult ≡ multiplier counter (pos 0) (pos 10000)
+pub usual_rate : (counter : Counter) (mult : ℕ) → mult ≡ counter.mult →
+    mult ≡ multiplier counter (pos 0) usual_tick
 usual_rate counter mult e = omega (arith, e)
 
 -- nothing is no nanoseconds
 nothing-nanos : (second shift : ℕ) → (0 * second + 0) / 2 ^ shift ≡ 0
 nothing-nanos second shift =
-    let low : (0 * second + 0) / 2 ^ shift < 1 = div_below (0 * second + 0) (2 ^ shift) 1 (pow_pos shift) (omega (arith, pow_pos shift)) in
+    let low : (0 * second + 0) / 2 ^ shift < 1 =
+    div_below (0 * second + 0) (2 ^ shift) 1 (pow_pos shift) (omega (arith, pow_pos shift)) in
     omega arith
 
 -- the clocks as they are opened
-pub IsRunning-opened : (counter : Counter) (reading mult real : ℕ) → mult ≡ counter.mult → real < 8277292036 * 10 ^ 9 →
+pub IsRunning-opened : (counter : Counter) (reading mult real : ℕ) → mult ≡ counter.mult →
+    real < settable_end * 10 ^ 9 →
     IsRunning (record {
       counter = counter;
       last = reading;
@@ -48,7 +56,7 @@ pub IsRunning-opened : (counter : Counter) (reading mult real : ℕ) → mult �
       boot_offset = pos 0;
       tai = pos 0;
       asleep = false;
-    }) (pos 0) (pos 10000)
+    }) (pos 0) usual_tick
 IsRunning-opened counter reading mult real same low =
     let base : ReadBase = record {
       counter = counter;
@@ -77,8 +85,9 @@ IsRunning-opened counter reading mult real same low =
     }
 
 -- REALTIME below its limit is no further than that from MONOTONIC
-pub real_offset_low : (base : ReadBase) (offset : ℕ) → base.real_offset ≡ pos offset → base_value base Realtime base.last <ℤ limit Realtime →
-    offset < 9223372036 * 10 ^ 9
+pub real_offset_low : (base : ReadBase) (offset : ℕ) → base.real_offset ≡ pos offset →
+    base_value base Realtime base.last <ℤ limit Realtime →
+    offset < clock_end * 10 ^ 9
 real_offset_low base offset e low =
     let told = rw (real-last base) at low in
     omega (arith, ints, told, e)

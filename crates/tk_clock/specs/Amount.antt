@@ -18,5 +18,6 @@ pub amount_of-units_of : (counter : Counter) (amount : Amount) → amount.frac <
     amount_of counter (units_of counter amount) ≡ amount
 amount_of-units_of counter amount low =
     let from_parts : ℕ → ℕ → Amount = λ q r. record { sec = q; frac = r } in
-    ap (λ q. from_parts q (units_of counter amount % second counter)) (div-mul-add amount.sec (second counter) amount.frac low)
+    ap (λ q. from_parts q (units_of counter amount % second counter))
+    (div-mul-add amount.sec (second counter) amount.frac low)
     ∙ ap (λ r. from_parts amount.sec r) (mod-mul-add amount.sec (second counter) amount.frac low)

@@ -1,4 +1,5 @@
--- The other clocks: how far they are from MONOTONIC, and MONOTONIC_RAW (Documentation/core-api/timekeeping.rst).
+-- The other clocks: how far they are from MONOTONIC, and MONOTONIC_RAW
+-- (Documentation/core-api/timekeeping.rst).
 use Rattle.std.specs.Prelude.{ℕ, ◌+◌, ◌*◌, ◌/◌, ◌^◌, ℤ, pos, ◌+ℤ◌, ◌-ℤ◌, ◌*ℤ◌, List, [], ◌∷◌, map, drop, length, is_some}
 use Rattle.std.specs.List.{filter_map}
 use Rattle.std.specs.Option.{option_map_or}
@@ -18,11 +19,13 @@ sum_of (x ∷ xs) = x +ℤ sum_of xs
 abbrev pub set_place : Journal → ℕ
 set_place journal = latest 0 (places (λ (e : Entry). is_some (time_set e.cmd)) 0 journal.entries)
 
--- the offset that was set there, in nanoseconds: the time less MONOTONIC then; at 0 that of the opening
+-- the offset that was set there, in nanoseconds: the time less MONOTONIC then; at 0 that of the
+-- opening
 abbrev pub offset_set : Journal → ℕ → ℤ
 offset_set journal place =
     at_place journal.opening.real_offset
-    (λ (e : Entry). option_map_or (λ time. time -ℤ pos (monotonic (prefix place journal) e.reading)) (time_set e.cmd) (pos 0))
+    (λ (e : Entry). option_map_or (λ time. time -ℤ pos (monotonic (prefix place journal) e.reading))
+    (time_set e.cmd) (pos 0))
     journal.entries place
 
 -- REALTIME less MONOTONIC, in nanoseconds: what was set last, and all steps and suspensions since
@@ -33,21 +36,26 @@ real_offset journal =
 
 -- BOOTTIME less MONOTONIC, in nanoseconds: all suspensions
 abbrev pub boot_offset : Journal → ℤ
-boot_offset journal = journal.opening.boot_offset +ℤ sum_of (map (λ (e : Entry). boot_amount e.cmd) journal.entries)
+boot_offset journal =
+    journal.opening.boot_offset +ℤ sum_of (map (λ (e : Entry). boot_amount e.cmd) journal.entries)
 
 -- TAI less REALTIME, in seconds: the last number set
 abbrev pub tai_offset : Journal → ℤ
-tai_offset journal = latest journal.opening.tai (filter_map (λ (e : Entry). tai_set e.cmd) journal.entries)
+tai_offset journal =
+    latest journal.opening.tai (filter_map (λ (e : Entry). tai_set e.cmd) journal.entries)
 
--- MONOTONIC_RAW at the last entry, in units of 2^-shift nanoseconds: all awake cycles at the counter's own rate
+-- MONOTONIC_RAW at the last entry, in units of 2^-shift nanoseconds: all awake cycles at the
+-- counter's own rate
 abbrev pub raw_units : Journal → ℕ
 raw_units journal =
-    journal.opening.raw_amount + awake_cycles journal (length journal.entries) * journal.opening.counter.mult
+    journal.opening.raw_amount
+    + awake_cycles journal (length journal.entries) * journal.opening.counter.mult
 
 -- MONOTONIC_RAW at a reading, in nanoseconds
 abbrev pub monotonic_raw : Journal → ℕ → ℕ
 monotonic_raw journal reading =
-    (raw_units journal + cycles_after journal reading * journal.opening.counter.mult) / 2 ^ journal.opening.counter.shift
+    (raw_units journal + cycles_after journal reading * journal.opening.counter.mult)
+    / 2 ^ journal.opening.counter.shift
 
 -- a clock at a reading, in nanoseconds
 abbrev pub clock_value : Journal → ClockId → ℕ → ℤ
@@ -56,6 +64,7 @@ clock_value journal Realtime reading = pos (monotonic journal reading) +ℤ real
 clock_value journal Boottime reading = pos (monotonic journal reading) +ℤ boot_offset journal
 clock_value journal Tai reading =
     pos (monotonic journal reading) +ℤ real_offset journal +ℤ tai_offset journal *ℤ pos (10 ^ 9)
-clock_value journal RealtimeCoarse reading = pos (monotonic journal (last_reading journal)) +ℤ real_offset journal
+clock_value journal RealtimeCoarse reading =
+    pos (monotonic journal (last_reading journal)) +ℤ real_offset journal
 clock_value journal MonotonicCoarse reading = pos (monotonic journal (last_reading journal))
 clock_value journal MonotonicRaw reading = pos (monotonic_raw journal reading)

@@ -4,12 +4,19 @@ use Rattle.tk_clock.specs.declared.command.Command.{Command}
 use Rattle.tk_clock.specs.declared.refusal.Refusal.{Refusal}
 use Rattle.tk_clock.specs.declared.refusal.Refusal.TheVariants.{Range}
 use Rattle.tk_clock.specs.Limits.{is_past_limit}
-use Rattle.tk_clock.specs.State.{State, base_value, effect}
+use Rattle.tk_clock.specs.State.{ReadBase, State, base_value, forwarded, effect}
+use Rattle.tk_clock.specs.Running.{IsRated}
 use Rattle.tk_clock.specs.Refusal.{early_refusal, state_value_refusal}
+
+-- a base is a state's, brought forward to the base's own last reading
+pub record IsForwarded (state : State) (base : ReadBase) : Type 0 where
+  pub told : base ≡ forwarded state.base base.last
+  pub rated : IsRated base
 
 -- the tests that need no clock's value let the command pass
 abbrev pub IsEarly : State → ℕ → Command → Type 0
-IsEarly state reading cmd = early_refusal state.base.counter state.base.asleep state.base.last reading cmd ≡ None
+IsEarly state reading cmd =
+    early_refusal state.base.counter state.base.asleep state.base.last reading cmd ≡ None
 
 -- the state after the command, or the first of the later tests that fails
 abbrev pub IsEffect : State → ℕ → Command → Result State Refusal → Type 0

@@ -3,11 +3,13 @@ use Rattle.std.specs.Prelude.{◌≡◌, ℕ, zero, suc, ◌+◌, ◌-◌, ◌%�
 use Rattle.tk_counter.specs.Counter.{half}
 use Rattle.tk_clock.specs.Journal.{Journal, reading_at, is_asleep_at}
 
--- the count at each place gives its reading, and while the clock is awake it grows by no more than half the mask
+-- the count at each place gives its reading, and while the clock is awake it grows by no more than
+-- half the mask
 pub record IsHonest (journal : Journal) (count : ℕ → ℕ) : Type 0 where
   pub read : (place : ℕ) → place ≤ length journal.entries →
       reading_at journal place ≡ count place % 2 ^ journal.opening.counter.bits
-  pub grows : (place : ℕ) → suc place ≤ length journal.entries → is_asleep_at journal place ≡ false →
+  pub grows : (place : ℕ) → suc place ≤ length journal.entries →
+      is_asleep_at journal place ≡ false →
       count place ≤ count (suc place)
   pub near : (place : ℕ) → suc place ≤ length journal.entries → is_asleep_at journal place ≡ false →
       count (suc place) - count place ≤ half journal.opening.counter

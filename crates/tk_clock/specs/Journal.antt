@@ -1,6 +1,6 @@
 -- A journal: how the clocks were opened, and each command that was accepted since.
 use Rattle.std.specs.Prelude.{ℕ, ◌+◌, ℤ, pos, List, [], ◌∷◌, ◌++◌, map, take, length, get_or, Bool, false, if◌then◌else◌}
-use Rattle.tk_counter.specs.Counter.{Counter}
+use Rattle.tk_counter.specs.Counter.{Counter, usual_tick}
 use Rattle.tk_clock.specs.declared.command.Entry.{Entry}
 use Rattle.tk_clock.specs.declared.timespec.Timespec.{Timespec}
 use Rattle.tk_clock.specs.Time.{nanoseconds}
@@ -31,7 +31,8 @@ pub record Journal : Type 0 where
   pub opening : Opening
   pub entries : List Entry
 
--- a journal without entries: MONOTONIC is 0, REALTIME is handed in, and the clocks are awake at their usual rate
+-- a journal without entries: MONOTONIC is 0, REALTIME is handed in, and the clocks are awake at
+-- their usual rate
 abbrev pub opened : Counter → ℕ → Timespec → Journal
 opened counter reading real =
     record {
@@ -42,7 +43,7 @@ opened counter reading real =
         amount = 0;
         raw_amount = 0;
         frequency = pos 0;
-        tick = pos 10000;
+        tick = usual_tick;
         real_offset = nanoseconds real;
         boot_offset = pos 0;
         tai = pos 0;
@@ -69,11 +70,14 @@ at_place opening f entries place = get_or (opening ∷ map f entries) place open
 
 -- the reading of the entry at a place
 abbrev pub reading_at : Journal → ℕ → ℕ
-reading_at journal place = at_place journal.opening.reading (λ (e : Entry). e.reading) journal.entries place
+reading_at journal place =
+    at_place journal.opening.reading (λ (e : Entry). e.reading) journal.entries place
 
--- is the clock asleep from this place on? A suspension puts it to sleep, and the entry after that is a resume
+-- is the clock asleep from this place on? A suspension puts it to sleep, and the entry after that
+-- is a resume
 abbrev pub is_asleep_at : Journal → ℕ → Bool
-is_asleep_at journal place = at_place journal.opening.asleep (λ (e : Entry). is_suspend e.cmd) journal.entries place
+is_asleep_at journal place =
+    at_place journal.opening.asleep (λ (e : Entry). is_suspend e.cmd) journal.entries place
 
 -- the reading of the last entry
 abbrev pub last_reading : Journal → ℕ
@@ -92,4 +96,5 @@ latest before (value ∷ values) = latest value values
 abbrev pub places : (Entry → Bool) → ℕ → List Entry → List ℕ
 places test before [] = []
 places test before (entry ∷ entries) =
-    if test entry then (before + 1) ∷ places test (before + 1) entries else places test (before + 1) entries
+    if test entry then (before + 1) ∷ places test (before + 1) entries
+    else places test (before + 1) entries

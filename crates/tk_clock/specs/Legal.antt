@@ -10,12 +10,14 @@ use Rattle.tk_clock.specs.Refusal.{clock_refusal, opening_refusal}
 -- each entry was accepted after those before it
 abbrev pub IsAccepted : Journal → Type 0
 IsAccepted journal =
-    (k : ℕ) (entry : Entry) → slice_get journal.entries k ≡ Some entry → clock_refusal (prefix k journal) entry ≡ None
+    (k : ℕ) (entry : Entry) → slice_get journal.entries k ≡ Some entry →
+    clock_refusal (prefix k journal) entry ≡ None
 
 -- a journal that lists every command since the clocks were opened
 pub record IsWhole (journal : Journal) : Type 0 where
   pub described : IsCounter journal.opening.counter
-  pub opens : (reading : ℕ) × (real : Timespec) × (opening_refusal journal.opening.counter reading real ≡ None)
+  pub opens : (reading : ℕ) × (real : Timespec)
+      × (opening_refusal journal.opening.counter reading real ≡ None)
       × (journal.opening ≡ (opened journal.opening.counter reading real).opening)
   pub accepted : IsAccepted journal
 
@@ -37,5 +39,6 @@ folded_opening n state = record {
 
 -- a journal that begins where some whole one left off, at its opening if no entry was folded
 pub record IsLegal (journal : Journal) : Type 0 where
-  pub past : (whole : Journal) × IsWhole whole × (journal.opening ≡ folded_opening (length whole.entries) (state_of whole))
+  pub past : (whole : Journal) × IsWhole whole
+      × (journal.opening ≡ folded_opening (length whole.entries) (state_of whole))
   pub accepted : IsAccepted journal

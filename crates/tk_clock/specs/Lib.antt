@@ -9,6 +9,7 @@ pub mod Running
 pub mod Limits
 pub mod Refusal
 pub mod Legal
+pub mod Folding
 pub mod Life
 pub mod Honest
 pub mod Effect

@@ -4,8 +4,8 @@ use Rattle.tk_counter.specs.Counter.{half, gap}
 use Rattle.tk_clock.specs.Journal.{Journal, prefix, reading_at, is_asleep_at}
 use Rattle.tk_clock.specs.Monotonic.{monotonic}
 
--- a reading after the first n entries is no later than that of the next entry, if there is one; asleep, and where it lies
--- behind the n-th entry's, any reading will do
+-- a reading after the first n entries is no later than that of the next entry, if there is one;
+-- asleep, and where it lies behind the n-th entry's, any reading will do
 abbrev pub IsInLife : Journal → ℕ → ℕ → Type 0
 IsInLife journal n reading =
     (n ≡ length journal.entries) ⊎ (is_asleep_at journal n ≡ true)

@@ -1,5 +1,6 @@
 -- The limits of clocks and commands (include/linux/time64.h, include/linux/ktime.h).
-use Rattle.std.specs.Prelude.{◌*◌, ◌^◌, ℤ, pos, Bool, true, false, not, ◌&&◌, ◌||◌, nat_lt, int_lt, int_le, ◌+ℤ◌}
+use Rattle.std.specs.Prelude.{ℕ, ◌-◌, ◌*◌, ◌^◌, ℤ, pos, Bool, true, false, not, ◌&&◌, ◌||◌, nat_lt, int_lt, int_le, ◌+ℤ◌}
+use Rattle.tk_counter.specs.Counter.{seconds_end, least_tick, greatest_tick}
 use Rattle.tk_clock.specs.declared.timespec.Timespec.{Timespec}
 use Rattle.tk_clock.specs.declared.command.Command.{Command}
 use Rattle.tk_clock.specs.declared.command.Command.TheVariants.{Update, SetTime, Step, Freq, Tick, Tai, Suspend, Resume}
@@ -7,30 +8,62 @@ use Rattle.tk_clock.specs.declared.clock_id.ClockId.{ClockId}
 use Rattle.tk_clock.specs.declared.clock_id.ClockId.TheVariants.{Realtime, Monotonic, Boottime, Tai as TaiClock, RealtimeCoarse, MonotonicCoarse, MonotonicRaw}
 use Rattle.tk_clock.specs.Time.{nanoseconds}
 
--- the nanoseconds at which a clock ends: 30 years for MONOTONIC, what 63 bits hold for the others
+-- where clocks end, in seconds: as many as 63 bits of nanoseconds hold (KTIME_SEC_MAX)
+abbrev pub clock_end : ℕ
+clock_end = seconds_end
+
+-- where MONOTONIC ends, in seconds: 30 years of 365 days (TIME_UPTIME_SEC_MAX)
+abbrev pub monotonic_end : ℕ
+monotonic_end = 946080000
+
+-- what MONOTONIC_RAW stays below, in seconds, while MONOTONIC is below its end: it gains most on
+-- MONOTONIC at the least tick and frequency
+abbrev pub raw_end : ℕ
+raw_end = 1060000000
+
+-- where the times end that REALTIME may be set to, in seconds: as long before its own end as
+-- MONOTONIC lasts (TIME_SETTOD_SEC_MAX)
+abbrev pub settable_end : ℕ
+settable_end = 8277292036
+
+-- the greatest TAI offset, in seconds (MAX_TAI_OFFSET)
+abbrev pub greatest_tai : ℕ
+greatest_tai = 100000
+
+-- the most entries that a journal lists
+abbrev pub listed_most : ℕ
+listed_most = 1048576
+
+-- the most commands that it counts: as many as 63 bits tell
+abbrev pub counted_most : ℕ
+counted_most = 2 ^ 63 - 1
+
+-- the nanoseconds at which a clock ends
 abbrev pub limit : ClockId → ℤ
-limit Monotonic = pos (946080000 * 10 ^ 9)
-limit MonotonicCoarse = pos (946080000 * 10 ^ 9)
-limit Realtime = pos (9223372036 * 10 ^ 9)
-limit RealtimeCoarse = pos (9223372036 * 10 ^ 9)
-limit Boottime = pos (9223372036 * 10 ^ 9)
-limit TaiClock = pos (9223372036 * 10 ^ 9)
-limit MonotonicRaw = pos (9223372036 * 10 ^ 9)
+limit Monotonic = pos (monotonic_end * 10 ^ 9)
+limit MonotonicCoarse = pos (monotonic_end * 10 ^ 9)
+limit Realtime = pos (clock_end * 10 ^ 9)
+limit RealtimeCoarse = pos (clock_end * 10 ^ 9)
+limit Boottime = pos (clock_end * 10 ^ 9)
+limit TaiClock = pos (clock_end * 10 ^ 9)
+limit MonotonicRaw = pos (clock_end * 10 ^ 9)
 
 -- a time that may be set leaves REALTIME room for 30 years (TIME_SETTOD_SEC_MAX)
 unfoldable pub is_settable : Timespec → Bool
-is_settable time = int_le (pos 0) time.sec && int_lt time.sec (pos 8277292036) && nat_lt time.nsec (10 ^ 9)
+is_settable time =
+    int_le (pos 0) time.sec && int_lt time.sec (pos settable_end) && nat_lt time.nsec (10 ^ 9)
 
 -- a suspension is none of negative length, and is shorter than a clock lasts
 unfoldable pub is_suspension : Timespec → Bool
-is_suspension away = int_le (pos 0) away.sec && int_lt away.sec (pos 9223372036) && nat_lt away.nsec (10 ^ 9)
+is_suspension away =
+    int_le (pos 0) away.sec && int_lt away.sec (pos clock_end) && nat_lt away.nsec (10 ^ 9)
 
 -- are the command's numbers in range?
 unfoldable pub is_well_formed : Command → Bool
 is_well_formed (SetTime time) = is_settable time
 is_well_formed (Step by) = nat_lt by.nsec (10 ^ 9)
-is_well_formed (Tick tick) = int_le (pos 9000) tick && int_le tick (pos 11000)
-is_well_formed (Tai seconds) = int_le (pos 0) seconds && int_le seconds (pos 100000)
+is_well_formed (Tick tick) = int_le least_tick tick && int_le tick greatest_tick
+is_well_formed (Tai seconds) = int_le (pos 0) seconds && int_le seconds (pos greatest_tai)
 is_well_formed (Resume away) = is_suspension away
 is_well_formed Update = true
 is_well_formed (Freq frequency) = true
@@ -42,17 +75,21 @@ sets_real (SetTime time) = true
 sets_real (Step by) = true
 sets_real _ = false
 
--- is a clock, by its value after the command, at its limit or beyond it? Where the command sets REALTIME, that and TAI are
--- left to the test below
+-- is a clock, by its value after the command, at its limit or beyond it? Where the command sets
+-- REALTIME, that and TAI are left to the test below
 unfoldable pub is_past_limit : (ClockId → ℤ) → Command → Bool
 is_past_limit after cmd =
-    not (int_lt (after Monotonic) (limit Monotonic)) || not (int_lt (after Boottime) (limit Boottime))
-    || (not (sets_real cmd) && (not (int_lt (after Realtime) (limit Realtime)) || not (int_lt (after TaiClock) (limit TaiClock))))
+    not (int_lt (after Monotonic) (limit Monotonic))
+    || not (int_lt (after Boottime) (limit Boottime))
+    || (not (sets_real cmd)
+    && (not (int_lt (after Realtime) (limit Realtime))
+    || not (int_lt (after TaiClock) (limit TaiClock))))
 
--- would the command, by the clocks' values before it, set REALTIME below MONOTONIC or beyond what may be set?
+-- would the command, by the clocks' values before it, set REALTIME below MONOTONIC or beyond what
+-- may be set?
 unfoldable pub is_bad_setting : (ClockId → ℤ) → Command → Bool
 is_bad_setting before (SetTime time) = int_lt (nanoseconds time) (before Monotonic)
 is_bad_setting before (Step by) =
     let real = before Realtime +ℤ nanoseconds by in
-    int_lt real (before Monotonic) || not (int_lt real (pos (8277292036 * 10 ^ 9)))
+    int_lt real (before Monotonic) || not (int_lt real (pos (settable_end * 10 ^ 9)))
 is_bad_setting before _ = false

@@ -1,5 +1,5 @@
--- MONOTONIC: the awake cycles of each stretch between settings of the multiplier, times the stretch's multiplier
--- (Documentation/core-api/timekeeping.rst: it stops during suspend).
+-- MONOTONIC: the awake cycles of each stretch between settings of the multiplier, times the
+-- stretch's multiplier (Documentation/core-api/timekeeping.rst: it stops during suspend).
 use Rattle.std.specs.Prelude.{ℕ, zero, suc, ◌+◌, ◌-◌, ◌*◌, ◌/◌, ◌^◌, ℤ, List, [], ◌∷◌, take, length, Bool, ◌||◌, nat_lt, if◌then◌else◌}
 use Rattle.std.specs.List.{filter_map}
 use Rattle.tk_counter.specs.Counter.{Counter, gap, half, multiplier}
@@ -12,39 +12,50 @@ abbrev pub awake_cycles : Journal → ℕ → ℕ
 awake_cycles journal zero = 0
 awake_cycles journal (suc place) =
     awake_cycles journal place
-    + (if is_asleep_at journal place then 0 else gap journal.opening.counter (reading_at journal place) (reading_at journal (suc place)))
+    + (if is_asleep_at journal place then 0
+    else gap journal.opening.counter (reading_at journal place) (reading_at journal (suc place)))
 
 -- the frequency in force from a place on: the last one set up to there
 abbrev pub frequency_at : Journal → ℕ → ℤ
 frequency_at journal place =
-    latest journal.opening.frequency (filter_map (λ (e : Entry). frequency_set e.cmd) (take place journal.entries))
+    latest journal.opening.frequency
+    (filter_map (λ (e : Entry). frequency_set e.cmd) (take place journal.entries))
 
 -- the tick in force from a place on
 abbrev pub tick_at : Journal → ℕ → ℤ
-tick_at journal place = latest journal.opening.tick (filter_map (λ (e : Entry). tick_set e.cmd) (take place journal.entries))
+tick_at journal place =
+    latest journal.opening.tick
+    (filter_map (λ (e : Entry). tick_set e.cmd) (take place journal.entries))
 
 -- the units that a cycle adds from a place on
 abbrev pub multiplier_at : Journal → ℕ → ℕ
-multiplier_at journal place = multiplier journal.opening.counter (frequency_at journal place) (tick_at journal place)
+multiplier_at journal place =
+    multiplier journal.opening.counter (frequency_at journal place) (tick_at journal place)
 
 -- the places where a new stretch begins, after the first
 abbrev pub stretch_places : Journal → List ℕ
 stretch_places journal = places (λ (e : Entry). sets_multiplier e.cmd) 0 journal.entries
 
--- the stretch from a place to the next one of the list, and then all later stretches, the last of which ends the journal
+-- the stretch from a place to the next one of the list, and then all later stretches, the last of
+-- which ends the journal
 abbrev pub stretches_from : Journal → ℕ → List ℕ → ℕ
 stretches_from journal from [] =
-    (awake_cycles journal (length journal.entries) - awake_cycles journal from) * multiplier_at journal from
+    (awake_cycles journal (length journal.entries) - awake_cycles journal from)
+    * multiplier_at journal from
 stretches_from journal from (to ∷ later) =
-    (awake_cycles journal to - awake_cycles journal from) * multiplier_at journal from + stretches_from journal to later
+    (awake_cycles journal to - awake_cycles journal from) * multiplier_at journal from
+    + stretches_from journal to later
 
 -- the frequency of the last stretch
 abbrev pub current_frequency : Journal → ℤ
-current_frequency journal = latest journal.opening.frequency (filter_map (λ (e : Entry). frequency_set e.cmd) journal.entries)
+current_frequency journal =
+    latest journal.opening.frequency
+    (filter_map (λ (e : Entry). frequency_set e.cmd) journal.entries)
 
 -- its tick
 abbrev pub current_tick : Journal → ℤ
-current_tick journal = latest journal.opening.tick (filter_map (λ (e : Entry). tick_set e.cmd) journal.entries)
+current_tick journal =
+    latest journal.opening.tick (filter_map (λ (e : Entry). tick_set e.cmd) journal.entries)
 
 -- its multiplier
 abbrev pub current_multiplier : Journal → ℕ
@@ -57,15 +68,18 @@ monotonic_units journal = journal.opening.amount + stretches_from journal 0 (str
 -- the cycles from the last reading to another: none while asleep, or where it lies behind
 abbrev pub cycles_since : Counter → Bool → ℕ → ℕ → ℕ
 cycles_since counter asleep last reading =
-    if asleep || nat_lt (half counter) (gap counter last reading) then 0 else gap counter last reading
+    if asleep || nat_lt (half counter) (gap counter last reading) then 0
+    else gap counter last reading
 
 -- the cycles from a journal's last entry to a reading
 abbrev pub cycles_after : Journal → ℕ → ℕ
-cycles_after journal reading = cycles_since journal.opening.counter (is_asleep journal) (last_reading journal) reading
+cycles_after journal reading =
+    cycles_since journal.opening.counter (is_asleep journal) (last_reading journal) reading
 
 -- MONOTONIC at a reading, in units
 abbrev pub monotonic_units_at : Journal → ℕ → ℕ
-monotonic_units_at journal reading = monotonic_units journal + cycles_after journal reading * current_multiplier journal
+monotonic_units_at journal reading =
+    monotonic_units journal + cycles_after journal reading * current_multiplier journal
 
 -- MONOTONIC at a reading, in nanoseconds
 abbrev pub monotonic : Journal → ℕ → ℕ

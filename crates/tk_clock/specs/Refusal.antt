@@ -13,7 +13,7 @@ use Rattle.tk_clock.specs.Command.{is_resume}
 use Rattle.tk_clock.specs.Journal.{Journal, followed_by, last_reading, is_asleep, accepted_count}
 use Rattle.tk_clock.specs.Clocks.{clock_value}
 use Rattle.tk_clock.specs.State.{ReadBase, State, base_value, effect}
-use Rattle.tk_clock.specs.Limits.{limit, is_settable, is_well_formed, is_past_limit, is_bad_setting}
+use Rattle.tk_clock.specs.Limits.{limit, listed_most, counted_most, is_settable, is_well_formed, is_past_limit, is_bad_setting}
 
 -- the first of two refusals
 abbrev pub first_of : Option Refusal → Option Refusal → Option Refusal
@@ -35,9 +35,11 @@ number_refusal counter reading cmd =
 -- does the reading lie behind the last one?
 abbrev pub order_refusal : Counter → ℕ → ℕ → Command → Option Refusal
 order_refusal counter last reading cmd =
-    if not (is_resume cmd) && nat_lt (half counter) (gap counter last reading) then Some Behind else None
+    if not (is_resume cmd) && nat_lt (half counter) (gap counter last reading) then Some Behind
+    else None
 
--- would a clock be past its limit, or REALTIME set badly? By the clocks at the reading before the command and after it
+-- would a clock be past its limit, or REALTIME set badly? By the clocks at the reading before the
+-- command and after it
 abbrev pub value_refusal : (ClockId → ℤ) → (ClockId → ℤ) → Command → Option Refusal
 value_refusal before after cmd =
     if is_past_limit after cmd then Some Range
@@ -47,13 +49,15 @@ value_refusal before after cmd =
 -- the tests that need no clock's value, in their order
 abbrev pub early_refusal : Counter → Bool → ℕ → ℕ → Command → Option Refusal
 early_refusal counter asleep last reading cmd =
-    first_of (sleep_refusal asleep cmd) (first_of (number_refusal counter reading cmd) (order_refusal counter last reading cmd))
+    first_of (sleep_refusal asleep cmd)
+    (first_of (number_refusal counter reading cmd) (order_refusal counter last reading cmd))
 
 -- why an entry is refused after a journal, want of room apart
 abbrev pub clock_refusal : Journal → Entry → Option Refusal
 clock_refusal journal entry =
     first_of
-    (early_refusal journal.opening.counter (is_asleep journal) (last_reading journal) entry.reading entry.cmd)
+    (early_refusal journal.opening.counter (is_asleep journal) (last_reading journal) entry.reading
+    entry.cmd)
     (value_refusal (λ clock. clock_value journal clock entry.reading)
     (λ clock. clock_value (followed_by journal entry) clock entry.reading) entry.cmd)
 
@@ -70,9 +74,10 @@ state_refusal state reading cmd =
     (early_refusal state.base.counter state.base.asleep state.base.last reading cmd)
     (state_value_refusal state reading cmd)
 
--- has the journal no room for another entry? It lists at most 1,048,576, and counts at most 2^63 - 1
+-- has the journal no room for another entry, listed or counted?
 abbrev pub is_full : Journal → Bool
-is_full journal = nat_le 1048576 (length journal.entries) || nat_le (2 ^ 63 - 1) (accepted_count journal)
+is_full journal =
+    nat_le listed_most (length journal.entries) || nat_le counted_most (accepted_count journal)
 
 -- why an entry is refused after a journal: want of room first
 abbrev pub first_refusal : Journal → Entry → Option Refusal
@@ -94,3 +99,8 @@ read_refusal base clock reading =
     if nat_lt (mask base.counter) reading then Some InvalidReading
     else if not (int_lt (base_value base clock reading) (limit clock)) then Some PastLimit
     else None
+
+-- the refusal of a command that says what a refused read says
+abbrev pub refusal_of : ReadError → Refusal
+refusal_of InvalidReading = Invalid
+refusal_of PastLimit = Range

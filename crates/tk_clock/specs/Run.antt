@@ -10,9 +10,13 @@ pub record Reply : Type 0 where
   pub answer : Result ℕ Refusal
   pub journal : Journal
 
--- a refused event leaves the journal; another one is its next entry, and the answer is that entry's number
+-- a refused event leaves the journal; another one is its next entry, and the answer is that entry's
+-- number
 abbrev pub reply_if : Journal → Entry → Option Refusal → Reply
-reply_if journal event None = record { answer = Ok (accepted_count journal + 1); journal = followed_by journal event }
+reply_if journal event None = record {
+  answer = Ok (accepted_count journal + 1);
+  journal = followed_by journal event;
+}
 reply_if journal event (Some refusal) = record { answer = Err refusal; journal = journal }
 
 -- the answer to an event, by the first test that it fails

@@ -1,4 +1,5 @@
--- The running state: what a journal comes to, and what a command does to it (kernel/time/timekeeping.c).
+-- The running state: what a journal comes to, and what a command does to it
+-- (kernel/time/timekeeping.c).
 use Rattle.std.specs.Prelude.{ℕ, ◌+◌, ◌*◌, ◌/◌, ◌^◌, ℤ, pos, ◌+ℤ◌, ◌-ℤ◌, ◌*ℤ◌, Bool, true, false}
 use Rattle.tk_counter.specs.Counter.{Counter, gap, multiplier}
 use Rattle.tk_clock.specs.declared.command.Command.{Command}
@@ -48,7 +49,11 @@ base_of journal = record {
 
 -- the state that a journal comes to
 abbrev pub state_of : Journal → State
-state_of journal = record { base = base_of journal; frequency = current_frequency journal; tick = current_tick journal }
+state_of journal = record {
+  base = base_of journal;
+  frequency = current_frequency journal;
+  tick = current_tick journal;
+}
 
 -- the cycles that a base counts from its last reading to another
 abbrev pub base_cycles : ReadBase → ℕ → ℕ
@@ -56,18 +61,21 @@ base_cycles base reading = cycles_since base.counter base.asleep base.last readi
 
 -- MONOTONIC of a base at a reading, in nanoseconds
 abbrev pub base_monotonic : ReadBase → ℕ → ℕ
-base_monotonic base reading = (base.amount + base_cycles base reading * base.mult) / 2 ^ base.counter.shift
+base_monotonic base reading =
+    (base.amount + base_cycles base reading * base.mult) / 2 ^ base.counter.shift
 
 -- MONOTONIC_RAW of a base at a reading, in nanoseconds
 abbrev pub base_raw : ReadBase → ℕ → ℕ
-base_raw base reading = (base.raw_amount + base_cycles base reading * base.counter.mult) / 2 ^ base.counter.shift
+base_raw base reading =
+    (base.raw_amount + base_cycles base reading * base.counter.mult) / 2 ^ base.counter.shift
 
 -- a clock of a base at a reading, in nanoseconds
 abbrev pub base_value : ReadBase → ClockId → ℕ → ℤ
 base_value base Monotonic reading = pos (base_monotonic base reading)
 base_value base Realtime reading = pos (base_monotonic base reading) +ℤ base.real_offset
 base_value base Boottime reading = pos (base_monotonic base reading) +ℤ base.boot_offset
-base_value base TaiClock reading = pos (base_monotonic base reading) +ℤ base.real_offset +ℤ base.tai *ℤ pos (10 ^ 9)
+base_value base TaiClock reading =
+    pos (base_monotonic base reading) +ℤ base.real_offset +ℤ base.tai *ℤ pos (10 ^ 9)
 base_value base RealtimeCoarse reading = pos (base_monotonic base base.last) +ℤ base.real_offset
 base_value base MonotonicCoarse reading = pos (base_monotonic base base.last)
 base_value base MonotonicRaw reading = pos (base_raw base reading)
@@ -87,16 +95,25 @@ abbrev pub effect : State → ℕ → Command → State
 effect state reading Update = record state { base = forwarded state.base reading }
 effect state reading (SetTime time) =
     let now = forwarded state.base reading in
-    record state { base = record now { real_offset = nanoseconds time -ℤ pos (now.amount / 2 ^ now.counter.shift) } }
+    record state {
+      base =
+          record now { real_offset = nanoseconds time -ℤ pos (now.amount / 2 ^ now.counter.shift) };
+    }
 effect state reading (Step by) =
     let now = forwarded state.base reading in
     record state { base = record now { real_offset = now.real_offset +ℤ nanoseconds by } }
 effect state reading (Freq frequency) =
     let now = forwarded state.base reading in
-    record state { base = record now { mult = multiplier now.counter frequency state.tick }; frequency = frequency }
+    record state {
+      base = record now { mult = multiplier now.counter frequency state.tick };
+      frequency = frequency;
+    }
 effect state reading (Tick tick) =
     let now = forwarded state.base reading in
-    record state { base = record now { mult = multiplier now.counter state.frequency tick }; tick = tick }
+    record state {
+      base = record now { mult = multiplier now.counter state.frequency tick };
+      tick = tick;
+    }
 effect state reading (Tai seconds) =
     let now = forwarded state.base reading in record state { base = record now { tai = seconds } }
 effect state reading Suspend =

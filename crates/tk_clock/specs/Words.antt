@@ -3,12 +3,13 @@ use Rattle.std.specs.Prelude.{ℕ, ◌+◌, ◌*◌, ◌/◌, ◌%◌, ◌==◌,
 use Rattle.tk_counter.specs.Counter.{Counter, mask, fastest, second}
 use Rattle.tk_clock.specs.declared.clock_id.ClockId.TheVariants.{Realtime, Boottime, Tai as TaiClock}
 use Rattle.tk_clock.specs.State.{ReadBase, base_value}
-use Rattle.tk_clock.specs.Limits.{limit}
+use Rattle.tk_clock.specs.Limits.{limit, monotonic_end, raw_end, greatest_tai}
 use Rattle.tk_clock.specs.Snapshot.{Snapshot}
 
--- the words of a snapshot: its front; the last reading; the multiplier; MONOTONIC there, below a second in units of 2^-shift
--- nanoseconds, and seconds; REALTIME and BOOTTIME less MONOTONIC, in nanoseconds; the TAI offset in seconds times 2, plus 1
--- while asleep; and MONOTONIC_RAW as MONOTONIC
+-- the words of a snapshot: its front; the last reading; the multiplier; MONOTONIC there, below a
+-- second in units of 2^-shift nanoseconds, and seconds; REALTIME and BOOTTIME less MONOTONIC, in
+-- nanoseconds; the TAI offset in seconds times 2, plus 1 while asleep; and MONOTONIC_RAW as
+-- MONOTONIC
 abbrev pub words_of : Snapshot → List ℕ
 words_of snapshot =
     let base = snapshot.base in
@@ -28,9 +29,9 @@ unfoldable pub are_in_range : Counter → List ℕ → Bool
 are_in_range counter words =
     nat_le (slice_index words 1) (mask counter)
     && nat_le 1 (slice_index words 2) && nat_le (slice_index words 2) (fastest counter)
-    && nat_lt (slice_index words 3) (second counter) && nat_lt (slice_index words 4) 946080000
-    && nat_le (tai_told words) 100000
-    && nat_lt (slice_index words 8) (second counter) && nat_lt (slice_index words 9) 1060000000
+    && nat_lt (slice_index words 3) (second counter) && nat_lt (slice_index words 4) monotonic_end
+    && nat_le (tai_told words) greatest_tai
+    && nat_lt (slice_index words 8) (second counter) && nat_lt (slice_index words 9) raw_end
 
 -- the snapshot that they tell
 abbrev pub snapshot_told : Counter → List ℕ → Snapshot
@@ -59,4 +60,5 @@ is_within base =
 -- the snapshot that words tell, if they tell one
 abbrev pub restored : Counter → List ℕ → Option Snapshot
 restored counter words =
-    if are_in_range counter words && is_within (snapshot_told counter words).base then Some (snapshot_told counter words) else None
+    if are_in_range counter words && is_within (snapshot_told counter words).base
+    then Some (snapshot_told counter words) else None

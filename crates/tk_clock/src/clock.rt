@@ -15,7 +15,8 @@ use tk_counter::CounterDesc;
 
 /// The running clocks of a counter, as the kernel's `struct timekeeper`.
 ///
-/// It knows no time of its own: each command hands in the counter's reading. Commands need no allocation.
+/// It knows no time of its own: each command hands in the counter's reading. Commands need no
+/// allocation.
 #[derive(Clone, Copy, Debug)]
 pub struct Clock {
     base: ReadBase,
@@ -45,7 +46,8 @@ impl Clock {
     ghost use Rattle.tk_clock.specs.State.{state_of, effect};
     ghost use Rattle.tk_clock.specs.Effect.{IsEarly};
 
-    /// The clocks from this reading on, awake and at their usual rate: MONOTONIC is 0, and REALTIME `real`.
+    /// The clocks from this reading on, awake and at their usual rate: MONOTONIC is 0, and REALTIME
+    /// `real`.
     ///
     /// Invalid where the reading is above the mask, or where REALTIME may not be set to `real`.
     pub fn open(desc: CounterDesc, reading: u64, real: Timespec) -> Result<Clock, Refusal>
@@ -78,14 +80,16 @@ impl Clock {
 
     /// Does a command to the clocks, or tells why not and leaves them as they were.
     ///
-    /// In this order: Asleep or Awake; Invalid where the reading is above the mask or the command's numbers are out of
-    /// range; Behind where the reading lies behind the last one; Range where a clock would be at its limit; Invalid
-    /// where REALTIME would be set below MONOTONIC or beyond what may be set. `Command` names the kernel's functions.
+    /// In this order: Asleep or Awake; Invalid where the reading is above the mask or the command's
+    /// numbers are out of range; Behind where the reading lies behind the last one; Range where a
+    /// clock would be at its limit; Invalid where REALTIME would be set below MONOTONIC or beyond
+    /// what may be set. `Command` names the kernel's functions.
     pub fn apply(&mut self, reading: u64, cmd: Command) -> Result<(), Refusal>
         ensures { MatchResult result
             (λ _. (state_refusal self.old reading cmd ≡ None)
             × (self.new ≡ effect self.old reading cmd))
-            (λ refusal. (state_refusal self.old reading cmd ≡ Some refusal) × (self.new ≡ self.old)) }
+            (λ refusal. (state_refusal self.old reading cmd ≡ Some refusal)
+            × (self.new ≡ self.old)) }
     {
         self.check(reading, cmd)?;
         *self = self.effect(reading, cmd)?;

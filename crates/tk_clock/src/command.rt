@@ -1,6 +1,7 @@
 use crate::timespec::Timespec;
 
-/// What may be done to the clocks. Each command but `Resume` first brings them forward to its reading.
+/// What may be done to the clocks. Each command but `Resume` first brings them forward to its
+/// reading.
 #[derive(Clone, Copy, Debug, PartialEq, Eq)]
 pub enum Command {
     /// Nothing more (`update_wall_time`).
@@ -9,7 +10,8 @@ pub enum Command {
     SetTime(Timespec),
     /// REALTIME moves by this amount; `sec` may be negative (`timekeeping_inject_offset`).
     Step(Timespec),
-    /// The frequency from the reading on, in `2^-16` ppm, clamped to 500 ppm either way (adjtimex(2), ADJ_FREQUENCY).
+    /// The frequency from the reading on, in `2^-16` ppm, clamped to 500 ppm either way
+    /// (adjtimex(2), ADJ_FREQUENCY).
     Freq(i64),
     /// The tick from the reading on, in microseconds, 9,000 to 11,000 (adjtimex(2), ADJ_TICK).
     Tick(i64),
@@ -17,8 +19,8 @@ pub enum Command {
     Tai(i64),
     /// The clocks fall asleep: MONOTONIC stands still (`timekeeping_suspend`).
     Suspend,
-    /// The clocks wake, and count from the reading on; REALTIME and BOOTTIME move by this suspension
-    /// (`timekeeping_resume`).
+    /// The clocks wake, and count from the reading on; REALTIME and BOOTTIME move by this
+    /// suspension (`timekeeping_resume`).
     Resume(Timespec),
 }
 

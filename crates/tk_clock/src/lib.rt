@@ -1,4 +1,5 @@
-//! The clocks of a free-running counter: commands, the journal's definitions, the running state and its snapshots.
+//! The clocks of a free-running counter: commands, the journal's definitions, the running state and
+//! its snapshots.
 //!
 //! | Item | What it is |
 //! |---|---|
@@ -8,8 +9,8 @@
 //! | `ClockId`, `ReadError` | which clock is read, and why it can't be |
 //! | `Timespec` | seconds and nanoseconds |
 //!
-//! Units: readings in cycles; amounts of time inside in `2^-shift` ns; offsets in ns; frequencies in `2^-16` ppm;
-//! ticks in microseconds; the TAI offset in seconds.
+//! Units: readings in cycles; amounts of time inside in `2^-shift` ns; offsets in ns; frequencies
+//! in `2^-16` ppm; ticks in microseconds; the TAI offset in seconds.
 #![tactic(auto)]
 
 mod amount;

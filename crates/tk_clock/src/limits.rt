@@ -1,5 +1,5 @@
 ghost use Rattle.std.specs.Prelude.{◌≡◌, ◌*◌, ◌^◌, ◌<◌, ◌≤◌, pos, ◌≤ℤ◌, ◌<ℤ◌};
-ghost use Rattle.tk_clock.specs.Limits.{limit, is_settable, is_suspension, is_well_formed, sets_real};
+ghost use Rattle.tk_clock.specs.Limits.{limit, clock_end, settable_end, is_settable, is_suspension, is_well_formed, sets_real};
 
 use crate::amount::NANOS_PER_SECOND;
 use crate::clock_id::ClockId;
@@ -9,23 +9,25 @@ use crate::timespec::Timespec;
 /// Where MONOTONIC ends, in seconds: 30 years of 365 days (`TIME_UPTIME_SEC_MAX`).
 pub(crate) const MONOTONIC_SEC_LIMIT: u64 = 946_080_000;
 
-/// What MONOTONIC_RAW stays below, in seconds, while MONOTONIC is below its limit: it gains most on MONOTONIC at the
-/// slowest tick and frequency.
+/// What MONOTONIC_RAW stays below, in seconds, while MONOTONIC is below its limit: it gains most on
+/// MONOTONIC at the least tick and frequency.
 pub(crate) const RAW_SEC_LIMIT: u64 = 1_060_000_000;
 
-/// Where the other clocks end, in seconds: as many as 63 bits of nanoseconds hold (`KTIME_SEC_MAX`).
+/// Where the other clocks end, in seconds: as many as 63 bits of nanoseconds hold
+/// (`KTIME_SEC_MAX`).
 const CLOCK_SEC_LIMIT: i64 = 9_223_372_036;
 
-/// Where the times end that REALTIME may be set to, in seconds: 30 years before its own end (`TIME_SETTOD_SEC_MAX`).
+/// Where the times end that REALTIME may be set to, in seconds: 30 years before its own end
+/// (`TIME_SETTOD_SEC_MAX`).
 const SETTABLE_SEC_LIMIT: i64 = 8_277_292_036;
 
 /// The shortest tick that may be set, in microseconds.
 const SHORTEST_TICK: i64 = 9_000;
 
-/// The longest one.
+/// The longest tick that may be set, in microseconds.
 const LONGEST_TICK: i64 = 11_000;
 
-/// The usual one: a hundredth of a second (`USER_TICK_USEC`).
+/// The usual tick, in microseconds: a hundredth of a second (`USER_TICK_USEC`).
 pub(crate) const USUAL_TICK: i64 = 10_000;
 
 /// The greatest TAI offset, in seconds (`MAX_TAI_OFFSET`).
@@ -34,7 +36,7 @@ pub(crate) const TAI_OFFSET_MOST: i64 = 100_000;
 /// The nanoseconds at which a clock ends.
 pub(crate) fn limit(clock: ClockId) -> u64
     ensures value { pos result ≡ limit clock }
-    ensures most { result ≤ 9223372036 * 10 ^ 9 }
+    ensures most { result ≤ clock_end * 10 ^ 9 }
 {
     match clock {
         ClockId::Monotonic | ClockId::MonotonicCoarse => MONOTONIC_SEC_LIMIT * NANOS_PER_SECOND,
@@ -44,7 +46,7 @@ pub(crate) fn limit(clock: ClockId) -> u64
 
 /// The nanoseconds at which the times end that REALTIME may be set to.
 pub(crate) fn settable_limit() -> u64
-    ensures { result ≡ 8277292036 * 10 ^ 9 }
+    ensures { result ≡ settable_end * 10 ^ 9 }
 {
     SETTABLE_SEC_LIMIT as u64 * NANOS_PER_SECOND
 }

@@ -71,14 +71,16 @@ impl Model for ReadBase {
     } };
 
     ghost inverse_ok = { λ a h.
-        ap (λ (m : Amount). record a { monotonic = m; raw = amount_of a.desc (units_of a.desc a.raw) })
+        ap
+        (λ (m : Amount). record a { monotonic = m; raw = amount_of a.desc (units_of a.desc a.raw) })
         (amount_of-units_of a.desc a.monotonic h.frac_low)
-        ∙ ap (λ (r : Amount). record a { raw = r }) (amount_of-units_of a.desc a.raw h.raw_frac_low) };
+        ∙ ap (λ (r : Amount). record a { raw = r })
+        (amount_of-units_of a.desc a.raw h.raw_frac_low) };
 }
 
 impl ReadBase {
     ghost use Rattle.tk_counter.specs.Counter.{mask, fastest, half, gap};
-    ghost use Rattle.tk_clock.specs.Limits.{limit, is_past_limit};
+    ghost use Rattle.tk_clock.specs.Limits.{limit, is_past_limit, clock_end, raw_end, monotonic_end, greatest_tai};
     ghost use Rattle.tk_clock.specs.Refusal.{read_refusal};
     ghost use Rattle.tk_clock.specs.State.{base_cycles, base_monotonic, base_raw, base_value, forwarded};
     ghost use Rattle.tk_clock.specs.Time.{nanoseconds};
@@ -88,7 +90,8 @@ impl ReadBase {
 
     /// Does a reading lie behind the last one?
     pub fn is_behind(&self, reading: u64) -> bool
-        ensures { result ≡ nat_lt (half self.now.counter) (gap self.now.counter self.now.last reading) }
+        ensures { let counter = self.now.counter in
+            result ≡ nat_lt (half counter) (gap counter self.now.last reading) }
     {
         self.desc.is_behind(self.desc.gap(self.last, reading))
     }
@@ -105,11 +108,13 @@ impl ReadBase {
         }
     }
 
-    /// MONOTONIC at a reading, in ns. None where the cycles since the last one are beyond every clock's limit.
+    /// MONOTONIC at a reading, in ns. None where the cycles since the last one are beyond every
+    /// clock's limit.
     fn monotonic_at(&self, reading: u64) -> Option<u64>
         ensures { MatchOption result
-            (9223372036 * 10 ^ 9 ≤ base_monotonic self.now reading)
-            (λ nanos. (nanos ≡ base_monotonic self.now reading) × (nanos ≤ 10283372036 * 10 ^ 9)) }
+            (clock_end * 10 ^ 9 ≤ base_monotonic self.now reading)
+            (λ nanos. (nanos ≡ base_monotonic self.now reading)
+            × (nanos ≤ (clock_end + raw_end) * 10 ^ 9)) }
     {
         let cycles = self.cycles_since(reading);
         self.monotonic.nanos_after(&self.desc, cycles, self.mult)
@@ -118,7 +123,7 @@ impl ReadBase {
     /// MONOTONIC_RAW at a reading, in ns. None as for MONOTONIC.
     fn raw_at(&self, reading: u64) -> Option<u64>
         ensures { MatchOption result
-            (9223372036 * 10 ^ 9 ≤ base_raw self.now reading)
+            (clock_end * 10 ^ 9 ≤ base_raw self.now reading)
             (λ nanos. nanos ≡ base_raw self.now reading) }
     {
         let cycles = self.cycles_since(reading);
@@ -134,7 +139,8 @@ impl ReadBase {
 
     /// MONOTONIC_RAW at the last reading.
     pub fn raw_amount(&self) -> Amount
-        ensures { result ≡ amount_of self.now.counter self.now.raw_amount }
+        ensures value { result ≡ amount_of self.now.counter self.now.raw_amount }
+        ensures below { result.sec < raw_end }
     {
         self.raw
     }
@@ -164,8 +170,8 @@ impl ReadBase {
     pub fn monotonic_now(&self) -> u64
         ensures value { result ≡ base_monotonic self.now self.now.last }
         ensures amount { result ≡ self.now.amount / 2 ^ self.now.counter.shift }
-        ensures low { result < 946080000 * 10 ^ 9 }
-        ensures tai { self.now.tai ≤ℤ pos 100000 }
+        ensures low { result < monotonic_end * 10 ^ 9 }
+        ensures tai { self.now.tai ≤ℤ pos greatest_tai }
     {
         self.monotonic.nanos(&self.desc)
     }
@@ -173,7 +179,7 @@ impl ReadBase {
     /// TAI less REALTIME, in ns.
     fn tai_nanos(&self) -> u64
         ensures value { pos result ≡ self.now.tai *ℤ pos (10 ^ 9) }
-        ensures low { result ≤ 100000 * 10 ^ 9 }
+        ensures low { result ≤ greatest_tai * 10 ^ 9 }
     {
         u64::from(self.tai) * NANOS_PER_SECOND
     }

@@ -1,7 +1,10 @@
-/// Why a command is refused: the first test that fails, in the order of the tests. A refused command changes nothing.
+ghost use Rattle.std.specs.Prelude.{◌≡◌};
+ghost use Rattle.tk_clock.specs.Refusal.{refusal_of};
+
+/// Why a command is refused: the first test that fails. A refused command changes nothing.
 ///
-/// The tests run in this order: `Full`, `Asleep` or `Awake`, `Invalid` for numbers out of range, `Behind`, `Range`,
-/// `Invalid` for a setting that REALTIME can't have, `Memory`.
+/// The tests run in this order: `Full`, `Asleep` or `Awake`, `Invalid` for numbers out of range,
+/// `Behind`, `Range`, `Invalid` for a setting that REALTIME can't have, `Memory`.
 #[derive(Clone, Copy, Debug, PartialEq, Eq)]
 pub enum Refusal {
     /// The journal has no room for another entry.
@@ -10,8 +13,8 @@ pub enum Refusal {
     Asleep,
     /// The clocks are awake, and the command is `Resume`.
     Awake,
-    /// The reading is above the mask, a number of the command is out of its range, or REALTIME would fall below
-    /// MONOTONIC or go beyond what may be set.
+    /// The reading is above the mask, a number of the command is out of its range, or REALTIME
+    /// would fall below MONOTONIC or go beyond what may be set.
     Invalid,
     /// The reading lies behind that of the last accepted command.
     Behind,
@@ -28,4 +31,15 @@ pub enum ReadError {
     Invalid,
     /// The clock is at its limit or beyond it.
     Range,
+}
+
+impl From<ReadError> for Refusal {
+    ghost from_gives = { λ error refusal. refusal ≡ refusal_of error };
+
+    fn from(error: ReadError) -> Refusal {
+        match error {
+            ReadError::Invalid => Refusal::Invalid,
+            ReadError::Range => Refusal::Range,
+        }
+    }
 }

@@ -1,5 +1,6 @@
 ghost use Rattle.std.specs.Prelude.{◌≡◌, ◌/◌, ◌%◌, ◌^◌, ◌<◌, pos, ◌≤ℤ◌, MatchResult, Some, None};
 
+mod known_words;
 mod words;
 
 use crate::clock_id::ClockId;
@@ -9,11 +10,11 @@ use crate::timespec::Timespec;
 use std::marker::Model;
 use tk_counter::CounterDesc;
 
-/// What a reader of the clocks is given: how many commands were accepted, and what reading the clocks takes after
-/// them.
+/// What a reader of the clocks is given: how many commands were accepted, and what reading the
+/// clocks takes after them.
 ///
-/// It may be used until the reading of the next accepted command. With a later reading it may give more than a later
-/// snapshot does, as in the kernel.
+/// It may be used until the reading of the next accepted command. With a later reading it may give
+/// more than a later snapshot does, as in the kernel.
 #[derive(Clone, Copy, Debug)]
 pub struct Snapshot {
     pub(crate) front: u64,
@@ -34,6 +35,7 @@ impl Model for Snapshot {
 }
 
 impl Snapshot {
+    ghost use Rattle.tk_clock.specs.Limits.{raw_end};
     ghost use Rattle.tk_clock.specs.Refusal.{read_refusal};
     ghost use Rattle.tk_clock.specs.State.{base_value};
     ghost use Rattle.tk_clock.specs.Time.{nanoseconds};
@@ -41,8 +43,9 @@ impl Snapshot {
 
     /// A clock's time at a reading (clock_gettime(2)).
     ///
-    /// Invalid where the reading is above the mask, for every clock; Range where the clock is at its limit or beyond.
-    /// A reading behind the last command gets the value at that command, and so does every reading while asleep.
+    /// Invalid where the reading is above the mask, for every clock; Range where the clock is at
+    /// its limit or beyond. A reading behind the last command gets the value at that command, and
+    /// so does every reading while asleep.
     pub fn get(&self, clock: ClockId, reading: u64) -> Result<Timespec, ReadError>
         ensures { MatchResult result
             (λ time. (read_refusal self.now.base clock reading ≡ None)
@@ -130,9 +133,10 @@ impl Snapshot {
         self.base.raw_amount().frac
     }
 
-    /// MONOTONIC_RAW at the last reading: whole seconds.
+    /// MONOTONIC_RAW at the last reading: whole seconds. It never comes to 1,060,000,000.
     pub fn raw_sec(&self) -> u64
-        ensures { result ≡ self.now.base.raw_amount / second self.now.base.counter }
+        ensures value { result ≡ self.now.base.raw_amount / second self.now.base.counter }
+        ensures below { result < raw_end }
     {
         self.base.raw_amount().sec
     }

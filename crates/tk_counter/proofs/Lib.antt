@@ -1,5 +1,5 @@
 pub mod Frequency
 pub mod Gaps
 pub mod Rates
-mod Rows
+mod Worked
 pub mod Seconds

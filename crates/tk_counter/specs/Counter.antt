@@ -28,7 +28,8 @@ fastest counter = counter.mult + max_adjustment counter
 abbrev pub second : Counter → ℕ
 second counter = 10 ^ 9 * 2 ^ counter.shift
 
--- the cycles that convert within 64 bits, and no more than a reading can tell apart (clocks_calc_max_nsecs)
+-- the cycles that convert within 64 bits, and no more than a reading can tell apart
+-- (clocks_calc_max_nsecs)
 abbrev pub max_cycles : Counter → ℕ
 max_cycles counter = min ((2 ^ 64 - 1) / fastest counter) (mask counter)
 
@@ -48,11 +49,31 @@ pub record IsCounter (counter : Counter) : Type 0 where
   pub mult_low : 256 ≤ counter.mult
   pub adjustable : fastest counter < 2 ^ 32
 
--- a frequency in 2^-16 ppm, as far as it is followed: 500 ppm either way (adjtimex(2), MAXFREQ_SCALED)
-abbrev pub clamped : ℤ → ℤ
-clamped frequency = int_max (neg_ℤ (pos 32768000)) (int_min frequency (pos 32768000))
+-- where whole seconds end: as many as 63 bits of nanoseconds hold (KTIME_SEC_MAX)
+abbrev pub seconds_end : ℕ
+seconds_end = 9223372036
 
--- how fast the clock runs at a frequency in 2^-16 ppm and a tick in microseconds, where 65,536,000,000 is its usual rate
+-- the greatest frequency that is followed, in 2^-16 ppm: 500 ppm (adjtimex(2), MAXFREQ_SCALED)
+abbrev pub greatest_frequency : ℤ
+greatest_frequency = pos 32768000
+
+-- ticks in microseconds, a hundredth of a second as a rule (USER_TICK_USEC): within a tenth of that
+-- (adjtimex(2))
+abbrev pub usual_tick : ℤ
+usual_tick = pos 10000
+
+abbrev pub least_tick : ℤ
+least_tick = pos 9000
+
+abbrev pub greatest_tick : ℤ
+greatest_tick = pos 11000
+
+-- a frequency, as far as it is followed
+abbrev pub clamped : ℤ → ℤ
+clamped frequency = int_max (neg_ℤ greatest_frequency) (int_min frequency greatest_frequency)
+
+-- how fast the clock runs at a frequency in 2^-16 ppm and a tick in microseconds, where
+-- 65,536,000,000 is its usual rate
 abbrev pub rate : ℤ → ℤ → ℕ
 rate frequency tick = unsigned_abs (tick *ℤ pos 6553600 +ℤ clamped frequency)
 

@@ -1,4 +1,5 @@
--- The description of a counter that runs at a frequency (clocks_calc_mult_shift, kernel/time/clocksource.c).
+-- The description of a counter that runs at a frequency (clocks_calc_mult_shift,
+-- kernel/time/clocksource.c).
 use Rattle.std.specs.Prelude.{ℕ, ◌+◌, ◌-◌, ◌*◌, ◌/◌, ◌^◌, min, List, reverse, Option, Some, None, Bool, find, option_map, ◌||◌, nat_lt, nat_eq, if◌then◌else◌}
 use Rattle.std.specs.Int.{leading_zeros, w64}
 use Rattle.std.specs.List.{range_with_len}
@@ -29,15 +30,21 @@ chosen_shift hz maxsec = find (fits hz maxsec) shifts
 -- a mult that leaves no room for a faster multiplier is halved (__clocksource_update_freq_scale)
 abbrev pub halved : Counter → Counter
 halved counter =
-    if nat_lt (2 ^ 32 - 1) (fastest counter) then record counter { mult = counter.mult / 2; shift = counter.shift - 1 }
+    if nat_lt (2 ^ 32 - 1) (fastest counter) then record counter {
+      mult = counter.mult / 2;
+      shift = counter.shift - 1;
+    }
     else counter
 
 -- the description of a counter of so many bits at so many hz, for gaps of up to maxsec seconds
 abbrev pub described : ℕ → ℕ → ℕ → Option Counter
 described bits hz maxsec =
-    option_map (λ shift. halved (record { bits = bits; mult = rounded_mult hz shift; shift = shift })) (chosen_shift hz maxsec)
+    option_map
+    (λ shift. halved (record { bits = bits; mult = rounded_mult hz shift; shift = shift }))
+    (chosen_shift hz maxsec)
 
--- what is wrong with such numbers: first the bits, and then a frequency of 0 Hz or a span not of 1 to 600 seconds
+-- what is wrong with such numbers: first the bits, and then a frequency of 0 Hz or a span not of 1
+-- to 600 seconds
 abbrev pub frequency_fault : ℕ → ℕ → ℕ → Option DescError
 frequency_fault bits hz maxsec =
     if nat_lt bits 8 || nat_lt 64 bits then Some Bits

@@ -8,9 +8,11 @@ mod rates;
 use crate::desc_error::DescError;
 use std::marker::Model;
 
-/// The description of a counter: a reading has `bits` bits, and a cycle lasts `mult / 2^shift` nanoseconds.
+/// The description of a counter: a reading has `bits` bits, and a cycle lasts `mult / 2^shift`
+/// nanoseconds.
 ///
-/// It is the kernel's `struct clocksource` without its name and its hooks (include/linux/clocksource.h).
+/// It is the kernel's `struct clocksource` without its name and its hooks
+/// (include/linux/clocksource.h).
 #[derive(Clone, Copy, Debug, PartialEq, Eq)]
 pub struct CounterDesc {
     bits: u32,
@@ -90,14 +92,16 @@ impl CounterDesc {
         u64::MAX >> (64 - self.bits)
     }
 
-    /// The longest gap, in cycles, that still leads forward; a longer one leads back (`clocksource_delta`).
+    /// The longest gap, in cycles, that still leads forward; a longer one leads back
+    /// (`clocksource_delta`).
     pub fn half(&self) -> u64
         ensures { result ≡ half self.now }
     {
         self.mask() >> 1
     }
 
-    /// How far the multiplier may be raised above `mult`: 11 percent of it (`clocksource_max_adjustment`).
+    /// How far the multiplier may be raised above `mult`: 11 percent of it
+    /// (`clocksource_max_adjustment`).
     pub fn max_adj(&self) -> u32
         ensures { result ≡ max_adjustment self.now }
     {

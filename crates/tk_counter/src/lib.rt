@@ -1,12 +1,13 @@
-//! A free-running counter: its description, the gap between two readings, and exact cycle arithmetic.
+//! A free-running counter: its description, the gap between two readings, and exact cycle
+//! arithmetic.
 //!
 //! | Item | What it is |
 //! |---|---|
 //! | `CounterDesc` | how many bits a reading has, and how long a cycle lasts |
 //! | `DescError` | why numbers describe no counter |
 //!
-//! Units: readings and gaps in cycles; amounts of time in `2^-shift` ns; a counter's own rate in Hz; frequencies
-//! that a clock follows in `2^-16` ppm; ticks in microseconds.
+//! Units: readings and gaps in cycles; amounts of time in `2^-shift` ns; a counter's own rate in
+//! Hz; frequencies that a clock follows in `2^-16` ppm; ticks in microseconds.
 #![tactic(auto)]
 
 mod counter;

@@ -9,37 +9,45 @@ use Rattle.tk_clock.specs.declared.refusal.Refusal.TheVariants.{Full}
 use Rattle.tk_clock.specs.Journal.{Journal, followed_by, accepted_count}
 use Rattle.tk_clock.specs.Refusal.{is_full, clock_refusal, first_refusal}
 use Rattle.tk_clock.specs.State.{State, state_of}
-use Rattle.tk_clock.proofs.Legal.{IsLegal-followed_by}
+use Rattle.tk_clock.proofs.Legal.{IsLegal-followed_by, passes_clock}
 use Rattle.tk_keeper.specs.Keeper.{IsKept}
-use Rattle.tk_keeper.specs.Past.{folded_by}
-use Rattle.tk_keeper.proofs.Folding.{IsLegal-folded, state_of-whole}
+use Rattle.tk_clock.proofs.Folding.{IsLegal-folded, state_of-whole}
+use Rattle.tk_clock.specs.Limits.{listed_most, counted_most}
+use Rattle.tk_clock.specs.Folding.{folded_by}
 
 -- a journal that isn't full lists and counts fewer than it may
-pub not_full : (journal : Journal) → is_full journal ≡ false → (length journal.entries < 1048576) × (accepted_count journal < 2 ^ 63 - 1)
+pub not_full : (journal : Journal) → is_full journal ≡ false →
+    (length journal.entries < listed_most) × (accepted_count journal < counted_most)
 not_full journal e = (grind (arith, common_steps), grind (arith, common_steps))
 
-has_room : (full : Bool) (told : Option Refusal) → (if full then Some Full else told) ≡ None → full ≡ false
+has_room : (full : Bool) (told : Option Refusal) → (if full then Some Full else told) ≡ None →
+    full ≡ false
 has_room true told e = cc
 has_room false told e = refl
 
 -- a journal that takes an entry isn't full
-pub accepts-not_full : (journal : Journal) (entry : Entry) → first_refusal journal entry ≡ None → is_full journal ≡ false
-accepts-not_full journal entry accepted = has_room (is_full journal) (clock_refusal journal entry) accepted
+pub accepts-not_full : (journal : Journal) (entry : Entry) → first_refusal journal entry ≡ None →
+    is_full journal ≡ false
+accepts-not_full journal entry accepted =
+    has_room (is_full journal) (clock_refusal journal entry) accepted
 
 -- an accepted entry keeps the journal legal, and within its room
-pub IsKept-followed_by : (journal : Journal) (entry : Entry) (before after : State) → IsKept journal before →
-    first_refusal journal entry ≡ None → after ≡ state_of (followed_by journal entry) → IsKept (followed_by journal entry) after
+pub IsKept-followed_by : (journal : Journal) (entry : Entry) (before after : State) →
+    IsKept journal before →
+    first_refusal journal entry ≡ None → after ≡ state_of (followed_by journal entry) →
+    IsKept (followed_by journal entry) after
 IsKept-followed_by journal entry before after held accepted running =
     let more = not_full journal (accepts-not_full journal entry accepted) in
     record {
-      legal = IsLegal-followed_by journal entry held.legal accepted;
+      legal = IsLegal-followed_by journal entry held.legal (passes_clock journal entry accepted);
       running = running;
       room = omega (arith, more.0, length_push journal.entries entry);
       counted = omega (arith, more.1, length_push journal.entries entry);
     }
 
 -- and so does folding
-pub IsKept-folded : (journal : Journal) (n : ℕ) (state : State) → n ≤ length journal.entries → IsKept journal state →
+pub IsKept-folded : (journal : Journal) (n : ℕ) (state : State) → n ≤ length journal.entries →
+    IsKept journal state →
     IsKept (folded_by n journal) state
 IsKept-folded journal n state within held =
     let fewer = length-drop n journal.entries in

@@ -11,24 +11,31 @@ use Rattle.tk_clock.specs.Refusal.{first_refusal, IsRefusal}
 use Rattle.tk_clock.specs.Run.{Reply, Run, reply_if, reply_to, run}
 use Rattle.tk_keeper.specs.Keeper.{Keeper}
 use Rattle.tk_keeper.proofs.Room.{not_full, accepts-not_full}
+use Rattle.tk_clock.specs.Limits.{listed_most}
 
 -- what `apply` answers and leaves
 abbrev pub IsAnswer : Keeper → Entry → Result ℕ Refusal → Keeper → Type 0
 IsAnswer before entry result after =
     MatchResult result
-    (λ number. (first_refusal before.journal entry ≡ None) × (after.journal ≡ followed_by before.journal entry)
+    (λ number. (first_refusal before.journal entry ≡ None)
+    × (after.journal ≡ followed_by before.journal entry)
     × (number ≡ accepted_count after.journal))
     (λ refusal. IsRefusal before.journal entry refusal × (after ≡ before))
 
-refused : (before after : Keeper) (entry : Entry) (refusal : Refusal) → first_refusal before.journal entry ≡ Some refusal →
-    after ≡ before → reply_to before.journal entry ≡ record { answer = Err refusal; journal = after.journal }
+refused : (before after : Keeper) (entry : Entry) (refusal : Refusal) →
+    first_refusal before.journal entry ≡ Some refusal →
+    after ≡ before →
+    reply_to before.journal entry ≡ record { answer = Err refusal; journal = after.journal }
 refused before after entry refusal told same =
     ap (reply_if before.journal entry) told
-    ∙ ap (λ (k : Keeper). let reply : Reply = record { answer = Err refusal; journal = k.journal } in reply) (sym same)
+    ∙ ap (λ (k : Keeper). let reply : Reply = record { answer = Err refusal; journal = k.journal }
+    in reply) (sym same)
 
 -- unless memory was wanting, that is the definition's reply
-pub reply-answer : (before after : Keeper) (entry : Entry) (result : Result ℕ Refusal) → IsAnswer before entry result after →
-    (result ≡ Err Memory → ⊥) → reply_to before.journal entry ≡ record { answer = result; journal = after.journal }
+pub reply-answer : (before after : Keeper) (entry : Entry) (result : Result ℕ Refusal) →
+    IsAnswer before entry result after →
+    (result ≡ Err Memory → ⊥) →
+    reply_to before.journal entry ≡ record { answer = result; journal = after.journal }
 reply-answer before after entry (Ok number) told enough =
     let next : accepted_count before.journal + 1 ≡ number =
     omega (arith, length_push before.journal.entries entry, told.2, ap accepted_count told.1) in
@@ -36,25 +43,36 @@ reply-answer before after entry (Ok number) told enough =
     ap (reply_if before.journal entry) told.0
     ∙ ap (λ n. put n (followed_by before.journal entry)) next
     ∙ ap (put number) (sym told.1)
-reply-answer before after entry (Err Full) told enough = refused before after entry Full told.0 told.1
-reply-answer before after entry (Err Asleep) told enough = refused before after entry Asleep told.0 told.1
-reply-answer before after entry (Err Awake) told enough = refused before after entry Awake told.0 told.1
-reply-answer before after entry (Err Invalid) told enough = refused before after entry Invalid told.0 told.1
-reply-answer before after entry (Err Behind) told enough = refused before after entry Behind told.0 told.1
-reply-answer before after entry (Err Range) told enough = refused before after entry Range told.0 told.1
+reply-answer before after entry (Err Full) told enough =
+    refused before after entry Full told.0 told.1
+reply-answer before after entry (Err Asleep) told enough =
+    refused before after entry Asleep told.0 told.1
+reply-answer before after entry (Err Awake) told enough =
+    refused before after entry Awake told.0 told.1
+reply-answer before after entry (Err Invalid) told enough =
+    refused before after entry Invalid told.0 told.1
+reply-answer before after entry (Err Behind) told enough =
+    refused before after entry Behind told.0 told.1
+reply-answer before after entry (Err Range) told enough =
+    refused before after entry Range told.0 told.1
 reply-answer before after entry (Err Memory) told enough = absurd (enough refl)
 
 -- where there is room for the events that are left, an accepted one finds room
-some_room : (left listed spare : ℕ) → 0 < left → listed < 1048576 → min left (1048576 - listed) ≤ spare → 0 < spare
+some_room : (left listed spare : ℕ) → 0 < left → listed < listed_most →
+    min left (listed_most - listed) ≤ spare → 0 < spare
 some_room left listed spare some low enough = omega arith
 
-pub finds_room : (journal : Journal) (entry : Entry) (left spare : ℕ) → 0 < left → min left (1048576 - length journal.entries) ≤ spare →
+pub finds_room : (journal : Journal) (entry : Entry) (left spare : ℕ) → 0 < left →
+    min left (listed_most - length journal.entries) ≤ spare →
     first_refusal journal entry ≡ None → 0 < spare
 finds_room journal entry left spare some enough accepted =
-    some_room left (length journal.entries) spare some (not_full journal (accepts-not_full journal entry accepted)).0 enough
+    some_room left (length journal.entries) spare some
+    (not_full journal (accepts-not_full journal entry accepted)).0 enough
 
-pub never_short : (before after : Keeper) (entry : Entry) (result : Result ℕ Refusal) (left : ℕ) → IsAnswer before entry result after →
-    (result ≡ Err Memory → before.spare ≡ 0) → 0 < left → min left (1048576 - length before.journal.entries) ≤ before.spare →
+pub never_short : (before after : Keeper) (entry : Entry) (result : Result ℕ Refusal) (left : ℕ) →
+    IsAnswer before entry result after →
+    (result ≡ Err Memory → before.spare ≡ 0) → 0 < left →
+    min left (listed_most - length before.journal.entries) ≤ before.spare →
     result ≡ Err Memory → ⊥
 never_short before after entry (Ok number) left told short some enough e = cc e
 never_short before after entry (Err Full) left told short some enough e = cc e
@@ -69,39 +87,55 @@ never_short before after entry (Err Memory) left told short some enough e =
     omega arith
 
 -- and leaves room for those after it
-less_room : (left listed listed' spare spare' : ℕ) → spare' + 1 ≡ spare → listed' ≡ listed + 1 → min left (1048576 - listed) ≤ spare →
-    min (left - 1) (1048576 - listed') ≤ spare'
+less_room : (left listed listed' spare spare' : ℕ) → spare' + 1 ≡ spare → listed' ≡ listed + 1 →
+    min left (listed_most - listed) ≤ spare →
+    min (left - 1) (listed_most - listed') ≤ spare'
 less_room left listed listed' spare spare' e longer enough = omega arith
 
-same_room : (left listed spare : ℕ) → min left (1048576 - listed) ≤ spare → min (left - 1) (1048576 - listed) ≤ spare
+same_room : (left listed spare : ℕ) → min left (listed_most - listed) ≤ spare →
+    min (left - 1) (listed_most - listed) ≤ spare
 same_room left listed spare enough = omega arith
 
-pub room_left : (before after : Keeper) (entry : Entry) (result : Result ℕ Refusal) (left : ℕ) → IsAnswer before entry result after →
+pub room_left : (before after : Keeper) (entry : Entry) (result : Result ℕ Refusal) (left : ℕ) →
+    IsAnswer before entry result after →
     IfOk result (λ _. 0 < before.spare → after.spare + 1 ≡ before.spare) → 0 < left →
-    min left (1048576 - length before.journal.entries) ≤ before.spare →
-    min (left - 1) (1048576 - length after.journal.entries) ≤ after.spare
+    min left (listed_most - length before.journal.entries) ≤ before.spare →
+    min (left - 1) (listed_most - length after.journal.entries) ≤ after.spare
 room_left before after entry (Ok number) left told less some enough =
-    less_room left (length before.journal.entries) (length after.journal.entries) before.spare after.spare
+    less_room left (length before.journal.entries) (length after.journal.entries) before.spare
+    after.spare
     (less (finds_room before.journal entry left before.spare some enough told.0))
-    (ap (λ (j : Journal). length j.entries) told.1 ∙ length_push before.journal.entries entry) enough
+    (ap (λ (j : Journal). length j.entries) told.1
+    ∙ length_push before.journal.entries entry) enough
 room_left before after entry (Err refusal) left told less some enough =
-    subst (λ (k : Keeper). min (left - 1) (1048576 - length k.journal.entries) ≤ k.spare) (sym told.1)
+    subst (λ (k : Keeper). min (left - 1) (listed_most - length k.journal.entries) ≤ k.spare)
+    (sym told.1)
     (same_room left (length before.journal.entries) before.spare enough)
 
 -- the run of the events from one on
-pub run-next : (journal after : Journal) (events : List Entry) (k : ℕ) (answer : Result ℕ Refusal) (none : Entry) → k < length events →
+pub run-next : (journal after : Journal) (events : List Entry) (k : ℕ) (answer : Result ℕ Refusal)
+    (none : Entry) → k < length events →
     reply_to journal (get_or events k none) ≡ record { answer = answer; journal = after } →
     run journal (drop k events)
-    ≡ record { answers = answer ∷ (run after (drop (k + 1) events)).answers; journal = (run after (drop (k + 1) events)).journal }
+    ≡ record {
+      answers = answer ∷ (run after (drop (k + 1) events)).answers;
+      journal = (run after (drop (k + 1) events)).journal;
+    }
 run-next journal after events k answer none within reply =
     let event = get_or events k none in
     let later = drop (k + 1) events in
     let next : drop k events ≡ event ∷ later = rw add-one (drop-cons events k none within) in
-    let from_reply : Reply → Run = λ (r : Reply). record { answers = r.answer ∷ (run r.journal later).answers; journal = (run r.journal later).journal } in
+    let from_reply : Reply →
+    Run = λ (r : Reply). record {
+      answers = r.answer ∷ (run r.journal later).answers;
+      journal = (run r.journal later).journal;
+    } in
     ap (run journal) next ∙ ap from_reply reply
 
 -- the answers so far with those that are left, after one more
-pub one_more : (all before left later after : List (Result ℕ Refusal)) (answer : Result ℕ Refusal) → all ≡ before ++ left →
+pub one_more : (all before left later after : List (Result ℕ Refusal)) (answer : Result ℕ Refusal) →
+    all ≡ before ++ left →
     left ≡ answer ∷ later → after ≡ before ++ answer ∷ [] → all ≡ after ++ later
 one_more all before left later after answer e next told =
-    e ∙ ap (λ xs. before ++ xs) next ∙ sym (append_assoc before (answer ∷ []) later) ∙ ap (λ xs. xs ++ later) (sym told)
+    e ∙ ap (λ xs. before ++ xs) next ∙ sym (append_assoc before (answer ∷ []) later)
+    ∙ ap (λ xs. xs ++ later) (sym told)

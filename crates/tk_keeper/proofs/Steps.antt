@@ -13,44 +13,56 @@ use Rattle.tk_clock.proofs.Ledger.{clock_refusal-state}
 use Rattle.tk_clock.proofs.Legal.{state_of-followed_by}
 
 -- the state before a listed entry refuses it for nothing
-pub passes : (journal : Journal) (k : ℕ) (entry : Entry) → IsAccepted journal → slice_get journal.entries k ≡ Some entry →
+pub passes : (journal : Journal) (k : ℕ) (entry : Entry) → IsAccepted journal →
+    slice_get journal.entries k ≡ Some entry →
     state_refusal (state_of (prefix k journal)) entry.reading entry.cmd ≡ None
 passes journal k entry all here =
-    sym (clock_refusal-state (prefix k journal) entry.who entry.reading entry.cmd) ∙ all k entry here
+    sym (clock_refusal-state (prefix k journal) entry.who entry.reading entry.cmd)
+    ∙ all k entry here
 
 -- and the entry leaves the state of the next place
-pub next_state : (journal : Journal) (k : ℕ) (entry : Entry) → IsAccepted journal → slice_get journal.entries k ≡ Some entry →
+pub next_state : (journal : Journal) (k : ℕ) (entry : Entry) → IsAccepted journal →
+    slice_get journal.entries k ≡ Some entry →
     effect (state_of (prefix k journal)) entry.reading entry.cmd ≡ state_of (prefix (k + 1) journal)
 next_state journal k entry all here =
     let more : prefix (k + 1) journal ≡ followed_by (prefix k journal) entry =
     ap (λ (es : List Entry). record journal { entries = es })
     (take_more journal.entries k entry (slice_get_within journal.entries k entry here)
-    ∙ ap (λ (e : Entry). take k journal.entries ++ e ∷ []) (get_or_from_slice_get journal.entries k entry entry here)) in
-    state_of-followed_by (prefix k journal) (state_of (prefix k journal)) entry.who entry.reading entry.cmd refl (passes journal k entry all here)
+    ∙ ap (λ (e : Entry). take k journal.entries ++ e
+    ∷ []) (get_or_from_slice_get journal.entries k entry entry here)) in
+    state_of-followed_by (prefix k journal) (state_of (prefix k journal)) entry.who entry.reading
+    entry.cmd refl (passes journal k entry all here)
     ∙ ap state_of (sym more)
 
 -- a command that is refused for nothing is done
-pub is_done : (after : Type 0) (other : Refusal → Type 0) (told : Option Refusal) (result : Result (Unit {0}) Refusal) → told ≡ None →
-    MatchResult result (λ _. (told ≡ None) × after) (λ refusal. (told ≡ Some refusal) × other refusal) → IsOk result
+pub is_done : (after : Type 0) (other : Refusal →
+    Type 0) (told : Option Refusal) (result : Result (Unit {0}) Refusal) → told ≡ None →
+    MatchResult result (λ _. (told ≡ None) × after) (λ refusal. (told ≡ Some refusal)
+    × other refusal) → IsOk result
 is_done after other told (Ok done) none e = refl
 is_done after other told (Err refusal) none e = let some = e.0 in absurd (cc (none, some))
 
 -- an item of a part of a list, by its place in the whole
-pub part_item : {X : Type 0} (xs : List X) (from to k : ℕ) (d : X) → k < length (take (to - from) (drop from xs)) →
+pub part_item : {X : Type 0} (xs : List X) (from to k : ℕ) (d : X) →
+    k < length (take (to - from) (drop from xs)) →
     slice_get xs (from + k) ≡ Some (get_or (take (to - from) (drop from xs)) k d)
 part_item xs from to k d within =
     let short = length-take (to - from) (drop from xs) in
     let fewer = length-drop from xs in
     slice_get-get_or xs (from + k) d (omega arith)
-    ∙ ap (λ x. Some x) (sym (get_or-take (to - from) (drop from xs) k d (omega arith) ∙ get_or-drop from xs k d))
+    ∙ ap (λ x. Some x) (sym (get_or-take (to - from) (drop from xs) k d (omega arith)
+    ∙ get_or-drop from xs k d))
 
-pub effect_of : (after : Type 0) (other : Refusal → Type 0) (told : Option Refusal) (result : Result (Unit {0}) Refusal) → told ≡ None →
-    MatchResult result (λ _. (told ≡ None) × after) (λ refusal. (told ≡ Some refusal) × other refusal) → after
+pub effect_of : (after : Type 0) (other : Refusal →
+    Type 0) (told : Option Refusal) (result : Result (Unit {0}) Refusal) → told ≡ None →
+    MatchResult result (λ _. (told ≡ None) × after) (λ refusal. (told ≡ Some refusal)
+    × other refusal) → after
 effect_of after other told (Ok done) none e = e.1
 effect_of after other told (Err refusal) none e = let some = e.0 in absurd (cc (none, some))
 
 -- a part of a list that has been gone through
-pub whole_part : {X : Type 0} (xs : List X) (from to k : ℕ) → from ≤ to → to ≤ length xs → k ≤ length (take (to - from) (drop from xs)) →
+pub whole_part : {X : Type 0} (xs : List X) (from to k : ℕ) → from ≤ to → to ≤ length xs →
+    k ≤ length (take (to - from) (drop from xs)) →
     length (take (to - from) (drop from xs)) ≤ k → from + k ≡ to
 whole_part xs from to k low high here there =
     omega (arith, length-take (to - from) (drop from xs), length-drop from xs)

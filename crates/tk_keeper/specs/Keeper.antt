@@ -6,7 +6,8 @@ use Rattle.tk_clock.specs.Journal.{Journal, prefix, accepted_count}
 use Rattle.tk_clock.specs.Monotonic.{awake_cycles}
 use Rattle.tk_clock.specs.Clocks.{clock_value}
 use Rattle.tk_clock.specs.Honest.{IsHonest, counted_cycles}
-use Rattle.tk_clock.specs.Legal.{IsLegal, folded_opening}
+use Rattle.tk_clock.specs.Legal.{IsLegal}
+use Rattle.tk_clock.specs.Limits.{listed_most, counted_most}
 use Rattle.tk_clock.specs.State.{ReadBase, State, base_value, state_of}
 
 -- its journal, and how many accepted commands will take no memory
@@ -14,18 +15,15 @@ pub record Keeper : Type 0 where
   pub journal : Journal
   pub spare : ℕ
 
--- the journal that begins with a state, so many commands after the clocks were opened
-abbrev pub journal_from : ℕ → State → List Entry → Journal
-journal_from count start entries = record { opening = folded_opening count start; entries = entries }
-
 -- the journal is legal, the running state is what it comes to, and it isn't overfull
 pub record IsKept (journal : Journal) (state : State) : Type 0 where
   pub legal : IsLegal journal
   pub running : state ≡ state_of journal
-  pub room : length journal.entries ≤ 1048576
-  pub counted : accepted_count journal < 2 ^ 63
+  pub room : length journal.entries ≤ listed_most
+  pub counted : accepted_count journal ≤ counted_most
 
--- the state before all entries is at hand, and that after each listed entry whose number is a multiple of 256
+-- the state before all entries is at hand, and that after each listed entry whose number is a
+-- multiple of 256
 pub record HasKept (journal : Journal) (start : State) (kept : List State) : Type 0 where
   pub first : start ≡ state_of (prefix 0 journal)
   pub all : length kept + journal.opening.count / 256 ≡ accepted_count journal / 256
@@ -33,18 +31,22 @@ pub record HasKept (journal : Journal) (start : State) (kept : List State) : Typ
       journal.opening.count + place ≡ 256 * (journal.opening.count / 256 + 1 + i) →
       slice_get kept i ≡ Some (state_of (prefix place journal))
 
--- how many commands fit into so many free places for entries and for kept states, after so many commands
+-- how many commands fit into so many free places for entries and for kept states, after so many
+-- commands
 abbrev pub room_for : ℕ → ℕ → ℕ → ℕ
 room_for places kept count = min places (256 * (kept + 1) - count % 256 - 1)
 
--- the entry of a number, counted from 1 over all accepted commands; none where it was folded or is yet to come
+-- the entry of a number, counted from 1 over all accepted commands; none where it was folded or is
+-- yet to come
 abbrev pub entry_at : Journal → ℕ → Option Entry
 entry_at journal number =
-    if nat_lt journal.opening.count number then slice_get journal.entries (number - journal.opening.count - 1) else None
+    if nat_lt journal.opening.count number
+    then slice_get journal.entries (number - journal.opening.count - 1) else None
 
 -- a read base gives each clock the journal's own value at every reading
 abbrev pub ReadsAs : Journal → ReadBase → Type 0
-ReadsAs journal base = (clock : ClockId) (reading : ℕ) → base_value base clock reading ≡ clock_value journal clock reading
+ReadsAs journal base = (clock : ClockId) (reading : ℕ) →
+    base_value base clock reading ≡ clock_value journal clock reading
 
 -- where the counter's readings are true counts, the journal's cycles are true ones
 abbrev pub CountsTrue : Journal → Type 0

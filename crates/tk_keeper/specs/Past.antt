@@ -7,7 +7,6 @@ use Rattle.tk_clock.specs.Snapshot.{snapshot_of}
 use Rattle.tk_clock.specs.State.{state_of}
 use Rattle.tk_keeper.specs.declared.front_error.FrontError.{FrontError}
 use Rattle.tk_keeper.specs.declared.front_error.FrontError.TheVariants.{Unknown, Folded}
-use Rattle.tk_keeper.specs.Keeper.{journal_from}
 
 -- the journal as it was when so many commands were accepted, the folded ones among them
 abbrev pub at_front : ℕ → Journal → Journal
@@ -20,11 +19,6 @@ front_refusal journal front =
     else if nat_lt front journal.opening.count then Some Folded
     else None
 
--- the journal with its first entries, so many, folded into its opening
-abbrev pub folded_by : ℕ → Journal → Journal
-folded_by places journal =
-    journal_from (journal.opening.count + places) (state_of (prefix places journal)) (drop places journal.entries)
-
 -- a folded journal says of each front that it still has what the journal before said
 pub record IsFolded (before after : Journal) : Type 0 where
   -- the same number of accepted commands
@@ -32,8 +26,11 @@ pub record IsFolded (before after : Journal) : Type 0 where
   -- the same entries after those that were folded
   pub entries : after.entries ≡ drop (after.opening.count - before.opening.count) before.entries
   -- the same state, the frequency and tick in force among it
-  pub states : (front : ℕ) → after.opening.count ≤ front → state_of (at_front front after) ≡ state_of (at_front front before)
-  pub snapshots : (front : ℕ) → after.opening.count ≤ front → snapshot_of (at_front front after) ≡ snapshot_of (at_front front before)
+  pub states : (front : ℕ) → after.opening.count ≤ front →
+      state_of (at_front front after) ≡ state_of (at_front front before)
+  pub snapshots : (front : ℕ) → after.opening.count ≤ front →
+      snapshot_of (at_front front after) ≡ snapshot_of (at_front front before)
   -- the same value of each clock at each reading, in nanoseconds
   pub clocks : (front : ℕ) (clock : ClockId) (reading : ℕ) → after.opening.count ≤ front →
-      clock_value (at_front front after) clock reading ≡ clock_value (at_front front before) clock reading
+      clock_value (at_front front after) clock reading
+      ≡ clock_value (at_front front before) clock reading

@@ -7,6 +7,8 @@ use Rattle.tk_keeper.specs.declared.trace_error.TraceError.TheVariants as errors
 abbrev pub trace_text : TraceError → Option (List ℕ)
 trace_text (errors.Unknown index) = Some (codes "item " ++ decimal index ++ codes ": unknown front")
 trace_text (errors.Folded index) = Some (codes "item " ++ decimal index ++ codes ": folded front")
-trace_text (errors.Invalid index) = Some (codes "item " ++ decimal index ++ codes ": stamp above the mask")
-trace_text (errors.Range index) = Some (codes "item " ++ decimal index ++ codes ": value out of range")
+trace_text (errors.Invalid index) =
+    Some (codes "item " ++ decimal index ++ codes ": stamp above the mask")
+trace_text (errors.Range index) =
+    Some (codes "item " ++ decimal index ++ codes ": value out of range")
 trace_text errors.Memory = Some (codes "out of memory")

@@ -1,4 +1,4 @@
-ghost use Rattle.std.specs.Prelude.{◌≡◌, ◌<◌, ◌^◌, MatchResult, Some, None};
+ghost use Rattle.std.specs.Prelude.{◌≡◌, ◌≤◌, MatchResult, Some, None};
 
 mod applying;
 mod folding;
@@ -7,7 +7,7 @@ mod running;
 
 use std::alloc::{Allocator, Global};
 use std::marker::Model;
-use tk_clock::{Clock, Entry, Refusal, Snapshot, Timespec};
+use tk_clock::{Clock, ClockId, Entry, ReadError, Refusal, Snapshot, Timespec};
 use tk_counter::CounterDesc;
 
 /// The most entries that a journal lists.
@@ -21,8 +21,8 @@ const KEPT_EVERY: usize = 256;
 
 /// The clocks of a counter, with the journal of all accepted commands.
 ///
-/// Its journal is always legal, and its clocks are always what the journal comes to. It takes no lock: whoever shares
-/// it brings one. Its memory comes from the allocator that it was opened with.
+/// Its journal is always legal, and its clocks are always what the journal comes to. It takes no
+/// lock: whoever shares it brings one. Its memory comes from the allocator that it was opened with.
 #[derive(Drop)]
 pub struct Timekeeper<A: Allocator = Global> {
     /// The clocks as the journal begins.
@@ -31,7 +31,8 @@ pub struct Timekeeper<A: Allocator = Global> {
     folded: u64,
     /// The commands accepted since.
     entries: Vec<Entry, A>,
-    /// The clocks after each of them whose number is a multiple of 256, so that past states are near.
+    /// The clocks after each of them whose number is a multiple of 256, so that past states are
+    /// near.
     kept: Vec<Clock, A>,
     /// The clocks now.
     clock: Clock,
@@ -39,7 +40,8 @@ pub struct Timekeeper<A: Allocator = Global> {
 
 impl<A: Allocator> Model for Timekeeper<A> {
     ghost use Rattle.std.specs.Prelude.{◌+◌, ◌-◌, length, vec_capacity};
-    ghost use Rattle.tk_keeper.specs.Keeper.{Keeper, IsKept, HasKept, journal_from, room_for};
+    ghost use Rattle.tk_clock.specs.Folding.{journal_from};
+    ghost use Rattle.tk_keeper.specs.Keeper.{Keeper, IsKept, HasKept, room_for};
 
     ghost Value = { Keeper };
 
@@ -57,11 +59,15 @@ impl<A: Allocator> Model for Timekeeper<A> {
 impl<A: Allocator + Copy> Timekeeper<A> {
     ghost use Rattle.tk_clock.specs.Journal.{opened, accepted_count};
     ghost use Rattle.tk_clock.specs.Legal.{IsLegal};
+    ghost use Rattle.tk_clock.specs.Limits.{counted_most};
     ghost use Rattle.tk_clock.specs.Refusal.{opening_refusal};
     ghost use Rattle.tk_clock.specs.Snapshot.{snapshot_of};
+    ghost use Rattle.tk_counter.specs.Counter.{IsCounter};
     ghost use Rattle.tk_keeper.specs.Keeper.{entry_at, ReadsAs, CountsTrue};
+    ghost use Rattle.tk_keeper.specs.Read.{IsRead};
 
-    /// The clocks from this reading on, with an empty journal: MONOTONIC is 0, and REALTIME `real`. It takes no memory.
+    /// The clocks from this reading on, with an empty journal: MONOTONIC is 0, and REALTIME `real`.
+    /// It takes no memory.
     ///
     /// Invalid where the reading is above the mask, or where REALTIME may not be set to `real`.
     pub fn open(
@@ -70,10 +76,11 @@ impl<A: Allocator + Copy> Timekeeper<A> {
         reading: u64,
         real: Timespec,
     ) -> Result<Timekeeper<A>, Refusal>
-        ensures { MatchResult result
+        ensures answer { MatchResult result
             (λ keeper. (opening_refusal desc reading real ≡ None)
             × (keeper.journal ≡ opened desc reading real) × (keeper.spare ≡ 0))
             (λ refusal. opening_refusal desc reading real ≡ Some refusal) }
+        ensures counter { IsCounter desc }
     {
         let clock = Clock::open(desc, reading, real)?;
         Ok(Timekeeper {
@@ -88,7 +95,7 @@ impl<A: Allocator + Copy> Timekeeper<A> {
     /// How many commands were accepted, the folded ones among them.
     pub fn len(&self) -> usize
         ensures value { result ≡ accepted_count self.now.journal }
-        ensures most { result < 2 ^ 63 }
+        ensures most { result ≤ counted_most }
         ensures legal { IsLegal self.now.journal }
     {
         self.folded as usize + self.entries.len()
@@ -124,5 +131,17 @@ impl<A: Allocator + Copy> Timekeeper<A> {
         ensures honest { CountsTrue self.now.journal }
     {
         self.clock.snapshot(self.len() as u64)
+    }
+
+    /// A clock's time at a reading, as the journal has it (clock_gettime(2)): seconds since 1970 or
+    /// since opening, and nanoseconds.
+    ///
+    /// Invalid where the reading is above the mask; then Range where the clock is at its limit or
+    /// beyond. A reading behind the last command gets the value at that command, as does every one
+    /// while asleep.
+    pub fn get(&self, clock: ClockId, reading: u64) -> Result<Timespec, ReadError>
+        ensures { IsRead self.now.journal clock reading result }
+    {
+        self.snapshot().get(clock, reading)
     }
 }

@@ -1,12 +1,13 @@
 //! What each command does to the clocks, and the tests of values that go with it.
-ghost use Rattle.std.specs.Prelude.{◌≡◌, ◌+◌, ◌*◌, ◌/◌, ◌^◌, ◌<◌, ◌≤◌, MatchResult, MatchOption, None, pos, ◌≤ℤ◌, ◌<ℤ◌, ◌+ℤ◌, true, false, ◌⊎◌};
+ghost use Rattle.std.specs.Prelude.{◌≡◌, ◌+◌, ◌*◌, ◌/◌, ◌^◌, ◌<◌, ◌≤◌, MatchResult, MatchOption, Some, None, pos, ◌≤ℤ◌, ◌<ℤ◌, ◌+ℤ◌, true, false, ◌⊎◌};
 ghost use Rattle.tk_clock.specs.State.{base_value, forwarded};
 ghost use Rattle.tk_clock.specs.Limits.{limit, sets_real};
 ghost use Rattle.tk_clock.specs.Running.{IsRated};
-ghost use Rattle.tk_clock.specs.Effect.{IsEarly, IsEffect, IsSettled};
+ghost use Rattle.tk_clock.specs.Refusal.{state_value_refusal};
+ghost use Rattle.tk_clock.specs.Effect.{IsForwarded, IsEarly, IsEffect, IsSettled};
 ghost use Rattle.tk_clock.specs.Command.{is_resume};
 ghost use Rattle.tk_clock.specs.Time.{nanoseconds};
-ghost use Rattle.tk_counter.specs.Counter.{mask, multiplier};
+ghost use Rattle.tk_counter.specs.Counter.{mask, multiplier, least_tick, greatest_tick};
 
 use super::Clock;
 use crate::command::Command;
@@ -17,45 +18,45 @@ use crate::timespec::{Timespec, nanos_of};
 impl Clock {
     /// The clocks after a command that the tests before those of values let pass.
     ///
-    /// Range where a clock would be at its limit; then Invalid where REALTIME would be set below MONOTONIC, or to a
-    /// time that it may not be set to. Each command but a resume first brings the clocks forward.
+    /// Range where a clock would be at its limit; then Invalid where REALTIME would be set below
+    /// MONOTONIC, or to a time that it may not be set to.
     pub(super) fn effect(&self, reading: u64, cmd: Command) -> Result<Clock, Refusal>
         requires { IsEarly self.now reading cmd }
         ensures { IsEffect self.now reading cmd result }
     {
-        if let Command::Resume(away) = cmd {
-            return self.resume(reading, away);
+        match cmd {
+            Command::Update => self.update(self.forwarded(reading, cmd)?),
+            Command::SetTime(time) => self.set_time(self.forwarded(reading, cmd)?, time),
+            Command::Step(by) => self.step(self.forwarded(reading, cmd)?, by),
+            Command::Freq(frequency) => self.set_frequency(
+                self.forwarded(reading, cmd)?,
+                frequency,
+            ),
+            Command::Tick(tick) => self.set_tick(self.forwarded(reading, cmd)?, tick),
+            Command::Tai(seconds) => self.set_tai(self.forwarded(reading, cmd)?, seconds),
+            Command::Suspend => self.suspend(self.forwarded(reading, cmd)?),
+            Command::Resume(away) => self.resume(reading, away),
         }
+    }
+
+    /// The base brought forward to the reading of a command, which is no resume. Range where
+    /// MONOTONIC would be at its limit.
+    fn forwarded(&self, reading: u64, cmd: Command) -> Result<ReadBase, Refusal>
+        requires early { IsEarly self.now reading cmd }
+        requires awake { is_resume cmd ≡ false }
+        ensures { MatchResult result
+            (λ now. (now.last ≡ reading) × IsForwarded self.now now)
+            (λ refusal. state_value_refusal self.now reading cmd ≡ Some refusal) }
+    {
         let Some(now) = self.base.forwarded(reading) else {
             return Err(Refusal::Range);
         };
-        self.change(now, cmd)
-    }
-
-    /// The clocks after a command, from the base that was brought forward to its reading.
-    fn change(&self, now: ReadBase, cmd: Command) -> Result<Clock, Refusal>
-        requires forwarded { now ≡ forwarded self.now.base now.last }
-        requires rated { IsRated now }
-        requires early { IsEarly self.now now.last cmd }
-        requires awake { is_resume cmd ≡ false }
-        ensures { IsEffect self.now now.last cmd result }
-    {
-        match cmd {
-            Command::Update => self.update(now),
-            Command::SetTime(time) => self.set_time(now, time),
-            Command::Step(by) => self.step(now, by),
-            Command::Freq(frequency) => self.set_frequency(now, frequency),
-            Command::Tick(tick) => self.set_tick(now, tick),
-            Command::Tai(seconds) => self.set_tai(now, seconds),
-            Command::Suspend => self.suspend(now),
-            Command::Resume(_) => unreachable!(),
-        }
+        Ok(now)
     }
 
     /// Nothing more than being brought forward.
     fn update(&self, now: ReadBase) -> Result<Clock, Refusal>
-        requires forwarded { now ≡ forwarded self.now.base now.last }
-        requires rated { IsRated now }
+        requires forwarded { IsForwarded self.now now }
         ensures { IsEffect self.now now.last Command.Update result }
     {
         self.settled(now, Command::Update)
@@ -63,8 +64,7 @@ impl Clock {
 
     /// Another frequency from the base's last reading on; the tick stays.
     fn set_frequency(&self, now: ReadBase, frequency: i64) -> Result<Clock, Refusal>
-        requires forwarded { now ≡ forwarded self.now.base now.last }
-        requires rated { IsRated now }
+        requires forwarded { IsForwarded self.now now }
         ensures { IsEffect self.now now.last (Command.Freq frequency) result }
     {
         Clock::steered(now, frequency, self.tick, Command::Freq(frequency))
@@ -72,8 +72,7 @@ impl Clock {
 
     /// Another tick from the base's last reading on; the frequency stays.
     fn set_tick(&self, now: ReadBase, tick: i64) -> Result<Clock, Refusal>
-        requires forwarded { now ≡ forwarded self.now.base now.last }
-        requires rated { IsRated now }
+        requires forwarded { IsForwarded self.now now }
         requires early { IsEarly self.now now.last (Command.Tick tick) }
         ensures { IsEffect self.now now.last (Command.Tick tick) result }
     {
@@ -82,8 +81,7 @@ impl Clock {
 
     /// Another TAI offset.
     fn set_tai(&self, now: ReadBase, seconds: i64) -> Result<Clock, Refusal>
-        requires forwarded { now ≡ forwarded self.now.base now.last }
-        requires rated { IsRated now }
+        requires forwarded { IsForwarded self.now now }
         requires early { IsEarly self.now now.last (Command.Tai seconds) }
         ensures { IsEffect self.now now.last (Command.Tai seconds) result }
     {
@@ -95,8 +93,7 @@ impl Clock {
 
     /// The clocks asleep from the base's last reading on.
     fn suspend(&self, now: ReadBase) -> Result<Clock, Refusal>
-        requires forwarded { now ≡ forwarded self.now.base now.last }
-        requires rated { IsRated now }
+        requires forwarded { IsForwarded self.now now }
         ensures { IsEffect self.now now.last Command.Suspend result }
     {
         self.settled(now.fallen_asleep(), Command::Suspend)
@@ -115,8 +112,8 @@ impl Clock {
 
     /// The clocks with another rate from the base's last reading on, unless one is at its limit.
     fn steered(now: ReadBase, frequency: i64, tick: i64, cmd: Command) -> Result<Clock, Refusal>
-        requires slowest { pos 9000 ≤ℤ tick }
-        requires fastest { tick ≤ℤ pos 11000 }
+        requires slowest { least_tick ≤ℤ tick }
+        requires fastest { tick ≤ℤ greatest_tick }
         requires rated { IsRated now }
         requires plain { sets_real cmd ≡ false }
         ensures { IsSettled (record {

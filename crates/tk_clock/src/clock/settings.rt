@@ -1,9 +1,9 @@
 //! REALTIME set to a time, and moved by an amount.
 ghost use Rattle.std.specs.Prelude.{◌≡◌, ◌+◌, ◌*◌, ◌/◌, ◌^◌, ◌<◌, ◌≤◌, MatchOption, pos, ◌≤ℤ◌, ◌<ℤ◌, ◌+ℤ◌, ◌⊎◌};
 ghost use Rattle.tk_clock.specs.State.{base_value, forwarded};
-ghost use Rattle.tk_clock.specs.Limits.{limit};
+ghost use Rattle.tk_clock.specs.Limits.{limit, clock_end, monotonic_end, settable_end, greatest_tai};
 ghost use Rattle.tk_clock.specs.Running.{IsRated};
-ghost use Rattle.tk_clock.specs.Effect.{IsEarly, IsEffect};
+ghost use Rattle.tk_clock.specs.Effect.{IsForwarded, IsEarly, IsEffect};
 ghost use Rattle.tk_clock.specs.Time.{nanoseconds};
 
 use super::Clock;
@@ -18,8 +18,7 @@ use crate::timespec::{Timespec, nanos_of};
 impl Clock {
     /// REALTIME set to a time (`do_settimeofday64`).
     pub(super) fn set_time(&self, now: ReadBase, time: Timespec) -> Result<Clock, Refusal>
-        requires forwarded { now ≡ forwarded self.now.base now.last }
-        requires rated { IsRated now }
+        requires forwarded { IsForwarded self.now now }
         requires early { IsEarly self.now now.last (Command.SetTime time) }
         ensures { IsEffect self.now now.last (Command.SetTime time) result }
     {
@@ -34,8 +33,7 @@ impl Clock {
 
     /// REALTIME moved by an amount (`timekeeping_inject_offset`).
     pub(super) fn step(&self, now: ReadBase, by: Timespec) -> Result<Clock, Refusal>
-        requires forwarded { now ≡ forwarded self.now.base now.last }
-        requires rated { IsRated now }
+        requires forwarded { IsForwarded self.now now }
         requires early { IsEarly self.now now.last (Command.Step by) }
         ensures { IsEffect self.now now.last (Command.Step by) result }
     {
@@ -54,10 +52,9 @@ impl Clock {
 
     /// The clocks brought forward, with REALTIME so far from MONOTONIC, in ns.
     fn set_to(&self, now: ReadBase, offset: u64) -> Clock
-        requires forwarded { now ≡ forwarded self.now.base now.last }
-        requires rated { IsRated now }
-        requires settable { now.amount / 2 ^ now.counter.shift + offset < 8277292036 * 10 ^ 9 }
-        requires tai { now.tai ≤ℤ pos 100000 }
+        requires forwarded { IsForwarded self.now now }
+        requires settable { now.amount / 2 ^ now.counter.shift + offset < settable_end * 10 ^ 9 }
+        requires tai { now.tai ≤ℤ pos greatest_tai }
         requires boot { base_value now ClockId.Boottime now.last <ℤ limit ClockId.Boottime }
         ensures { result ≡ record self.now { base = record now { real_offset = pos offset } } }
     {
@@ -66,12 +63,15 @@ impl Clock {
     }
 }
 
-/// A time in ns moved by an amount. None where it would come before 1970, or beyond what a word of ns holds.
+/// A time in ns moved by an amount. None where it would come before 1970, or beyond what a word of
+/// ns holds.
 fn moved(real: u64, by: Timespec) -> Option<u64>
-    requires real { real < 10169452036 * 10 ^ 9 }
+    requires real { real < (clock_end + monotonic_end) * 10 ^ 9 }
     requires rest { by.nsec < 10 ^ 9 }
     ensures { let moved = pos real +ℤ nanoseconds by in
-        MatchOption result ((moved <ℤ pos 0) ⊎ (pos (2 ^ 64) ≤ℤ moved)) (λ nanos. pos nanos ≡ moved) }
+        MatchOption result
+        ((moved <ℤ pos 0) ⊎ (pos (2 ^ 64) ≤ℤ moved))
+        (λ nanos. pos nanos ≡ moved) }
 {
     let upward = real + u64::from(by.nsec);
     let whole = by.sec.unsigned_abs().checked_mul(NANOS_PER_SECOND)?;

@@ -1,7 +1,8 @@
-//! What commands make of a read base: each function gives another one, and leaves its own as it was.
+//! What commands make of a read base: each function gives another one, and leaves its own as it
+//! was.
 ghost use Rattle.std.specs.Prelude.{◌≡◌, ◌*◌, ◌/◌, ◌^◌, ◌≤◌, MatchOption, pos, ◌≤ℤ◌, ◌+ℤ◌, ◌<ℤ◌, not, int_lt, true, false};
 ghost use Rattle.tk_counter.specs.Counter.{mask, fastest};
-ghost use Rattle.tk_clock.specs.Limits.{is_past_limit};
+ghost use Rattle.tk_clock.specs.Limits.{is_past_limit, clock_end, monotonic_end, greatest_tai};
 ghost use Rattle.tk_clock.specs.State.{base_value, forwarded};
 ghost use Rattle.tk_clock.specs.Running.{IsRated, slowest};
 
@@ -11,15 +12,15 @@ use crate::command::Command;
 use crate::limits::{MONOTONIC_SEC_LIMIT, limit, sets_real};
 
 impl ReadBase {
-    /// The base with its amounts brought forward to a reading (`timekeeping_forward_now`). Nothing below a nanosecond
-    /// is lost. None where MONOTONIC would be at its limit.
+    /// The base with its amounts brought forward to a reading (`timekeeping_forward_now`). Nothing
+    /// below a nanosecond is lost. None where MONOTONIC would be at its limit.
     pub fn forwarded(&self, reading: u64) -> Option<ReadBase>
         requires reading { reading ≤ mask self.now.counter }
         requires steered { slowest self.now.counter ≤ self.now.mult }
         requires rated { IsRated self.now }
         ensures { let after = forwarded self.now reading in
             MatchOption result
-            (946080000 * 10 ^ 9 ≤ after.amount / 2 ^ after.counter.shift)
+            (monotonic_end * 10 ^ 9 ≤ after.amount / 2 ^ after.counter.shift)
             (λ base. (base ≡ after) × IsRated base) }
     {
         let cycles = self.desc.gap(self.last, reading);
@@ -40,8 +41,8 @@ impl ReadBase {
         })
     }
 
-    /// Is a clock at its limit at the last reading, as a command left it? REALTIME and TAI are left out where the
-    /// command sets REALTIME, which a test of its own bounds.
+    /// Is a clock at its limit at the last reading, as a command left it? REALTIME and TAI are left
+    /// out where the command sets REALTIME, which a test of its own bounds.
     #[tactic(auto, unfolding(crate::specs::Limits::is_past_limit))]
     pub fn is_past_limit(&self, cmd: Command) -> bool
         ensures { result ≡ is_past_limit (λ clock. base_value self.now clock self.now.last) cmd }
@@ -77,7 +78,7 @@ impl ReadBase {
 
     /// The base with TAI so far from REALTIME, in seconds.
     pub fn with_tai(self, seconds: u32) -> ReadBase
-        requires { seconds ≤ 100000 }
+        requires { seconds ≤ greatest_tai }
         ensures { result ≡ record self { tai = pos seconds } }
     {
         ReadBase {
@@ -118,9 +119,10 @@ impl ReadBase {
     }
 }
 
-/// Is an offset from MONOTONIC, or from TAI less REALTIME, at the limit of the clocks but MONOTONIC?
+/// Is an offset from MONOTONIC, or from TAI less REALTIME, at the limit of the clocks but
+/// MONOTONIC?
 fn is_at_limit(elapsed: u64, offset: u64) -> bool
-    ensures { result ≡ not (int_lt (pos elapsed +ℤ pos offset) (pos (9223372036 * 10 ^ 9))) }
+    ensures { result ≡ not (int_lt (pos elapsed +ℤ pos offset) (pos (clock_end * 10 ^ 9))) }
 {
     match elapsed.checked_add(offset) {
         Some(nanos) => nanos >= limit(ClockId::Realtime),

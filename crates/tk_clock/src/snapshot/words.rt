@@ -3,18 +3,18 @@ ghost use Rattle.tk_counter.specs.Counter.{IsCounter};
 ghost use Rattle.tk_clock.specs.Words.{words_of, restored, are_in_range};
 
 use super::Snapshot;
-use crate::amount::Amount;
+use super::known_words::base_told;
 use crate::command::Command;
 use crate::limits::{MONOTONIC_SEC_LIMIT, RAW_SEC_LIMIT, TAI_OFFSET_MOST};
-use crate::read_base::ReadBase;
 use tk_counter::CounterDesc;
 
 impl Snapshot {
     /// The snapshot as ten words.
     ///
-    /// The front; the last reading; the multiplier; MONOTONIC there below a second, in `2^-shift` ns, and in whole
-    /// seconds; REALTIME and BOOTTIME less MONOTONIC, in ns; the TAI offset times 2, plus 1 while asleep; and
-    /// MONOTONIC_RAW as MONOTONIC. With the description they give the snapshot back.
+    /// The front; the last reading; the multiplier; MONOTONIC there below a second, in `2^-shift`
+    /// ns, and in whole seconds; REALTIME and BOOTTIME less MONOTONIC, in ns; the TAI offset times
+    /// 2, plus 1 while asleep; and MONOTONIC_RAW as MONOTONIC. With the description they give the
+    /// snapshot back.
     pub fn words(&self) -> [u64; 10]
         ensures value { result ≡ words_of self.now }
         ensures back { restored self.now.base.counter (words_of self.now) ≡ Some self.now }
@@ -22,8 +22,8 @@ impl Snapshot {
         self.base.words(self.front)
     }
 
-    /// The snapshot of a counter that ten words tell; None where a word is out of its range, or a clock would be at its
-    /// limit at the last reading.
+    /// The snapshot of a counter that ten words tell; None where a word is out of its range, or a
+    /// clock would be at its limit at the last reading.
     pub fn from_words(desc: CounterDesc, words: [u64; 10]) -> Option<Snapshot>
         ensures value { result ≡ restored desc words }
         ensures again { IfSome result (λ snapshot. words_of snapshot ≡ words) }
@@ -31,36 +31,14 @@ impl Snapshot {
         if !are_in_range(&desc, &words) {
             return None;
         }
-        let [
-            front,
-            last,
-            mult,
-            frac,
-            sec,
-            real_offset,
-            boot_offset,
-            tai,
-            raw_frac,
-            raw_sec,
-        ] = words;
-        let base = ReadBase {
-            desc,
-            last,
-            mult: mult as u32,
-            monotonic: Amount { sec, frac },
-            raw: Amount {
-                sec: raw_sec,
-                frac: raw_frac,
-            },
-            real_offset,
-            boot_offset,
-            tai: (tai / 2) as u32,
-            asleep: tai % 2 == 1,
-        };
+        let base = base_told(desc, &words);
         if base.is_past_limit(Command::Update) {
             return None;
         }
-        Some(Snapshot { front, base })
+        Some(Snapshot {
+            front: words[0],
+            base,
+        })
     }
 }
 

@@ -6,16 +6,17 @@ use super::{CounterDesc, NANOS_PER_SECOND};
 const SECONDS_LIMIT: u64 = 9_223_372_036;
 
 impl CounterDesc {
-    ghost use Rattle.tk_counter.specs.Counter.{second};
+    ghost use Rattle.tk_counter.specs.Counter.{second, seconds_end};
 
-    /// The whole seconds of `frac` and `delta` cycles at `mult`, and what is left, in units of `2^-shift` ns.
+    /// The whole seconds of `frac` and `delta` cycles at `mult`, and what is left, in units of
+    /// `2^-shift` ns.
     ///
-    /// Nothing is lost for any `delta`; None exactly from 9,223,372,036 seconds on. A product that fits a word
-    /// takes no more than one division, and none at all below two seconds.
+    /// Nothing is lost for any `delta`; None exactly from 9,223,372,036 seconds on. A product that
+    /// fits a word takes no more than one division, and none at all below two seconds.
     pub fn advance(&self, frac: u64, delta: u64, mult: u32) -> Option<(u64, u64)>
         requires { frac < second self.now }
         ensures { let units = frac + delta * mult in
-            SomeIff result (units / second self.now < SECONDS_LIMIT)
+            SomeIff result (units / second self.now < seconds_end)
             (units / second self.now, units % second self.now) }
     {
         let (seconds, rest) = match word_of(frac, delta, mult) {
@@ -51,11 +52,11 @@ impl CounterDesc {
         (units >> self.shift) / NANOS_PER_SECOND
     }
 
-    /// As `advance`, where the units don't fit a word: the upper half of `delta`, its lower half, and what both
-    /// leave are divided in turn.
+    /// As `advance`, where the units don't fit a word: the upper half of `delta`, its lower half,
+    /// and what both leave are divided in turn.
     ///
-    /// A second is `10^9 * 2^shift` units, and `2^32` units of the upper half are `2^(32 - shift)` seconds a
-    /// nanosecond:
+    /// A second is `10^9 * 2^shift` units, and `2^32` units of the upper half are `2^(32 - shift)`
+    /// seconds a nanosecond:
     ///
     /// ```text
     /// upper * 2^32 = (upper / 10^9) * 2^(32 - shift) * second + (upper % 10^9) * 2^32
@@ -65,7 +66,7 @@ impl CounterDesc {
         requires { frac < second self.now }
         ensures { let units = frac + delta * mult in
             MatchOption result
-            (SECONDS_LIMIT ≤ units / second self.now)
+            (seconds_end ≤ units / second self.now)
             (λ parts. parts ≡ (units / second self.now, units % second self.now)) }
     {
         let cycle = u64::from(mult);

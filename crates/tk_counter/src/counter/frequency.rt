@@ -7,9 +7,9 @@ use crate::desc_error::DescError;
 impl CounterDesc {
     /// The counter that runs at `hz` cycles a second, for gaps of up to `maxsec` seconds.
     ///
-    /// The shift is the highest whose mult has no more bits than the cycles of `maxsec` seconds leave free in a
-    /// word (`clocks_calc_mult_shift`, kernel/time/clocksource.c). A mult with no room for 11 percent more is
-    /// then halved. Refused with Bits first, and then with Rate.
+    /// The shift is the highest whose mult has no more bits than the cycles of `maxsec` seconds
+    /// leave free in a word (`clocks_calc_mult_shift`, kernel/time/clocksource.c). A mult with no
+    /// room for 11 percent more is then halved. Refused with Bits first, and then with Rate.
     pub fn from_hz(bits: u32, hz: u32, maxsec: u32) -> Result<CounterDesc, DescError>
         ensures value { MatchResult result
             (λ desc. (described bits hz maxsec ≡ Some desc)

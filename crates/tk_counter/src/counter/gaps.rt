@@ -7,8 +7,8 @@ impl CounterDesc {
 
     /// The cycles from one reading to a later one: `(now - last) & mask`, in wrapping words.
     ///
-    /// Both readings may be any word. While the counter has counted no more than `half` cycles, they are its true
-    /// number.
+    /// Both readings may be any word. While the counter has counted no more than `half` cycles,
+    /// they are its true number.
     pub fn gap(&self, last: u64, now: u64) -> u64
         ensures value { result ≡ gap self.now last now }
         ensures counted { (t t' : ℕ) → t ≤ t' → t' - t ≤ half self.now →

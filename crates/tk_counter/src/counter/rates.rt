@@ -1,25 +1,25 @@
 ghost use Rattle.std.specs.Prelude.{◌≡◌, ℕ, ◌+◌, ◌*◌, ◌/◌, ◌≤◌, pos, ◌+ℤ◌, ◌*ℤ◌, ◌≤ℤ◌, unsigned_abs};
-ghost use Rattle.tk_counter.specs.Counter.{clamped};
+ghost use Rattle.tk_counter.specs.Counter.{clamped, least_tick, greatest_tick};
 
 use super::CounterDesc;
 
 impl CounterDesc {
-    ghost use Rattle.tk_counter.specs.Counter.{fastest, multiplier};
+    ghost use Rattle.tk_counter.specs.Counter.{fastest, multiplier, usual_tick};
 
     /// The multiplier at a frequency, in `2^-16` ppm, and the usual tick of 10,000 microseconds.
     ///
     /// Beyond 32,768,000 either way the frequency counts as that, as in adjtimex(2).
     pub fn mult_for(&self, freq: i64) -> u32
-        ensures value { result ≡ multiplier self.now freq (pos 10000) }
+        ensures value { result ≡ multiplier self.now freq usual_tick }
         ensures most { result ≤ fastest self.now }
     {
         self.mult_at(freq, 10_000)
     }
 
-    /// The multiplier at a frequency, in `2^-16` ppm, and a tick, in microseconds.
+    /// The multiplier at a frequency, in `2^-16` ppm, and a tick, in microseconds, 9,000 to 11,000.
     pub fn mult_at(&self, freq: i64, tick: i64) -> u32
-        requires slowest { pos 9000 ≤ℤ tick }
-        requires fastest { tick ≤ℤ pos 11000 }
+        requires slowest { least_tick ≤ℤ tick }
+        requires fastest { tick ≤ℤ greatest_tick }
         ensures value { result ≡ multiplier self.now freq tick }
         ensures most { result ≤ fastest self.now }
     {
@@ -33,8 +33,8 @@ impl CounterDesc {
 
 /// The speed at a frequency and a tick, where 65,536,000,000 is the usual one.
 fn rate(freq: i64, tick: i64) -> u64
-    requires slowest { pos 9000 ≤ℤ tick }
-    requires fastest { tick ≤ℤ pos 11000 }
+    requires slowest { least_tick ≤ℤ tick }
+    requires fastest { tick ≤ℤ greatest_tick }
     ensures value { result ≡ unsigned_abs (tick *ℤ pos 6553600 +ℤ clamped freq) }
     ensures most { result ≤ 72122368000 }
 {
@@ -43,8 +43,8 @@ fn rate(freq: i64, tick: i64) -> u64
 
 /// The speed at a tick alone.
 fn rate_of_tick(tick: i64) -> i64
-    requires slowest { pos 9000 ≤ℤ tick }
-    requires fastest { tick ≤ℤ pos 11000 }
+    requires slowest { least_tick ≤ℤ tick }
+    requires fastest { tick ≤ℤ greatest_tick }
     ensures value { result ≡ tick *ℤ pos 6553600 }
     ensures least { pos 58982400000 ≤ℤ result }
     ensures most { result ≤ℤ pos 72089600000 }

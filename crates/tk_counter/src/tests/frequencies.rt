@@ -2,8 +2,8 @@ use super::next;
 use crate::{CounterDesc, DescError};
 use std::test::Fail;
 
-/// The mult and the shift as kernel/time/clocksource.c finds them: `clocks_calc_mult_shift` at 10^9, and then the
-/// halving of `__clocksource_update_freq_scale`.
+/// The mult and the shift as kernel/time/clocksource.c finds them: `clocks_calc_mult_shift` at
+/// 10^9, and then the halving of `__clocksource_update_freq_scale`.
 fn kernel_scale(hz: u32, maxsec: u32) -> Option<(u64, u32)> {
     let mut free = 32u32;
     let mut left = u64::from(maxsec) * u64::from(hz) >> 32;
@@ -29,7 +29,8 @@ fn kernel_halving(mult: u64, shift: u32) -> (u64, u32) {
     (mult, shift)
 }
 
-/// hz, seconds, mult and shift, made by a copy in C of the arithmetic of these two functions, built by gcc.
+/// hz, seconds, mult and shift, made by a copy in C of the arithmetic of these two functions, built
+/// by gcc.
 const FROM_KERNEL: [(u32, u32, u32, u32); 12] = [
     (1, 1, 2_000_000_000, 1),
     (1, 600, 2_000_000_000, 1),

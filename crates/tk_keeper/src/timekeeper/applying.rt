@@ -2,6 +2,7 @@
 ghost use Rattle.std.specs.Prelude.{◌≡◌, ◌+◌, ◌-◌, ◌<◌, ◌≤◌, length, min, MatchResult, IfOk, IsErrOf, None, false};
 ghost use Rattle.tk_clock.specs.Journal.{followed_by, accepted_count};
 ghost use Rattle.tk_clock.specs.Life.{NeverFalls};
+ghost use Rattle.tk_clock.specs.Limits.{listed_most};
 ghost use Rattle.tk_clock.specs.Monotonic.{monotonic};
 ghost use Rattle.tk_clock.specs.Refusal.{first_refusal, is_full, IsRefusal};
 ghost use Rattle.tk_clock.specs.State.{state_of};
@@ -12,10 +13,12 @@ use std::alloc::Allocator;
 use tk_clock::{Clock, Command, Entry, Refusal};
 
 impl<A: Allocator + Copy> Timekeeper<A> {
-    /// Does a command to the clocks and enters it in the journal; the entry's number, counted from 1.
+    /// Does a command to the clocks and enters it in the journal; the entry's number, counted from
+    /// 1.
     ///
-    /// Full where the journal has no room, then as `Clock::apply` refuses it, then Memory where the room for the entry
-    /// was refused. A refused command changes nothing. It takes no memory while `spare` is above 0.
+    /// Full where the journal has no room, then as `Clock::apply` refuses it, then Memory where the
+    /// room for the entry was refused. A refused command changes nothing. It takes no memory while
+    /// `spare` is above 0.
     pub fn apply(&mut self, who: u32, reading: u64, cmd: Command) -> Result<u64, Refusal>
         ensures answer { let entry : Entry = record { who = who; reading = reading; cmd = cmd } in
             MatchResult result
@@ -56,7 +59,8 @@ impl<A: Allocator + Copy> Timekeeper<A> {
         Ok(())
     }
 
-    /// Enters an accepted command, after which the clocks are `next`, where there is room; its number.
+    /// Enters an accepted command, after which the clocks are `next`, where there is room; its
+    /// number.
     fn enter(&mut self, entry: Entry, next: Clock) -> u64
         requires room { 0 < self.old.spare }
         requires accepted { first_refusal self.old.journal entry ≡ None }
@@ -78,7 +82,7 @@ impl<A: Allocator + Copy> Timekeeper<A> {
     ///
     /// Only Memory. `spare` may be greater then too; nothing else changes.
     pub fn reserve(&mut self, extra: usize) -> Result<(), Refusal>
-        ensures answer { let wanted = min extra (1048576 - length self.old.journal.entries) in
+        ensures answer { let wanted = min extra (listed_most - length self.old.journal.entries) in
             MatchResult result
             (λ _. wanted ≤ self.new.spare)
             (λ refusal. (refusal ≡ Refusal.Memory) × (self.new.spare < wanted)) }

@@ -2,7 +2,8 @@
 ghost use Rattle.std.specs.Prelude.{◌≡◌, ◌-◌, ◌≤◌, length, drop, max, vec_capacity};
 ghost use Rattle.tk_clock.specs.Journal.{accepted_count};
 ghost use Rattle.tk_clock.specs.Legal.{IsLegal};
-ghost use Rattle.tk_keeper.specs.Past.{IsFolded, folded_by};
+ghost use Rattle.tk_keeper.specs.Past.{IsFolded};
+ghost use Rattle.tk_clock.specs.Folding.{folded_by};
 
 use super::{KEPT_EVERY, Timekeeper};
 use std::alloc::Allocator;
@@ -10,12 +11,14 @@ use std::alloc::Allocator;
 impl<A: Allocator + Copy> Timekeeper<A> {
     /// Folds the oldest entries, so that at most `keep` are listed; how many are folded then.
     ///
-    /// Numbers and fronts go on as before, and no later value changes. It takes no memory: the listed entries move down
-    /// once, so fold many at a time.
+    /// Numbers and fronts go on as before, and no later value changes. It takes no memory: the
+    /// listed entries move down once, so fold many at a time.
     pub fn fold(&mut self, keep: u64) -> u64
         ensures answer { let before = self.old.journal in
             result ≡ max before.opening.count (accepted_count before - keep) }
         ensures folded { self.new.journal.opening.count ≡ result }
+        ensures journal { let before = self.old.journal in
+            self.new.journal ≡ folded_by (result - before.opening.count) before }
         ensures same { IsFolded self.old.journal self.new.journal }
         ensures legal { IsLegal self.new.journal }
         ensures spare { self.old.spare ≤ self.new.spare }

@@ -12,7 +12,8 @@ use std::alloc::Allocator;
 use tk_clock::{Clock, Snapshot};
 
 impl<A: Allocator + Copy> Timekeeper<A> {
-    /// What a reader was given when so many commands were accepted. It takes no memory, and at most 255 steps.
+    /// What a reader was given when so many commands were accepted. It takes no memory, and at most
+    /// 255 steps.
     ///
     /// Unknown where fewer were accepted, then Folded where entries after the front were folded.
     pub fn snapshot_at(&self, front: u64) -> Result<Snapshot, FrontError>
@@ -52,7 +53,8 @@ impl<A: Allocator + Copy> Timekeeper<A> {
         clock
     }
 
-    /// The clocks at the last kept state up to a place, or before all entries, and how many entries lie before it.
+    /// The clocks at the last kept state up to a place, or before all entries, and how many entries
+    /// lie before it.
     fn nearest(&self, place: usize) -> (Clock, usize)
         requires { place ≤ length self.now.journal.entries }
         ensures state { result.0 ≡ state_of (prefix result.1 self.now.journal) }

@@ -9,8 +9,8 @@ use tk_clock::{Entry, Refusal};
 impl<A: Allocator + Copy> Timekeeper<A> {
     /// Applies the events in their order; the answer to each.
     ///
-    /// All room is asked for first, so Memory applies nothing, though `spare` may be greater then, and no answer to an
-    /// event is Memory. Without events it takes no memory.
+    /// All room is asked for first, so Memory applies nothing, though `spare` may be greater then,
+    /// and no answer to an event is Memory. Without events it takes no memory.
     pub fn run(&mut self, events: &[Entry]) -> Result<Vec<Result<u64, Refusal>, A>, Refusal>
         ensures { MatchResult result
             (λ answers. (answers.items ≡ (run self.old.journal events.now).answers)

@@ -7,13 +7,19 @@ use Rattle.tk_clock.proofs.Effects.{ready, settled_effect}
 use Rattle.tk_clock.proofs.clock.Clock.resume.Goals as goal
 
 pub nanos_of-requires-clause-since : goal.nanos_of-requires-clause-since
-nanos_of-requires-clause-since c = (resumed-below c.args.away (ready c.args.self.now c.args.reading (Resume c.args.away) c.requires).well).since
+nanos_of-requires-clause-since c =
+    (resumed-below c.args.away
+    (ready c.args.self.now c.args.reading (Resume c.args.away) c.requires).well).since
 
 pub nanos_of-requires-clause-until : goal.nanos_of-requires-clause-until
-nanos_of-requires-clause-until c = (resumed-below c.args.away (ready c.args.self.now c.args.reading (Resume c.args.away) c.requires).well).until
+nanos_of-requires-clause-until c =
+    (resumed-below c.args.away
+    (ready c.args.self.now c.args.reading (Resume c.args.away) c.requires).well).until
 
 pub nanos_of-requires-clause-rest : goal.nanos_of-requires-clause-rest
-nanos_of-requires-clause-rest c = (resumed-below c.args.away (ready c.args.self.now c.args.reading (Resume c.args.away) c.requires).well).rest
+nanos_of-requires-clause-rest c =
+    (resumed-below c.args.away
+    (ready c.args.self.now c.args.reading (Resume c.args.away) c.requires).well).rest
 
 pub returns : goal.returns
 returns c =
@@ -27,7 +33,9 @@ returns c =
         asleep = false;
       };
     } in
-    let same = ap (λ (b : ReadBase). let after : State = record state { base = b } in after) c.woken.ensures
+    let same = ap (λ (b : ReadBase). let after : State = record state { base = b }
+    in after) c.woken.ensures
     ∙ ap (λ (s : State). put (pos c.nanos_of.result) s.base) c.self.view_is
     ∙ ap (λ away. put away state.base) c.nanos_of.ensures.value in
-    settled_effect state reading (Resume c.args.away) (record state { base = c.woken.result }) c.settled.result refl same c.settled.ensures
+    settled_effect state reading (Resume c.args.away) (record state { base = c.woken.result })
+    c.settled.result refl same c.settled.ensures

@@ -9,14 +9,16 @@ use Rattle.tk_clock.proofs.clock.Clock.set_tai.Goals as goal
 
 pub overflow_cast-unsigned_abs : goal.overflow_cast-unsigned_abs
 overflow_cast-unsigned_abs c =
-    let range = tai-between c.args.seconds (ready c.args.self.now c.args.now.last (Tai c.args.seconds) c.requires.early).well in
+    let range = tai-between c.args.seconds
+    (ready c.args.self.now c.args.now.last (Tai c.args.seconds) c.requires.early).well in
     let told = c.unsigned_abs.ensures in
     let same = to_z-of_z w64 c.args.seconds c.ranges.seconds in
     omega (arith, ints, told, same, range.0, range.1)
 
 pub with_tai-requires : goal.with_tai-requires
 with_tai-requires c =
-    let range = tai-between c.args.seconds (ready c.args.self.now c.args.now.last (Tai c.args.seconds) c.requires.early).well in
+    let range = tai-between c.args.seconds
+    (ready c.args.self.now c.args.now.last (Tai c.args.seconds) c.requires.early).well in
     let told = c.unsigned_abs.ensures in
     let same = to_z-of_z w64 c.args.seconds c.ranges.seconds in
     omega (arith, ints, told, same, range.0, range.1)
@@ -24,12 +26,17 @@ with_tai-requires c =
 pub returns : goal.returns
 returns c =
     let state = c.args.self.now in
-    let range = tai-between c.args.seconds (ready c.args.self.now c.args.now.last (Tai c.args.seconds) c.requires.early).well in
+    let range = tai-between c.args.seconds
+    (ready c.args.self.now c.args.now.last (Tai c.args.seconds) c.requires.early).well in
     let same = to_z-of_z w64 c.args.seconds c.ranges.seconds in
-    let seconds : pos c.unsigned_abs.result ≡ c.args.seconds = omega (arith, ints, c.unsigned_abs.ensures, same, range.0, range.1) in
-    let put : ℤ → ReadBase → State = λ tai base. record state { base = record base { tai = tai } } in
-    let e = ap (λ (b : ReadBase). let after : State = record state { base = b } in after) c.with_tai.ensures
+    let seconds : pos c.unsigned_abs.result ≡ c.args.seconds =
+    omega (arith, ints, c.unsigned_abs.ensures, same, range.0, range.1) in
+    let put : ℤ → ReadBase → State = λ tai base. record state { base = record base { tai = tai } }
+    in
+    let e = ap (λ (b : ReadBase). let after : State = record state { base = b }
+    in after) c.with_tai.ensures
     ∙ ap (λ z. put z c.args.now) seconds
-    ∙ ap (put c.args.seconds) c.requires.forwarded in
-    settled_effect state c.args.now.last (Tai c.args.seconds) (record state { base = c.with_tai.result }) c.settled.result refl e
+    ∙ ap (put c.args.seconds) c.requires.forwarded.told in
+    settled_effect state c.args.now.last (Tai c.args.seconds)
+    (record state { base = c.with_tai.result }) c.settled.result refl e
     (rw same at c.settled.ensures)

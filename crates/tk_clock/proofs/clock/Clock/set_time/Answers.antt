@@ -12,43 +12,70 @@ use Rattle.tk_clock.proofs.clock.Clock.set_time.Goals as goal
 
 pub returns-then-is_past_limit : goal.returns-then-is_past_limit
 returns-then-is_past_limit c =
-    set_range c.args.self.now c.args.now c.args.time c.requires.forwarded (sym c.if-is_past_limit.ensures)
+    set_range c.args.self.now c.args.now c.args.time c.requires.forwarded.told
+    (sym c.if-is_past_limit.ensures)
 
 pub nanos_of-requires-clause-since : goal.nanos_of-requires-clause-since
 nanos_of-requires-clause-since c =
-    (set-below c.args.time (ready c.args.self.now c.args.now.last (SetTime c.args.time) c.requires.early).well).since
+    (set-below c.args.time
+    (ready c.args.self.now c.args.now.last (SetTime c.args.time) c.requires.early).well).since
 
 pub nanos_of-requires-clause-until : goal.nanos_of-requires-clause-until
 nanos_of-requires-clause-until c =
-    let below = (set-below c.args.time (ready c.args.self.now c.args.now.last (SetTime c.args.time) c.requires.early).well).until in
+    let below = (set-below c.args.time
+    (ready c.args.self.now c.args.now.last (SetTime c.args.time) c.requires.early).well).until
+    in
     omega (arith, ints, below)
 
 pub nanos_of-requires-clause-rest : goal.nanos_of-requires-clause-rest
 nanos_of-requires-clause-rest c =
-    (set-below c.args.time (ready c.args.self.now c.args.now.last (SetTime c.args.time) c.requires.early).well).rest
+    (set-below c.args.time
+    (ready c.args.self.now c.args.now.last (SetTime c.args.time) c.requires.early).well).rest
 
 pub returns-in_default : goal.returns-in_default
 returns-in_default c =
     let low : nanoseconds c.args.time <ℤ pos (now_of c.args.now) =
-    omega (arith, ints, c.in_default.ensures, c.nanos_of.ensures.value, c.monotonic_now.ensures.amount) in
-    set_invalid c.args.self.now c.args.now c.args.time c.requires.early c.requires.forwarded (sym c.if-is_past_limit.ensures) low
+    omega (
+      arith,
+      ints,
+      c.in_default.ensures,
+      c.nanos_of.ensures.value,
+      c.monotonic_now.ensures.amount,
+    ) in
+    set_invalid c.args.self.now c.args.now c.args.time c.requires.early c.requires.forwarded.told
+    (sym c.if-is_past_limit.ensures) low
 
 pub set_to-requires-clause-settable : goal.set_to-requires-clause-settable
 set_to-requires-clause-settable c =
-    let below = set-below c.args.time (ready c.args.self.now c.args.now.last (SetTime c.args.time) c.requires.early).well in
-    omega (arith, ints, c.in-Some.ensures, c.nanos_of.ensures.value, c.monotonic_now.ensures.amount, below.until, below.rest)
+    let below = set-below c.args.time
+    (ready c.args.self.now c.args.now.last (SetTime c.args.time) c.requires.early).well in
+    omega (
+      arith,
+      ints,
+      c.in-Some.ensures,
+      c.nanos_of.ensures.value,
+      c.monotonic_now.ensures.amount,
+      below.until,
+      below.rest,
+    )
 
 pub set_to-requires-clause-boot : goal.set_to-requires-clause-boot
 set_to-requires-clause-boot c =
-    within_boot (λ clock. base_value c.args.now clock c.args.now.last) (SetTime c.args.time) (sym c.if-is_past_limit.ensures)
+    within_boot (λ clock. base_value c.args.now clock c.args.now.last) (SetTime c.args.time)
+    (sym c.if-is_past_limit.ensures)
 
 pub returns : goal.returns
 returns c =
     let now = c.args.now in
     let high : pos (now_of now) ≤ℤ nanoseconds c.args.time =
-    omega (arith, ints, c.in-Some.ensures, c.nanos_of.ensures.value, c.monotonic_now.ensures.amount) in
+    omega (arith, ints, c.in-Some.ensures, c.nanos_of.ensures.value, c.monotonic_now.ensures.amount)
+    in
     let offset : pos c.in-Some.offset ≡ nanoseconds c.args.time -ℤ pos (now_of now) =
-    omega (arith, ints, c.in-Some.ensures, c.nanos_of.ensures.value, c.monotonic_now.ensures.amount) in (
-      set_none c.args.self.now now c.args.time c.requires.early c.requires.forwarded (sym c.if-is_past_limit.ensures) high,
-      c.set_to.ensures ∙ set_state c.args.self.now now c.args.time c.in-Some.offset c.requires.forwarded offset,
+    omega (arith, ints, c.in-Some.ensures, c.nanos_of.ensures.value, c.monotonic_now.ensures.amount)
+    in (
+      set_none c.args.self.now now c.args.time c.requires.early c.requires.forwarded.told
+          (sym c.if-is_past_limit.ensures) high,
+      c.set_to.ensures
+          ∙ set_state c.args.self.now now c.args.time c.in-Some.offset c.requires.forwarded.told
+          offset,
     )

@@ -12,13 +12,17 @@ invariant_of-result c =
     let clock = c.self.inside in
     let held = c.self.invariant in
     let past = sym c.if-is_past_limit.ensures in
-    let plain = within_plain (λ clock. base_value base clock base.last) c.args.cmd c.requires.plain past in
+    let plain = within_plain (λ clock. base_value base clock base.last) c.args.cmd c.requires.plain
+    past in
     let mult = c.requires.steered ∙ ap (λ (s : State). s.base.mult) (sym c.self.view_is) in
     let counter = c.requires.counter ∙ ap (λ (s : State). s.base.counter) (sym c.self.view_is) in
-    let frequency : to_z w64 (of_z w64 clock.frequency) ≡ clock.frequency = omega (arith, ints, held.frequency_low, held.frequency_high) in
-    let tick : to_z w64 (of_z w64 clock.tick) ≡ clock.tick = omega (arith, ints, held.tick_low, held.tick_high) in
+    let frequency : to_z w64 (of_z w64 clock.frequency) ≡ clock.frequency =
+    omega (arith, ints, held.frequency_low, held.frequency_high) in
+    let tick : to_z w64 (of_z w64 clock.tick) ≡ clock.tick =
+    omega (arith, ints, held.tick_low, held.tick_high) in
     rw (frequency, tick) record {
-      steered = mult ∙ held.steered ∙ ap (λ k. multiplier k clock.frequency clock.tick) (sym counter);
+      steered = mult ∙ held.steered
+          ∙ ap (λ k. multiplier k clock.frequency clock.tick) (sym counter);
       frequency_low = held.frequency_low;
       frequency_high = held.frequency_high;
       tick_low = held.tick_low;

@@ -9,20 +9,32 @@ use Rattle.tk_clock.proofs.clock.Clock.steered.Goals as goal
 pub with_mult-base-requires-clause-some : goal.with_mult-base-requires-clause-some
 with_mult-base-requires-clause-some c =
     let counter = c.now.inside.desc in
-    let same = rw (to_z-of_z w64 c.args.frequency c.ranges.frequency, to_z-of_z w64 c.args.tick c.ranges.tick) at c.mult_at.ensures.value in
+    let same = rw (
+      to_z-of_z w64 c.args.frequency c.ranges.frequency,
+      to_z-of_z w64 c.args.tick c.ranges.tick,
+    ) at c.mult_at.ensures.value in
     subst (λ m. 1 ≤ m) (sym same)
-    (multiplier_some counter c.args.frequency c.args.tick c.now.invariant.described.mult_low c.requires.slowest)
+    (multiplier_some counter c.args.frequency c.args.tick c.now.invariant.described.mult_low
+    c.requires.slowest)
 
 pub invariant_of-result : goal.invariant_of-result
 invariant_of-result c =
     let base = c.with_mult-base.result in
     let told = c.with_mult-base.ensures in
     let past = sym c.if-is_past_limit.ensures in
-    let plain = within_plain (λ clock. base_value base clock base.last) c.args.cmd c.requires.plain past in
-    let mult = rw (to_z-of_z w64 c.args.frequency c.ranges.frequency, to_z-of_z w64 c.args.tick c.ranges.tick) at c.mult_at.ensures.value in
+    let plain = within_plain (λ clock. base_value base clock base.last) c.args.cmd c.requires.plain
+    past in
+    let mult = rw (
+      to_z-of_z w64 c.args.frequency c.ranges.frequency,
+      to_z-of_z w64 c.args.tick c.ranges.tick,
+    ) at c.mult_at.ensures.value in
     let counter = ap (λ (b : ReadBase). b.counter) c.now.view_is in
-    rw (to_z-of_z w64 c.args.frequency c.ranges.frequency, to_z-of_z w64 c.args.tick c.ranges.tick) record {
-      steered = ap (λ (b : ReadBase). b.mult) told ∙ mult ∙ ap (λ k. multiplier k c.args.frequency c.args.tick) counter
+    rw (
+      to_z-of_z w64 c.args.frequency c.ranges.frequency,
+      to_z-of_z w64 c.args.tick c.ranges.tick,
+    ) record {
+      steered = ap (λ (b : ReadBase). b.mult) told ∙ mult
+          ∙ ap (λ k. multiplier k c.args.frequency c.args.tick) counter
           ∙ ap (λ (b : ReadBase). multiplier b.counter c.args.frequency c.args.tick) (sym told);
       frequency_low = omega (arith, ints, c.ranges.frequency);
       frequency_high = omega (arith, ints, c.ranges.frequency);

@@ -12,22 +12,29 @@ use Rattle.tk_clock.proofs.Effects.{ready}
 use Rattle.tk_clock.proofs.Settings.{stepped, step_range, step_invalid, step_none, step_state, within_boot}
 use Rattle.tk_clock.proofs.clock.Clock.step.Goals as goal
 use Rattle.tk_clock.proofs.clock.Clock.step.Goals.{then-real-monotonic-via-then-real-monotonic, then-real-monotonic-via-else-real-monotonic+then-real-settable_limit}
+use Rattle.tk_clock.specs.Limits.{settable_end}
 
 pub returns-then-is_past_limit : goal.returns-then-is_past_limit
-returns-then-is_past_limit c = step_range c.args.self.now c.args.now c.args.by c.requires.forwarded (sym c.if-is_past_limit.ensures)
+returns-then-is_past_limit c =
+    step_range c.args.self.now c.args.now c.args.by c.requires.forwarded.told
+    (sym c.if-is_past_limit.ensures)
 
 pub moved-requires-clause-rest : goal.moved-requires-clause-rest
-moved-requires-clause-rest c = step-rest c.args.by (ready c.args.self.now c.args.now.last (Step c.args.by) c.requires.early).well
+moved-requires-clause-rest c =
+    step-rest c.args.by
+    (ready c.args.self.now c.args.now.last (Step c.args.by) c.requires.early).well
 
 pub set_to-requires-clause-boot : goal.set_to-requires-clause-boot
 set_to-requires-clause-boot c =
-    within_boot (λ clock. base_value c.args.now clock c.args.now.last) (Step c.args.by) (sym c.if-is_past_limit.ensures)
+    within_boot (λ clock. base_value c.args.now clock c.args.now.last) (Step c.args.by)
+    (sym c.if-is_past_limit.ensures)
 
 pub overflow_add-monotonic : goal.overflow_add-monotonic
 overflow_add-monotonic c =
     let base = c.self.inside.base in
     let held = ap (λ (i : Inside). i.base.real_offset) (sym c.self-inside.view_is) in
-    let low = real_offset_low base c.self-inside.inside.0.0.real_offset held c.self.invariant.within.real_low in
+    let low = real_offset_low base c.self-inside.inside.0.0.real_offset held
+    c.self.invariant.within.real_low in
     let now = c.monotonic_now-monotonic.ensures.low in
     omega (arith, low, now)
 
@@ -35,16 +42,20 @@ pub moved-requires-clause-real : goal.moved-requires-clause-real
 moved-requires-clause-real c =
     let base = c.self.inside.base in
     let held = ap (λ (i : Inside). i.base.real_offset) (sym c.self-inside.view_is) in
-    let low = real_offset_low base c.self-inside.inside.0.0.real_offset held c.self.invariant.within.real_low in
+    let low = real_offset_low base c.self-inside.inside.0.0.real_offset held
+    c.self.invariant.within.real_low in
     let now = c.monotonic_now-monotonic.ensures.low in
     omega (arith, low, now)
 
 -- REALTIME after the step, by the parts that the code adds
-real_is : (state : State) (base now : ReadBase) (by : Timespec) (monotonic offset : ℕ) → now ≡ forwarded state.base now.last → base ≡ state.base →
-    base.real_offset ≡ pos offset → monotonic ≡ now_of now → stepped now by ≡ pos (monotonic + offset) +ℤ nanoseconds by
+real_is : (state : State) (base now : ReadBase) (by : Timespec) (monotonic offset : ℕ) →
+    now ≡ forwarded state.base now.last → base ≡ state.base →
+    base.real_offset ≡ pos offset → monotonic ≡ now_of now →
+    stepped now by ≡ pos (monotonic + offset) +ℤ nanoseconds by
 real_is state base now by monotonic offset forwarded same held amount =
     let told : now.real_offset ≡ pos offset =
-    ap (λ (b : ReadBase). b.real_offset) forwarded ∙ ap (λ (b : ReadBase). b.real_offset) (sym same) ∙ held in
+    ap (λ (b : ReadBase). b.real_offset) forwarded ∙ ap (λ (b : ReadBase). b.real_offset) (sym same)
+    ∙ held in
     omega (arith, ints, told, amount)
 
 pub returns-in_default : goal.returns-in_default
@@ -52,23 +63,32 @@ returns-in_default c =
     let now = c.args.now in
     let held = ap (λ (i : Inside). i.base.real_offset) (sym c.self-inside.view_is) in
     let base = ap (λ (s : State). s.base) c.self.view_is in
-    let real = real_is c.args.self.now c.self.inside.base now c.args.by c.monotonic_now-monotonic.result c.self-inside.inside.0.0.real_offset
-    c.requires.forwarded base held c.monotonic_now-monotonic.ensures.amount in
-    step_invalid c.args.self.now now c.args.by c.requires.early c.requires.forwarded (sym c.if-is_past_limit.ensures)
-    (elim c.in_default.ensures [ inl under ↦ inl (omega (arith, ints, under, real)) | inr over ↦ inr (omega (arith, ints, over, real)) ])
+    let real = real_is c.args.self.now c.self.inside.base now c.args.by
+    c.monotonic_now-monotonic.result c.self-inside.inside.0.0.real_offset
+    c.requires.forwarded.told base held c.monotonic_now-monotonic.ensures.amount in
+    step_invalid c.args.self.now now c.args.by c.requires.early c.requires.forwarded.told
+    (sym c.if-is_past_limit.ensures)
+    (elim c.in_default.ensures [
+      | inl under ↦ inl (omega (arith, ints, under, real))
+      | inr over ↦ inr
+          (omega (arith, ints, over, real))
+    ])
 
 pub returns-then-real-monotonic : goal.returns-then-real-monotonic
 returns-then-real-monotonic c =
     let now = c.args.now in
     let held = ap (λ (i : Inside). i.base.real_offset) (sym c.self-inside.view_is) in
     let base = ap (λ (s : State). s.base) c.self.view_is in
-    let real = real_is c.args.self.now c.self.inside.base now c.args.by c.monotonic_now-monotonic.result c.self-inside.inside.0.0.real_offset
-    c.requires.forwarded base held c.monotonic_now-monotonic.ensures.amount in
+    let real = real_is c.args.self.now c.self.inside.base now c.args.by
+    c.monotonic_now-monotonic.result c.self-inside.inside.0.0.real_offset
+    c.requires.forwarded.told base held c.monotonic_now-monotonic.ensures.amount in
     let told = c.in-Some.ensures in
     let amount = c.monotonic_now-monotonic.ensures.amount in
-    step_invalid c.args.self.now now c.args.by c.requires.early c.requires.forwarded (sym c.if-is_past_limit.ensures)
+    step_invalid c.args.self.now now c.args.by c.requires.early c.requires.forwarded.told
+    (sym c.if-is_past_limit.ensures)
     (elim c.then-real-monotonic.branch [
-      | then-real-monotonic-via-then-real-monotonic w ↦ let low = w.if-real-monotonic.true in inl (omega (arith, ints, told, real, amount, low))
+      | then-real-monotonic-via-then-real-monotonic w ↦ let low = w.if-real-monotonic.true
+          in inl (omega (arith, ints, told, real, amount, low))
       | then-real-monotonic-via-else-real-monotonic+then-real-settable_limit w ↦
           let high = w.if-real-settable_limit.true in
           let limit = w.settable_limit.ensures in
@@ -80,15 +100,22 @@ returns c =
     let now = c.args.now in
     let held = ap (λ (i : Inside). i.base.real_offset) (sym c.self-inside.view_is) in
     let base = ap (λ (s : State). s.base) c.self.view_is in
-    let real = real_is c.args.self.now c.self.inside.base now c.args.by c.monotonic_now-monotonic.result c.self-inside.inside.0.0.real_offset
-    c.requires.forwarded base held c.monotonic_now-monotonic.ensures.amount in
+    let real = real_is c.args.self.now c.self.inside.base now c.args.by
+    c.monotonic_now-monotonic.result c.self-inside.inside.0.0.real_offset
+    c.requires.forwarded.told base held c.monotonic_now-monotonic.ensures.amount in
     let told = c.in-Some.ensures in
     let amount = c.monotonic_now-monotonic.ensures.amount in
-    let above : pos (now_of now) ≤ℤ stepped now c.args.by = let high = c.if-real-monotonic.false in omega (arith, ints, told, real, amount, high) in
-    let below : stepped now c.args.by <ℤ pos (8277292036 * 10 ^ 9) =
-    let low = c.if-real-settable_limit.false in let limit = c.settable_limit.ensures in omega (arith, ints, told, real, low, limit) in
-    let offset : pos (c.in-Some.real - c.monotonic_now-monotonic.result) ≡ now.real_offset +ℤ nanoseconds c.args.by =
+    let above : pos (now_of now) ≤ℤ stepped now c.args.by = let high = c.if-real-monotonic.false
+    in omega (arith, ints, told, real, amount, high) in
+    let below : stepped now c.args.by <ℤ pos (settable_end * 10 ^ 9) =
+    let low = c.if-real-settable_limit.false in let limit = c.settable_limit.ensures
+    in omega (arith, ints, told, real, low, limit) in
+    let offset : pos (c.in-Some.real - c.monotonic_now-monotonic.result)
+    ≡ now.real_offset +ℤ nanoseconds c.args.by =
     let high = c.if-real-monotonic.false in omega (arith, ints, told, real, amount, high) in (
-      step_none c.args.self.now now c.args.by c.requires.early c.requires.forwarded (sym c.if-is_past_limit.ensures) above below,
-      c.set_to.ensures ∙ step_state c.args.self.now now c.args.by (c.in-Some.real - c.monotonic_now-monotonic.result) c.requires.forwarded offset,
+      step_none c.args.self.now now c.args.by c.requires.early c.requires.forwarded.told
+          (sym c.if-is_past_limit.ensures) above below,
+      c.set_to.ensures
+          ∙ step_state c.args.self.now now c.args.by
+          (c.in-Some.real - c.monotonic_now-monotonic.result) c.requires.forwarded.told offset,
     )

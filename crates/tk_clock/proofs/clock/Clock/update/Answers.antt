@@ -7,5 +7,7 @@ use Rattle.tk_clock.proofs.clock.Clock.update.Goals as goal
 pub returns : goal.returns
 returns c =
     let state = c.args.self.now in
-    let same = ap (λ (b : ReadBase). let after : State = record state { base = b } in after) c.requires.forwarded in
-    settled_effect state c.args.now.last Update (record state { base = c.args.now }) c.settled.result refl same c.settled.ensures
+    let same = ap (λ (b : ReadBase). let after : State = record state { base = b }
+    in after) c.requires.forwarded.told in
+    settled_effect state c.args.now.last Update (record state { base = c.args.now })
+    c.settled.result refl same c.settled.ensures

@@ -7,14 +7,17 @@ use Rattle.tk_clock.specs.contracts.read_base.ReadBase.{the_view}
 use Rattle.tk_clock.proofs.Units.{end_nanos}
 use Rattle.tk_clock.proofs.Rates.{IsRated-forwarded, raw_low, fewer_seconds, below_seconds, at_least_seconds}
 use Rattle.tk_clock.proofs.read_base.ReadBase.forwarded.Goals as goal
+use Rattle.tk_clock.specs.Limits.{monotonic_end, raw_end}
 
 pub returns-in_default : goal.returns-in_default
 returns-in_default c =
     let base = c.self.inside in
     let units = units_of base.desc base.monotonic in
     let same = ap (λ k. units + k * base.mult) c.gap-cycles.ensures.value in
-    let far : 946080000 * second base.desc ≤ units + gap base.desc base.last c.args.reading * base.mult = omega (arith, same, c.in_default.ensures) in
-    rw (← c.self.view_is) (end_nanos 946080000 _ base.desc.shift far)
+    let far : monotonic_end * second base.desc
+    ≤ units + gap base.desc base.last c.args.reading * base.mult =
+    omega (arith, same, c.in_default.ensures) in
+    rw (← c.self.view_is) (end_nanos monotonic_end _ base.desc.shift far)
 
 pub returns-then-monotonic-ge-MONOTONIC_SEC_LIMIT : goal.returns-then-monotonic-ge-MONOTONIC_SEC_LIMIT
 returns-then-monotonic-ge-MONOTONIC_SEC_LIMIT c =
@@ -22,10 +25,12 @@ returns-then-monotonic-ge-MONOTONIC_SEC_LIMIT c =
     let after = c.in-Some.monotonic in
     let units = units_of base.desc base.monotonic in
     let same = c.in-Some.ensures.0 ∙ ap (λ k. units + k * base.mult) c.gap-cycles.ensures.value in
-    let many = at_least_seconds after.sec after.frac 946080000 (second base.desc) c.if-monotonic-ge-MONOTONIC_SEC_LIMIT.true in
-    let far : 946080000 * second base.desc ≤ units + gap base.desc base.last c.args.reading * base.mult =
-    subst (λ n. 946080000 * second base.desc ≤ n) same many in
-    rw (← c.self.view_is) (end_nanos 946080000 _ base.desc.shift far)
+    let many = at_least_seconds after.sec after.frac monotonic_end
+    (second base.desc) c.if-monotonic-ge-MONOTONIC_SEC_LIMIT.true in
+    let far : monotonic_end * second base.desc
+    ≤ units + gap base.desc base.last c.args.reading * base.mult =
+    subst (λ n. monotonic_end * second base.desc ≤ n) same many in
+    rw (← c.self.view_is) (end_nanos monotonic_end _ base.desc.shift far)
 
 pub returns-in_default-grown : goal.returns-in_default-grown
 returns-in_default-grown c =
@@ -34,12 +39,17 @@ returns-in_default-grown c =
     let monotonic = c.in-Some.monotonic in
     let steered = rw (← c.self.view_is) at c.requires.steered in
     let rated = rw (← c.self.view_is) at c.requires.rated in
-    let same = c.in-Some.ensures.0 ∙ ap (λ k. units_of base.desc base.monotonic + k * base.mult) c.gap-cycles.ensures.value in
-    let low = subst (λ n. n < 946080000 * second base.desc) same
-    (below_seconds monotonic.sec monotonic.frac 946080000 (second base.desc) c.if-monotonic-ge-MONOTONIC_SEC_LIMIT.false c.in-Some.ensures.1) in
-    let below = raw_low (forwarded before c.args.reading) c.self.invariant.described (IsRated-forwarded before c.args.reading steered rated) low in
-    let mult = ap (λ m. units_of base.desc base.raw + c.gap-cycles.result * m) c.mult.ensures.value in
-    let cycles = ap (λ k. units_of base.desc base.raw + k * base.desc.mult) c.gap-cycles.ensures.value in
+    let same = c.in-Some.ensures.0
+    ∙ ap (λ k. units_of base.desc base.monotonic + k * base.mult) c.gap-cycles.ensures.value in
+    let low = subst (λ n. n < monotonic_end * second base.desc) same
+    (below_seconds monotonic.sec monotonic.frac monotonic_end
+    (second base.desc) c.if-monotonic-ge-MONOTONIC_SEC_LIMIT.false c.in-Some.ensures.1) in
+    let below = raw_low (forwarded before c.args.reading) c.self.invariant.described
+    (IsRated-forwarded before c.args.reading steered rated) low in
+    let mult = ap (λ m. units_of base.desc base.raw + c.gap-cycles.result * m) c.mult.ensures.value
+    in
+    let cycles = ap (λ k. units_of base.desc base.raw + k * base.desc.mult)
+    c.gap-cycles.ensures.value in
     absurd (omega (arith, below, mult, cycles, c.in_default-grown.ensures))
 
 pub invariant_of-result : goal.invariant_of-result
@@ -51,10 +61,13 @@ invariant_of-result c =
     let raw = c.in-Some-grown.raw in
     let steered = rw (← c.self.view_is) at c.requires.steered in
     let rated = rw (← c.self.view_is) at c.requires.rated in
-    let same = c.in-Some.ensures.0 ∙ ap (λ k. units_of base.desc base.monotonic + k * base.mult) c.gap-cycles.ensures.value in
-    let low = subst (λ n. n < 946080000 * second base.desc) same
-    (below_seconds monotonic.sec monotonic.frac 946080000 (second base.desc) c.if-monotonic-ge-MONOTONIC_SEC_LIMIT.false c.in-Some.ensures.1) in
-    let below = raw_low (forwarded before c.args.reading) held.described (IsRated-forwarded before c.args.reading steered rated) low in
+    let same = c.in-Some.ensures.0
+    ∙ ap (λ k. units_of base.desc base.monotonic + k * base.mult) c.gap-cycles.ensures.value in
+    let low = subst (λ n. n < monotonic_end * second base.desc) same
+    (below_seconds monotonic.sec monotonic.frac monotonic_end
+    (second base.desc) c.if-monotonic-ge-MONOTONIC_SEC_LIMIT.false c.in-Some.ensures.1) in
+    let below = raw_low (forwarded before c.args.reading) held.described
+    (IsRated-forwarded before c.args.reading steered rated) low in
     let raw_same = c.in-Some-grown.ensures.0
     ∙ ap (λ m. units_of base.desc base.raw + c.gap-cycles.result * m) c.mult.ensures.value
     ∙ ap (λ k. units_of base.desc base.raw + k * base.desc.mult) c.gap-cycles.ensures.value in
@@ -66,8 +79,8 @@ invariant_of-result c =
       frac_low = c.in-Some.ensures.1;
       sec_low = c.if-monotonic-ge-MONOTONIC_SEC_LIMIT.false;
       raw_frac_low = c.in-Some-grown.ensures.1;
-      raw_sec_low = fewer_seconds raw.sec raw.frac 1060000000 (second base.desc)
-          (subst (λ n. n < 1060000000 * second base.desc) (sym raw_same) below);
+      raw_sec_low = fewer_seconds raw.sec raw.frac raw_end (second base.desc)
+          (subst (λ n. n < raw_end * second base.desc) (sym raw_same) below);
       tai_low = held.tai_low;
     }
 
@@ -78,10 +91,18 @@ returns c =
     let after = forwarded before c.args.reading in
     let steered = rw (← c.self.view_is) at c.requires.steered in
     let rated = rw (← c.self.view_is) at c.requires.rated in
-    let same = c.in-Some.ensures.0 ∙ ap (λ k. units_of base.desc base.monotonic + k * base.mult) c.gap-cycles.ensures.value in
+    let same = c.in-Some.ensures.0
+    ∙ ap (λ k. units_of base.desc base.monotonic + k * base.mult) c.gap-cycles.ensures.value in
     let raw_same = c.in-Some-grown.ensures.0
     ∙ ap (λ m. units_of base.desc base.raw + c.gap-cycles.result * m) c.mult.ensures.value
     ∙ ap (λ k. units_of base.desc base.raw + k * base.desc.mult) c.gap-cycles.ensures.value in
-    let told = ap (λ m. record after { amount = m; raw_amount = units_of base.desc c.in-Some-grown.raw }) same
+    let told = ap (λ m. record after {
+      amount = m;
+      raw_amount = units_of base.desc c.in-Some-grown.raw;
+    }) same
     ∙ ap (λ r. record after { raw_amount = r }) raw_same in
-    rw (← c.self.view_is) (told, subst (λ (b : ReadBase). IsRated b) (sym told) (IsRated-forwarded before c.args.reading steered rated))
+    rw (← c.self.view_is) (
+      told,
+      subst (λ (b : ReadBase). IsRated b) (sym told)
+          (IsRated-forwarded before c.args.reading steered rated),
+    )

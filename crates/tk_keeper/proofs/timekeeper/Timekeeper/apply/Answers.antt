@@ -10,8 +10,9 @@ use Rattle.tk_clock.specs.Refusal.{is_full, first_refusal}
 use Rattle.tk_clock.specs.State.{state_of}
 use Rattle.tk_clock.proofs.Monotone.{never_falls, agrees}
 use Rattle.tk_clock.proofs.Legal.{first_refusal-state, state_of-followed_by, IsRefusal-told}
-use Rattle.tk_keeper.specs.Keeper.{Keeper, journal_from}
+use Rattle.tk_keeper.specs.Keeper.{Keeper}
 use Rattle.tk_keeper.proofs.timekeeper.Timekeeper.apply.Goals as goal
+use Rattle.tk_clock.specs.Folding.{journal_from}
 
 pub returns-then-is_full-clause-rises : goal.returns-then-is_full-clause-rises
 returns-then-is_full-clause-rises g c = never_falls c.args.self.now.journal
@@ -28,7 +29,8 @@ returns-in_err-apply-clause-answer g c =
     let p = err_from_is_err_and c.from_residual.result c.from_residual.ensures.1 in
     rw (p.1, p.2, ← c.self.view_is) (
       IsRefusal-told journal entry _ room
-          (first_refusal-state journal keeper.clock c.args.who c.args.reading c.args.cmd _ c.self.invariant.0.running room c.in_err-apply.ensures.0),
+          (first_refusal-state journal keeper.clock c.args.who c.args.reading c.args.cmd _
+          c.self.invariant.0.running room c.in_err-apply.ensures.0),
       refl,
     )
 
@@ -36,7 +38,8 @@ returns-in_err-apply-clause-answer g c =
 not_told : (journal : Journal) (entry : Entry) (refusal : Refusal) → is_full journal ≡ false →
     first_refusal journal entry ≡ Some refusal → refusal ≡ Memory → ⊥
 not_told journal entry refusal room told e =
-    let memory : first_refusal journal entry ≡ Some Memory = told ∙ ap (λ (r : Refusal). Some r) e in
+    let memory : first_refusal journal entry ≡ Some Memory = told ∙ ap (λ (r : Refusal). Some r) e
+    in
     let none = IsRefusal-told journal entry Memory room memory in
     cc (none, memory)
 
@@ -47,7 +50,8 @@ returns-in_err-apply-clause-memory g c = λ e.
     let entry : Entry = record { who = c.args.who; reading = c.args.reading; cmd = c.args.cmd } in
     let room : is_full journal ≡ false = rw (← c.self.view_is) at (sym c.if-is_full.ensures) in
     let p = err_from_is_err_and c.from_residual.result c.from_residual.ensures.1 in
-    let told = first_refusal-state journal keeper.clock c.args.who c.args.reading c.args.cmd _ c.self.invariant.0.running room c.in_err-apply.ensures.0 in
+    let told = first_refusal-state journal keeper.clock c.args.who c.args.reading c.args.cmd _
+    c.self.invariant.0.running room c.in_err-apply.ensures.0 in
     absurd (not_told journal entry _ room told cc)
 
 pub returns-in_err-make_room-clause-answer : goal.returns-in_err-make_room-clause-answer
@@ -56,8 +60,10 @@ returns-in_err-make_room-clause-answer g c =
     let journal : Journal = journal_from keeper.folded keeper.start keeper.entries.items in
     let entry : Entry = record { who = c.args.who; reading = c.args.reading; cmd = c.args.cmd } in
     let room : is_full journal ≡ false = rw (← c.self.view_is) at (sym c.if-is_full.ensures) in
-    let p = err_from_is_err_and c.from_residual-in_err-make_room.result c.from_residual-in_err-make_room.ensures.1 in
-    let told = first_refusal-state journal keeper.clock c.args.who c.args.reading c.args.cmd None c.self.invariant.0.running room c.in_ok-apply.ensures.0 in
+    let p = err_from_is_err_and c.from_residual-in_err-make_room.result
+    c.from_residual-in_err-make_room.ensures.1 in
+    let told = first_refusal-state journal keeper.clock c.args.who c.args.reading c.args.cmd None
+    c.self.invariant.0.running room c.in_ok-apply.ensures.0 in
     let refused = c.in_err-make_room.ensures.answer in
     let accepted : first_refusal c.args.self.now.journal entry ≡ None =
     subst (λ (k : Keeper). first_refusal k.journal entry ≡ None) c.self.view_is told in
@@ -72,7 +78,8 @@ enter-requires-clause-accepted g c =
     let journal : Journal = journal_from keeper.folded keeper.start keeper.entries.items in
     let entry : Entry = record { who = c.args.who; reading = c.args.reading; cmd = c.args.cmd } in
     let room : is_full journal ≡ false = rw (← c.self.view_is) at (sym c.if-is_full.ensures) in
-    let told = first_refusal-state journal keeper.clock c.args.who c.args.reading c.args.cmd None c.self.invariant.0.running room c.in_ok-apply.ensures.0 in
+    let told = first_refusal-state journal keeper.clock c.args.who c.args.reading c.args.cmd None
+    c.self.invariant.0.running room c.in_ok-apply.ensures.0 in
     subst (λ (j : Journal). first_refusal j entry ≡ None)
     (ap (λ (k : Keeper). k.journal) c.self.view_is ∙ sym c.make_room.ensures.journal) told
 
@@ -82,7 +89,8 @@ enter-requires-clause-next g c =
     let journal : Journal = journal_from keeper.folded keeper.start keeper.entries.items in
     let entry : Entry = record { who = c.args.who; reading = c.args.reading; cmd = c.args.cmd } in
     let next = c.in_ok-apply.ensures.1
-    ∙ state_of-followed_by journal keeper.clock c.args.who c.args.reading c.args.cmd c.self.invariant.0.running c.in_ok-apply.ensures.0 in
+    ∙ state_of-followed_by journal keeper.clock c.args.who c.args.reading c.args.cmd
+    c.self.invariant.0.running c.in_ok-apply.ensures.0 in
     subst (λ (j : Journal). c.apply.new.self ≡ state_of (followed_by j entry))
     (ap (λ (k : Keeper). k.journal) c.self.view_is ∙ sym c.make_room.ensures.journal) next
 
@@ -92,9 +100,11 @@ returns-clause-answer g c =
     let journal : Journal = journal_from keeper.folded keeper.start keeper.entries.items in
     let entry : Entry = record { who = c.args.who; reading = c.args.reading; cmd = c.args.cmd } in
     let room : is_full journal ≡ false = rw (← c.self.view_is) at (sym c.if-is_full.ensures) in
-    let told = first_refusal-state journal keeper.clock c.args.who c.args.reading c.args.cmd None c.self.invariant.0.running room c.in_ok-apply.ensures.0 in (
+    let told = first_refusal-state journal keeper.clock c.args.who c.args.reading c.args.cmd None
+    c.self.invariant.0.running room c.in_ok-apply.ensures.0 in (
       subst (λ (k : Keeper). first_refusal k.journal entry ≡ None) c.self.view_is told,
-      c.enter.ensures.journal ∙ ap (λ (j : Journal). followed_by j entry) c.make_room.ensures.journal,
+      c.enter.ensures.journal
+          ∙ ap (λ (j : Journal). followed_by j entry) c.make_room.ensures.journal,
       c.enter.ensures.number,
     )
 
@@ -104,10 +114,13 @@ returns-clause-agrees g c =
     let journal : Journal = journal_from keeper.folded keeper.start keeper.entries.items in
     let entry : Entry = record { who = c.args.who; reading = c.args.reading; cmd = c.args.cmd } in
     let room : is_full journal ≡ false = rw (← c.self.view_is) at (sym c.if-is_full.ensures) in
-    let told = first_refusal-state journal keeper.clock c.args.who c.args.reading c.args.cmd None c.self.invariant.0.running room c.in_ok-apply.ensures.0 in
-    agrees c.args.self.now.journal entry (subst (λ (k : Keeper). first_refusal k.journal entry ≡ None) c.self.view_is told)
+    let told = first_refusal-state journal keeper.clock c.args.who c.args.reading c.args.cmd None
+    c.self.invariant.0.running room c.in_ok-apply.ensures.0 in
+    agrees c.args.self.now.journal entry
+    (subst (λ (k : Keeper). first_refusal k.journal entry ≡ None) c.self.view_is told)
     ∙ ap (λ (j : Journal). monotonic j c.args.reading)
-    (sym (c.enter.ensures.journal ∙ ap (λ (j : Journal). followed_by j entry) c.make_room.ensures.journal))
+    (sym (c.enter.ensures.journal
+    ∙ ap (λ (j : Journal). followed_by j entry) c.make_room.ensures.journal))
 
 pub returns-clause-rises : goal.returns-clause-rises
 returns-clause-rises g c = never_falls c.enter.new.self.journal

@@ -5,9 +5,10 @@ use Rattle.tk_clock.specs.declared.command.Command.TheVariants.{Update}
 use Rattle.tk_clock.specs.Journal.{Journal, prefix}
 use Rattle.tk_clock.specs.State.{state_of, effect}
 use Rattle.tk_clock.specs.Refusal.{state_refusal}
-use Rattle.tk_keeper.specs.Keeper.{Keeper, journal_from}
+use Rattle.tk_keeper.specs.Keeper.{Keeper}
 use Rattle.tk_keeper.proofs.Steps.{passes, next_state, is_done, effect_of, part_item, whole_part}
 use Rattle.tk_keeper.proofs.timekeeper.Timekeeper.clock_at.Goals as goal
+use Rattle.tk_clock.specs.Folding.{journal_from}
 
 pub unwrap-requires : goal.unwrap-requires
 unwrap-requires g c =
@@ -21,9 +22,11 @@ unwrap-requires g c =
     let here : slice_get journal.entries place ≡ Some entry =
     ap (λ es. slice_get es place) (sym c.deref.ensures.value)
     ∙ part_item c.deref.result.now from c.args.place c.later.entry-index none c.later-test.true in
-    let state = subst (λ (k : Keeper). c.later.clock ≡ state_of (prefix place k.journal)) (sym c.self.view_is) c.later.invariant in
+    let state = subst (λ (k : Keeper). c.later.clock ≡ state_of (prefix place k.journal))
+    (sym c.self.view_is) c.later.invariant in
     let passed : state_refusal c.later.clock entry.reading entry.cmd ≡ None =
-    ap (λ s. state_refusal s entry.reading entry.cmd) state ∙ passes journal place entry c.self.invariant.0.legal.accepted here in
+    ap (λ s. state_refusal s entry.reading entry.cmd) state
+    ∙ passes journal place entry c.self.invariant.0.legal.accepted here in
     is_done _ _ _ c.apply.result passed c.apply.ensures
 
 pub later-init : goal.later-init
@@ -43,22 +46,28 @@ later-preserved g c =
     let here : slice_get journal.entries place ≡ Some entry =
     ap (λ es. slice_get es place) (sym c.deref.ensures.value)
     ∙ part_item c.deref.result.now from c.args.place c.later.entry-index none c.later-test.true in
-    let state = subst (λ (k : Keeper). c.later.clock ≡ state_of (prefix place k.journal)) (sym c.self.view_is) c.later.invariant in
+    let state = subst (λ (k : Keeper). c.later.clock ≡ state_of (prefix place k.journal))
+    (sym c.self.view_is) c.later.invariant in
     let passed : state_refusal c.later.clock entry.reading entry.cmd ≡ None =
-    ap (λ s. state_refusal s entry.reading entry.cmd) state ∙ passes journal place entry c.self.invariant.0.legal.accepted here in
+    ap (λ s. state_refusal s entry.reading entry.cmd) state
+    ∙ passes journal place entry c.self.invariant.0.legal.accepted here in
     let next : place + 1 ≡ from + (c.later.entry-index + 1) = omega arith in
-    effect_of (c.apply.new.self ≡ effect c.later.clock entry.reading entry.cmd) _ _ c.apply.result passed c.apply.ensures
+    effect_of (c.apply.new.self ≡ effect c.later.clock entry.reading entry.cmd) _ _ c.apply.result
+    passed c.apply.ensures
     ∙ ap (λ s. effect s entry.reading entry.cmd) state
     ∙ next_state journal place entry c.self.invariant.0.legal.accepted here
     ∙ ap (λ k. state_of (prefix k journal)) next
-    ∙ ap (λ (k : Keeper). state_of (prefix (from + (c.later.entry-index + 1)) k.journal)) c.self.view_is
+    ∙ ap (λ (k : Keeper). state_of (prefix (from + (c.later.entry-index + 1)) k.journal))
+    c.self.view_is
 
 pub returns : goal.returns
 returns g c =
     let journal = c.args.self.now.journal in
     let from = c.nearest-clock.result.1 in
     let listed : length c.deref.result.now ≡ length journal.entries =
-    ap length c.deref.ensures.value ∙ ap (λ (k : Keeper). length k.journal.entries) c.self.view_is in
-    let end = whole_part c.deref.result.now from c.args.place c.later.entry-index c.nearest-clock.ensures.before (omega arith)
+    ap length c.deref.ensures.value ∙ ap (λ (k : Keeper). length k.journal.entries) c.self.view_is
+    in
+    let end = whole_part c.deref.result.now from c.args.place c.later.entry-index
+    c.nearest-clock.ensures.before (omega arith)
     c.later.auto.entry-index-end c.later-test.false in
     c.later.invariant ∙ ap (λ k. state_of (prefix k journal)) end

@@ -9,7 +9,10 @@ pub returns : goal.returns
 returns g c =
     let keeper = c.self.inside in
     let place = c.args.number - keeper.folded - 1 in
-    let later : nat_lt keeper.folded c.args.number ≡ true = lt-ltb keeper.folded c.args.number c.if-number-self.false in
-    let found : c.copied.result ≡ slice_get keeper.entries.items place = grind (arith, common_steps, gets) in
+    let later : nat_lt keeper.folded c.args.number ≡ true =
+    lt-ltb keeper.folded c.args.number c.if-number-self.false in
+    let found : c.copied.result ≡ slice_get keeper.entries.items place =
+    grind (arith, common_steps, gets) in
     rw (← c.self.view_is)
-    (found ∙ ap (λ (b : Bool). if b then slice_get keeper.entries.items place else None) (sym later))
+    (found ∙ ap (λ (b : Bool). if b then slice_get keeper.entries.items place
+    else None) (sym later))

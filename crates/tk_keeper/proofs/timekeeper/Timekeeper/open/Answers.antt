@@ -3,8 +3,9 @@ use Rattle.tk_clock.specs.declared.command.Entry.{Entry}
 use Rattle.tk_clock.specs.Journal.{Opening, Journal, opened}
 use Rattle.tk_clock.specs.State.{State}
 use Rattle.tk_clock.proofs.Legal.{IsLegal-opened, opened-folded}
-use Rattle.tk_keeper.specs.Keeper.{IsKept, HasKept, journal_from}
+use Rattle.tk_keeper.specs.Keeper.{IsKept, HasKept}
 use Rattle.tk_keeper.proofs.timekeeper.Timekeeper.open.Goals as goal
+use Rattle.tk_clock.specs.Folding.{journal_from}
 
 pub invariant_of-result : goal.invariant_of-result
 invariant_of-result g c =
@@ -16,14 +17,20 @@ invariant_of-result g c =
     let same : journal_from 0 clock c.new.result.items ≡ opened counter reading real =
     ap (λ (es : List Entry). journal_from 0 clock es) c.new.ensures.items
     ∙ ap (λ (s : State). journal_from 0 s []) told.1
-    ∙ ap (λ (o : Opening). let journal : Journal = record { opening = o; entries = [] } in journal) (sym (opened-folded counter reading real)) in
+    ∙ ap (λ (o : Opening). let journal : Journal = record { opening = o; entries = [] }
+    in journal) (sym (opened-folded counter reading real)) in
     let kept : IsKept (opened counter reading real) clock = record {
       legal = IsLegal-opened counter reading real c.open.ensures.counter told.0;
       running = told.1;
       room = omega arith;
       counted = omega arith;
     } in
-    let none : HasKept (opened counter reading real) clock [] = record { first = told.1; all = omega arith; told = λ i place low here. absurd (omega arith) } in (
+    let none : HasKept (opened counter reading real) clock [] =
+    record {
+      first = told.1;
+      all = omega arith;
+      told = λ i place low here. absurd (omega arith);
+    } in (
       subst (λ (j : Journal). IsKept j clock) (sym same) kept,
       rw c.new-2.ensures.items (subst (λ (j : Journal). HasKept j clock []) (sym same) none),
     )

@@ -16,15 +16,20 @@ events-preserved g c =
     let held = c.events.invariant in
     let left = length events - k in
     let some : 0 < left = omega arith in
-    let enough = never_short before after event c.apply.result left c.apply.ensures.answer c.apply.ensures.memory some held.spare in
+    let enough = never_short before after event c.apply.result left c.apply.ensures.answer
+    c.apply.ensures.memory some held.spare in
     let reply = reply-answer before after event c.apply.result c.apply.ensures.answer enough in
-    let next = run-next before.journal after.journal events k c.apply.result none c.events-test.true reply in
+    let next = run-next before.journal after.journal events k c.apply.result none c.events-test.true
+    reply in
     let fewer : length events - (k + 1) ≡ left - 1 = omega arith in
     let later = (run after.journal (drop (k + 1) events)).answers in
     record {
-      answers = one_more _ c.events.answers.items _ later c.push_reserved.new.self.items c.apply.result held.answers
+      answers = one_more _ c.events.answers.items _ later c.push_reserved.new.self.items
+          c.apply.result held.answers
           (ap (λ (r : Run). r.answers) next) c.push_reserved.ensures.items;
       journal = held.journal ∙ ap (λ (r : Run). r.journal) next;
       room = omega arith;
-      spare = rw fewer (room_left before after event c.apply.result left c.apply.ensures.answer c.apply.ensures.spare some held.spare);
+      spare = rw fewer
+          (room_left before after event c.apply.result left c.apply.ensures.answer
+          c.apply.ensures.spare some held.spare);
     }

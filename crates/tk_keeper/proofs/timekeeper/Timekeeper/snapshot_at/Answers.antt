@@ -12,6 +12,7 @@ returns-clause-clocks g c = λ clock reading.
     let journal = c.args.self.now.journal in
     let told = ap (λ (s : Snapshot). s.base) c.snapshot.ensures in
     let count = ap (λ (k : Keeper). k.journal.opening.count) c.self.view_is in
-    let state = c.clock_at-clock.ensures ∙ ap (λ n. state_of (prefix (c.args.front - n) journal)) count in
+    let state = c.clock_at-clock.ensures
+    ∙ ap (λ n. state_of (prefix (c.args.front - n) journal)) count in
     ap (λ (b : ReadBase). base_value b clock reading) (told ∙ ap (λ (s : State). s.base) state)
     ∙ base_value-base_of (at_front c.args.front journal) clock reading

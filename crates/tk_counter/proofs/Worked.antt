@@ -91,13 +91,22 @@ most_frequency : multiplier usual (pos 9223372036854775807) (pos 10000) ≡ 1678
 most_frequency = refl
 
 -- ---- seconds, and what is left
-below_second : ◌≡◌ {A = ℕ × ℕ} ((16777215 + 1 * 16777216) / second usual, (16777215 + 1 * 16777216) % second usual) (0, 33554431)
+below_second : ◌≡◌ {A = ℕ × ℕ} (
+  (16777215 + 1 * 16777216) / second usual,
+  (16777215 + 1 * 16777216) % second usual,
+) (0, 33554431)
 below_second = refl
 
-one_second : ◌≡◌ {A = ℕ × ℕ} ((16777215999999999 + 1 * 16777216) / second usual, (16777215999999999 + 1 * 16777216) % second usual) (1, 16777215)
+one_second : ◌≡◌ {A = ℕ × ℕ} (
+  (16777215999999999 + 1 * 16777216) / second usual,
+  (16777215999999999 + 1 * 16777216) % second usual,
+) (1, 16777215)
 one_second = refl
 
-last_second : ◌≡◌ {A = ℕ × ℕ} ((862207 + 2199023255348 * 4194304) / second whole, (862207 + 2199023255348 * 4194304) % second whole) (9223372035, 999999999)
+last_second : ◌≡◌ {A = ℕ × ℕ} (
+  (862207 + 2199023255348 * 4194304) / second whole,
+  (862207 + 2199023255348 * 4194304) % second whole,
+) (9223372035, 999999999)
 last_second = refl
 
 past_seconds : 9223372036 ≤ (862208 + 2199023255348 * 4194304) / second whole

@@ -14,18 +14,23 @@ use Rattle.tk_clock.specs.Monotonic.{current_multiplier, current_frequency, curr
 use Rattle.tk_clock.specs.State.{State, state_of}
 use Rattle.tk_clock.proofs.Stretches.{current_multiplier-followed_by, current_frequency-followed_by, current_tick-followed_by}
 use Rattle.tk_clock.proofs.Monotone.{prefix-next}
-use Rattle.tk_keeper.specs.Keeper.{journal_from}
+use Rattle.tk_clock.specs.Folding.{journal_from}
 
 -- the multiplier is that of the frequency and tick in force
 abbrev IsSteered : Journal → Type 0
 IsSteered journal =
-    current_multiplier journal ≡ multiplier journal.opening.counter (current_frequency journal) (current_tick journal)
+    current_multiplier journal ≡ multiplier journal.opening.counter (current_frequency journal)
+    (current_tick journal)
 
 -- what each command leaves of it
-steered : (counter : Counter) (cmd : Command) (mult : ℕ) (frequency tick : ℤ) → mult ≡ multiplier counter frequency tick →
-    (if sets_multiplier cmd then multiplier counter (option_map_or (λ x. x) (frequency_set cmd) frequency) (option_map_or (λ x. x) (tick_set cmd) tick)
+steered : (counter : Counter) (cmd : Command) (mult : ℕ) (frequency tick : ℤ) →
+    mult ≡ multiplier counter frequency tick →
+    (if sets_multiplier cmd then multiplier counter
+    (option_map_or (λ x. x) (frequency_set cmd) frequency)
+    (option_map_or (λ x. x) (tick_set cmd) tick)
     else mult)
-    ≡ multiplier counter (option_map_or (λ x. x) (frequency_set cmd) frequency) (option_map_or (λ x. x) (tick_set cmd) tick)
+    ≡ multiplier counter (option_map_or (λ x. x) (frequency_set cmd) frequency)
+    (option_map_or (λ x. x) (tick_set cmd) tick)
 steered counter Update mult frequency tick e = e
 steered counter (SetTime time) mult frequency tick e = e
 steered counter (Step by) mult frequency tick e = e
@@ -35,16 +40,21 @@ steered counter (Tai seconds) mult frequency tick e = e
 steered counter Suspend mult frequency tick e = e
 steered counter (Resume away) mult frequency tick e = e
 
-IsSteered-followed_by : (journal : Journal) (entry : Entry) → IsSteered journal → IsSteered (followed_by journal entry)
+IsSteered-followed_by : (journal : Journal) (entry : Entry) → IsSteered journal →
+    IsSteered (followed_by journal entry)
 IsSteered-followed_by journal entry e =
     let counter = journal.opening.counter in
     current_multiplier-followed_by journal entry
-    ∙ steered counter entry.cmd (current_multiplier journal) (current_frequency journal) (current_tick journal) e
-    ∙ ap (λ f. multiplier counter f (option_map_or (λ x. x) (tick_set entry.cmd) (current_tick journal)))
+    ∙ steered counter entry.cmd (current_multiplier journal) (current_frequency journal)
+    (current_tick journal) e
+    ∙ ap (λ f. multiplier counter f
+    (option_map_or (λ x. x) (tick_set entry.cmd) (current_tick journal)))
     (sym (current_frequency-followed_by journal entry))
-    ∙ ap (multiplier counter (current_frequency (followed_by journal entry))) (sym (current_tick-followed_by journal entry))
+    ∙ ap (multiplier counter (current_frequency (followed_by journal entry)))
+    (sym (current_tick-followed_by journal entry))
 
-IsSteered-prefix : (journal : Journal) (n : ℕ) → n ≤ length journal.entries → IsSteered (prefix n journal)
+IsSteered-prefix : (journal : Journal) (n : ℕ) → n ≤ length journal.entries →
+    IsSteered (prefix n journal)
 IsSteered-prefix journal zero within = refl
 IsSteered-prefix journal (suc n) within =
     let next = prefix-next journal n (omega arith) in
@@ -55,7 +65,8 @@ IsSteered-prefix journal (suc n) within =
 pub IsSteered-journal : (journal : Journal) → IsSteered journal
 IsSteered-journal journal =
     subst IsSteered
-    (ap (λ (es : List Entry). record journal { entries = es }) (take_all (length journal.entries) journal.entries (omega arith)))
+    (ap (λ (es : List Entry). record journal { entries = es })
+    (take_all (length journal.entries) journal.entries (omega arith)))
     (IsSteered-prefix journal (length journal.entries) (omega arith))
 
 no_stretch : (amount u : ℕ) → amount + (0 - 0) * u ≡ amount
@@ -67,7 +78,8 @@ no_cycles amount u = omega arith
 no_more : (x : ℤ) → x +ℤ pos 0 ≡ x
 no_more x = omega (arith, ints)
 
-same_parts : (state : State) (mult amount raw : ℕ) (real boot : ℤ) → state.base.mult ≡ mult → amount ≡ state.base.amount →
+same_parts : (state : State) (mult amount raw : ℕ) (real boot : ℤ) → state.base.mult ≡ mult →
+    amount ≡ state.base.amount →
     raw ≡ state.base.raw_amount → real ≡ state.base.real_offset → boot ≡ state.base.boot_offset →
     state ≡ record {
       base = record {
@@ -87,10 +99,12 @@ same_parts : (state : State) (mult amount raw : ℕ) (real boot : ℤ) → state
 same_parts state mult amount raw real boot p q r s t = rw (← p, q, r, s, t) refl
 
 -- a journal without entries that begins with what another one comes to
-pub state_of-started : (count : ℕ) (journal : Journal) → state_of (journal_from count (state_of journal) []) ≡ state_of journal
+pub state_of-started : (count : ℕ) (journal : Journal) →
+    state_of (journal_from count (state_of journal) []) ≡ state_of journal
 state_of-started count journal =
     let state = state_of journal in
     let start = journal_from count state [] in
     sym (same_parts state (current_multiplier start) _ _ _ _ (IsSteered-journal journal)
-    (no_stretch state.base.amount (current_multiplier start)) (no_cycles state.base.raw_amount state.base.counter.mult)
+    (no_stretch state.base.amount (current_multiplier start))
+    (no_cycles state.base.raw_amount state.base.counter.mult)
     (no_more state.base.real_offset) (no_more state.base.boot_offset))

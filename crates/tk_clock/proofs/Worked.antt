@@ -1,5 +1,5 @@
 -- Worked journals, by computation: what the definitions give is what was worked out by hand.
-use Rattle.std.proofs.Common.{◌≡◌, ℕ, List, [], ◌∷◌, refl, false}
+use Rattle.std.proofs.Common.{◌≡◌, ℕ, ◌-◌, List, [], ◌∷◌, refl, false}
 use Rattle.std.specs.Prelude.{ℤ, pos, negsuc, neg_ℤ, Some, None}
 use Rattle.tk_counter.specs.Counter.{Counter}
 use Rattle.tk_clock.specs.declared.timespec.Timespec.{Timespec}
@@ -13,7 +13,7 @@ use Rattle.tk_clock.specs.Journal.{Journal, opened}
 use Rattle.tk_clock.specs.Monotonic.{monotonic}
 use Rattle.tk_clock.specs.Clocks.{clock_value}
 use Rattle.tk_clock.specs.State.{base_of, state_of}
-use Rattle.tk_clock.specs.Limits.{is_settable, is_suspension, is_well_formed, is_past_limit, is_bad_setting}
+use Rattle.tk_clock.specs.Limits.{settable_end, clock_end, monotonic_end, is_settable, is_suspension, is_well_formed, is_past_limit, is_bad_setting}
 use Rattle.tk_clock.specs.Refusal.{first_refusal, read_refusal, opening_refusal}
 
 -- one nanosecond a cycle, readings of 32 bits
@@ -32,10 +32,18 @@ at reading cmd = record { who = 0; reading = reading; cmd = cmd }
 
 -- opened at reading 0, at 1,700,000,000 seconds since 1970
 abbrev journal_of : List Entry → Journal
-journal_of entries = record (opened nanosecond_counter 0 (time (pos 1700000000) 0)) { entries = entries }
+journal_of entries = record (opened nanosecond_counter 0 (time (pos 1700000000) 0)) {
+  entries = entries;
+}
 
 abbrev wide_journal : List Entry → Journal
-wide_journal entries = record (opened wide_counter 0 (time (pos 1700000000) 0)) { entries = entries }
+wide_journal entries = record (opened wide_counter 0 (time (pos 1700000000) 0)) {
+  entries = entries;
+}
+
+-- REALTIME may be set until as long before its end as MONOTONIC lasts
+settable_until : settable_end ≡ clock_end - monotonic_end
+settable_until = refl
 
 opens : opening_refusal nanosecond_counter 0 (time (pos 1700000000) 0) ≡ None
 unfolding is_settable
@@ -53,7 +61,8 @@ longest_gap-monotonic = refl
 longest_gap-after : monotonic (journal_of (at 2147483647 Update ∷ [])) 2147483648 ≡ 2147483648
 longest_gap-after = refl
 
-longest_gap-back : first_refusal (journal_of (at 2147483647 Update ∷ [])) (at 0 Update) ≡ Some Behind
+longest_gap-back : first_refusal (journal_of (at 2147483647 Update ∷ [])) (at 0 Update)
+    ≡ Some Behind
 unfolding is_well_formed is_past_limit is_bad_setting
 longest_gap-back = refl
 
@@ -86,7 +95,8 @@ stands-coarse = refl
 
 -- MONOTONIC stays below its limit
 
-past_limit-read : read_refusal (base_of (wide_journal [])) Monotonic 9223372036854775807 ≡ Some PastLimit
+past_limit-read : read_refusal (base_of (wide_journal [])) Monotonic 9223372036854775807
+    ≡ Some PastLimit
 past_limit-read = refl
 
 past_limit-far : first_refusal (wide_journal []) (at 9223372036854775807 Update) ≡ Some Range
@@ -101,7 +111,8 @@ below_limit : first_refusal (wide_journal []) (at 225563049316 Update) ≡ None
 unfolding is_well_formed is_past_limit is_bad_setting
 below_limit = refl
 
-below_limit-monotonic : monotonic (wide_journal (at 225563049316 Update ∷ [])) 225563049316 ≡ 946079999998296064
+below_limit-monotonic : monotonic (wide_journal (at 225563049316 Update ∷ [])) 225563049316
+    ≡ 946079999998296064
 below_limit-monotonic = refl
 
 above_mask : read_refusal (base_of (journal_of [])) Monotonic 4294967296 ≡ Some InvalidReading
@@ -135,19 +146,23 @@ slower-later = refl
 beyond_life : monotonic (journal_of (at 0 (Freq (pos 32768000)) ∷ [])) 1000000000 ≡ 1000499963
 beyond_life = refl
 
-within_life : monotonic (journal_of (at 0 (Freq (pos 32768000)) ∷ at 1000 (Freq (neg_ℤ (pos 32768000))) ∷ [])) 1000000000 ≡ 999499977
+within_life : monotonic (journal_of (at 0 (Freq (pos 32768000))
+    ∷ at 1000 (Freq (neg_ℤ (pos 32768000))) ∷ [])) 1000000000 ≡ 999499977
 within_life = refl
 
 -- the wall clock is set and stepped
 
-set-real : clock_value (journal_of (at 2000000000 (SetTime (time (pos 2) 0)) ∷ [])) Realtime 2000000000 ≡ pos 2000000000
+set-real : clock_value (journal_of (at 2000000000 (SetTime (time (pos 2) 0)) ∷ [])) Realtime
+    2000000000 ≡ pos 2000000000
 set-real = refl
 
-set-below : first_refusal (journal_of (at 2000000000 (SetTime (time (pos 2) 0)) ∷ [])) (at 2000000000 (SetTime (time (pos 1) 999999999))) ≡ Some Invalid
+set-below : first_refusal (journal_of (at 2000000000 (SetTime (time (pos 2) 0)) ∷ []))
+    (at 2000000000 (SetTime (time (pos 1) 999999999))) ≡ Some Invalid
 unfolding is_settable is_well_formed is_past_limit is_bad_setting
 set-below = refl
 
-stepped-real : clock_value (journal_of (at 0 (Step (time (negsuc 0) 999999999)) ∷ [])) Realtime 0 ≡ pos 1699999999999999999
+stepped-real : clock_value (journal_of (at 0 (Step (time (negsuc 0) 999999999)) ∷ [])) Realtime 0
+    ≡ pos 1699999999999999999
 stepped-real = refl
 
 told_tai : clock_value (journal_of (at 0 (Tai (pos 37)) ∷ [])) TaiClock 0 ≡ pos 1700000037000000000
