@@ -8,10 +8,11 @@ ghost use Rattle.std.specs.Prelude.{◌≡◌, IfOk};
 ghost use Rattle.tk_clock.specs.Clocks.{clock_value};
 ghost use Rattle.tk_clock.specs.Monotonic.{monotonic};
 ghost use Rattle.tk_clock.specs.Time.{nanoseconds};
+ghost use Rattle.tk_keeper.specs.Past.{at_front};
 
 use std::alloc::Global;
 use stop::Stop;
-use tk_clock::{ClockId, Command, ReadError, Timespec};
+use tk_clock::{ClockId, Command, Timespec};
 use tk_counter::CounterDesc;
 use tk_keeper::Timekeeper;
 
@@ -52,19 +53,16 @@ fn sleep(rt: &impl Print, keeper: &mut Timekeeper) -> Result<(), Stop> {
     tell(rt, keeper, 1_000_100)
 }
 
-/// Folds all but the last command: the clocks tell what they told, and so do the fronts from there
-/// on.
+/// Folds all but the last two commands: the clocks tell what they told, and so do stamps of the
+/// fronts from there on.
 fn fold(rt: &impl Print, keeper: &mut Timekeeper) -> Result<(), Stop> {
-    let folded = keeper.fold(1);
+    let folded = keeper.fold(2);
     println!(rt; "folded {folded} of {}", keeper.len())?;
     tell(rt, keeper, 1_000_100)?;
-    for front in [3, 4, 5, 6] {
-        match keeper.snapshot_at(front) {
-            Ok(snapshot) => {
-                let told = snapshot.get(ClockId::Boottime, 100)?;
-                println!(rt; "front {front}: Boottime {}.{:09}", told.sec, told.nsec)?;
-            }
-            Err(error) => println!(rt; "front {front}: {error}")?,
+    for (front, stamp) in [(2, 4_500_000), (3, 6_000_000), (5, 100), (6, 100)] {
+        match wall_time(keeper, front, stamp) {
+            Ok(told) => println!(rt; "front {front}, {stamp}: {}.{:09}", told.sec, told.nsec)?,
+            Err(why) => println!(rt; "front {front}, {stamp}: {why:?}")?,
         }
     }
     Ok(())
@@ -82,12 +80,13 @@ fn act(rt: &impl Print, keeper: &mut Timekeeper, reading: u64, cmd: Command) -> 
     Ok(())
 }
 
-/// A clock at a reading: the journal's own value.
-fn value(keeper: &Timekeeper, clock: ClockId, reading: u64) -> Result<Timespec, ReadError>
-    ensures { IfOk result
-        (λ time. nanoseconds time ≡ clock_value keeper.now.journal clock reading) }
+/// REALTIME at a stamp that was noted at a front: by the journal as it was then.
+fn wall_time(keeper: &Timekeeper, front: u64, stamp: u64) -> Result<Timespec, Stop>
+    ensures { IfOk result (λ time. nanoseconds time
+        ≡ clock_value (at_front front keeper.now.journal) ClockId.Realtime stamp) }
 {
-    keeper.snapshot().get(clock, reading)
+    let snapshot = keeper.snapshot_at(front)?;
+    Ok(snapshot.get(ClockId::Realtime, stamp)?)
 }
 
 /// Prints four clocks at a reading.
@@ -99,7 +98,7 @@ fn tell(rt: &impl Print, keeper: &Timekeeper, reading: u64) -> Result<(), Stop> 
         ClockId::Boottime,
         ClockId::Realtime,
     ] {
-        let told = value(keeper, clock, reading)?;
+        let told = keeper.get(clock, reading)?;
         println!(rt; "    {clock:?} {}.{:09}", told.sec, told.nsec)?;
     }
     Ok(())

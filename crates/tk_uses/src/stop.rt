@@ -1,6 +1,7 @@
 use std::io;
 use tk_clock::{ReadError, Refusal};
 use tk_counter::DescError;
+use tk_keeper::FrontError;
 
 /// Why the program stops before it is done.
 #[derive(Debug, Drop)]
@@ -11,6 +12,8 @@ pub(crate) enum Stop {
     Command(Refusal),
     /// A clock can't be read.
     Read(ReadError),
+    /// A front has no snapshot.
+    Front(FrontError),
     /// Standard output failed.
     Output(io::Error),
 }
@@ -30,6 +33,12 @@ impl From<Refusal> for Stop {
 impl From<ReadError> for Stop {
     fn from(error: ReadError) -> Stop {
         Stop::Read(error)
+    }
+}
+
+impl From<FrontError> for Stop {
+    fn from(error: FrontError) -> Stop {
+        Stop::Front(error)
     }
 }
 
