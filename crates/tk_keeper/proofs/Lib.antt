@@ -3,3 +3,4 @@ pub mod Kept
 pub mod Room
 pub mod Running
 pub mod Steps
+mod Worked

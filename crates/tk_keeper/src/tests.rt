@@ -3,7 +3,6 @@
 mod copies;
 mod folding;
 mod full;
-mod heap;
 mod memory;
 mod past;
 mod refusals;
@@ -11,6 +10,7 @@ mod runs;
 mod settings;
 mod sleep;
 mod steering;
+mod times;
 
 use crate::Timekeeper;
 use std::alloc::Allocator;

@@ -1,10 +1,11 @@
-use super::heap::Heap;
 use super::{applied, opened, told};
 use crate::Timekeeper;
+use linked_list_allocator::LocalHeap;
 use std::alloc::Allocator;
 use std::process::Abort;
 use std::test::Fail;
 use tk_clock::{Command, Entry, Refusal};
+use tk_heap::Heap;
 
 /// Brings the clocks forward by one nanosecond, so many times.
 fn updates<A: Allocator + Copy>(rt: &impl Abort, keeper: &mut Timekeeper<A>, many: u64) {
@@ -126,5 +127,27 @@ fn room_for_three_holds_three(rt: HostRuntime) -> Result<(), Fail> {
     assert!(rt; keeper.spare() >= 3);
     heap.refuse_all();
     updates(&rt, &mut keeper, 3);
+    Ok(())
+}
+
+#[test]
+fn one_event_runs_in_little_memory(rt: HostRuntime) -> Result<(), Fail> {
+    let heap = LocalHeap::new(rt.alloc(), 65_536)?;
+    let mut keeper = opened(&heap)?;
+    let event = Entry {
+        who: 3,
+        reading: 1_000,
+        cmd: Command::Update,
+    };
+    let answers = keeper.run(&[event])?;
+    assert_eq!(rt; (answers.len(), answers[0]), (1, Ok(1)));
+    Ok(())
+}
+
+#[test]
+fn room_for_a_whole_journal_is_there_at_once(rt: HostRuntime) -> Result<(), Fail> {
+    let mut keeper = opened(rt.alloc())?;
+    keeper.reserve(1_048_576)?;
+    assert!(rt; keeper.spare() >= 1_048_576);
     Ok(())
 }

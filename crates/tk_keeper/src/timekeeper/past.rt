@@ -46,8 +46,19 @@ impl<A: Allocator + Copy> Timekeeper<A> {
         requires { place ≤ length self.now.journal.entries }
         ensures { result ≡ state_of (prefix place self.now.journal) }
     {
-        let (mut clock, kept_place) = self.nearest(place);
-        'later: for entry in &self.entries[kept_place..place] {
+        let (clock, from) = self.nearest(place);
+        self.replayed(clock, from, place)
+    }
+
+    /// The clocks at a place, from those at an earlier one: the entries between them are applied again.
+    fn replayed(&self, mut clock: Clock, from: usize, place: usize) -> Clock
+        requires state { clock ≡ state_of (prefix from self.now.journal) }
+        requires before { from ≤ place }
+        requires near { place < from + 256 }
+        requires listed { place ≤ length self.now.journal.entries }
+        ensures { result ≡ state_of (prefix place self.now.journal) }
+    {
+        'later: for entry in &self.entries[from..place] {
             clock.apply(entry.reading, entry.cmd).unwrap();
         }
         clock

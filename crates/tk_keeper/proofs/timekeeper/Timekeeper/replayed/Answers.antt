@@ -7,7 +7,7 @@ use Rattle.tk_clock.specs.State.{state_of, effect}
 use Rattle.tk_clock.specs.Refusal.{state_refusal}
 use Rattle.tk_keeper.specs.Keeper.{Keeper}
 use Rattle.tk_keeper.proofs.Steps.{passes, next_state, is_done, effect_of, part_item, whole_part}
-use Rattle.tk_keeper.proofs.timekeeper.Timekeeper.clock_at.Goals as goal
+use Rattle.tk_keeper.proofs.timekeeper.Timekeeper.replayed.Goals as goal
 use Rattle.tk_clock.specs.Folding.{journal_from}
 
 pub unwrap-requires : goal.unwrap-requires
@@ -15,7 +15,7 @@ unwrap-requires g c =
     let none : Entry = record { who = 0; reading = 0; cmd = Update } in
     let keeper = c.self.inside in
     let journal : Journal = journal_from keeper.folded keeper.start keeper.entries.items in
-    let from = c.nearest-clock.result.1 in
+    let from = c.args.from in
     let place = from + c.later.entry-index in
     let items = take (c.args.place - from) (drop from c.deref.result.now) in
     let entry : Entry = get_or items c.later.entry-index none in
@@ -31,15 +31,15 @@ unwrap-requires g c =
 
 pub later-init : goal.later-init
 later-init g c =
-    let e : c.nearest-clock.result.1 + 0 ≡ c.nearest-clock.result.1 = omega arith in
-    c.nearest-clock.ensures.state ∙ ap (λ k. state_of (prefix k c.args.self.now.journal)) (sym e)
+    let e : c.args.from + 0 ≡ c.args.from = omega arith in
+    c.requires.state ∙ ap (λ k. state_of (prefix k c.args.self.now.journal)) (sym e)
 
 pub later-preserved : goal.later-preserved
 later-preserved g c =
     let none : Entry = record { who = 0; reading = 0; cmd = Update } in
     let keeper = c.self.inside in
     let journal : Journal = journal_from keeper.folded keeper.start keeper.entries.items in
-    let from = c.nearest-clock.result.1 in
+    let from = c.args.from in
     let place = from + c.later.entry-index in
     let items = take (c.args.place - from) (drop from c.deref.result.now) in
     let entry : Entry = get_or items c.later.entry-index none in
@@ -63,11 +63,11 @@ later-preserved g c =
 pub returns : goal.returns
 returns g c =
     let journal = c.args.self.now.journal in
-    let from = c.nearest-clock.result.1 in
+    let from = c.args.from in
     let listed : length c.deref.result.now ≡ length journal.entries =
     ap length c.deref.ensures.value ∙ ap (λ (k : Keeper). length k.journal.entries) c.self.view_is
     in
     let end = whole_part c.deref.result.now from c.args.place c.later.entry-index
-    c.nearest-clock.ensures.before (omega arith)
+    c.requires.before (omega arith)
     c.later.auto.entry-index-end c.later-test.false in
     c.later.invariant ∙ ap (λ k. state_of (prefix k journal)) end
