@@ -1,6 +1,7 @@
 //! Values from outside the contracts, and plain bodies to compare with.
 
 mod advances;
+mod copies;
 mod descriptions;
 mod frequencies;
 mod gaps;

@@ -1,5 +1,6 @@
 //! Values from outside the contracts: worked out by hand, and the edges of each range.
 
+mod copies;
 mod folding;
 mod full;
 mod memory;

@@ -1,0 +1,109 @@
+//! Keeps the clocks of a counter of 1 MHz through settings, a sleep and a fold, and prints what
+//! they tell.
+#![tactic(auto)]
+
+mod stop;
+
+ghost use Rattle.std.specs.Prelude.{◌≡◌, IfOk};
+ghost use Rattle.tk_clock.specs.Clocks.{clock_value};
+ghost use Rattle.tk_clock.specs.Monotonic.{monotonic};
+ghost use Rattle.tk_clock.specs.Time.{nanoseconds};
+ghost use Rattle.tk_keeper.specs.Past.{at_front};
+
+use std::alloc::Global;
+use stop::Stop;
+use tk_clock::{ClockId, Command, Timespec};
+use tk_counter::CounterDesc;
+use tk_keeper::Timekeeper;
+
+/// The caller that the journal names.
+const WHO: u32 = 7;
+
+fn main(rt: HostRuntime) -> Result<(), Stop> {
+    let mut keeper = opened(rt.alloc())?;
+    tell(&rt, &keeper, 1_000_000)?;
+    settings(&rt, &mut keeper)?;
+    sleep(&rt, &mut keeper)?;
+    fold(&rt, &mut keeper)
+}
+
+/// A microsecond a cycle, in readings of 32 bits that begin at 0; REALTIME is 1,700,000,000 s.
+fn opened(alloc: Global) -> Result<Timekeeper, Stop> {
+    let desc = CounterDesc::from_hz(32, 1_000_000, 600)?;
+    Ok(Timekeeper::open(alloc, desc, 0, time(1_700_000_000, 0))?)
+}
+
+/// Sets REALTIME, steps it back by 1.25 s, and runs 500 ppm faster from 5 s on.
+fn settings(rt: &impl Print, keeper: &mut Timekeeper) -> Result<(), Stop> {
+    let set = time(1_700_000_100, 500_000_000);
+    act(rt, keeper, 2_000_000, Command::SetTime(set))?;
+    tell(rt, keeper, 3_000_000)?;
+    act(rt, keeper, 4_000_000, Command::Step(time(-2, 750_000_000)))?;
+    tell(rt, keeper, 4_000_000)?;
+    act(rt, keeper, 5_000_000, Command::Freq(500 << 16))?;
+    tell(rt, keeper, 7_000_000)
+}
+
+/// Falls asleep, and wakes a minute later at a counter that has begun anew.
+fn sleep(rt: &impl Print, keeper: &mut Timekeeper) -> Result<(), Stop> {
+    act(rt, keeper, 7_000_000, Command::Suspend)?;
+    tell(rt, keeper, 9_000_000)?;
+    act(rt, keeper, 9_000_000, Command::Update)?;
+    act(rt, keeper, 100, Command::Resume(time(60, 250_000_000)))?;
+    tell(rt, keeper, 1_000_100)
+}
+
+/// Folds all but the last two commands: the clocks tell what they told, and so do stamps of the
+/// fronts from there on.
+fn fold(rt: &impl Print, keeper: &mut Timekeeper) -> Result<(), Stop> {
+    let folded = keeper.fold(2);
+    println!(rt; "folded {folded} of {}", keeper.len())?;
+    tell(rt, keeper, 1_000_100)?;
+    for (front, stamp) in [(2, 4_500_000), (3, 6_000_000), (5, 100), (6, 100)] {
+        match wall_time(keeper, front, stamp) {
+            Ok(told) => println!(rt; "front {front}, {stamp}: {}.{:09}", told.sec, told.nsec)?,
+            Err(why) => println!(rt; "front {front}, {stamp}: {why:?}")?,
+        }
+    }
+    Ok(())
+}
+
+/// Does a command, and prints its number or why it is refused. Either way MONOTONIC at the reading
+/// stays.
+fn act(rt: &impl Print, keeper: &mut Timekeeper, reading: u64, cmd: Command) -> Result<(), Stop>
+    ensures { monotonic keeper.new.journal reading ≡ monotonic keeper.old.journal reading }
+{
+    match keeper.apply(WHO, reading, cmd) {
+        Ok(number) => println!(rt; "at {reading}: {cmd:?} is command {number}")?,
+        Err(refusal) => println!(rt; "at {reading}: {cmd:?} is refused: {refusal:?}")?,
+    }
+    Ok(())
+}
+
+/// REALTIME at a stamp that was noted at a front: by the journal as it was then.
+fn wall_time(keeper: &Timekeeper, front: u64, stamp: u64) -> Result<Timespec, Stop>
+    ensures { IfOk result (λ time. nanoseconds time
+        ≡ clock_value (at_front front keeper.now.journal) ClockId.Realtime stamp) }
+{
+    let snapshot = keeper.snapshot_at(front)?;
+    Ok(snapshot.get(ClockId::Realtime, stamp)?)
+}
+
+/// Prints four clocks at a reading.
+fn tell(rt: &impl Print, keeper: &Timekeeper, reading: u64) -> Result<(), Stop> {
+    println!(rt; "at {reading}:")?;
+    for clock in [
+        ClockId::Monotonic,
+        ClockId::MonotonicRaw,
+        ClockId::Boottime,
+        ClockId::Realtime,
+    ] {
+        let told = keeper.get(clock, reading)?;
+        println!(rt; "    {clock:?} {}.{:09}", told.sec, told.nsec)?;
+    }
+    Ok(())
+}
+
+fn time(sec: i64, nsec: u32) -> Timespec {
+    Timespec { sec, nsec }
+}

@@ -1,0 +1,49 @@
+use std::io;
+use tk_clock::{ReadError, Refusal};
+use tk_counter::DescError;
+use tk_keeper::FrontError;
+
+/// Why the program stops before it is done.
+#[derive(Debug, Drop)]
+pub(crate) enum Stop {
+    /// The numbers describe no counter.
+    Counter(DescError),
+    /// The clocks can't be opened, or a command is refused.
+    Command(Refusal),
+    /// A clock can't be read.
+    Read(ReadError),
+    /// A front has no snapshot.
+    Front(FrontError),
+    /// Standard output failed.
+    Output(io::Error),
+}
+
+impl From<DescError> for Stop {
+    fn from(fault: DescError) -> Stop {
+        Stop::Counter(fault)
+    }
+}
+
+impl From<Refusal> for Stop {
+    fn from(refusal: Refusal) -> Stop {
+        Stop::Command(refusal)
+    }
+}
+
+impl From<ReadError> for Stop {
+    fn from(error: ReadError) -> Stop {
+        Stop::Read(error)
+    }
+}
+
+impl From<FrontError> for Stop {
+    fn from(error: FrontError) -> Stop {
+        Stop::Front(error)
+    }
+}
+
+impl From<io::Error> for Stop {
+    fn from(error: io::Error) -> Stop {
+        Stop::Output(error)
+    }
+}
