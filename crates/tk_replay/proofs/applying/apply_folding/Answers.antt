@@ -9,7 +9,7 @@ use Rattle.tk_replay.proofs.Folded.{IsAlike-folded, IsReplied-folded, has_room}
 use Rattle.tk_replay.proofs.applying.apply_folding.Goals as goal
 
 pub returns-in-Err-Full : goal.returns-in-Err-Full
-returns-in-Err-Full c =
+returns-in-Err-Full g c =
     let before = c.apply.new.self in
     let folded = c.fold.new.self in
     let same : c.args.keeper.now ≡ before = sym c.in-Err-Full.ensures.answer.1 in

@@ -14,14 +14,14 @@ IsOk-no_err (Ok x) e = refl
 IsOk-no_err (Err error) e = cc
 
 pub unwrap-time-requires : goal.unwrap-time-requires
-unwrap-time-requires c =
+unwrap-time-requires g c =
     let entry = event c.args.reading c.args.cmd in
     let free = look_refusal-replied c.args.keep c.args.keeper.now.journal c.apply.new.keeper.journal entry c.in-Ok.number
     c.in-Ok.ensures in
     IsOk-no_err c.time_at.result (sym c.time_at.ensures.refusal ∙ free)
 
 pub returns-in-Ok-clause-line : goal.returns-in-Ok-clause-line
-returns-in-Ok-clause-line c =
+returns-in-Ok-clause-line g c =
     let reply = reply_by (rule_of c.args.keep) c.args.keeper.now.journal (event c.args.reading c.args.cmd) in
     let number = c.in-Ok.number in
     let time = c.unwrap-time.result in
