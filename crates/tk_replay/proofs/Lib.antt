@@ -5,4 +5,3 @@ pub mod Lines
 pub mod Alike
 pub mod Folded
 pub mod Listed
-pub mod Replay

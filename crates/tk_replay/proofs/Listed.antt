@@ -1,6 +1,6 @@
 -- How many entries a journal lists that is folded where it is full.
-use Rattle.std.proofs.Common.{◌≡◌, ◌∙◌, ℕ, ◌+◌, ◌-◌, ◌<◌, ◌≤◌, ◌^◌, List, length, refl, sym, ap, arith, Bool, true, false}
-use Rattle.std.specs.Prelude.{Option, Some, None, Result, Ok, Err, max, not, ◌&&◌, ◌||◌, nat_lt, nat_le, if◌then◌else◌}
+use Rattle.std.proofs.Common.{◌≡◌, ◌∙◌, ℕ, ◌-◌, ◌<◌, ◌≤◌, ◌^◌, length, refl, sym, ap, arith, Bool, true, false}
+use Rattle.std.specs.Prelude.{Option, Some, None, Result, Ok, Err, max, not, ◌&&◌, ◌||◌, nat_lt, if◌then◌else◌}
 use Rattle.std.proofs.lemmas.Grind.{common_steps}
 use Rattle.std.proofs.lemmas.List.{length_push}
 use Rattle.tk_counter.specs.Counter.{mask, half, gap}
@@ -11,7 +11,7 @@ use Rattle.tk_clock.specs.Clocks.{clock_value}
 use Rattle.tk_clock.specs.Command.{is_resume}
 use Rattle.tk_clock.specs.Journal.{Journal, followed_by, accepted_count, is_asleep, last_reading}
 use Rattle.tk_clock.specs.Limits.{is_bad_setting, is_past_limit, is_well_formed}
-use Rattle.tk_clock.specs.Refusal.{IsRefusal, clock_refusal, first_of, first_refusal, is_full}
+use Rattle.tk_clock.specs.Refusal.{clock_refusal, first_of, first_refusal, is_full}
 use Rattle.tk_keeper.specs.Keeper.{Keeper}
 use Rattle.tk_keeper.proofs.Running.{IsAnswer}
 use Rattle.tk_replay.specs.Folding.{IsAlike, greatest_keep, listed_after, listed_then}

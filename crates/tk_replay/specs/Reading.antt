@@ -1,5 +1,5 @@
 -- Reading an input to its end or to a limit, and why reading stops before.
-use Rattle.std.specs.Prelude.{◌≡◌, ℕ, ◌+◌, ◌≤◌, ◌^◌, List, length, Option, None, ◌⊎◌, Result, Ok, Err}
+use Rattle.std.specs.Prelude.{◌≡◌, ℕ, ◌+◌, ◌≤◌, ◌^◌, List, length, Option, None, ◌⊎◌}
 use Rattle.std.specs.Io.KnownBytes.{Consumes, IsAtEnd}
 use Rattle.tk_replay.specs.declared.fault.Fault.{Fault}
 use Rattle.tk_replay.specs.declared.fault.Fault.TheVariants as faults

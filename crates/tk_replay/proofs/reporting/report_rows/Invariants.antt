@@ -8,7 +8,7 @@ use Rattle.tk_replay.proofs.reporting.report_rows.Given as goal
 abbrev pub invariant-rows : goal.invariant-rows
 invariant-rows g l = record {
   ready : IsReady l.rows;
-  begun : IsBegunBy l.keep l.start (coming l.fn.rows) l.keeper.journal (coming l.rows) l.text.items;
+  begun : IsBegunBy l.keep l.fn.start (coming l.fn.rows) l.keeper.journal (coming l.rows) l.text.items;
   count : accepted_count l.keeper.journal + records_left l.rows ≤ 2 ^ 32;
 }
 
