@@ -4,3 +4,4 @@ pub mod Refusals
 pub mod Lines
 pub mod Alike
 pub mod Folded
+pub mod Listed

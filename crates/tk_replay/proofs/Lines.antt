@@ -1,6 +1,6 @@
 -- The lines of a report, one after the other.
 use Rattle.std.proofs.Common.{◌≡◌, ◌∙◌, ℕ, ◌+◌, ◌≤◌, List, [], ◌∷◌, ◌++◌, refl, sym, ap, subst, append_assoc, arith}
-use Rattle.std.specs.Prelude.{pos, Option, Some, None, Result, Ok, Err}
+use Rattle.std.specs.Prelude.{pos, Option, Some, None, Result, Ok, Err, MatchResult}
 use Rattle.std.proofs.lemmas.List.{append-nil, length_push}
 use Rattle.tk_clock.specs.declared.clock_id.ClockId.TheVariants.{Monotonic}
 use Rattle.tk_clock.specs.declared.command.Entry.{Entry}
@@ -19,7 +19,7 @@ use Rattle.tk_script.specs.declared.opening.Start.{Start}
 use Rattle.tk_script.specs.declared.script_error.ScriptError.{ScriptError}
 use Rattle.tk_script.specs.declared.script_error.ScriptError.TheVariants as errors
 use Rattle.tk_replay.specs.Folding.{IsReplied, StandsFor, rule_of}
-use Rattle.tk_replay.specs.Report.{Rule, IsLine, IsLines, IsReportBy, IsTimeAt, after, answer_line, event, reply_line}
+use Rattle.tk_replay.specs.Report.{Rule, IsLine, IsLines, IsReportBy, IsReportOfRows, IsTimeAt, after, answer_line, event, reply_line}
 use Rattle.tk_replay.proofs.Alike.{IsAlike-stands, IsLine-stands, StandsFor-after, StandsFor-self, clock_value-alike}
 
 -- the line of an accepted command, by the time that the journal tells which is kept
@@ -35,75 +35,105 @@ reply_line-accepted keep reply kept reading number time replied (nanos, value, s
     ∙ ap (λ n. ok_line number (timespec_of n)) count
     ∙ ap (ok_line number) (sym split)
 
--- a text that becomes the report of the bytes when the lines of the rows to come are added; a fault to come is theirs
-pub record IsBegun (rule : Rule) (bytes : List ℕ) (journal : Journal) (to_come : Result (List Row) ScriptError) (text : List ℕ) : Type 0 where
+-- the rows of a reading, or its fault
+abbrev pub Rows : Type 0
+Rows = Result (List Row) ScriptError
+
+-- a text that becomes the report of all rows when the lines of those to come are added; a fault to come is theirs
+pub record IsBegun (rule : Rule) (start : Start) (all : Rows) (journal : Journal) (to_come : Rows) (text : List ℕ) : Type 0 where
   pub told : (rows : List Row) (rest : List ℕ) → to_come ≡ Ok rows → IsLines rule journal rows rest →
-      IsReportBy rule bytes (text ++ rest)
-  pub fails : (fault : ScriptError) → to_come ≡ Err fault → parse_of bytes ≡ Err fault
+      IsReportOfRows rule start all (text ++ rest)
+  pub fails : (fault : ScriptError) → to_come ≡ Err fault → all ≡ Err fault
 
 -- one more line
-IsBegun-next : (rule : Rule) (bytes : List ℕ) (journal : Journal) (row : Row) (to_come later : Result (List Row) ScriptError) (text line : List ℕ) →
-    IsBegun rule bytes journal to_come text → to_come ≡ row_and row later → IsLine rule journal row line →
-    IsBegun rule bytes (after rule journal row) later (text ++ line)
-IsBegun-next rule bytes journal row to_come later text line begun step isLine = record {
+IsBegun-next : (rule : Rule) (start : Start) (all : Rows) (journal : Journal) (row : Row) (to_come later : Rows)
+    (text line : List ℕ) →
+    IsBegun rule start all journal to_come text → to_come ≡ row_and row later → IsLine rule journal row line →
+    IsBegun rule start all (after rule journal row) later (text ++ line)
+IsBegun-next rule start all journal row to_come later text line begun step isLine = record {
   told = λ rows rest e lines.
-      let R : List ℕ → Type 0 = λ whole. IsReportBy rule bytes whole in
+      let R : List ℕ → Type 0 = λ whole. IsReportOfRows rule start all whole in
       subst R (sym (append_assoc text line rest))
       (begun.told (row ∷ rows) (line ++ rest) (step ∙ ap (row_and row) e) (line, rest, isLine, lines, refl));
   fails = λ fault e. begun.fails fault (step ∙ ap (row_and row) e);
 }
 
 -- no row is to come
-IsBegun-end : (rule : Rule) (bytes : List ℕ) (journal : Journal) (to_come : Result (List Row) ScriptError) (text : List ℕ) →
-    IsBegun rule bytes journal to_come text → to_come ≡ Ok [] → IsReportBy rule bytes text
-IsBegun-end rule bytes journal to_come text begun none =
-    let R : List ℕ → Type 0 = λ whole. IsReportBy rule bytes whole in
+IsBegun-end : (rule : Rule) (start : Start) (all : Rows) (journal : Journal) (to_come : Rows) (text : List ℕ) →
+    IsBegun rule start all journal to_come text → to_come ≡ Ok [] → IsReportOfRows rule start all text
+IsBegun-end rule start all journal to_come text begun none =
+    let R : List ℕ → Type 0 = λ whole. IsReportOfRows rule start all whole in
     subst R (append-nil text) (begun.told [] [] none refl)
 
 -- the same by a journal that stands for one that lists every command
-pub record IsBegunBy (keep : Option ℕ) (bytes : List ℕ) (kept : Journal) (to_come : Result (List Row) ScriptError) (text : List ℕ) : Type 0 where
+pub record IsBegunBy (keep : Option ℕ) (start : Start) (all : Rows) (kept : Journal) (to_come : Rows) (text : List ℕ) :
+    Type 0 where
   pub whole : Journal
   pub stands : StandsFor keep kept whole
-  pub begun : IsBegun (rule_of keep) bytes whole to_come text
+  pub begun : IsBegun (rule_of keep) start all whole to_come text
 
 -- after the opening's line all rows are to come
-pub IsBegunBy-start : (keep : Option ℕ) (bytes : List ℕ) (start : Start) (to_come : Result (List Row) ScriptError) →
-    parse_of bytes ≡ opened_with start to_come →
-    IsBegunBy keep bytes (opened start.desc start.reading start.real) to_come (open_line start.desc)
-IsBegunBy-start keep bytes start to_come opens = record {
+pub IsBegunBy-start : (keep : Option ℕ) (start : Start) (all : Rows) →
+    IsBegunBy keep start all (opened start.desc start.reading start.real) all (open_line start.desc)
+IsBegunBy-start keep start all = record {
   whole = opened start.desc start.reading start.real;
   stands = StandsFor-self keep (opened start.desc start.reading start.real);
   begun = record {
-    told = λ rows rest e lines. (_, opens ∙ ap (opened_with start) e, (rest, lines, refl));
-    fails = λ fault e. opens ∙ ap (opened_with start) e;
+    told = λ rows rest e lines. (_, ap (opened_with start) e, (rest, lines, refl));
+    fails = λ fault e. e;
   };
 }
 
-pub IsBegunBy-next : (keep : Option ℕ) (bytes : List ℕ) (kept kept' : Journal) (row : Row) (to_come later : Result (List Row) ScriptError) (text line : List ℕ) →
-    IsBegunBy keep bytes kept to_come text → to_come ≡ row_and row later → IsLine (rule_of keep) kept row line →
-    StandsFor keep kept' (after (rule_of keep) kept row) → IsBegunBy keep bytes kept' later (text ++ line)
-IsBegunBy-next keep bytes kept kept' row to_come later text line begun step isLine moved = record {
+pub IsBegunBy-next : (keep : Option ℕ) (start : Start) (all : Rows) (kept kept' : Journal) (row : Row)
+    (to_come later : Rows) (text line : List ℕ) →
+    IsBegunBy keep start all kept to_come text → to_come ≡ row_and row later → IsLine (rule_of keep) kept row line →
+    StandsFor keep kept' (after (rule_of keep) kept row) → IsBegunBy keep start all kept' later (text ++ line)
+IsBegunBy-next keep start all kept kept' row to_come later text line begun step isLine moved = record {
   whole = after (rule_of keep) begun.whole row;
   stands = StandsFor-after keep kept begun.whole kept' begun.stands row moved;
-  begun = IsBegun-next (rule_of keep) bytes begun.whole row to_come later text line begun.begun step
+  begun = IsBegun-next (rule_of keep) start all begun.whole row to_come later text line begun.begun step
       (IsLine-stands keep kept begun.whole begun.stands row line isLine);
 }
 
-pub IsBegunBy-end : (keep : Option ℕ) (bytes : List ℕ) (kept : Journal) (to_come : Result (List Row) ScriptError) (text : List ℕ) →
-    IsBegunBy keep bytes kept to_come text → to_come ≡ Ok [] → IsReportBy (rule_of keep) bytes text
-IsBegunBy-end keep bytes kept to_come text begun none =
-    IsBegun-end (rule_of keep) bytes begun.whole to_come text begun.begun none
+pub IsBegunBy-end : (keep : Option ℕ) (start : Start) (all : Rows) (kept : Journal) (to_come : Rows) (text : List ℕ) →
+    IsBegunBy keep start all kept to_come text → to_come ≡ Ok [] → IsReportOfRows (rule_of keep) start all text
+IsBegunBy-end keep start all kept to_come text begun none =
+    IsBegun-end (rule_of keep) start all begun.whole to_come text begun.begun none
 
--- a fault of the rows to come is the script's
-pub IsBegunBy-fault : (keep : Option ℕ) (bytes : List ℕ) (kept : Journal) (to_come : Result (List Row) ScriptError) (text : List ℕ) (fault : ScriptError) →
-    IsBegunBy keep bytes kept to_come text → Fails fault to_come → Fails fault (parse_of bytes)
-IsBegunBy-fault keep bytes kept to_come text errors.Memory begun fails = tt
-IsBegunBy-fault keep bytes kept to_come text errors.TooLarge begun fails = begun.begun.fails errors.TooLarge fails
-IsBegunBy-fault keep bytes kept to_come text errors.Empty begun fails = begun.begun.fails errors.Empty fails
-IsBegunBy-fault keep bytes kept to_come text (errors.Opening row) begun fails = begun.begun.fails (errors.Opening row) fails
-IsBegunBy-fault keep bytes kept to_come text (errors.Word row) begun fails = begun.begun.fails (errors.Word row) fails
-IsBegunBy-fault keep bytes kept to_come text (errors.Fields row) begun fails = begun.begun.fails (errors.Fields row) fails
-IsBegunBy-fault keep bytes kept to_come text (errors.Number row) begun fails = begun.begun.fails (errors.Number row) fails
+-- a reading's fault is that of another one which fails where it does
+pub Fails-from : (from to : Rows) (fault : ScriptError) → ((told : ScriptError) → from ≡ Err told → to ≡ Err told) →
+    Fails fault from → Fails fault to
+Fails-from from to errors.Memory step fails = tt
+Fails-from from to errors.TooLarge step fails = step errors.TooLarge fails
+Fails-from from to errors.Empty step fails = step errors.Empty fails
+Fails-from from to (errors.Opening row) step fails = step (errors.Opening row) fails
+Fails-from from to (errors.Word row) step fails = step (errors.Word row) fails
+Fails-from from to (errors.Fields row) step fails = step (errors.Fields row) fails
+Fails-from from to (errors.Number row) step fails = step (errors.Number row) fails
+
+-- a fault of the rows to come is one of all
+pub IsBegunBy-fault : (keep : Option ℕ) (start : Start) (all : Rows) (kept : Journal) (to_come : Rows) (text : List ℕ)
+    (fault : ScriptError) → IsBegunBy keep start all kept to_come text → Fails fault to_come → Fails fault all
+IsBegunBy-fault keep start all kept to_come text fault begun fails =
+    Fails-from to_come all fault begun.begun.fails fails
+
+fails-opened : (bytes : List ℕ) (start : Start) (all : Rows) (fault : ScriptError) →
+    parse_of bytes ≡ opened_with start all → Fails fault all → Fails fault (parse_of bytes)
+fails-opened bytes start all errors.Memory opens fails = tt
+fails-opened bytes start all errors.TooLarge opens fails = opens ∙ ap (opened_with start) fails
+fails-opened bytes start all errors.Empty opens fails = opens ∙ ap (opened_with start) fails
+fails-opened bytes start all (errors.Opening row) opens fails = opens ∙ ap (opened_with start) fails
+fails-opened bytes start all (errors.Word row) opens fails = opens ∙ ap (opened_with start) fails
+fails-opened bytes start all (errors.Fields row) opens fails = opens ∙ ap (opened_with start) fails
+fails-opened bytes start all (errors.Number row) opens fails = opens ∙ ap (opened_with start) fails
+
+-- the report of the rows, or their fault, is that of the bytes which tell the opening and them
+pub report-opened : {A : Type 0} (rule : Rule) (bytes : List ℕ) (start : Start) (all : Rows) (text_of : A → List ℕ)
+    (result : Result A ScriptError) → parse_of bytes ≡ opened_with start all →
+    MatchResult result (λ text. IsReportOfRows rule start all (text_of text)) (λ fault. Fails fault all) →
+    MatchResult result (λ text. IsReportBy rule bytes (text_of text)) (λ fault. Fails fault (parse_of bytes))
+report-opened rule bytes start all text_of (Ok text) opens (parse, told, report) = (parse, opens ∙ told, report)
+report-opened rule bytes start all text_of (Err fault) opens fails = fails-opened bytes start all fault opens fails
 
 -- a record is one command at most
 counted : (journal : Journal) (entry : Entry) (told : Option Refusal) →

@@ -1,9 +1,9 @@
 -- How a report reads a journal that is folded where it is full, in place of one that lists every command.
-use Rattle.std.specs.Prelude.{◌≡◌, ℕ, Option, Some, None, Result, Err}
+use Rattle.std.specs.Prelude.{◌≡◌, ℕ, ◌+◌, length, Option, Some, None, Result, Ok, Err, if◌then◌else◌}
 use Rattle.tk_clock.specs.declared.refusal.Refusal.{Refusal}
 use Rattle.tk_clock.specs.declared.refusal.Refusal.TheVariants.{Memory}
 use Rattle.tk_clock.specs.Journal.{Journal, accepted_count}
-use Rattle.tk_clock.specs.Refusal.{clock_refusal, first_refusal}
+use Rattle.tk_clock.specs.Refusal.{clock_refusal, first_refusal, is_full}
 use Rattle.tk_clock.specs.Run.{Reply}
 use Rattle.tk_clock.specs.State.{state_of}
 use Rattle.tk_replay.specs.Report.{Rule}
@@ -27,3 +27,16 @@ StandsFor (Some keep) journal whole = IsAlike journal whole
 abbrev pub IsReplied : Option ℕ → Reply → Result ℕ Refusal → Journal → Type 0
 IsReplied keep reply (Err Memory) journal = Unit {0}
 IsReplied keep reply answer journal = (reply.answer ≡ answer) × StandsFor keep journal reply.journal
+
+-- the greatest number of entries that a folded journal keeps: half of what a journal lists
+abbrev pub greatest_keep : ℕ
+greatest_keep = 524288
+
+-- how many entries are listed when a command is done: a full journal is first folded to its last ones, so many
+abbrev pub listed_then : ℕ → Journal → ℕ
+listed_then keep journal = if is_full journal then keep else length journal.entries
+
+-- how many are listed after it, where so many were
+abbrev pub listed_after : ℕ → Result ℕ Refusal → ℕ
+listed_after listed (Ok number) = listed + 1
+listed_after listed (Err refusal) = listed

@@ -14,8 +14,11 @@ use Rattle.tk_clock.specs.Monotonic.{monotonic}
 use Rattle.tk_clock.specs.Refusal.{clock_refusal, first_refusal}
 use Rattle.tk_clock.specs.Run.{Reply, reply_if}
 use Rattle.tk_clock.specs.Time.{timespec_of}
+use Rattle.tk_script.specs.declared.opening.Start.{Start}
 use Rattle.tk_script.specs.declared.row.Row.{Row}
 use Rattle.tk_script.specs.declared.row.Row.TheVariants.{Act, Look}
+use Rattle.tk_script.specs.declared.script_error.ScriptError.{ScriptError}
+use Rattle.tk_script.specs.Coming.{opened_with}
 use Rattle.tk_script.specs.Grammar.{Parse, parse_of}
 use Rattle.tk_script.specs.Lines.{open_line, ok_line, no_line, IsAtLine}
 
@@ -81,6 +84,11 @@ abbrev pub IsReportOf : Rule → Parse → List ℕ → Type 0
 IsReportOf rule parse text =
     (lines : List ℕ) × IsLines rule (opened parse.counter parse.reading parse.real) parse.rows lines
     × (text ≡ open_line parse.counter ++ lines)
+
+-- the report of an opening and of rows that were read without a fault
+abbrev pub IsReportOfRows : Rule → Start → Result (List Row) ScriptError → List ℕ → Type 0
+IsReportOfRows rule start read text =
+    (parse : Parse) × (opened_with start read ≡ Ok parse) × IsReportOf rule parse text
 
 -- the report of a script's bytes, by a rule
 abbrev pub IsReportBy : Rule → List ℕ → List ℕ → Type 0

@@ -3,11 +3,12 @@
 //! | Item | What it is |
 //! |---|---|
 //! | `report` | the report of a script's bytes |
-//! | `report_bounded` | the same with no limit to the commands, in bounded memory |
+//! | `report_bounded` | the same with no limit to the commands, by a bounded journal |
 //! | `replay` | reads a script to its end and writes its report |
 //! | `replay_bounded` | the same by `report_bounded` |
+//! | `read_to_end` | the bytes of any reader, up to one more than a script may have |
 //! | `Fault` | why `replay` stopped, and how much of the report had gone out by then |
-//! | `Source`, `Sink` | where the script comes from and where the report goes: any reader, any writer |
+//! | `Source`, `Sink` | where the script comes from and where the report goes: any reader and writer |
 //!
 //! Units: readings in cycles; times in seconds and nanoseconds; texts and lengths in bytes.
 #![tactic(auto)]
@@ -25,4 +26,4 @@ pub use fault::Fault;
 pub use replaying::{replay, replay_bounded};
 pub use reporting::{report, report_bounded};
 pub use sink::Sink;
-pub use source::Source;
+pub use source::{Source, read_to_end};

@@ -1,10 +1,9 @@
-ghost use Rattle.std.specs.Prelude.{◌≤◌, OnOk, IfErr};
+ghost use Rattle.std.specs.Prelude.{◌≤◌};
 ghost use Rattle.std.specs.Option.{ForSome};
-ghost use Rattle.tk_replay.specs.Folding.{rule_of};
+ghost use Rattle.tk_replay.specs.Folding.{greatest_keep, rule_of};
 ghost use Rattle.tk_replay.specs.Reading.{ReadFailed};
 ghost use Rattle.tk_replay.specs.Report.{IsReport, IsReportBy, IsReportUnlimited};
-ghost use Rattle.tk_replay.specs.Writing.{IsFlushed, WriteFailed};
-ghost use Rattle.tk_replay.specs.Replay.{HasFailed, IsReplayed, Leaves};
+ghost use Rattle.tk_replay.specs.Replay.{IsReplayed};
 
 use crate::fault::Fault;
 use crate::reporting::report_by;
@@ -14,68 +13,51 @@ use std::alloc::Global;
 
 /// Reads a script to its end, makes the whole report, writes it and flushes.
 ///
-/// It reads at most 16,777,217 bytes, of which the last one shows that the script is too large. No call is
-/// tried again: a read or a write that is interrupted (EINTR) is a fault as any other.
+/// It reads at most 16,777,217 bytes, of which the last one shows that the script is too large. No
+/// call is tried again: a read or a write that is interrupted (EINTR) is a fault as any other.
 pub fn replay<R: Source, W: Sink>(
     alloc: Global,
     reader: &mut R,
     writer: &mut W,
 ) -> Result<(), Fault>
-    ensures ok { OnOk result (IsReplayed IsReport
+    ensures { IsReplayed IsReport
         (R.Read.remaining reader.old) (R.Read.remaining reader.new)
-        (W.Write.contents writer.old) (W.Write.contents writer.new)) }
-    ensures flushed { OnOk result (IsFlushed W.Sink.flush_gives writer.new) }
-    ensures err { IfErr result (Leaves IsReport
-        (R.Read.remaining reader.old) (R.Read.remaining reader.new)
-        W.Write.contents writer.old writer.new) }
-    ensures failed { IfErr result (HasFailed
         (ReadFailed R.Source.read_gives reader.new)
-        (WriteFailed W.Sink.write_gives W.Sink.flush_gives writer.new)) }
+        W.Write.contents W.Sink.write_gives W.Sink.flush_gives writer.old writer.new result }
 {
     replay_by(alloc, reader, writer, None)
 }
 
-/// Reads and writes as `replay` does, and makes the report as `report_bounded` does, in bounded memory.
+/// Reads and writes as `replay` does, and makes the report as `report_bounded` does, by a bounded
+/// journal.
 pub fn replay_bounded<R: Source, W: Sink>(
     alloc: Global,
     reader: &mut R,
     writer: &mut W,
     keep: u64,
 ) -> Result<(), Fault>
-    requires { (1 ≤ keep) × (keep ≤ 524288) }
-    ensures ok { OnOk result (IsReplayed IsReportUnlimited
+    requires { (1 ≤ keep) × (keep ≤ greatest_keep) }
+    ensures { IsReplayed IsReportUnlimited
         (R.Read.remaining reader.old) (R.Read.remaining reader.new)
-        (W.Write.contents writer.old) (W.Write.contents writer.new)) }
-    ensures flushed { OnOk result (IsFlushed W.Sink.flush_gives writer.new) }
-    ensures err { IfErr result (Leaves IsReportUnlimited
-        (R.Read.remaining reader.old) (R.Read.remaining reader.new)
-        W.Write.contents writer.old writer.new) }
-    ensures failed { IfErr result (HasFailed
         (ReadFailed R.Source.read_gives reader.new)
-        (WriteFailed W.Sink.write_gives W.Sink.flush_gives writer.new)) }
+        W.Write.contents W.Sink.write_gives W.Sink.flush_gives writer.old writer.new result }
 {
     replay_by(alloc, reader, writer, Some(keep))
 }
 
-/// Reads a script to its end, makes its report, writes it and flushes. A full journal is folded to its last
-/// `keep` entries, or refuses commands.
+/// Reads a script to its end, makes its report, writes it and flushes. A full journal is folded to its
+/// last `keep` entries, or refuses commands.
 fn replay_by<R: Source, W: Sink>(
     alloc: Global,
     reader: &mut R,
     writer: &mut W,
     keep: Option<u64>,
 ) -> Result<(), Fault>
-    requires { ForSome keep (λ n. n ≤ 524288) }
-    ensures ok { OnOk result (IsReplayed (IsReportBy (rule_of keep))
+    requires { ForSome keep (λ n. n ≤ greatest_keep) }
+    ensures { IsReplayed (IsReportBy (rule_of keep))
         (R.Read.remaining reader.old) (R.Read.remaining reader.new)
-        (W.Write.contents writer.old) (W.Write.contents writer.new)) }
-    ensures flushed { OnOk result (IsFlushed W.Sink.flush_gives writer.new) }
-    ensures err { IfErr result (Leaves (IsReportBy (rule_of keep))
-        (R.Read.remaining reader.old) (R.Read.remaining reader.new)
-        W.Write.contents writer.old writer.new) }
-    ensures failed { IfErr result (HasFailed
         (ReadFailed R.Source.read_gives reader.new)
-        (WriteFailed W.Sink.write_gives W.Sink.flush_gives writer.new)) }
+        W.Write.contents W.Sink.write_gives W.Sink.flush_gives writer.old writer.new result }
 {
     let script = read_to_end(alloc, reader)?;
     let text = report_by(alloc, script.as_slice(), keep)?;

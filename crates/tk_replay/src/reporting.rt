@@ -2,21 +2,23 @@ ghost use Rattle.std.specs.Prelude.{◌≡◌, ◌++◌, ◌<◌, ◌≤◌, ◌
 ghost use Rattle.std.specs.Option.{ForSome};
 ghost use Rattle.std.specs.Result.{result_err};
 ghost use Rattle.tk_clock.specs.Journal.{accepted_count};
+ghost use Rattle.tk_clock.specs.Refusal.{opening_refusal};
+ghost use Rattle.tk_script.specs.Coming.{IsReady, coming};
 ghost use Rattle.tk_script.specs.Grammar.{Fails, parse_of};
 ghost use Rattle.tk_script.specs.Lines.{IsWritable};
-ghost use Rattle.tk_replay.specs.Folding.{StandsFor, rule_of};
-ghost use Rattle.tk_replay.specs.Report.{IsLine, IsLookLine, IsReport, IsReportBy, IsReportUnlimited, IsTimeAt, after, event, look_refusal, reply_by, reply_line};
+ghost use Rattle.tk_replay.specs.Folding.{StandsFor, greatest_keep, rule_of};
+ghost use Rattle.tk_replay.specs.Report.{IsLine, IsLookLine, IsReport, IsReportBy, IsReportOfRows, IsReportUnlimited, IsTimeAt, after, event, look_refusal, reply_by, reply_line};
 
 use crate::applying::apply;
-use std::alloc::Global;
+use std::alloc::{Allocator, Global};
 use tk_clock::{ClockId, Command, ReadError, Refusal, Timespec};
 use tk_keeper::Timekeeper;
-use tk_script::{Calendar, Row, RowReader, ScriptError, line_no, line_ok, line_open};
+use tk_script::{Calendar, Row, RowReader, ScriptError, Start, line_no, line_ok, line_open};
 
 /// The report of a script's bytes: a line for the opening, and one for each record after it.
 ///
-/// Commands are applied in their order, all by the caller 0. An accepted one is told with MONOTONIC at its
-/// reading. One that meets a journal of 1,048,576 entries is refused as Full.
+/// Commands are applied in their order, all by the caller 0. An accepted one is told with MONOTONIC at
+/// its reading. One that meets a journal of 1,048,576 entries is refused as Full.
 /// `Memory` may stand in the place of any other answer.
 pub fn report(alloc: Global, script: &[u8]) -> Result<Vec<u8>, ScriptError>
     ensures { MatchResult result
@@ -26,12 +28,12 @@ pub fn report(alloc: Global, script: &[u8]) -> Result<Vec<u8>, ScriptError>
     report_by(alloc, script, None)
 }
 
-/// The report of a script's bytes in bounded memory: no command is refused as Full.
+/// The report of a script's bytes by a bounded journal: no command is refused as Full.
 ///
-/// A journal of 1,048,576 entries is folded to its last `keep` entries before the next command. The lines are
-/// those of a journal that lists every command. All else is as in `report`.
+/// A journal of 1,048,576 entries is folded to its last `keep` entries before the next command. The
+/// lines are those of a journal that lists every command. All else is as in `report`.
 pub fn report_bounded(alloc: Global, script: &[u8], keep: u64) -> Result<Vec<u8>, ScriptError>
-    requires { (1 ≤ keep) × (keep ≤ 524288) }
+    requires { (1 ≤ keep) × (keep ≤ greatest_keep) }
     ensures { MatchResult result
         (λ text. IsReportUnlimited script.now text.items)
         (λ error. Fails error (parse_of script.now)) }
@@ -39,18 +41,37 @@ pub fn report_bounded(alloc: Global, script: &[u8], keep: u64) -> Result<Vec<u8>
     report_by(alloc, script, Some(keep))
 }
 
-/// The report of a script's bytes. A full journal is folded to its last `keep` entries, or refuses commands.
+/// The report of a script's bytes. A full journal is folded to its last `keep` entries, or refuses
+/// commands.
 pub(crate) fn report_by(
     alloc: Global,
     script: &[u8],
     keep: Option<u64>,
 ) -> Result<Vec<u8>, ScriptError>
-    requires { ForSome keep (λ n. n ≤ 524288) }
+    requires { ForSome keep (λ n. n ≤ greatest_keep) }
     ensures { MatchResult result
         (λ text. IsReportBy (rule_of keep) script.now text.items)
         (λ error. Fails error (parse_of script.now)) }
 {
     let (start, mut rows) = RowReader::open(alloc, script)?;
+    report_rows(alloc, start, &mut rows, keep)
+}
+
+/// The report of an opening and of the rows that are still to be read, or the fault of these. All that
+/// it takes is from `alloc`, but for what the reader of the rows takes.
+pub(crate) fn report_rows<A: Allocator + Copy>(
+    alloc: A,
+    start: Start,
+    rows: &mut RowReader<'_>,
+    keep: Option<u64>,
+) -> Result<Vec<u8, A>, ScriptError>
+    requires opens { opening_refusal start.desc start.reading start.real ≡ None }
+    requires ready { IsReady rows.old }
+    requires keep { ForSome keep (λ n. n ≤ greatest_keep) }
+    ensures { MatchResult result
+        (λ text. IsReportOfRows (rule_of keep) start (coming rows.old) text.items)
+        (λ error. Fails error (coming rows.old)) }
+{
     let mut keeper = Timekeeper::open(alloc, start.desc, start.reading, start.real).unwrap();
     let mut calendar = Calendar::new(alloc);
     let mut text = Vec::new(alloc);
@@ -62,15 +83,15 @@ pub(crate) fn report_by(
 }
 
 /// Adds the line of a record: applies a command, or reads a clock.
-fn add_line(
-    text: &mut Vec<u8>,
-    calendar: &mut Calendar,
-    keeper: &mut Timekeeper,
+fn add_line<A: Allocator + Copy>(
+    text: &mut Vec<u8, A>,
+    calendar: &mut Calendar<A>,
+    keeper: &mut Timekeeper<A>,
     keep: Option<u64>,
     row: Row,
 ) -> Result<(), ScriptError>
     requires count { accepted_count keeper.old.journal < 2 ^ 63 - 1 }
-    requires keep { ForSome keep (λ n. n ≤ 524288) }
+    requires keep { ForSome keep (λ n. n ≤ greatest_keep) }
     ensures line { OnOk result ((line : List ℕ) × IsLine (rule_of keep) keeper.old.journal row line
         × (text.new.items ≡ text.old.items ++ line)) }
     ensures after { OnOk result
@@ -84,15 +105,15 @@ fn add_line(
 }
 
 /// Applies a command, and adds the line of the answer. An accepted command can always be told.
-fn add_reply(
-    text: &mut Vec<u8>,
-    keeper: &mut Timekeeper,
+fn add_reply<A: Allocator + Copy>(
+    text: &mut Vec<u8, A>,
+    keeper: &mut Timekeeper<A>,
     keep: Option<u64>,
     reading: u64,
     cmd: Command,
 ) -> Result<(), ScriptError>
     requires count { accepted_count keeper.old.journal < 2 ^ 63 - 1 }
-    requires keep { ForSome keep (λ n. n ≤ 524288) }
+    requires keep { ForSome keep (λ n. n ≤ greatest_keep) }
     ensures line { OnOk result (text.new.items ≡ text.old.items ++ reply_line reading
         (reply_by (rule_of keep) keeper.old.journal (event reading cmd))) }
     ensures after { OnOk result (StandsFor keep keeper.new.journal
@@ -110,10 +131,10 @@ fn add_reply(
 }
 
 /// Adds the line of a clock at a reading.
-fn add_look(
-    text: &mut Vec<u8>,
-    calendar: &mut Calendar,
-    keeper: &Timekeeper,
+fn add_look<A: Allocator + Copy>(
+    text: &mut Vec<u8, A>,
+    calendar: &mut Calendar<A>,
+    keeper: &Timekeeper<A>,
     reading: u64,
     clock: ClockId,
 ) -> Result<(), ScriptError>
@@ -130,7 +151,11 @@ fn add_look(
 }
 
 /// The time of a clock at a reading.
-fn time_at(keeper: &Timekeeper, clock: ClockId, reading: u64) -> Result<Timespec, Refusal>
+fn time_at<A: Allocator + Copy>(
+    keeper: &Timekeeper<A>,
+    clock: ClockId,
+    reading: u64,
+) -> Result<Timespec, Refusal>
     ensures refusal { look_refusal keeper.now.journal clock reading ≡ result_err result }
     ensures time { IfOk result (IsTimeAt keeper.now.journal clock reading) }
     ensures writable { IfOk result IsWritable }

@@ -1,6 +1,6 @@
 ghost use Rattle.std.specs.Prelude.{◌≡◌, ℕ, ◌+◌, ◌≤◌, ◌<◌, ◌^◌, Option, take, drop, length, IfOk, IfErr, IfSome, OnOk, MatchOption, vec_len};
 ghost use Rattle.std.specs.Io.KnownBytes.{Consumes, IsAtEnd, Keeps};
-ghost use Rattle.tk_replay.specs.Reading.{IsReadToEnd, StopsReading};
+ghost use Rattle.tk_replay.specs.Reading.{IsReadToEnd, IsReadWithin, ReadFailed, StopsReading};
 
 use crate::fault::Fault;
 use std::alloc::{AllocError, Global};
@@ -8,15 +8,16 @@ use std::io::Read;
 
 /// Where a script comes from: any reader.
 ///
-/// `replay` reads by this trait, so that its contract can say that a read failed: it is proved for every
-/// relation `read_gives`, and so can name only a read that it made. Every reader has it; write no impl of it.
+/// `replay` reads by this trait, so that its contract can say that a read failed: it is proved for
+/// every relation `read_gives`, and so can name only a read that it made. Every reader has it; write
+/// no impl of it.
 pub trait Source: Read {
-    // What a read may come to: the reader before it, how many bytes it gave, none where it failed, and the
-    // reader after it.
+    // What a read may come to: the reader before it, how many bytes it gave, none where it failed, and
+    // the reader after it.
     ghost read_gives: { Self → Option ℕ → Self → Type 0 };
 
-    /// Reads once into `room`, from its front: how many bytes it gave, or nothing where the read answered an
-    /// error.
+    /// Reads once into `room`, from its front: how many bytes it gave, or nothing where the read
+    /// answered an error.
     fn read_once(&mut self, room: &mut [u8]) -> Option<usize>
         ensures bound { IfSome result (λ count. count ≤ length room.new) }
         ensures bytes { MatchOption result
@@ -41,11 +42,16 @@ const MOST: usize = 16_777_217;
 /// The room for the first reads, in bytes.
 const FIRST_ROOM: usize = 65_536;
 
-/// Reads to the end, or `MOST` bytes, whichever comes first.
-pub(crate) fn read_to_end<S: Source>(alloc: Global, source: &mut S) -> Result<Vec<u8>, Fault>
+/// Reads to the end, or 16,777,217 bytes, whichever comes first.
+///
+/// Read where a read fails, and Memory. No read is tried again: one that is interrupted (EINTR) is a
+/// fault as any other.
+pub fn read_to_end<S: Source>(alloc: Global, source: &mut S) -> Result<Vec<u8>, Fault>
+    ensures within {
+        IsReadWithin (S.Read.remaining source.old) (S.Read.remaining source.new) }
     ensures ok { IfOk result (λ bytes.
         IsReadToEnd (S.Read.remaining source.old) (S.Read.remaining source.new) bytes.items) }
-    ensures err { IfErr result (StopsReading S.Source.read_gives source.new) }
+    ensures err { IfErr result (StopsReading (ReadFailed S.Source.read_gives source.new)) }
 {
     let mut bytes = Vec::new(alloc);
     let mut filled = 0;

@@ -1,5 +1,5 @@
 -- The first record of a script: the counter, its reading and the real time at which the clocks are opened.
-use Rattle.std.specs.Prelude.{ℕ, List, length, is_none, Result, Ok, Err, ◌==◌, if◌then◌else◌, codes}
+use Rattle.std.specs.Prelude.{ℕ, List, length, is_none, Option, Some, None, Result, Ok, Err, ◌==◌, if◌then◌else◌, codes}
 use Rattle.std.specs.Option.{ok_or}
 use Rattle.tk_counter.specs.Counter.{Counter}
 use Rattle.tk_counter.specs.Description.{first_fault}
@@ -9,19 +9,25 @@ use Rattle.tk_clock.specs.Refusal.{opening_refusal}
 use Rattle.tk_script.specs.Word.{is_word}
 use Rattle.tk_script.specs.Field.{◌>>=◌, field, number_at, number32_at, time_at}
 use Rattle.tk_script.specs.declared.opening.Start.{Start}
+use Rattle.tk_script.specs.declared.opening.Telling.{Telling}
+use Rattle.tk_script.specs.declared.opening.Telling.TheVariants as tellings
 use Rattle.tk_script.specs.declared.script_error.ScriptError.{ScriptError}
 use Rattle.tk_script.specs.declared.script_error.ScriptError.TheVariants as errors
 
 -- the counter of these numbers, if they describe one
-abbrev pub described : Counter → Result Counter ScriptError
-described counter = if is_none (first_fault counter) then Ok counter else Err (errors.Opening 1)
+abbrev pub scaled_counter : Counter → Option Counter
+scaled_counter counter = if is_none (first_fault counter) then Some counter else None
 
 -- the counter of so many bits at so many hz, for gaps of up to maxsec seconds, if there is one
-abbrev pub running : ℕ → ℕ → ℕ → Result Counter ScriptError
-running bits hz maxsec =
-    if is_none (frequency.frequency_fault bits hz maxsec)
-    then ok_or (frequency.described bits hz maxsec) (errors.Opening 1)
-    else Err (errors.Opening 1)
+abbrev pub timed_counter : ℕ → ℕ → ℕ → Option Counter
+timed_counter bits hz maxsec =
+    if is_none (frequency.frequency_fault bits hz maxsec) then frequency.described bits hz maxsec else None
+
+-- the counter of so many bits that two numbers tell: its mult and shift, or its frequency and the longest gap
+abbrev pub counter_of : Telling → ℕ → ℕ → ℕ → Result Counter ScriptError
+counter_of tellings.Scale bits mult shift =
+    ok_or (scaled_counter (record { bits = bits; mult = mult; shift = shift })) (errors.Opening 1)
+counter_of tellings.Frequency bits hz maxsec = ok_or (timed_counter bits hz maxsec) (errors.Opening 1)
 
 -- clocks with this counter, opened at a reading and a real time, if they can be
 abbrev pub started : Counter → ℕ → Timespec → Result Start ScriptError
@@ -30,35 +36,22 @@ started counter reading real =
     then Ok (record { desc = counter; reading = reading; real = real })
     else Err (errors.Opening 1)
 
--- `open` with bits, mult, shift, reading, sec and nsec
-unfoldable pub open_of : List (List ℕ) → Result Start ScriptError
-open_of fields =
+-- bits, the two numbers that tell the counter, reading, sec and nsec
+unfoldable pub opening_of : Telling → List (List ℕ) → Result Start ScriptError
+opening_of telling fields =
     if length fields == 7 then (do
       bits ← number32_at 1 fields 1
-      mult ← number32_at 1 fields 2
-      shift ← number32_at 1 fields 3
+      first ← number32_at 1 fields 2
+      second ← number32_at 1 fields 3
       reading ← number_at 1 fields 4
       real ← time_at 1 fields 5
-      counter ← described (record { bits = bits; mult = mult; shift = shift })
+      counter ← counter_of telling bits first second
       started counter reading real)
     else Err (errors.Fields 1)
 
--- `openhz` with bits, hz, maxsec, reading, sec and nsec
-unfoldable pub openhz_of : List (List ℕ) → Result Start ScriptError
-openhz_of fields =
-    if length fields == 7 then (do
-      bits ← number32_at 1 fields 1
-      hz ← number32_at 1 fields 2
-      maxsec ← number32_at 1 fields 3
-      reading ← number_at 1 fields 4
-      real ← time_at 1 fields 5
-      counter ← running bits hz maxsec
-      started counter reading real)
-    else Err (errors.Fields 1)
-
--- the opening that the first record tells by its word
+-- the opening that the first record tells by its word: `open` with mult and shift, `openhz` with hz and maxsec
 unfoldable pub start_of : List (List ℕ) → Result Start ScriptError
 start_of fields =
-    if is_word (field fields 0) (codes "open") then open_of fields
-    else if is_word (field fields 0) (codes "openhz") then openhz_of fields
+    if is_word (field fields 0) (codes "open") then opening_of tellings.Scale fields
+    else if is_word (field fields 0) (codes "openhz") then opening_of tellings.Frequency fields
     else Err (errors.Opening 1)

@@ -1,7 +1,9 @@
 -- What a reader of a script's bytes has left.
 use Rattle.std.specs.Prelude.{◌≡◌, ℕ, List, [], ◌∷◌, Option, Some, Bool, true, false, option_map}
 use Rattle.std.specs.Borrow.{Bor}
-use Rattle.csv.specs.Reading.{Ready, default_config, reader_config, reader_state, reader_trim, source_of}
+use Rattle.csv.specs.Reading.{Ready, default_config, is_flexible, reader_config, reader_state, reader_trim, source_of}
+use Rattle.csv.specs.declared.error.ErrorKind.{ErrorKind}
+use Rattle.csv.specs.declared.error.ErrorKind.TheVariants as kinds
 use Rattle.csv.specs.declared.reader.Reader.{Reader}
 use Rattle.csv.specs.declared.reader.Trim.TheVariants as trim
 use Rattle.tk_script.specs.Records.{records_after}
@@ -10,9 +12,20 @@ use Rattle.tk_script.specs.Records.{records_after}
 abbrev pub SliceReader : Type 0
 SliceReader = Reader (Bor (List ℕ))
 
--- each read is of one record, by the crate's defaults, and trims nothing
+-- each read is of one record of any length, by the crate's defaults, and trims nothing
 abbrev pub IsReading : SliceReader → Type 0
-IsReading reader = (reader_trim reader ≡ trim.None) × Ready reader × (reader_config reader ≡ default_config)
+IsReading reader =
+    (reader_trim reader ≡ trim.None) × Ready reader × (reader_config reader ≡ default_config)
+    × (is_flexible reader ≡ true)
+
+-- why such a read may fail: memory was refused, or the bytes underneath could not be read, as bytes in memory always can
+abbrev pub IsWantOfMemory : ErrorKind → Type 0
+IsWantOfMemory kinds.OutOfMemory = Unit {0}
+IsWantOfMemory (kinds.Io error) = Unit {0}
+IsWantOfMemory (kinds.UnequalLengths place expected len) = ⊥
+IsWantOfMemory (kinds.Utf8 place error) = ⊥
+IsWantOfMemory (kinds.Serialize text) = ⊥
+IsWantOfMemory (kinds.Deserialize place error) = ⊥
 
 -- the records that are left, where the reader has not failed
 abbrev pub left_of : SliceReader → Option (List (List (List ℕ)))

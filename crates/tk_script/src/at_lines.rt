@@ -2,15 +2,22 @@ ghost use Rattle.std.specs.Prelude.{◌≡◌, ℕ, ◌++◌, List, OnOk, OnErr,
 ghost use Rattle.tk_script.specs.Lines.{IsWritable, IsAtLine, IsUtcLine, at_text};
 
 use crate::calendar::{Calendar, day_and_second, time_of_day};
+use crate::names::word_of_clock;
 use crate::script_error::ScriptError;
 use crate::text::{add, add_time, undo_if_err};
-use crate::words::word_of_clock;
+use std::alloc::Allocator;
 use tk_clock::{ClockId, Timespec};
 
-/// Appends the line of a clock's time: `at,CLOCK,TIME`, and for REALTIME and its coarse form `,UTC` behind it.
+/// Appends the line of a clock's time: `at,CLOCK,TIME`, and for REALTIME and its coarse form `,UTC`
+/// behind it.
 ///
-/// Only Memory; `out` is then as it was. For many lines use a `Calendar`, which works out each date once.
-pub fn line_at(out: &mut Vec<u8>, clock: ClockId, time: Timespec) -> Result<(), ScriptError>
+/// Only Memory; `out` is then as it was. For many lines use a `Calendar`, which works out each date
+/// once.
+pub fn line_at<A: Allocator + Copy>(
+    out: &mut Vec<u8, A>,
+    clock: ClockId,
+    time: Timespec,
+) -> Result<(), ScriptError>
     requires { IsWritable time }
     ensures ok { OnOk result ((text : List ℕ) × (out.new.items ≡ out.old.items ++ text)
         × IsAtLine clock time text) }
@@ -21,13 +28,14 @@ pub fn line_at(out: &mut Vec<u8>, clock: ClockId, time: Timespec) -> Result<(), 
     calendar.line_at(out, clock, time)
 }
 
-impl Calendar {
+impl<A: Allocator + Copy> Calendar<A> {
     /// Appends the line of a clock's time as the function `line_at` does, and keeps its date.
     ///
-    /// It takes no memory but the growth of `out`, and for the date of a day other than that of the last line with a date.
+    /// It takes no memory but the growth of `out`, and for the date of a day other than that of the
+    /// last line with a date.
     pub fn line_at(
         &mut self,
-        out: &mut Vec<u8>,
+        out: &mut Vec<u8, A>,
         clock: ClockId,
         time: Timespec,
     ) -> Result<(), ScriptError>
@@ -50,7 +58,7 @@ impl Calendar {
     /// Appends the line of a clock's time with UTC text.
     fn line_at_utc(
         &mut self,
-        out: &mut Vec<u8>,
+        out: &mut Vec<u8, A>,
         clock: ClockId,
         time: Timespec,
     ) -> Result<(), ScriptError>
@@ -69,7 +77,11 @@ impl Calendar {
 }
 
 /// Appends the line of a clock's time without UTC text.
-fn line_at_plain(out: &mut Vec<u8>, clock: ClockId, time: Timespec) -> Result<(), ScriptError>
+fn line_at_plain<A: Allocator>(
+    out: &mut Vec<u8, A>,
+    clock: ClockId,
+    time: Timespec,
+) -> Result<(), ScriptError>
     requires { IsWritable time }
     ensures ok { OnOk result (out.new.items ≡ out.old.items ++ (at_text clock time ++ codes "\n")) }
     ensures err { OnErr result (out.new.items ≡ out.old.items) }
@@ -81,8 +93,8 @@ fn line_at_plain(out: &mut Vec<u8>, clock: ClockId, time: Timespec) -> Result<()
 }
 
 /// Appends the line of a clock's time with this date and time of day behind it.
-fn line_at_with(
-    out: &mut Vec<u8>,
+fn line_at_with<A: Allocator>(
+    out: &mut Vec<u8, A>,
     clock: ClockId,
     time: Timespec,
     date: &[u8],
@@ -100,7 +112,11 @@ fn line_at_with(
 }
 
 /// The line of a clock's time, or a part of it.
-fn add_at(out: &mut Vec<u8>, clock: ClockId, time: Timespec) -> Result<(), ScriptError>
+fn add_at<A: Allocator>(
+    out: &mut Vec<u8, A>,
+    clock: ClockId,
+    time: Timespec,
+) -> Result<(), ScriptError>
     requires { IsWritable time }
     ensures ok { OnOk result (out.new.items ≡ out.old.items ++ (at_text clock time ++ codes "\n")) }
     ensures err { OnErr result (take (length out.old.items) out.new.items ≡ out.old.items) }
@@ -111,8 +127,8 @@ fn add_at(out: &mut Vec<u8>, clock: ClockId, time: Timespec) -> Result<(), Scrip
 }
 
 /// The same with the time as UTC text.
-fn add_at_utc(
-    out: &mut Vec<u8>,
+fn add_at_utc<A: Allocator>(
+    out: &mut Vec<u8, A>,
     clock: ClockId,
     time: Timespec,
     date: &[u8],
@@ -132,7 +148,11 @@ fn add_at_utc(
 }
 
 /// A clock's time without the line's end, or a part of it.
-fn add_at_text(out: &mut Vec<u8>, clock: ClockId, time: Timespec) -> Result<(), ScriptError>
+fn add_at_text<A: Allocator>(
+    out: &mut Vec<u8, A>,
+    clock: ClockId,
+    time: Timespec,
+) -> Result<(), ScriptError>
     requires { IsWritable time }
     ensures ok { OnOk result (out.new.items ≡ out.old.items ++ at_text clock time) }
     ensures err { OnErr result (take (length out.old.items) out.new.items ≡ out.old.items) }

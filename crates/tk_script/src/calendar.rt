@@ -6,21 +6,21 @@ ghost use Rattle.tk_script.specs.Lines.{IsWritable};
 use crate::script_error::ScriptError;
 use crate::text::{nine_digits_of, two_digits_of};
 use jiff::civil::Date;
-use std::alloc::Global;
+use std::alloc::{Allocator, Global};
 use std::marker::Model;
 
 const SECONDS_PER_DAY: u64 = 86_400;
 
 /// The calendar, open at the day that was asked for last: lines of one day work its date out once.
 #[derive(Drop)]
-pub struct Calendar {
+pub struct Calendar<A: Allocator = Global> {
     /// The day whose date is at hand, counted from 1970-01-01.
     day: Option<u32>,
     /// Its date, `YYYY-MM-DD`.
-    date: String,
+    date: String<A>,
 }
 
-impl Model for Calendar {
+impl<A: Allocator> Model for Calendar<A> {
     ghost Value = { Unit {0} };
 
     ghost view = { λ _. tt };
@@ -28,9 +28,9 @@ impl Model for Calendar {
     ghost invariant = { λ a. IfSome a.day (λ day. IsDateText day (string_bytes a.date)) };
 }
 
-impl Calendar {
+impl<A: Allocator + Copy> Calendar<A> {
     /// A calendar that is open at no day. It takes no memory.
-    pub fn new(alloc: Global) -> Calendar {
+    pub fn new(alloc: A) -> Calendar<A> {
         Calendar {
             day: None,
             date: String::new(alloc),
@@ -54,8 +54,9 @@ impl Calendar {
     }
 }
 
-/// A time since 1970 as UTC text, `YYYY-MM-DDThh:mm:ss.nnnnnnnnnZ`, by the Gregorian calendar without leap seconds.
-pub fn utc(alloc: Global, sec: i64, nsec: u32) -> Result<String, ScriptError>
+/// A time since 1970 as UTC text, `YYYY-MM-DDThh:mm:ss.nnnnnnnnnZ`, by the Gregorian calendar without
+/// leap seconds.
+pub fn utc<A: Allocator + Copy>(alloc: A, sec: i64, nsec: u32) -> Result<String<A>, ScriptError>
     requires { IsWritable (record { sec = sec; nsec = nsec }) }
     ensures ok { IfOk result (λ s. IsUtcText (unsigned_abs sec) nsec (string_bytes s)) }
     ensures memory { IfErr result (λ e. e ≡ ScriptError.Memory) }
@@ -86,7 +87,12 @@ fn date_of_day(day: u32) -> Date
 }
 
 /// The text of a day, and of a second and nanoseconds in it.
-fn utc_of(alloc: Global, date: Date, second: u32, nsec: u32) -> Result<String, ScriptError>
+fn utc_of<A: Allocator + Copy>(
+    alloc: A,
+    date: Date,
+    second: u32,
+    nsec: u32,
+) -> Result<String<A>, ScriptError>
     requires second { second < 86400 }
     requires nanoseconds { nsec < 1000000000 }
     ensures ok { IfOk result (λ s. string_bytes s ≡ date_text date ++ time_part second nsec) }
@@ -115,7 +121,7 @@ pub(crate) fn time_of_day(second: u32, nsec: u32) -> [u8; 20]
 }
 
 /// `YYYY-MM-DD`.
-fn date_string(alloc: Global, date: Date) -> Result<String, ScriptError>
+fn date_string<A: Allocator + Copy>(alloc: A, date: Date) -> Result<String<A>, ScriptError>
     ensures ok { IfOk result (λ s. string_bytes s ≡ date_text date) }
     ensures memory { IfErr result (λ e. e ≡ ScriptError.Memory) }
 {
@@ -123,7 +129,7 @@ fn date_string(alloc: Global, date: Date) -> Result<String, ScriptError>
 }
 
 /// Appends the text, or nothing.
-fn push(text: &mut String, more: &str) -> Result<(), ScriptError>
+fn push<A: Allocator>(text: &mut String<A>, more: &str) -> Result<(), ScriptError>
     ensures ok { OnOk result (string_bytes text.new ≡ string_bytes text.old ++ more.now) }
     ensures memory { IfErr result (λ e. e ≡ ScriptError.Memory) }
 {

@@ -3,9 +3,9 @@ ghost use Rattle.csv.specs.Records.{fields_of};
 ghost use Rattle.tk_script.specs.Word.{is_word};
 ghost use Rattle.tk_script.specs.Field as spec;
 
+use crate::names::clock_word;
 use crate::numbers::{number, number32, signed};
 use crate::script_error::ScriptError;
-use crate::words::clock_word;
 use csv::ByteRecord;
 use tk_clock::{ClockId, Timespec};
 

@@ -18,6 +18,7 @@ mod at_lines;
 mod calendar;
 mod fields;
 mod lines;
+mod names;
 mod numbers;
 mod opening;
 mod records;
@@ -27,11 +28,11 @@ mod script;
 mod script_error;
 mod stamps;
 mod text;
-mod words;
 
 pub use at_lines::line_at;
 pub use calendar::{Calendar, utc};
 pub use lines::{line_no, line_ok, line_open};
+pub use names::clock_word;
 pub use numbers::number;
 pub use opening::Start;
 pub use row::Row;
@@ -39,7 +40,6 @@ pub use row_reader::RowReader;
 pub use script::Script;
 pub use script_error::ScriptError;
 pub use stamps::Stamps;
-pub use words::clock_word;
 
 #[cfg(test)]
 mod tests;

@@ -1,14 +1,15 @@
 ghost use Rattle.std.specs.Prelude.{◌≡◌, ◌++◌, OnOk, OnErr, IfErr, length, take};
 ghost use Rattle.tk_script.specs.Lines.{IsWritable, open_line, ok_line, no_line};
 
+use crate::names::word_of_refusal;
 use crate::script_error::ScriptError;
 use crate::text::{add, add_number, add_time, undo_if_err};
-use crate::words::word_of_refusal;
+use std::alloc::Allocator;
 use tk_clock::{Refusal, Timespec};
 use tk_counter::CounterDesc;
 
 /// Appends the line of an opening: `open,BITS,MULT,SHIFT`.
-pub fn line_open(out: &mut Vec<u8>, desc: &CounterDesc) -> Result<(), ScriptError>
+pub fn line_open<A: Allocator>(out: &mut Vec<u8, A>, desc: &CounterDesc) -> Result<(), ScriptError>
     ensures ok { OnOk result (out.new.items ≡ out.old.items ++ open_line desc.now) }
     ensures err { OnErr result (out.new.items ≡ out.old.items) }
     ensures memory { IfErr result (λ e. e ≡ ScriptError.Memory) }
@@ -19,7 +20,7 @@ pub fn line_open(out: &mut Vec<u8>, desc: &CounterDesc) -> Result<(), ScriptErro
 }
 
 /// The line of an opening, or a part of it where memory is refused.
-fn add_open(out: &mut Vec<u8>, desc: &CounterDesc) -> Result<(), ScriptError>
+fn add_open<A: Allocator>(out: &mut Vec<u8, A>, desc: &CounterDesc) -> Result<(), ScriptError>
     ensures ok { OnOk result (out.new.items ≡ out.old.items ++ open_line desc.now) }
     ensures err { OnErr result (take (length out.old.items) out.new.items ≡ out.old.items) }
     ensures memory { IfErr result (λ e. e ≡ ScriptError.Memory) }
@@ -34,7 +35,11 @@ fn add_open(out: &mut Vec<u8>, desc: &CounterDesc) -> Result<(), ScriptError>
 }
 
 /// Appends the line of an accepted command: `ok,NUMBER,TIME`, with MONOTONIC at its reading.
-pub fn line_ok(out: &mut Vec<u8>, n: u64, time: Timespec) -> Result<(), ScriptError>
+pub fn line_ok<A: Allocator>(
+    out: &mut Vec<u8, A>,
+    n: u64,
+    time: Timespec,
+) -> Result<(), ScriptError>
     requires { IsWritable time }
     ensures ok { OnOk result (out.new.items ≡ out.old.items ++ ok_line n time) }
     ensures err { OnErr result (out.new.items ≡ out.old.items) }
@@ -46,7 +51,7 @@ pub fn line_ok(out: &mut Vec<u8>, n: u64, time: Timespec) -> Result<(), ScriptEr
 }
 
 /// The line of an accepted command, or a part of it.
-fn add_ok(out: &mut Vec<u8>, n: u64, time: Timespec) -> Result<(), ScriptError>
+fn add_ok<A: Allocator>(out: &mut Vec<u8, A>, n: u64, time: Timespec) -> Result<(), ScriptError>
     requires { IsWritable time }
     ensures ok { OnOk result (out.new.items ≡ out.old.items ++ ok_line n time) }
     ensures err { OnErr result (take (length out.old.items) out.new.items ≡ out.old.items) }
@@ -60,7 +65,7 @@ fn add_ok(out: &mut Vec<u8>, n: u64, time: Timespec) -> Result<(), ScriptError>
 }
 
 /// Appends the line of a refusal: `no,WORD`.
-pub fn line_no(out: &mut Vec<u8>, refusal: Refusal) -> Result<(), ScriptError>
+pub fn line_no<A: Allocator>(out: &mut Vec<u8, A>, refusal: Refusal) -> Result<(), ScriptError>
     ensures ok { OnOk result (out.new.items ≡ out.old.items ++ no_line refusal) }
     ensures err { OnErr result (out.new.items ≡ out.old.items) }
     ensures memory { IfErr result (λ e. e ≡ ScriptError.Memory) }
@@ -71,7 +76,7 @@ pub fn line_no(out: &mut Vec<u8>, refusal: Refusal) -> Result<(), ScriptError>
 }
 
 /// The line of a refusal, or a part of it.
-fn add_no(out: &mut Vec<u8>, refusal: Refusal) -> Result<(), ScriptError>
+fn add_no<A: Allocator>(out: &mut Vec<u8, A>, refusal: Refusal) -> Result<(), ScriptError>
     ensures ok { OnOk result (out.new.items ≡ out.old.items ++ no_line refusal) }
     ensures err { OnErr result (take (length out.old.items) out.new.items ≡ out.old.items) }
     ensures memory { IfErr result (λ e. e ≡ ScriptError.Memory) }

@@ -20,6 +20,15 @@ pub struct Start {
     pub real: Timespec,
 }
 
+/// Which two numbers tell the counter, behind its bits.
+#[derive(Clone, Copy)]
+enum Telling {
+    /// `open`: mult and shift.
+    Scale,
+    /// `openhz`: the frequency in Hz, and the longest gap in seconds.
+    Frequency,
+}
+
 /// The opening that the first record tells, by its word.
 #[tactic(auto, unfolding(crate::specs::Opening::start_of))]
 pub(crate) fn read_start(fields: &ByteRecord) -> Result<Start, ScriptError>
@@ -29,18 +38,18 @@ pub(crate) fn read_start(fields: &ByteRecord) -> Result<Start, ScriptError>
 {
     let word = field(fields, 0);
     if has_word(word, b"open") {
-        read_open(fields)
+        read_opening(Telling::Scale, fields)
     } else if has_word(word, b"openhz") {
-        read_openhz(fields)
+        read_opening(Telling::Frequency, fields)
     } else {
         Err(ScriptError::Opening { row: 1 })
     }
 }
 
-/// `open` with bits, mult, shift, reading, sec and nsec.
-#[tactic(auto, unfolding(crate::specs::Opening::open_of))]
-fn read_open(fields: &ByteRecord) -> Result<Start, ScriptError>
-    ensures value { result ≡ spec.open_of (fields_of fields.now) }
+/// Bits, the two numbers that tell the counter, reading, sec and nsec.
+#[tactic(auto, unfolding(crate::specs::Opening::opening_of))]
+fn read_opening(telling: Telling, fields: &ByteRecord) -> Result<Start, ScriptError>
+    ensures value { result ≡ spec.opening_of telling (fields_of fields.now) }
     ensures opens { IfOk result (λ start.
         opening_refusal start.desc start.reading start.real ≡ None) }
 {
@@ -48,45 +57,28 @@ fn read_open(fields: &ByteRecord) -> Result<Start, ScriptError>
         return Err(ScriptError::Fields { row: 1 });
     }
     let bits = number32_at(1, fields, 1)?;
-    let mult = number32_at(1, fields, 2)?;
-    let shift = number32_at(1, fields, 3)?;
+    let first = number32_at(1, fields, 2)?;
+    let second = number32_at(1, fields, 3)?;
     let reading = number_at(1, fields, 4)?;
     let real = time_at(1, fields, 5)?;
-    let desc = described(bits, mult, shift)?;
+    let desc = counter_of(telling, bits, first, second)?;
     started(desc, reading, real)
 }
 
-/// `openhz` with bits, hz, maxsec, reading, sec and nsec.
-#[tactic(auto, unfolding(crate::specs::Opening::openhz_of))]
-fn read_openhz(fields: &ByteRecord) -> Result<Start, ScriptError>
-    ensures value { result ≡ spec.openhz_of (fields_of fields.now) }
-    ensures opens { IfOk result (λ start.
-        opening_refusal start.desc start.reading start.real ≡ None) }
+/// The counter of so many bits that the two numbers tell, if there is one.
+fn counter_of(
+    telling: Telling,
+    bits: u32,
+    first: u32,
+    second: u32,
+) -> Result<CounterDesc, ScriptError>
+    ensures { result ≡ spec.counter_of telling bits first second }
 {
-    if fields.len() != 7 {
-        return Err(ScriptError::Fields { row: 1 });
+    match telling {
+        Telling::Scale => CounterDesc::new(bits, first, second),
+        Telling::Frequency => CounterDesc::from_hz(bits, first, second),
     }
-    let bits = number32_at(1, fields, 1)?;
-    let hz = number32_at(1, fields, 2)?;
-    let maxsec = number32_at(1, fields, 3)?;
-    let reading = number_at(1, fields, 4)?;
-    let real = time_at(1, fields, 5)?;
-    let desc = running(bits, hz, maxsec)?;
-    started(desc, reading, real)
-}
-
-/// The counter of these numbers, if they describe one.
-fn described(bits: u32, mult: u32, shift: u32) -> Result<CounterDesc, ScriptError>
-    ensures { result ≡ spec.described (record { bits = bits; mult = mult; shift = shift }) }
-{
-    CounterDesc::new(bits, mult, shift).map_err(|_| ScriptError::Opening { row: 1 })
-}
-
-/// The counter of so many bits at so many hz, for gaps of up to `maxsec` seconds, if there is one.
-fn running(bits: u32, hz: u32, maxsec: u32) -> Result<CounterDesc, ScriptError>
-    ensures { result ≡ spec.running bits hz maxsec }
-{
-    CounterDesc::from_hz(bits, hz, maxsec).map_err(|_| ScriptError::Opening { row: 1 })
+    .map_err(|_| ScriptError::Opening { row: 1 })
 }
 
 /// The opening with this counter, reading and real time, if clocks can be opened so.

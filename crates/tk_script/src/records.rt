@@ -1,10 +1,11 @@
 ghost use Rattle.std.specs.Prelude.{◌≡◌, ℕ, List, Some, true, IfOk, IfErr};
+ghost use Rattle.csv.specs.Reading.{error_kind};
 ghost use Rattle.csv.specs.Records.{fields_of};
-ghost use Rattle.tk_script.specs.Reading.{IsReading, Takes, left_of};
+ghost use Rattle.tk_script.specs.Reading.{IsReading, IsWantOfMemory, Takes, left_of};
 ghost use Rattle.tk_script.specs.Records.{records_of};
 
 use crate::script_error::ScriptError;
-use csv::{ByteRecord, Reader, ReaderBuilder};
+use csv::{ByteRecord, Error, Reader, ReaderBuilder};
 use std::alloc::Global;
 
 /// How many bytes a script or a stamp file may have.
@@ -22,8 +23,7 @@ pub(crate) fn open_reader(alloc: Global, bytes: &[u8]) -> Reader<&[u8]>
         .from_reader(alloc, bytes)
 }
 
-/// Reads the next record, if there is one. From bytes in memory a read fails for want of memory
-/// alone.
+/// Reads the next record, if there is one.
 pub(crate) fn next_fields(
     reader: &mut Reader<&[u8]>,
     fields: &mut ByteRecord,
@@ -36,6 +36,16 @@ pub(crate) fn next_fields(
 {
     match reader.read_byte_record(fields) {
         Ok(found) => Ok(found),
-        Err(_) => Err(ScriptError::Memory),
+        Err(error) => Err(want_of_memory(error)),
     }
+}
+
+/// The fault where a record couldn't be read from bytes in memory. It is never that of a record of
+/// another length, or of bytes that are no text.
+fn want_of_memory(error: Error) -> ScriptError
+    requires { IsWantOfMemory (error_kind error) }
+    ensures { result ≡ ScriptError.Memory }
+{
+    drop(error);
+    ScriptError::Memory
 }

@@ -2,11 +2,13 @@ mod bytes;
 mod commands;
 mod dates;
 mod faults;
+mod large;
 mod lines;
 mod memory;
+mod names;
+mod refused;
 mod scripts;
 mod stamps;
-mod words;
 
 use crate::{Row, ScriptError};
 use std::test::Fail;

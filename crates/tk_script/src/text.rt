@@ -4,10 +4,11 @@ ghost use Rattle.tk_script.specs.Lines.{IsWritable, time_text};
 
 use crate::script_error::ScriptError;
 use itoa::Buffer;
+use std::alloc::Allocator;
 use tk_clock::Timespec;
 
 /// Appends the text, or nothing.
-pub(crate) fn add(out: &mut Vec<u8>, text: &[u8]) -> Result<(), ScriptError>
+pub(crate) fn add<A: Allocator>(out: &mut Vec<u8, A>, text: &[u8]) -> Result<(), ScriptError>
     ensures ok { OnOk result (out.new.items ≡ out.old.items ++ text.now) }
     ensures err { OnErr result (out.new.items ≡ out.old.items) }
     ensures memory { IfErr result (λ e. e ≡ ScriptError.Memory) }
@@ -16,7 +17,7 @@ pub(crate) fn add(out: &mut Vec<u8>, text: &[u8]) -> Result<(), ScriptError>
 }
 
 /// Appends the number in decimal, or nothing.
-pub(crate) fn add_number(out: &mut Vec<u8>, n: u64) -> Result<(), ScriptError>
+pub(crate) fn add_number<A: Allocator>(out: &mut Vec<u8, A>, n: u64) -> Result<(), ScriptError>
     ensures ok { OnOk result (out.new.items ≡ out.old.items ++ decimal n) }
     ensures err { OnErr result (out.new.items ≡ out.old.items) }
     ensures memory { IfErr result (λ e. e ≡ ScriptError.Memory) }
@@ -25,7 +26,10 @@ pub(crate) fn add_number(out: &mut Vec<u8>, n: u64) -> Result<(), ScriptError>
 }
 
 /// Appends seconds, a dot and nanoseconds, or some of them where memory is refused.
-pub(crate) fn add_time(out: &mut Vec<u8>, time: Timespec) -> Result<(), ScriptError>
+pub(crate) fn add_time<A: Allocator>(
+    out: &mut Vec<u8, A>,
+    time: Timespec,
+) -> Result<(), ScriptError>
     requires { IsWritable time }
     ensures ok { OnOk result (out.new.items ≡ out.old.items ++ time_text time) }
     ensures err { OnErr result (take (length out.old.items) out.new.items ≡ out.old.items) }
@@ -37,8 +41,8 @@ pub(crate) fn add_time(out: &mut Vec<u8>, time: Timespec) -> Result<(), ScriptEr
 }
 
 /// Takes back what was added behind the first `len` bytes, where the adding failed.
-pub(crate) fn undo_if_err(
-    out: &mut Vec<u8>,
+pub(crate) fn undo_if_err<A: Allocator>(
+    out: &mut Vec<u8, A>,
     len: usize,
     added: Result<(), ScriptError>,
 ) -> Result<(), ScriptError>

@@ -1,108 +1,11 @@
-//! Each call gives its answer, or `Memory` where memory is refused, by which a test then ends.
+//! Each growth refused in turn: `Memory`, and nothing changed, or the whole answer.
 
-use super::{act, look};
-use crate::{Script, ScriptError, Stamps, line_at, line_no, line_ok, line_open, utc};
-use std::alloc::Global;
-use std::process::Abort;
+use crate::{Calendar, ScriptError, line_at, line_no, line_ok, line_open, utc};
+use std::alloc::Allocator;
 use std::test::Fail;
-use tk_clock::{ClockId, Command, Refusal, Timespec};
+use tk_clock::{ClockId, Refusal, Timespec};
 use tk_counter::CounterDesc;
-
-const SCRIPT: &[u8] = b"openhz,32,24000000,600,0,1700000000,0
-get,18446744073709551615,monotonic_coarse
-freq,18446744073709551615,-9223372036854775808
-update,0
-update,0
-update,0
-update,0
-update,0
-update,0
-update,0
-";
-
-#[test]
-fn reads_a_script_where_memory_is_there(rt: HostRuntime) -> Result<(), Fail> {
-    match Script::from_bytes(rt.alloc(), SCRIPT) {
-        Ok(script) => {
-            let update = act(0, Command::Update);
-            let rows = [
-                look(u64::MAX, ClockId::MonotonicCoarse),
-                act(u64::MAX, Command::Freq(i64::MIN)),
-                update,
-                update,
-                update,
-                update,
-                update,
-                update,
-                update,
-            ];
-            assert_eq!(rt; script.rows.as_slice(), rows.as_slice());
-            Ok(())
-        }
-        Err(error) => {
-            assert_eq!(rt; error, ScriptError::Memory);
-            Err(error)?
-        }
-    }
-}
-
-#[test]
-fn reads_stamps_where_memory_is_there(rt: HostRuntime) -> Result<(), Fail> {
-    let bytes = b"1,18446744073709551615\n2,2\n3,3\n4,4\n5,5\n6,6\n7,7\n8,8\n9,9\n";
-    match Stamps::from_bytes(rt.alloc(), bytes) {
-        Ok(told) => {
-            assert_eq!(rt;
-                told.fronts.as_slice(),
-                [1, 2, 3, 4, 5, 6, 7, 8, 9].as_slice()
-            );
-            let stamps = [u64::MAX, 2, 3, 4, 5, 6, 7, 8, 9];
-            assert_eq!(rt; told.stamps.as_slice(), stamps.as_slice());
-            Ok(())
-        }
-        Err(error) => {
-            assert_eq!(rt; error, ScriptError::Memory);
-            Err(error)?
-        }
-    }
-}
-
-#[test]
-fn tells_utc_where_memory_is_there(rt: HostRuntime) -> Result<(), Fail> {
-    match utc(rt.alloc(), 1_700_000_000, 5) {
-        Ok(text) => {
-            assert_eq!(rt; text.as_str(), "2023-11-14T22:13:20.000000005Z");
-            Ok(())
-        }
-        Err(error) => {
-            assert_eq!(rt; error, ScriptError::Memory);
-            Err(error)?
-        }
-    }
-}
-
-/// A line was written behind what was there, or nothing was.
-fn assert_line(
-    rt: &impl Abort,
-    written: Result<(), ScriptError>,
-    out: &[u8],
-    whole: &[u8],
-) -> Result<(), Fail> {
-    match written {
-        Ok(()) => {
-            assert_eq!(rt; out, whole);
-            Ok(())
-        }
-        Err(error) => {
-            assert_eq!(rt; error, ScriptError::Memory);
-            assert_eq!(rt; out, b"-".as_slice());
-            Err(error)?
-        }
-    }
-}
-
-fn one_byte(alloc: Global) -> Result<Vec<u8>, Fail> {
-    Ok(b"-".to_vec(alloc)?)
-}
+use tk_heap::Heap;
 
 const TIME: Timespec = Timespec {
     sec: 9_223_372_035,
@@ -110,39 +13,116 @@ const TIME: Timespec = Timespec {
 };
 
 #[test]
-fn writes_an_opening_where_memory_is_there(rt: HostRuntime) -> Result<(), Fail> {
-    let mut out = one_byte(rt.alloc())?;
-    let written = line_open(&mut out, &CounterDesc::new(32, 3_869_339_906, 32)?);
-    assert_line(&rt, written, out.as_slice(), b"-open,32,3869339906,32\n")
+fn tells_utc_or_nothing(rt: HostRuntime) -> Result<(), Fail> {
+    let heap = Heap::new(rt.alloc());
+    for request in 1..=100 {
+        heap.refuse(request);
+        let told = utc(&heap, 1_700_000_000, 5);
+        let granted = heap.grant_all();
+        match told {
+            Ok(text) => {
+                assert!(rt; granted && request > 1);
+                assert_eq!(rt; text.as_str(), "2023-11-14T22:13:20.000000005Z");
+                return Ok(());
+            }
+            Err(error) => assert!(rt; !granted && error == ScriptError::Memory),
+        }
+    }
+    Err("each text met a refusal".into())
+}
+
+/// The lines of a report.
+#[derive(Clone, Copy, Debug)]
+enum Line {
+    Open(CounterDesc),
+    Accepted,
+    Refused,
+    Plain,
+    Dated,
+}
+
+impl Line {
+    /// Appends the line.
+    fn write<A: Allocator + Copy>(self, out: &mut Vec<u8, A>) -> Result<(), ScriptError> {
+        match self {
+            Line::Open(desc) => line_open(out, &desc),
+            Line::Accepted => line_ok(out, u64::MAX, TIME),
+            Line::Refused => line_no(out, Refusal::Invalid),
+            Line::Plain => line_at(out, ClockId::MonotonicCoarse, TIME),
+            Line::Dated => line_at(out, ClockId::RealtimeCoarse, TIME),
+        }
+    }
 }
 
 #[test]
-fn writes_an_accepted_command_where_memory_is_there(rt: HostRuntime) -> Result<(), Fail> {
-    let mut out = one_byte(rt.alloc())?;
-    let written = line_ok(&mut out, u64::MAX, TIME);
-    let whole = b"-ok,18446744073709551615,9223372035.999999999\n";
-    assert_line(&rt, written, out.as_slice(), whole)
+fn writes_a_line_or_nothing(rt: HostRuntime) -> Result<(), Fail> {
+    let heap = Heap::new(rt.alloc());
+    let desc = CounterDesc::new(32, 3_869_339_906, 32)?;
+    let lines: [(Line, &[u8]); 5] = [
+        (Line::Open(desc), b"-open,32,3869339906,32\n"),
+        (
+            Line::Accepted,
+            b"-ok,18446744073709551615,9223372035.999999999\n",
+        ),
+        (Line::Refused, b"-no,invalid\n"),
+        (Line::Plain, b"-at,monotonic_coarse,9223372035.999999999\n"),
+        (
+            Line::Dated,
+            b"-at,realtime_coarse,9223372035.999999999,2262-04-11T23:47:15.999999999Z\n",
+        ),
+    ];
+    for (line, whole) in lines {
+        let mut is_whole = false;
+        'requests: for request in 1..=100 {
+            let mut out = Vec::new(&heap);
+            out.push(b'-')?;
+            heap.refuse(request);
+            let written = line.write(&mut out);
+            is_whole = heap.grant_all();
+            if is_whole {
+                assert_eq!(rt; written, Ok(()), "{line:?}");
+                assert_eq!(rt; out.as_slice(), whole);
+                assert!(rt; request > 1, "{line:?}");
+                break 'requests;
+            }
+            assert_eq!(rt; written, Err(ScriptError::Memory), "{line:?} at {request}");
+            assert_eq!(rt; out.as_slice(), b"-".as_slice());
+        }
+        assert!(rt; is_whole, "{line:?}");
+    }
+    Ok(())
 }
 
-#[test]
-fn writes_a_refusal_where_memory_is_there(rt: HostRuntime) -> Result<(), Fail> {
-    let mut out = one_byte(rt.alloc())?;
-    let written = line_no(&mut out, Refusal::Invalid);
-    assert_line(&rt, written, out.as_slice(), b"-no,invalid\n")
-}
+/// How many lines the report of days has, and how long it is.
+const DAYS: usize = 100;
+
+const LENGTH: usize = DAYS * 64;
 
 #[test]
-fn writes_a_clock_where_memory_is_there(rt: HostRuntime) -> Result<(), Fail> {
-    let mut out = one_byte(rt.alloc())?;
-    let written = line_at(&mut out, ClockId::MonotonicCoarse, TIME);
-    let whole = b"-at,monotonic_coarse,9223372035.999999999\n";
-    assert_line(&rt, written, out.as_slice(), whole)
-}
-
-#[test]
-fn writes_a_date_where_memory_is_there(rt: HostRuntime) -> Result<(), Fail> {
-    let mut out = one_byte(rt.alloc())?;
-    let written = line_at(&mut out, ClockId::RealtimeCoarse, TIME);
-    let whole = b"-at,realtime_coarse,9223372035.999999999,2262-04-11T23:47:15.999999999Z\n";
-    assert_line(&rt, written, out.as_slice(), whole)
+fn a_calendar_that_was_refused_a_date_goes_on(rt: HostRuntime) -> Result<(), Fail> {
+    let heap = Heap::new(rt.alloc());
+    for request in 1..=1_000 {
+        let mut calendar = Calendar::new(&heap);
+        let mut out = Vec::new(&heap);
+        heap.refuse(request);
+        for day in 0..DAYS as i64 {
+            let time = Timespec {
+                sec: 1_700_000_000 + day * 86_400,
+                nsec: 0,
+            };
+            let before = out.len();
+            let written = calendar.line_at(&mut out, ClockId::Realtime, time);
+            if written == Err(ScriptError::Memory) {
+                assert_eq!(rt; out.len(), before);
+                assert_eq!(rt; calendar.line_at(&mut out, ClockId::Realtime, time), Ok(()));
+            }
+        }
+        assert_eq!(rt; out.len(), LENGTH);
+        assert!(rt; out.ends_with(b"1708553600.000000000,2024-02-21T22:13:20.000000000Z\n"));
+        if heap.grant_all() {
+            assert!(rt; request > DAYS as u64);
+            return Ok(());
+        }
+    }
+    Err("each report met a refusal".into())
 }

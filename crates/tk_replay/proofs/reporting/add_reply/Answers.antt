@@ -14,20 +14,20 @@ IsOk-no_err (Ok x) e = refl
 IsOk-no_err (Err error) e = cc
 
 pub unwrap-time-requires : goal.unwrap-time-requires
-unwrap-time-requires c =
+unwrap-time-requires g c =
     let entry = event c.args.reading c.args.cmd in
     let free = look_refusal-replied c.args.keep c.args.keeper.now.journal c.apply.new.keeper.journal entry c.in-Ok.number
-    c.in-Ok.ensures in
+    c.in-Ok.ensures.replied in
     IsOk-no_err c.time_at.result (sym c.time_at.ensures.refusal ∙ free)
 
 pub returns-in-Ok-clause-line : goal.returns-in-Ok-clause-line
-returns-in-Ok-clause-line c =
+returns-in-Ok-clause-line g c =
     let reply = reply_by (rule_of c.args.keep) c.args.keeper.now.journal (event c.args.reading c.args.cmd) in
     let number = c.in-Ok.number in
     let time = c.unwrap-time.result in
     let told : IsTimeAt (c.apply.new.keeper.journal) Monotonic c.args.reading time =
     rw c.unwrap-time.ensures at c.time_at.ensures.time in
     let line : reply_line c.args.reading reply ≡ ok_line number time =
-    reply_line-accepted c.args.keep reply c.apply.new.keeper.journal c.args.reading number time c.in-Ok.ensures told in
+    reply_line-accepted c.args.keep reply c.apply.new.keeper.journal c.args.reading number time c.in-Ok.ensures.replied told in
     let R : List ℕ → Type 0 = λ text. OnOk c.line_ok.result (c.line_ok.new.out.items ≡ c.args.text.now.items ++ text) in
     subst R (sym line) c.line_ok.ensures.ok

@@ -7,5 +7,11 @@ returns-clause-left c = let fr = c.from_reader.ensures in left-all c.from_reader
 
 pub returns-clause-reading : goal.returns-clause-reading
 returns-clause-reading c =
-    let fr = c.from_reader.ensures in let e = c.has_headers.ensures in let f = c.flexible.ensures in
-    (rw (f, e) at fr.trim ∙ c.new.ensures.trim, inr (inr (rw (f, e) at fr.has_headers, fr.headers)), rw (f, e) at fr.config ∙ c.new.ensures.config)
+    let fr = c.from_reader.ensures in
+    let e = c.has_headers.ensures in
+    let f = c.flexible.ensures in (
+      rw (f, e) at fr.trim ∙ c.new.ensures.trim,
+      inr (inr (rw (f, e) at fr.has_headers, fr.headers)),
+      rw (f, e) at fr.config ∙ c.new.ensures.config,
+      rw f at fr.flexible,
+    )

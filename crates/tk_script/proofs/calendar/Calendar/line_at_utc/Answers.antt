@@ -11,7 +11,7 @@ joined sec nsec seconds day second date bytes time told same part n e f =
     (told.0, told.1 ∙ ap pos (rw n at e), rw (same, told.2, part, f, n) refl)
 
 pub returns-clause-ok : goal.returns-clause-ok
-returns-clause-ok c =
+returns-clause-ok g c =
     let n : c.unsigned_abs-seconds.result ≡ unsigned_abs c.args.time.sec = search rules in
     let text = joined (unsigned_abs c.args.time.sec) c.args.time.nsec c.unsigned_abs-seconds.result
     c.day_and_second-day.result.0 c.day_and_second-day.result.1
