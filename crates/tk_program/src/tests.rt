@@ -1,8 +1,7 @@
-//! What no clause says: which words are taken, and the texts of the faults.
+//! What no clause says: that the definitions take the words that are meant, and the texts of the
+//! faults.
 
-use crate::stop::Stop;
-use crate::task::Task;
-use crate::words::task_of;
+use crate::{Ending, Request, WordsError, asked, run};
 use std::alloc::{AllocError, Global};
 use std::io::{Error, ErrorKind};
 use std::process::Abort;
@@ -19,17 +18,17 @@ fn line(alloc: Global, words: &[&str]) -> Result<Vec<String>, AllocError> {
     Ok(line)
 }
 
-/// The words name this task, or are refused.
+/// The words ask for this, or are refused.
 fn assert_words(
     rt: &impl Abort,
     alloc: Global,
     words: &[&str],
-    wanted: Result<Task, Stop>,
+    wanted: Result<Request, WordsError>,
 ) -> Result<(), AllocError> {
     let given = line(alloc, words)?;
-    let found = task_of(alloc, given.as_slice());
+    let found = asked(alloc, given.as_slice());
     assert!(rt;
-        found == wanted || found == Err(Stop::Fault(Fault::Memory)),
+        found == wanted || found == Err(WordsError::Memory),
         "{words:?}"
     );
     Ok(())
@@ -39,7 +38,7 @@ fn assert_words(
 fn takes_its_words(rt: HostRuntime) -> Result<(), Fail> {
     let plain: [&[&str]; 2] = [&["tkcore"], &["tkcore", "replay"]];
     for words in plain {
-        assert_words(&rt, rt.alloc(), words, Ok(Task::Replay))?;
+        assert_words(&rt, rt.alloc(), words, Ok(Request::Replay { keep: None }))?;
     }
     let bounded: [(&[&str], u64); 5] = [
         (&["tkcore", "replay", "--keep", "1"], 1),
@@ -52,7 +51,7 @@ fn takes_its_words(rt: HostRuntime) -> Result<(), Fail> {
         ),
     ];
     for (words, keep) in bounded {
-        assert_words(&rt, rt.alloc(), words, Ok(Task::ReplayBounded { keep }))?;
+        assert_words(&rt, rt.alloc(), words, Ok(Request::Replay { keep: Some(keep) }))?;
     }
     Ok(())
 }
@@ -60,8 +59,8 @@ fn takes_its_words(rt: HostRuntime) -> Result<(), Fail> {
 #[test]
 fn takes_its_words_when_memory_is_there(rt: HostRuntime) -> Result<(), Fail> {
     let given = line(rt.alloc(), &["tkcore", "replay", "--keep", "1"])?;
-    let found = task_of(rt.alloc(), given.as_slice());
-    assert_eq!(rt; found, Ok(Task::ReplayBounded { keep: 1 }));
+    let found = asked(rt.alloc(), given.as_slice());
+    assert_eq!(rt; found, Ok(Request::Replay { keep: Some(1) }));
     Ok(())
 }
 
@@ -91,27 +90,27 @@ fn refuses_other_words(rt: HostRuntime) -> Result<(), Fail> {
         &["tkcore", "many"],
     ];
     for words in refused {
-        assert_words(&rt, rt.alloc(), words, Err(Stop::Words))?;
+        assert_words(&rt, rt.alloc(), words, Err(WordsError::Refused))?;
     }
     Ok(())
 }
 
 #[test]
 fn refuses_words_that_could_not_be_taken(rt: HostRuntime) {
-    let words = Stop::from(Error::from(ErrorKind::InvalidData));
-    assert_eq!(rt; words, Stop::Words);
-    let memory = Stop::from(Error::from(ErrorKind::OutOfMemory));
-    assert_eq!(rt; memory, Stop::Fault(Fault::Memory));
+    let refused = WordsError::from(Error::from(ErrorKind::InvalidData));
+    assert_eq!(rt; refused, WordsError::Refused);
+    let memory = WordsError::from(Error::from(ErrorKind::OutOfMemory));
+    assert_eq!(rt; memory, WordsError::Memory);
 }
 
-/// What the script's replay tells where it stops.
-fn told(alloc: Global, script: &[u8]) -> Result<Vec<u8>, Fail> {
+/// What a run by these words tells of how it ended.
+fn told(alloc: Global, words: &[&str], script: &[u8]) -> Result<Vec<u8>, Fail> {
+    let given = line(alloc, words)?;
     let mut reader = script;
     let mut writer = Vec::new(alloc);
     let mut told = Vec::new(alloc);
-    if let Err(fault) = Task::Replay.run(alloc, &mut reader, &mut writer) {
-        Stop::from(fault).tell(&mut told)?;
-    }
+    let ending = run(alloc, given.as_slice(), &mut reader, &mut writer);
+    ending.tell(&mut told)?;
     Ok(told)
 }
 
@@ -138,30 +137,51 @@ fn tells_the_fault_of_a_script(rt: HostRuntime) -> Result<(), Fail> {
         (b"open,32,16777216,24,0,1700000000,0\n", b""),
     ];
     for (script, text) in faults {
-        assert_eq!(rt; told(rt.alloc(), script)?.as_slice(), text);
+        assert_eq!(rt; told(rt.alloc(), &["tkcore"], script)?.as_slice(), text);
     }
     Ok(())
 }
 
 #[test]
-fn tells_each_stop(rt: HostRuntime) -> Result<(), Fail> {
-    let stops: [(Stop, &[u8]); 5] = [
-        (Stop::Words, b"tkcore: words refused\n"),
-        (Stop::Fault(Fault::Read), b"tkcore: cannot read\n"),
-        (Stop::Fault(Fault::Memory), b"tkcore: out of memory\n"),
+fn refused_words_leave_the_script_and_the_report(rt: HostRuntime) -> Result<(), Fail> {
+    let given = line(rt.alloc(), &["tkcore", "replay", "--keep", "0"])?;
+    let script: &[u8] = b"open,32,16777216,24,0,1700000000,0\n";
+    let mut reader = script;
+    let mut writer = b"-".to_vec(rt.alloc())?;
+    let ending = run(rt.alloc(), given.as_slice(), &mut reader, &mut writer);
+    assert_eq!(rt; ending, Ending::Words);
+    assert_eq!(rt; reader, script);
+    assert_eq!(rt; writer.as_slice(), b"-".as_slice());
+    Ok(())
+}
+
+#[test]
+fn tells_each_ending(rt: HostRuntime) -> Result<(), Fail> {
+    let endings: [(Ending, u8, &[u8]); 6] = [
+        (Ending::Done, 0, b""),
+        (Ending::Words, 2, b"tkcore: words refused\n"),
+        (Ending::Fault(Fault::Read), 1, b"tkcore: cannot read\n"),
         (
-            Stop::Fault(Fault::Write { written: 97 }),
+            Ending::Fault(Fault::Memory),
+            1,
+            b"tkcore: out of memory\n",
+        ),
+        (
+            Ending::Fault(Fault::Write { written: 97 }),
+            1,
             b"tkcore: cannot write\n",
         ),
         (
-            Stop::Fault(Fault::Script(ScriptError::TooLarge)),
+            Ending::Fault(Fault::Script(ScriptError::TooLarge)),
+            1,
             b"tkcore: script: larger than 16777216 bytes\n",
         ),
     ];
-    for (stop, text) in stops {
+    for (ending, status, text) in endings {
         let mut told = Vec::new(rt.alloc());
-        stop.tell(&mut told)?;
+        ending.tell(&mut told)?;
         assert_eq!(rt; told.as_slice(), text);
+        assert_eq!(rt; ending.status(), status);
     }
     Ok(())
 }

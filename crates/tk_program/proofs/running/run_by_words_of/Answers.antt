@@ -1,0 +1,20 @@
+use Rattle.std.proofs.Common.{◌≡◌, ◌⊎◌, inl, inr, map, refl, string_bytes}
+use Rattle.std.specs.Prelude.{Some, None}
+use Rattle.tk_replay.specs.declared.fault.Fault.TheVariants as faults
+use Rattle.tk_program.specs.declared.command_line.WordsError.{WordsError}
+use Rattle.tk_program.specs.declared.command_line.WordsError.TheVariants as errors
+use Rattle.tk_program.specs.declared.ending.Ending.TheVariants as endings
+use Rattle.tk_program.specs.Ending.{ending_at}
+use Rattle.tk_program.proofs.running.run_by_words_of.Goals as goal
+
+-- words that can't be taken are refused, or memory was
+ended : {Untouched : Type 0} (error : WordsError) → Untouched →
+    ((ending_at error ≡ endings.Fault faults.Memory) × Untouched) ⊎ ((ending_at error ≡ endings.Words) × Untouched)
+ended errors.Refused untouched = inr (refl, untouched)
+ended errors.Memory untouched = inl (refl, untouched)
+
+pub returns-in-Ok : goal.returns-in-Ok
+returns-in-Ok g c = (Some (map string_bytes c.as_slice.result.now), c.run.ensures)
+
+pub returns-in-Err : goal.returns-in-Err
+returns-in-Err g c = (None, rw c.from.ensures (ended c.in-Err.error (refl, refl)))

@@ -1,0 +1,42 @@
+-- How the program ends.
+use Rattle.std.specs.Prelude.{◌≡◌, ℕ, List, ◌++◌, Option, IfSome, Result, Ok, Err, codes}
+use Rattle.std.specs.Io.KnownBytes.{Appends}
+use Rattle.clap.specs.declared.error.ErrorKind.{ErrorKind}
+use Rattle.clap.specs.declared.error.ErrorKind.TheVariants.{OutOfMemory}
+use Rattle.tk_replay.specs.declared.fault.Fault.{Fault}
+use Rattle.tk_replay.specs.declared.fault.Fault.TheVariants as faults
+use Rattle.tk_replay.specs.Fault.{fault_text}
+use Rattle.tk_program.specs.declared.command_line.WordsError.{WordsError}
+use Rattle.tk_program.specs.declared.command_line.WordsError.TheVariants as errors
+use Rattle.tk_program.specs.declared.ending.Ending.{Ending}
+use Rattle.tk_program.specs.declared.ending.Ending.TheVariants as endings
+
+-- its exit status: 0 where all was done, 1 for a fault, 2 for words that are refused
+abbrev pub status_of : Ending → ℕ
+status_of endings.Done = 0
+status_of endings.Words = 2
+status_of (endings.Fault fault) = 1
+
+-- what is told of it, of a writer that tells its bytes: nothing where all was done, and else a line
+abbrev pub IsToldIn : {W : Type 0} → (W → Option (List ℕ)) → W → W → Ending → Type 0
+IsToldIn contents old new endings.Done = new ≡ old
+IsToldIn contents old new endings.Words =
+    Appends (contents old) (contents new) (codes "tkcore: " ++ codes "words refused" ++ codes "\n")
+IsToldIn contents old new (endings.Fault fault) =
+    IfSome (fault_text fault)
+    (λ text. Appends (contents old) (contents new) (codes "tkcore: " ++ text ++ codes "\n"))
+
+-- the ending that an outcome is
+abbrev pub ending_of : Result Unit Fault → Ending
+ending_of (Ok done) = endings.Done
+ending_of (Err fault) = endings.Fault fault
+
+-- the ending of words that ask for nothing
+abbrev pub ending_at : WordsError → Ending
+ending_at errors.Refused = endings.Words
+ending_at errors.Memory = endings.Fault faults.Memory
+
+-- why words ask for nothing, by the kind of their fault
+abbrev pub error_of : ErrorKind → WordsError
+error_of OutOfMemory = errors.Memory
+error_of _ = errors.Refused

@@ -1,0 +1,4 @@
+pub mod Request
+pub mod CommandLine
+pub mod Ending
+pub mod Running

@@ -1,0 +1,26 @@
+//! The program `tkcore` but for its `main`: what its words ask for, what that comes to, and how it
+//! ends.
+//!
+//! | Item | What it is |
+//! |---|---|
+//! | `run_and_tell` | the program: it takes the process's words, and gives the code to exit with |
+//! | `run` | does what words ask for, from any reader to any writer |
+//! | `asked`, `Request` | what words ask for |
+//! | `WordsError` | why words ask for nothing |
+//! | `Ending` | how the program ends: its status and what it tells |
+//!
+//! Each subcommand has an arm of `Request` and a module of its own.
+#![tactic(auto)]
+
+mod command_line;
+mod ending;
+mod replaying;
+mod request;
+mod running;
+#[cfg(test)]
+mod tests;
+
+pub use command_line::{WordsError, asked};
+pub use ending::Ending;
+pub use request::Request;
+pub use running::{run, run_and_tell};

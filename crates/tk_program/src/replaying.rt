@@ -1,0 +1,25 @@
+//! The subcommand `replay`.
+ghost use Rattle.tk_program.specs.Request.{IsKeep};
+ghost use Rattle.tk_program.specs.Running.{EndsReplay};
+
+use crate::ending::Ending;
+use std::alloc::Global;
+use tk_replay::{Sink, Source, replay, replay_bounded};
+
+/// Replays the script that the reader has, to the writer.
+pub(crate) fn answer<R: Source, W: Sink>(
+    alloc: Global,
+    reader: &mut R,
+    writer: &mut W,
+    keep: Option<u64>,
+) -> Ending
+    requires { IsKeep keep }
+    ensures { EndsReplay R.Read.remaining R.Source.read_gives
+        W.Write.contents W.Sink.write_gives W.Sink.flush_gives
+        reader.old reader.new writer.old writer.new keep result }
+{
+    match keep {
+        None => Ending::from(replay(alloc, reader, writer)),
+        Some(keep) => Ending::from(replay_bounded(alloc, reader, writer, keep)),
+    }
+}

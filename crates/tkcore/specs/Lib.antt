@@ -1,3 +1,0 @@
-pub mod Stop
-pub mod Task
-pub mod Words
