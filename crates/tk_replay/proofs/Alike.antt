@@ -6,7 +6,8 @@ use Rattle.tk_counter.specs.Counter.{mask}
 use Rattle.tk_clock.specs.declared.clock_id.ClockId.{ClockId}
 use Rattle.tk_clock.specs.declared.command.Entry.{Entry}
 use Rattle.tk_clock.specs.declared.refusal.Refusal.{Refusal}
-use Rattle.tk_clock.specs.declared.refusal.Refusal.TheVariants.{Invalid, Range}
+use Rattle.tk_clock.specs.declared.refusal.ReadError.{ReadError}
+use Rattle.tk_clock.specs.declared.refusal.ReadError.TheVariants.{Invalid, Range}
 use Rattle.tk_clock.specs.Clocks.{clock_value}
 use Rattle.tk_clock.specs.Journal.{Journal, followed_by, accepted_count}
 use Rattle.tk_clock.specs.Limits.{limit}
@@ -15,21 +16,14 @@ use Rattle.tk_clock.specs.Refusal.{clock_refusal, state_refusal}
 use Rattle.tk_clock.specs.Run.{reply_if}
 use Rattle.tk_clock.specs.State.{State, state_of, base_value, base_monotonic}
 use Rattle.tk_clock.specs.Time.{timespec_of}
-use Rattle.tk_clock.proofs.Ledger.{base_value-base_of, clock_refusal-state}
-use Rattle.tk_clock.proofs.Legal.{state_of-followed_by}
+use Rattle.tk_clock.proofs.Alike.{IsAlike-followed_by, IsAlike-self, IsAlike-trans, clock_refusal-alike, clock_value-alike, monotonic-alike}
+use Rattle.tk_keeper.specs.Read.{read_fault}
 use Rattle.tk_script.specs.declared.row.Row.{Row}
 use Rattle.tk_script.specs.declared.row.Row.TheVariants.{Act, Look}
 use Rattle.tk_script.specs.Lines.{ok_line}
-use Rattle.tk_replay.specs.Folding.{IsAlike, StandsFor, rule_of}
-use Rattle.tk_replay.specs.Report.{IsLine, IsLookLine, after, event, look_refusal, reply_by, reply_line}
-
--- a journal is like itself
-pub IsAlike-self : (journal : Journal) → IsAlike journal journal
-IsAlike-self journal = record { state = refl; count = refl }
-
--- and like what the one like it is like
-pub IsAlike-trans : (a b c : Journal) → IsAlike a b → IsAlike b c → IsAlike a c
-IsAlike-trans a b c first second = record { state = first.state ∙ second.state; count = first.count ∙ second.count }
+use Rattle.tk_clock.specs.Folding.{IsAlike}
+use Rattle.tk_replay.specs.Folding.{StandsFor, rule_of}
+use Rattle.tk_replay.specs.Report.{IsLine, IsLookLine, after, event, reply_by, reply_line}
 
 -- a journal that stands for a whole one is like it
 pub IsAlike-stands : (keep : Option ℕ) (journal whole : Journal) → StandsFor keep journal whole → IsAlike journal whole
@@ -40,48 +34,16 @@ pub StandsFor-self : (keep : Option ℕ) (journal : Journal) → StandsFor keep 
 StandsFor-self None journal = refl
 StandsFor-self (Some keep) journal = IsAlike-self journal
 
--- each clock tells the same at each reading
-pub clock_value-alike : (journal whole : Journal) → IsAlike journal whole → (clock : ClockId) (reading : ℕ) →
-    clock_value journal clock reading ≡ clock_value whole clock reading
-clock_value-alike journal whole alike clock reading =
-    sym (base_value-base_of journal clock reading)
-    ∙ ap (λ (s : State). base_value s.base clock reading) alike.state
-    ∙ base_value-base_of whole clock reading
-
-monotonic-alike : (journal whole : Journal) → IsAlike journal whole → (reading : ℕ) →
-    monotonic journal reading ≡ monotonic whole reading
-monotonic-alike journal whole alike reading = ap (λ (s : State). base_monotonic s.base reading) alike.state
-
 -- a clock is refused alike
-pub look_refusal-alike : (journal whole : Journal) → IsAlike journal whole → (clock : ClockId) (reading : ℕ) →
-    look_refusal journal clock reading ≡ look_refusal whole clock reading
-look_refusal-alike journal whole alike clock reading =
-    let told : State → ℤ → Option Refusal = λ s value.
+pub read_fault-alike : (journal whole : Journal) → IsAlike journal whole → (clock : ClockId) (reading : ℕ) →
+    read_fault journal clock reading ≡ read_fault whole clock reading
+read_fault-alike journal whole alike clock reading =
+    let told : State → ℤ → Option ReadError = λ s value.
     if nat_lt (mask s.base.counter) reading then Some Invalid
     else if not (int_lt value (limit clock)) then Some Range
     else None in
     ap (λ s. told s (clock_value journal clock reading)) alike.state
-    ∙ ap (told (state_of whole)) (clock_value-alike journal whole alike clock reading)
-
--- and a command
-pub clock_refusal-alike : (journal whole : Journal) → IsAlike journal whole → (entry : Entry) →
-    clock_refusal journal entry ≡ clock_refusal whole entry
-clock_refusal-alike journal whole alike entry =
-    clock_refusal-state journal entry.who entry.reading entry.cmd
-    ∙ ap (λ s. state_refusal s entry.reading entry.cmd) alike.state
-    ∙ sym (clock_refusal-state whole entry.who entry.reading entry.cmd)
-
--- one more accepted entry leaves them alike
-pub IsAlike-followed_by : (journal whole : Journal) → IsAlike journal whole → (entry : Entry) →
-    clock_refusal journal entry ≡ None → IsAlike (followed_by journal entry) (followed_by whole entry)
-IsAlike-followed_by journal whole alike entry accepted =
-    let passes : state_refusal (state_of journal) entry.reading entry.cmd ≡ None =
-    sym (clock_refusal-state journal entry.who entry.reading entry.cmd) ∙ accepted in
-    record {
-      state = sym (state_of-followed_by journal (state_of journal) entry.who entry.reading entry.cmd refl passes)
-          ∙ state_of-followed_by whole (state_of journal) entry.who entry.reading entry.cmd alike.state passes;
-      count = omega (arith, alike.count, length_push journal.entries entry, length_push whole.entries entry);
-    }
+    ∙ ap (told (state_of whole)) (clock_value-alike journal whole alike.state clock reading)
 
 -- a reply leaves them alike, its answer is the same, and so is its line
 pub reply-alike : (journal whole : Journal) → IsAlike journal whole → (entry : Entry) (told : Option Refusal) →
@@ -101,25 +63,25 @@ line-alike journal whole alike entry None accepted =
     let next = IsAlike-followed_by journal whole alike entry accepted in
     ap (λ n. ok_line (n + 1) (timespec_of (monotonic (followed_by journal entry) entry.reading))) alike.count
     ∙ ap (λ n. ok_line (accepted_count whole + 1) (timespec_of n))
-    (monotonic-alike (followed_by journal entry) (followed_by whole entry) next entry.reading)
+    (monotonic-alike (followed_by journal entry) (followed_by whole entry) next.state entry.reading)
 line-alike journal whole alike entry (Some refusal) refused = refl
 
 IsLookLine-alike : (journal whole : Journal) → IsAlike journal whole → (clock : ClockId) (reading : ℕ)
-    (told : Option Refusal) (line : List ℕ) → IsLookLine journal clock reading told line → IsLookLine whole clock reading told line
+    (told : Option ReadError) (line : List ℕ) → IsLookLine journal clock reading told line → IsLookLine whole clock reading told line
 IsLookLine-alike journal whole alike clock reading None line (time, (nanos, value, split), text) =
-    (time, (nanos, sym (clock_value-alike journal whole alike clock reading) ∙ value, split), text)
-IsLookLine-alike journal whole alike clock reading (Some refusal) line text = text
+    (time, (nanos, sym (clock_value-alike journal whole alike.state clock reading) ∙ value, split), text)
+IsLookLine-alike journal whole alike clock reading (Some error) line text = text
 
 is_line-alike : (journal whole : Journal) → IsAlike journal whole → (row : Row) (line : List ℕ) →
     IsLine clock_refusal journal row line → IsLine clock_refusal whole row line
 is_line-alike journal whole alike (Act reading cmd) line told =
     let entry = event reading cmd in
     told ∙ line-alike journal whole alike entry (clock_refusal journal entry) refl
-    ∙ ap (λ r. reply_line reading (reply_if whole entry r)) (clock_refusal-alike journal whole alike entry)
+    ∙ ap (λ r. reply_line reading (reply_if whole entry r)) (clock_refusal-alike journal whole alike.state entry)
 is_line-alike journal whole alike (Look reading clock) line told =
-    subst (λ (r : Option Refusal). IsLookLine whole clock reading r line)
-    (look_refusal-alike journal whole alike clock reading)
-    (IsLookLine-alike journal whole alike clock reading (look_refusal journal clock reading) line told)
+    subst (λ (r : Option ReadError). IsLookLine whole clock reading r line)
+    (read_fault-alike journal whole alike clock reading)
+    (IsLookLine-alike journal whole alike clock reading (read_fault journal clock reading) line told)
 
 after-alike : (journal whole : Journal) → IsAlike journal whole → (row : Row) →
     IsAlike (after clock_refusal journal row) (after clock_refusal whole row)
@@ -127,7 +89,7 @@ after-alike journal whole alike (Act reading cmd) =
     let entry = event reading cmd in
     let next = (reply_by clock_refusal journal entry).journal in
     subst (λ (r : Option Refusal). IsAlike next (reply_if whole entry r).journal)
-    (clock_refusal-alike journal whole alike entry)
+    (clock_refusal-alike journal whole alike.state entry)
     (reply-alike journal whole alike entry (clock_refusal journal entry) refl)
 after-alike journal whole alike (Look reading clock) = alike
 

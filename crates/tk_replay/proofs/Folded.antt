@@ -13,9 +13,12 @@ use Rattle.tk_clock.specs.State.{state_of}
 use Rattle.tk_keeper.specs.Keeper.{Keeper}
 use Rattle.tk_keeper.specs.Past.{IsFolded, at_front}
 use Rattle.tk_keeper.proofs.Running.{IsAnswer, reply-answer}
-use Rattle.tk_replay.specs.Folding.{IsAlike, IsReplied}
+use Rattle.tk_clock.specs.Folding.{IsAlike}
+use Rattle.tk_replay.specs.Folding.{IsReplied, greatest_keep}
 use Rattle.tk_replay.specs.Report.{reply_by}
-use Rattle.tk_replay.proofs.Alike.{answer-alike, clock_refusal-alike, reply-alike}
+use Rattle.tk_clock.proofs.Alike.{clock_refusal-alike}
+use Rattle.tk_replay.proofs.Alike.{answer-alike, reply-alike}
+use Rattle.tk_clock.specs.Limits.{listed_most, counted_most}
 
 -- the journal at its own front
 at_front-last : (journal : Journal) → at_front (accepted_count journal) journal ≡ journal
@@ -36,11 +39,11 @@ IsAlike-folded before after folded = record {
 -- and has room
 pub has_room : (before after : Journal) (folded keep : ℕ) →
     folded ≡ max before.opening.count (accepted_count before - keep) →
-    after.opening.count ≡ folded → IsAlike after before → keep ≤ 524288 → accepted_count before < 2 ^ 63 - 1 →
+    after.opening.count ≡ folded → IsAlike after before → keep ≤ greatest_keep → accepted_count before < counted_most →
     is_full after ≡ false
 has_room before after folded keep told same alike small few =
-    let listed : length after.entries < 1048576 = omega (arith, alike.count) in
-    let counted : accepted_count after < 2 ^ 63 - 1 = omega (arith, alike.count) in
+    let listed : length after.entries < listed_most = omega (arith, alike.count) in
+    let counted : accepted_count after < counted_most = omega (arith, alike.count) in
     grind (arith, common_steps)
 
 -- where there is room, the clocks alone refuse
@@ -58,7 +61,7 @@ replied : (whole : Journal) (kept after : Keeper) (entry : Entry) (result : Resu
 replied whole kept after entry result alike room answered enough =
     let same : reply_by clock_refusal kept.journal entry ≡ record { answer = result; journal = after.journal } =
     sym (not_full kept.journal entry room) ∙ reply-answer kept after entry result answered enough in
-    let told = clock_refusal-alike kept.journal whole alike entry in
+    let told = clock_refusal-alike kept.journal whole alike.state entry in
     let P : Option Refusal → Type 0 = λ r.
     ((reply_if whole entry r).answer ≡ result) × IsAlike after.journal (reply_if whole entry r).journal in
     subst P told (

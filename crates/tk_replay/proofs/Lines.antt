@@ -20,7 +20,8 @@ use Rattle.tk_script.specs.declared.script_error.ScriptError.{ScriptError}
 use Rattle.tk_script.specs.declared.script_error.ScriptError.TheVariants as errors
 use Rattle.tk_replay.specs.Folding.{IsReplied, StandsFor, rule_of}
 use Rattle.tk_replay.specs.Report.{Rule, IsLine, IsLines, IsReportBy, IsReportOfRows, IsTimeAt, after, answer_line, event, reply_line}
-use Rattle.tk_replay.proofs.Alike.{IsAlike-stands, IsLine-stands, StandsFor-after, StandsFor-self, clock_value-alike}
+use Rattle.tk_clock.proofs.Alike.{clock_value-alike}
+use Rattle.tk_replay.proofs.Alike.{IsAlike-stands, IsLine-stands, StandsFor-after, StandsFor-self}
 
 -- the line of an accepted command, by the time that the journal tells which is kept
 pub reply_line-accepted : (keep : Option ℕ) (reply : Reply) (kept : Journal) (reading number : ℕ) (time : Timespec) →
@@ -29,7 +30,7 @@ pub reply_line-accepted : (keep : Option ℕ) (reply : Reply) (kept : Journal) (
 reply_line-accepted keep reply kept reading number time replied (nanos, value, split) =
     let alike = IsAlike-stands keep kept reply.journal replied.1 in
     let same : pos (monotonic reply.journal reading) ≡ pos nanos =
-    sym (clock_value-alike kept reply.journal alike Monotonic reading) ∙ value in
+    sym (clock_value-alike kept reply.journal alike.state Monotonic reading) ∙ value in
     let count : monotonic reply.journal reading ≡ nanos = cc in
     ap (answer_line reply.journal reading) replied.0
     ∙ ap (λ n. ok_line number (timespec_of n)) count

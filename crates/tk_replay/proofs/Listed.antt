@@ -10,11 +10,12 @@ use Rattle.tk_clock.specs.declared.refusal.Refusal.TheVariants.{Full, Asleep, Aw
 use Rattle.tk_clock.specs.Clocks.{clock_value}
 use Rattle.tk_clock.specs.Command.{is_resume}
 use Rattle.tk_clock.specs.Journal.{Journal, followed_by, accepted_count, is_asleep, last_reading}
-use Rattle.tk_clock.specs.Limits.{is_bad_setting, is_past_limit, is_well_formed}
+use Rattle.tk_clock.specs.Limits.{listed_most, counted_most, is_bad_setting, is_past_limit, is_well_formed}
 use Rattle.tk_clock.specs.Refusal.{clock_refusal, first_of, first_refusal, is_full}
 use Rattle.tk_keeper.specs.Keeper.{Keeper}
 use Rattle.tk_keeper.proofs.Running.{IsAnswer}
-use Rattle.tk_replay.specs.Folding.{IsAlike, greatest_keep, listed_after, listed_then}
+use Rattle.tk_clock.specs.Folding.{IsAlike}
+use Rattle.tk_replay.specs.Folding.{greatest_keep, listed_after, listed_then}
 
 -- the clocks' tests never tell that the journal is full
 tests_never_full : (a b c d e f : Bool) →
@@ -90,17 +91,17 @@ pub listed_then-room : (keep : ℕ) (journal : Journal) → is_full journal ≡ 
     listed_then keep journal ≡ length journal.entries
 listed_then-room keep journal room = ap (λ (b : Bool). if b then keep else length journal.entries) room
 
-full_lists : (journal : Journal) → is_full journal ≡ true → accepted_count journal < 2 ^ 63 - 1 →
-    1048576 ≤ length journal.entries
+full_lists : (journal : Journal) → is_full journal ≡ true → accepted_count journal < counted_most →
+    listed_most ≤ length journal.entries
 full_lists journal full few = grind (arith, common_steps)
 
 -- and of a full one so many entries are kept
 pub listed_then-folded : (before after : Journal) (folded keep : ℕ) →
     folded ≡ max before.opening.count (accepted_count before - keep) →
     after.opening.count ≡ folded → IsAlike after before → keep ≤ greatest_keep →
-    accepted_count before < 2 ^ 63 - 1 → is_full before ≡ true →
+    accepted_count before < counted_most → is_full before ≡ true →
     length after.entries ≡ listed_then keep before
 listed_then-folded before after folded keep told same alike small few full =
-    let many : 1048576 ≤ length before.entries = full_lists before full few in
+    let many : listed_most ≤ length before.entries = full_lists before full few in
     let kept : length after.entries ≡ keep = omega (arith, alike.count) in
     kept ∙ sym (ap (λ (b : Bool). if b then keep else length before.entries) full)

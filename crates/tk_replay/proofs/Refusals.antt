@@ -7,15 +7,17 @@ use Rattle.tk_clock.specs.declared.clock_id.ClockId.TheVariants.{Monotonic}
 use Rattle.tk_clock.specs.declared.command.Entry.{Entry}
 use Rattle.tk_clock.specs.declared.command.Command.{Command}
 use Rattle.tk_clock.specs.declared.refusal.Refusal.{Refusal}
-use Rattle.tk_clock.specs.declared.refusal.Refusal.TheVariants.{Invalid, Range}
+use Rattle.tk_clock.specs.declared.refusal.ReadError.TheVariants.{Invalid as InvalidReading, Range as PastLimit}
 use Rattle.tk_clock.specs.Clocks.{clock_value}
 use Rattle.tk_clock.specs.Journal.{Journal, followed_by}
 use Rattle.tk_clock.specs.Limits.{limit, is_past_limit}
 use Rattle.tk_clock.specs.Refusal.{first_of, clock_refusal}
 use Rattle.tk_clock.specs.Run.{reply_if}
-use Rattle.tk_replay.specs.Folding.{IsAlike, IsReplied, rule_of}
-use Rattle.tk_replay.specs.Report.{look_refusal, reply_by}
-use Rattle.tk_replay.proofs.Alike.{IsAlike-stands, look_refusal-alike}
+use Rattle.tk_clock.specs.Folding.{IsAlike}
+use Rattle.tk_replay.specs.Folding.{IsReplied, rule_of}
+use Rattle.tk_replay.specs.Report.{reply_by}
+use Rattle.tk_keeper.specs.Read.{read_fault}
+use Rattle.tk_replay.proofs.Alike.{IsAlike-stands, read_fault-alike}
 
 passed : (test : Bool) (refusal : Refusal) (later : Option Refusal) → (if test then Some refusal else later) ≡ None →
     (test ≡ false) × (later ≡ None)
@@ -36,15 +38,15 @@ unfolding is_past_limit
 below_limits after cmd below = (neither _ _ (neither _ _ below).0).0
 
 neither_test : (above past : Bool) → above ≡ false → past ≡ false →
-    (if above then Some Invalid else if past then Some Range else None) ≡ None
+    (if above then Some InvalidReading else if past then Some PastLimit else None) ≡ None
 neither_test true past not_above not_past = cc
 neither_test false true not_above not_past = cc
 neither_test false false not_above not_past = refl
 
 -- after an accepted command MONOTONIC can be told at its reading
-look_refusal-accepted : (journal : Journal) (entry : Entry) → clock_refusal journal entry ≡ None →
-    look_refusal (followed_by journal entry) Monotonic entry.reading ≡ None
-look_refusal-accepted journal entry accepted =
+read_fault-accepted : (journal : Journal) (entry : Entry) → clock_refusal journal entry ≡ None →
+    read_fault (followed_by journal entry) Monotonic entry.reading ≡ None
+read_fault-accepted journal entry accepted =
     let tests = both_passed _ _ accepted in
     let numbers = both_passed _ _ (both_passed _ _ tests.0).1 in
     let above = nat_lt (mask journal.opening.counter) entry.reading in
@@ -61,16 +63,16 @@ accepted_by (Some keep) journal entry told = told
 
 told_after : (keep : Option ℕ) (journal kept : Journal) (entry : Entry) (number : ℕ) (told : Option Refusal) →
     rule_of keep journal entry ≡ told → (reply_if journal entry told).answer ≡ Ok number →
-    IsAlike kept (reply_if journal entry told).journal → look_refusal kept Monotonic entry.reading ≡ None
+    IsAlike kept (reply_if journal entry told).journal → read_fault kept Monotonic entry.reading ≡ None
 told_after keep journal kept entry number None accepted answered alike =
-    look_refusal-alike kept (followed_by journal entry) alike Monotonic entry.reading
-    ∙ look_refusal-accepted journal entry (accepted_by keep journal entry accepted)
+    read_fault-alike kept (followed_by journal entry) alike Monotonic entry.reading
+    ∙ read_fault-accepted journal entry (accepted_by keep journal entry accepted)
 told_after keep journal kept entry number (Some refusal) refused answered alike = cc answered
 
 -- so the time of an accepted command's line can be told by the journal that is kept
-pub look_refusal-replied : (keep : Option ℕ) (journal kept : Journal) (entry : Entry) (number : ℕ) →
+pub read_fault-replied : (keep : Option ℕ) (journal kept : Journal) (entry : Entry) (number : ℕ) →
     IsReplied keep (reply_by (rule_of keep) journal entry) (Ok number) kept →
-    look_refusal kept Monotonic entry.reading ≡ None
-look_refusal-replied keep journal kept entry number replied =
+    read_fault kept Monotonic entry.reading ≡ None
+read_fault-replied keep journal kept entry number replied =
     told_after keep journal kept entry number (rule_of keep journal entry) refl replied.0
     (IsAlike-stands keep kept (reply_by (rule_of keep) journal entry).journal replied.1)

@@ -1,13 +1,20 @@
 -- A clock's value is told by one time alone.
-use Rattle.std.proofs.Common.{◌≡◌, ◌∙◌, ℕ, ◌+◌, ◌*◌, ◌%◌, ◌^◌, ◌<◌, sym, ap, arith}
-use Rattle.std.specs.Prelude.{ℤ, pos, negsuc, ◌+ℤ◌, ◌*ℤ◌, ◌≤ℤ◌}
+use Rattle.std.proofs.Common.{◌≡◌, ◌∙◌, ℕ, ◌+◌, ◌*◌, ◌%◌, ◌^◌, ◌<◌, refl, sym, ap, arith, Bool, true, false}
+use Rattle.std.specs.Prelude.{ℤ, pos, negsuc, ◌+ℤ◌, ◌*ℤ◌, ◌≤ℤ◌, ◌<ℤ◌, int_lt, unsigned_abs, not, Some, None, Result, Ok, Err, IsOk, if◌then◌else◌}
 use Rattle.std.proofs.lemmas.Int.{ints}
 use Rattle.std.proofs.lemmas.Nat.{div-mul-add, mod-mul-add}
 use Rattle.tk_clock.specs.declared.timespec.Timespec.{Timespec}
 use Rattle.tk_clock.specs.declared.clock_id.ClockId.{ClockId}
+use Rattle.tk_clock.specs.declared.clock_id.ClockId.TheVariants.{Realtime, Monotonic, Boottime, Tai, RealtimeCoarse, MonotonicCoarse, MonotonicRaw}
+use Rattle.tk_clock.specs.declared.refusal.ReadError.{ReadError}
+use Rattle.tk_clock.specs.declared.refusal.ReadError.TheVariants.{Invalid, Range}
 use Rattle.tk_clock.specs.Clocks.{clock_value}
 use Rattle.tk_clock.specs.Journal.{Journal}
+use Rattle.tk_clock.specs.Limits.{limit, clock_end}
 use Rattle.tk_clock.specs.Time.{nanoseconds, timespec_of}
+use Rattle.tk_clock.proofs.Settings.{below-of}
+use Rattle.tk_keeper.specs.Read.{IsRead, IsTimeOf, read_fault}
+use Rattle.tk_script.specs.Lines.{IsWritable}
 use Rattle.tk_replay.specs.Report.{IsTimeAt}
 
 -- seconds and nanoseconds in their ranges come back from their nanoseconds
@@ -31,3 +38,47 @@ pub IsTimeAt-nanoseconds : (journal : Journal) (clock : ClockId) (reading : ℕ)
     IsTimeAt journal clock reading time
 IsTimeAt-nanoseconds journal clock reading time same low start =
     is_time_at journal clock reading time.sec time.nsec same low start
+
+-- no clock ends later
+limit_most : (clock : ClockId) → limit clock ≤ℤ pos (clock_end * 10 ^ 9)
+limit_most Monotonic = omega (arith, ints)
+limit_most MonotonicCoarse = omega (arith, ints)
+limit_most Realtime = omega (arith, ints)
+limit_most RealtimeCoarse = omega (arith, ints)
+limit_most Boottime = omega (arith, ints)
+limit_most Tai = omega (arith, ints)
+limit_most MonotonicRaw = omega (arith, ints)
+
+below_end : (sec : ℤ) (nsec : ℕ) → (sec *ℤ pos (10 ^ 9) +ℤ pos nsec) <ℤ pos (clock_end * 10 ^ 9) → pos 0 ≤ℤ sec →
+    (unsigned_abs sec < clock_end) × (sec ≡ pos (unsigned_abs sec))
+below_end (pos sec) nsec low start = (omega (arith, ints), refl)
+below_end (negsuc less) nsec low start = absurd (omega (arith, ints))
+
+not_past : (above below : Bool) → (if above then Some Invalid else if not below then Some Range else None) ≡ None →
+    below ≡ true
+not_past true below told = cc
+not_past false true told = refl
+not_past false false told = cc
+
+-- a time that a clock tells can be written
+pub IsWritable-read : (journal : Journal) (clock : ClockId) (reading : ℕ) (time : Timespec) →
+    read_fault journal clock reading ≡ None → IsTimeOf (clock_value journal clock reading) time → IsWritable time
+IsWritable-read journal clock reading time free told =
+    let value = clock_value journal clock reading in
+    let low : int_lt value (limit clock) ≡ true = not_past _ _ free in
+    let below = below-of value (limit clock) low in
+    let most = limit_most clock in
+    let end = below_end time.sec time.nsec (omega (arith, ints, told.0, below, most)) told.2 in
+    (end.0, end.1, told.1)
+
+-- and is the clock's time there
+pub IsTimeAt-read : (journal : Journal) (clock : ClockId) (reading : ℕ) (time : Timespec) →
+    IsTimeOf (clock_value journal clock reading) time → IsTimeAt journal clock reading time
+IsTimeAt-read journal clock reading time told =
+    IsTimeAt-nanoseconds journal clock reading time told.0 told.1 told.2
+
+-- a clock without a fault is told
+pub IsOk-read : (journal : Journal) (clock : ClockId) (reading : ℕ) (result : Result Timespec ReadError) →
+    IsRead journal clock reading result → read_fault journal clock reading ≡ None → IsOk result
+IsOk-read journal clock reading (Ok time) told free = refl
+IsOk-read journal clock reading (Err error) told free = absurd (cc (sym told ∙ free))

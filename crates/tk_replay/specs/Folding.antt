@@ -2,21 +2,16 @@
 use Rattle.std.specs.Prelude.{◌≡◌, ℕ, ◌+◌, length, Option, Some, None, Result, Ok, Err, if◌then◌else◌}
 use Rattle.tk_clock.specs.declared.refusal.Refusal.{Refusal}
 use Rattle.tk_clock.specs.declared.refusal.Refusal.TheVariants.{Memory}
-use Rattle.tk_clock.specs.Journal.{Journal, accepted_count}
+use Rattle.tk_clock.specs.Folding.{IsAlike}
+use Rattle.tk_clock.specs.Journal.{Journal}
 use Rattle.tk_clock.specs.Refusal.{clock_refusal, first_refusal, is_full}
 use Rattle.tk_clock.specs.Run.{Reply}
-use Rattle.tk_clock.specs.State.{state_of}
 use Rattle.tk_replay.specs.Report.{Rule}
 
 -- why a command is refused: by a full journal, too, unless that is folded to its last entries, so many
 abbrev pub rule_of : Option ℕ → Rule
 rule_of None = first_refusal
 rule_of (Some keep) = clock_refusal
-
--- two journals of as many commands come to the same clocks, with the same frequency and tick in force
-pub record IsAlike (journal whole : Journal) : Type 0 where
-  pub state : state_of journal ≡ state_of whole
-  pub count : accepted_count journal ≡ accepted_count whole
 
 -- the journal that is kept stands for one that lists every command: it is that one, or, where it may be folded, alike
 abbrev pub StandsFor : Option ℕ → Journal → Journal → Type 0

@@ -1,19 +1,18 @@
 -- The report of a script: a line for its opening, and one for each record after it.
 use Rattle.std.specs.Prelude.{◌≡◌, ℕ, List, [], ◌∷◌, ◌++◌, pos, not, nat_lt, int_lt, Option, Some, None, Result, Ok, Err, if◌then◌else◌}
-use Rattle.tk_counter.specs.Counter.{mask}
 use Rattle.tk_clock.specs.declared.clock_id.ClockId.{ClockId}
 use Rattle.tk_clock.specs.declared.command.Command.{Command}
 use Rattle.tk_clock.specs.declared.command.Entry.{Entry}
 use Rattle.tk_clock.specs.declared.refusal.Refusal.{Refusal}
-use Rattle.tk_clock.specs.declared.refusal.Refusal.TheVariants.{Invalid, Range}
+use Rattle.tk_clock.specs.declared.refusal.ReadError.{ReadError}
 use Rattle.tk_clock.specs.declared.timespec.Timespec.{Timespec}
 use Rattle.tk_clock.specs.Clocks.{clock_value}
 use Rattle.tk_clock.specs.Journal.{Journal, opened}
-use Rattle.tk_clock.specs.Limits.{limit}
 use Rattle.tk_clock.specs.Monotonic.{monotonic}
-use Rattle.tk_clock.specs.Refusal.{clock_refusal, first_refusal}
+use Rattle.tk_clock.specs.Refusal.{clock_refusal, first_refusal, refusal_of}
 use Rattle.tk_clock.specs.Run.{Reply, reply_if}
 use Rattle.tk_clock.specs.Time.{timespec_of}
+use Rattle.tk_keeper.specs.Read.{read_fault}
 use Rattle.tk_script.specs.declared.opening.Start.{Start}
 use Rattle.tk_script.specs.declared.row.Row.{Row}
 use Rattle.tk_script.specs.declared.row.Row.TheVariants.{Act, Look}
@@ -43,29 +42,22 @@ answer_line journal reading (Err refusal) = no_line refusal
 abbrev pub reply_line : ℕ → Reply → List ℕ
 reply_line reading reply = answer_line reply.journal reading reply.answer
 
--- why a clock can't be told at a reading: the reading is above the mask, or the clock has come to its end
-abbrev pub look_refusal : Journal → ClockId → ℕ → Option Refusal
-look_refusal journal clock reading =
-    if nat_lt (mask journal.opening.counter) reading then Some Invalid
-    else if not (int_lt (clock_value journal clock reading) (limit clock)) then Some Range
-    else None
-
 -- the time of a clock at a reading: its nanoseconds, split
 abbrev pub IsTimeAt : Journal → ClockId → ℕ → Timespec → Type 0
 IsTimeAt journal clock reading time =
     (nanos : ℕ) × (clock_value journal clock reading ≡ pos nanos) × (time ≡ timespec_of nanos)
 
--- the line of a clock at a reading: its time, or the refusal
-abbrev pub IsLookLine : Journal → ClockId → ℕ → Option Refusal → List ℕ → Type 0
+-- the line of a clock at a reading: its time, or why it tells none
+abbrev pub IsLookLine : Journal → ClockId → ℕ → Option ReadError → List ℕ → Type 0
 IsLookLine journal clock reading None line =
     (time : Timespec) × IsTimeAt journal clock reading time × IsAtLine clock time line
-IsLookLine journal clock reading (Some refusal) line = line ≡ no_line refusal
+IsLookLine journal clock reading (Some error) line = line ≡ no_line (refusal_of error)
 
 -- the line of a record after a journal
 abbrev pub IsLine : Rule → Journal → Row → List ℕ → Type 0
 IsLine rule journal (Act reading cmd) line = line ≡ reply_line reading (reply_by rule journal (event reading cmd))
 IsLine rule journal (Look reading clock) line =
-    IsLookLine journal clock reading (look_refusal journal clock reading) line
+    IsLookLine journal clock reading (read_fault journal clock reading) line
 
 -- the journal after a record: an accepted command is its next entry, and a look leaves it
 abbrev pub after : Rule → Journal → Row → Journal

@@ -1,5 +1,6 @@
 //! Commands of a script, done to the clocks.
 ghost use Rattle.std.specs.Prelude.{◌≡◌, ◌-◌, ◌<◌, ◌≤◌, ◌^◌, length, None, Some};
+ghost use Rattle.tk_clock.specs.Limits.{counted_most};
 ghost use Rattle.std.specs.Option.{ForSome};
 ghost use Rattle.tk_clock.specs.Journal.{accepted_count};
 ghost use Rattle.tk_replay.specs.Folding.{IsReplied, greatest_keep, listed_after, listed_then, rule_of};
@@ -22,7 +23,7 @@ pub(crate) fn apply<A: Allocator + Copy>(
     reading: u64,
     cmd: Command,
 ) -> Result<u64, Refusal>
-    requires count { accepted_count keeper.old.journal < 2 ^ 63 - 1 }
+    requires count { accepted_count keeper.old.journal < counted_most }
     requires keep { ForSome keep (λ n. n ≤ greatest_keep) }
     ensures replied { IsReplied keep
         (reply_by (rule_of keep) keeper.old.journal (event reading cmd))
@@ -44,7 +45,7 @@ fn apply_folding<A: Allocator + Copy>(
     reading: u64,
     cmd: Command,
 ) -> Result<u64, Refusal>
-    requires count { accepted_count keeper.old.journal < 2 ^ 63 - 1 }
+    requires count { accepted_count keeper.old.journal < counted_most }
     requires keep { keep ≤ greatest_keep }
     ensures replied { IsReplied (Some keep)
         (reply_by (rule_of (Some keep)) keeper.old.journal (event reading cmd))

@@ -1,17 +1,17 @@
 ghost use Rattle.std.specs.Prelude.{◌≡◌, ◌++◌, ◌<◌, ◌≤◌, ◌-◌, ◌^◌, List, ℕ, OnOk, IfOk, IfErr, MatchResult, None};
 ghost use Rattle.std.specs.Option.{ForSome};
-ghost use Rattle.std.specs.Result.{result_err};
 ghost use Rattle.tk_clock.specs.Journal.{accepted_count};
 ghost use Rattle.tk_clock.specs.Refusal.{opening_refusal};
+ghost use Rattle.tk_clock.specs.Limits.{counted_most};
+ghost use Rattle.tk_keeper.specs.Read.{read_fault};
 ghost use Rattle.tk_script.specs.Coming.{IsReady, coming};
 ghost use Rattle.tk_script.specs.Grammar.{Fails, parse_of};
-ghost use Rattle.tk_script.specs.Lines.{IsWritable};
 ghost use Rattle.tk_replay.specs.Folding.{StandsFor, greatest_keep, rule_of};
-ghost use Rattle.tk_replay.specs.Report.{IsLine, IsLookLine, IsReport, IsReportBy, IsReportOfRows, IsReportUnlimited, IsTimeAt, after, event, look_refusal, reply_by, reply_line};
+ghost use Rattle.tk_replay.specs.Report.{IsLine, IsLookLine, IsReport, IsReportBy, IsReportOfRows, IsReportUnlimited, after, event, reply_by, reply_line};
 
 use crate::applying::apply;
 use std::alloc::{Allocator, Global};
-use tk_clock::{ClockId, Command, ReadError, Refusal, Timespec};
+use tk_clock::{ClockId, Command, Refusal};
 use tk_keeper::Timekeeper;
 use tk_script::{Calendar, Row, RowReader, ScriptError, Start, line_no, line_ok, line_open};
 
@@ -90,7 +90,7 @@ fn add_line<A: Allocator + Copy>(
     keep: Option<u64>,
     row: Row,
 ) -> Result<(), ScriptError>
-    requires count { accepted_count keeper.old.journal < 2 ^ 63 - 1 }
+    requires count { accepted_count keeper.old.journal < counted_most }
     requires keep { ForSome keep (λ n. n ≤ greatest_keep) }
     ensures line { OnOk result ((line : List ℕ) × IsLine (rule_of keep) keeper.old.journal row line
         × (text.new.items ≡ text.old.items ++ line)) }
@@ -112,7 +112,7 @@ fn add_reply<A: Allocator + Copy>(
     reading: u64,
     cmd: Command,
 ) -> Result<(), ScriptError>
-    requires count { accepted_count keeper.old.journal < 2 ^ 63 - 1 }
+    requires count { accepted_count keeper.old.journal < counted_most }
     requires keep { ForSome keep (λ n. n ≤ greatest_keep) }
     ensures line { OnOk result (text.new.items ≡ text.old.items ++ reply_line reading
         (reply_by (rule_of keep) keeper.old.journal (event reading cmd))) }
@@ -122,7 +122,7 @@ fn add_reply<A: Allocator + Copy>(
 {
     match apply(keeper, keep, reading, cmd) {
         Ok(number) => {
-            let time = time_at(keeper, ClockId::Monotonic, reading).unwrap();
+            let time = keeper.get(ClockId::Monotonic, reading).unwrap();
             line_ok(text, number, time)
         }
         Err(Refusal::Memory) => Err(ScriptError::Memory),
@@ -140,29 +140,12 @@ fn add_look<A: Allocator + Copy>(
 ) -> Result<(), ScriptError>
     ensures line { OnOk result ((line : List ℕ)
         × IsLookLine keeper.now.journal clock reading
-        (look_refusal keeper.now.journal clock reading) line
+        (read_fault keeper.now.journal clock reading) line
         × (text.new.items ≡ text.old.items ++ line)) }
     ensures err { IfErr result (λ error. error ≡ ScriptError.Memory) }
 {
-    match time_at(keeper, clock, reading) {
+    match keeper.get(clock, reading) {
         Ok(time) => calendar.line_at(text, clock, time),
-        Err(refusal) => line_no(text, refusal),
-    }
-}
-
-/// The time of a clock at a reading.
-fn time_at<A: Allocator + Copy>(
-    keeper: &Timekeeper<A>,
-    clock: ClockId,
-    reading: u64,
-) -> Result<Timespec, Refusal>
-    ensures refusal { look_refusal keeper.now.journal clock reading ≡ result_err result }
-    ensures time { IfOk result (IsTimeAt keeper.now.journal clock reading) }
-    ensures writable { IfOk result IsWritable }
-{
-    match keeper.snapshot().get(clock, reading) {
-        Ok(time) => Ok(time),
-        Err(ReadError::Invalid) => Err(Refusal::Invalid),
-        Err(ReadError::Range) => Err(Refusal::Range),
+        Err(error) => line_no(text, error.into()),
     }
 }

@@ -7,11 +7,12 @@ use Rattle.tk_clock.specs.declared.clock_id.ClockId.TheVariants.{Realtime, Realt
 use Rattle.tk_clock.specs.declared.refusal.Refusal.{Refusal}
 use Rattle.tk_script.specs.Word.{clock_name, refusal_name}
 use Rattle.tk_script.specs.Utc.{nine_digits, IsUtcText}
+use Rattle.tk_clock.specs.Limits.{clock_end}
 
 -- a time that can be written: 0 to 9,223,372,035 seconds, and fewer than 10^9 nanoseconds
 abbrev pub IsWritable : Timespec → Type 0
 IsWritable time =
-    (unsigned_abs time.sec < 9223372036) × (time.sec ≡ pos (unsigned_abs time.sec)) × (time.nsec < 1000000000)
+    (unsigned_abs time.sec < clock_end) × (time.sec ≡ pos (unsigned_abs time.sec)) × (time.nsec < 1000000000)
 
 -- seconds, a dot, and nanoseconds in nine digits
 abbrev pub time_text : Timespec → List ℕ

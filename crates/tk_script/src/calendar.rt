@@ -2,6 +2,7 @@ ghost use Rattle.std.specs.Prelude.{◌≡◌, ◌<◌, ◌≤◌, ◌++◌, ◌
 ghost use Rattle.jiff.specs.Words.{date_text, epoch_day};
 ghost use Rattle.tk_script.specs.Utc.{IsDateText, IsUtcText, time_part};
 ghost use Rattle.tk_script.specs.Lines.{IsWritable};
+ghost use Rattle.tk_clock.specs.Limits.{clock_end};
 
 use crate::script_error::ScriptError;
 use crate::text::{nine_digits_of, two_digits_of};
@@ -68,7 +69,7 @@ pub fn utc<A: Allocator + Copy>(alloc: A, sec: i64, nsec: u32) -> Result<String<
 
 /// The day of so many seconds after 1970-01-01, and the second in it.
 pub(crate) fn day_and_second(seconds: u64) -> (u32, u32)
-    requires { seconds < 9223372036 }
+    requires { seconds < clock_end }
     ensures day { result.0 ≡ seconds / 86400 }
     ensures second { result.1 ≡ seconds % 86400 }
 {
