@@ -1,0 +1,10 @@
+//! The program on a script with a fault: status 1, and no report. What it tells of its ending is on
+//! standard output here, so that the gate compares it.
+#![tactic(auto)]
+
+use std::process::ExitCode;
+use tk_program::run_and_tell;
+
+fn main(rt: HostRuntime) -> ExitCode {
+    run_and_tell(&rt, &mut rt.stdin(), &mut rt.stdout(), &mut rt.stdout())
+}
