@@ -15,3 +15,4 @@ pub mod Effect
 pub mod Run
 pub mod Snapshot
 pub mod Words
+pub mod Read
