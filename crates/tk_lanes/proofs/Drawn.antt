@@ -1,11 +1,11 @@
 -- A line drawn from a snapshot is its clock.
-use Rattle.std.proofs.Common.{◌≡◌, ℕ, ◌+◌, ◌-◌, ◌*◌, ◌/◌, ◌%◌, ◌^◌, ◌<◌, ◌≤◌, Bool, true, false, bit_and, Ok, refl, sym, ap, ap₂, ◌∙◌, subst, arith, inl, inr}
+use Rattle.std.proofs.Common.{◌≡◌, ℕ, ◌+◌, ◌-◌, ◌*◌, ◌/◌, ◌%◌, ◌^◌, ◌<◌, ◌≤◌, Bool, true, false, bit_and, Ok, refl, sym, ap, ap₂, ◌∙◌, arith}
 use Rattle.std.specs.Prelude.{ℤ, pos, ◌+ℤ◌, int_lt, nat_lt, ◌||◌, if◌then◌else◌, unsigned_abs}
-use Rattle.std.proofs.lemmas.Bool.{le-ltb, lt-ltb, cases_lt}
+use Rattle.std.proofs.lemmas.Bool.{le-ltb, lt-ltb}
 use Rattle.std.proofs.lemmas.Nat.{pow_pos, div_below}
 use Rattle.std.proofs.lemmas.Int.{ints}
 use Rattle.std.proofs.Math.Nat.{mul-add-div, mod-eq_of_lt, mul-le-mul_right}
-use Rattle.tk_counter.specs.Counter.{Counter, IsCounter, mask, half, gap, second}
+use Rattle.tk_counter.specs.Counter.{Counter, IsCounter, mask, half, second}
 use Rattle.tk_counter.proofs.Gaps.{word_gap}
 use Rattle.tk_clock.specs.declared.clock_id.ClockId.{ClockId}
 use Rattle.tk_clock.specs.declared.clock_id.ClockId.TheVariants.{Realtime, Monotonic, Boottime, Tai, RealtimeCoarse, MonotonicCoarse, MonotonicRaw}
@@ -15,10 +15,10 @@ use Rattle.tk_clock.specs.Limits.{limit}
 use Rattle.tk_clock.specs.Read.{read_of}
 use Rattle.tk_clock.proofs.Offsets.{cycles_since-self}
 use Rattle.tk_lanes.specs.declared.line.Line.{Line}
-use Rattle.tk_lanes.specs.Line.{line_cycles, line_nanos, IsNear, is_coarse, units_at_last, running_mult, mult_of, offset_of}
+use Rattle.tk_lanes.specs.Line.{line_cycles, line_nanos, nanos_after, IsNear, is_coarse, units_at_last, running_mult, mult_of, offset_of}
 
 -- a line with a clock's numbers: seconds at the last reading, the span in cycles, and the nanoseconds to the clock's limit
-pub record IsDrawn (base : ReadBase) (clock : ClockId) (line : Line) (sec span room : ℕ) : Type 0 where
+pub record IsDrawn (base : ReadBase) (clock : ClockId) (line : Line) (sec room : ℕ) : Type 0 where
   pub counter : IsCounter base.counter
   pub last : line.last ≡ base.last
   pub last_low : base.last < 2 ^ 64
@@ -28,10 +28,8 @@ pub record IsDrawn (base : ReadBase) (clock : ClockId) (line : Line) (sec span r
   pub start : pos line.base ≡ pos (sec * 10 ^ 9) +ℤ offset_of base clock
   pub masked : line.mask ≡ mask base.counter
   pub halved : line.half ≡ half base.counter
-  pub half_low : half base.counter < 2 ^ 63
-  pub bias : line.bias + span + 1 ≡ 2 ^ 63
-  pub fits : span * line.mult + line.frac < 2 ^ 64
-  pub in_range : span * line.mult + line.frac < room * 2 ^ line.shift
+  pub fits : line.span * line.mult + line.frac < 2 ^ 64
+  pub in_range : line.span * line.mult + line.frac < room * 2 ^ line.shift
   pub ends : pos (line.base + room) ≡ limit clock
   pub limit_low : line.base + room < 2 ^ 64
 
@@ -72,15 +70,7 @@ split_amount sec units shift =
     let e : sec * (10 ^ 9 * 2 ^ shift) + units ≡ 2 ^ shift * (sec * 10 ^ 9) + units = omega arith in
     ap (λ n. n / 2 ^ shift) e ∙ mul-add-div (pow_pos shift) (sec * 10 ^ 9) units
 
-cycles_low : (counter : Counter) (last stamp : ℕ) → cycles_since counter false last stamp ≤ half counter
-cycles_low counter last stamp =
-    let g = gap counter last stamp in
-    elim (cases_lt (half counter) g) [
-      | inl behind ↦ let t = lt-ltb _ _ behind in rw t (omega arith)
-      | inr forward ↦ let t = le-ltb _ _ forward in rw t forward
-    ]
-
-module _ (base : ReadBase) (clock : ClockId) (line : Line) (sec span room : ℕ) (drawn : IsDrawn base clock line sec span room)
+module _ (base : ReadBase) (clock : ClockId) (line : Line) (sec room : ℕ) (drawn : IsDrawn base clock line sec room)
     (stamp : ℕ) (near : IsNear line stamp) where
   abbrev cycles : ℕ
   cycles = line_cycles line stamp
@@ -91,18 +81,11 @@ module _ (base : ReadBase) (clock : ClockId) (line : Line) (sec span room : ℕ)
       ap (λ l. let g = bit_and ((stamp + (2 ^ 64 - l)) % 2 ^ 64) line.mask in if nat_lt line.half g then 0 else g) drawn.last
       ∙ cycles_are base.counter base.last line.mask line.half stamp drawn.counter drawn.last_low drawn.masked drawn.halved
 
-  in_span : cycles ≤ span
-  in_span =
-      let low : cycles < 2 ^ 63 = omega (arith, cycles_of, cycles_low base.counter base.last stamp, drawn.half_low) in
-      let e : (cycles + line.bias) % 2 ^ 64 ≡ cycles + line.bias = mod-eq_of_lt (omega (arith, drawn.bias)) in
-      let below : cycles + line.bias < 2 ^ 63 = subst (λ n. n < 2 ^ 63) e near.near in
-      omega (arith, drawn.bias)
-
   abbrev units : ℕ
   units = cycles * line.mult + line.frac
 
-  grown : cycles * line.mult ≤ span * line.mult
-  grown = mul-le-mul_right line.mult in_span
+  grown : cycles * line.mult ≤ line.span * line.mult
+  grown = mul-le-mul_right line.mult near.near
 
   abbrev nanos : ℕ
   nanos = units / 2 ^ line.shift
@@ -111,7 +94,7 @@ module _ (base : ReadBase) (clock : ClockId) (line : Line) (sec span room : ℕ)
   nanos_low = div_below units (2 ^ line.shift) room (pow_pos line.shift) (omega (arith, grown, drawn.in_range))
 
   line_is : line_nanos line stamp ≡ nanos + line.base
-  unfolding line_nanos
+  unfolding nanos_after
   line_is =
       let a : (cycles * line.mult) % 2 ^ 64 ≡ cycles * line.mult = mod-eq_of_lt (omega (arith, grown, drawn.fits)) in
       let b : (cycles * line.mult + line.frac) % 2 ^ 64 ≡ units = mod-eq_of_lt (omega (arith, grown, drawn.fits)) in

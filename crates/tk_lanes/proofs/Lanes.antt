@@ -1,11 +1,14 @@
 -- Eight lanes at a time: what is computed of each.
-use Rattle.std.proofs.Common.{◌≡◌, ℕ, ◌+◌, ◌-◌, ◌*◌, ◌/◌, ◌%◌, ◌^◌, ◌<◌, ◌≤◌, Bool, cond, ltb, List, [], ◌∷◌, map, length, bit_and, bit_or, w64, replicate, refl, ap, ap₂, ◌∙◌, subst, arith}
+use Rattle.std.proofs.Common.{◌≡◌, ℕ, ◌+◌, ◌-◌, ◌*◌, ◌/◌, ◌%◌, ◌^◌, ◌<◌, ◌≤◌, Bool, cond, ltb, List, [], ◌∷◌, map, length, bit_and, bit_or, w64, replicate, refl, false, inl, inr, ap, ap₂, ◌∙◌, subst, arith}
 use Rattle.std.proofs.lemmas.Nat.{le_or_l, le_or_r}
 use Rattle.std.proofs.lemmas.Simd.{zip2_of_maps, splat_is_map, tops_compared}
 use Rattle.std.specs.Simd.Lanes.{zip2, sel_l, fold_l, Each1}
+use Rattle.std.proofs.lemmas.Bool.{le-ltb, lt-ltb, cases_lt}
+use Rattle.std.proofs.lemmas.List.{length-map}
+use Rattle.std.proofs.Math.Nat.{mod-eq_of_lt}
 use lib.Lanes.{top}
 use Rattle.tk_lanes.specs.declared.line.Line.{Line}
-use Rattle.tk_lanes.specs.Line.{line_cycles, line_nanos, IsNear, IsEachNear}
+use Rattle.tk_lanes.specs.Line.{line_cycles, line_nanos, nanos_after, IsNear, IsEachNear}
 
 itself : (v : List ℕ) → v ≡ map (λ x. x) v
 itself [] = refl
@@ -55,12 +58,13 @@ abbrev cycles : Line → List ℕ → List ℕ
 cycles line v =
     sel_l (map (top 63) (zip2 (λ a b. cond (ltb a b) 18446744073709551615 0) (replicate 8 line.half) (gaps line v))) (replicate 8 0) (gaps line v)
 
-abbrev reaches : Line → List ℕ → List ℕ
-reaches line v = zip2 wrap_add (cycles line v) (replicate 8 line.bias)
+abbrev reaches : Line → List ℕ → ℕ → List ℕ
+reaches line v bias = zip2 wrap_add (cycles line v) (replicate 8 bias)
 
 abbrev nanos : Line → List ℕ → ℕ → ℕ → List ℕ
-nanos line v mult shift =
-    zip2 wrap_add (zip2 shr (zip2 wrap_add (zip2 wrap_mul (cycles line v) (replicate 8 mult)) (replicate 8 line.frac)) (replicate 8 shift)) (replicate 8 line.base)
+nanos line counts mult shift =
+    zip2 wrap_add (zip2 shr (zip2 wrap_add (zip2 wrap_mul counts (replicate 8 mult)) (replicate 8 line.frac)) (replicate 8 shift))
+    (replicate 8 line.base)
 
 splat : (v : List ℕ) → length v ≡ 8 → (y : ℕ) → replicate 8 y ≡ map (λ _. y) v
 splat v long y = splat_is_map v 8 y long
@@ -75,7 +79,7 @@ gaps-map line v long =
     (zip2_of_maps wrap_sub (λ x. x) (λ _. line.last) v (itself v) (splat v long line.last))
     (splat v long line.mask)
 
-cycles-map : (line : Line) (v : List ℕ) → length v ≡ 8 → cycles line v ≡ map (line_cycles line) v
+pub cycles-map : (line : Line) (v : List ℕ) → length v ≡ 8 → cycles line v ≡ map (line_cycles line) v
 unfolding gap_of line_cycles
 cycles-map line v long =
     selected (λ x. ltb line.half (gap_of line x)) (λ _. 0) (gap_of line) v
@@ -84,33 +88,93 @@ cycles-map line v long =
     (splat v long 0)
     (gaps-map line v long)
 
--- the lanes hold the line at each stamp
-pub nanos-map : (line : Line) (v : List ℕ) → length v ≡ 8 → (mult shift : ℕ) → mult ≡ line.mult → shift ≡ line.shift →
-    nanos line v mult shift ≡ map (line_nanos line) v
-unfolding line_nanos
-nanos-map line v long mult shift p q =
-    ap₂ (nanos line v) p q ∙
-    zip2_of_maps wrap_add _ (λ _. line.base) v
-    (zip2_of_maps shr _ (λ _. line.shift) v
-    (zip2_of_maps wrap_add _ (λ _. line.frac) v
-    (zip2_of_maps wrap_mul (line_cycles line) (λ _. line.mult) v (cycles-map line v long) (splat v long line.mult))
-    (splat v long line.frac))
-    (splat v long line.shift))
-    (splat v long line.base)
+-- the lanes hold the line after so many cycles each
+pub nanos-map : (line : Line) (counts : List ℕ) → length counts ≡ 8 → (mult shift : ℕ) → mult ≡ line.mult → shift ≡ line.shift →
+    nanos line counts mult shift ≡ map (nanos_after line) counts
+unfolding nanos_after
+nanos-map line counts long mult shift p q =
+    ap₂ (nanos line counts) p q ∙
+    zip2_of_maps wrap_add _ (λ _. line.base) counts
+    (zip2_of_maps shr _ (λ _. line.shift) counts
+    (zip2_of_maps wrap_add _ (λ _. line.frac) counts
+    (zip2_of_maps wrap_mul (λ x. x) (λ _. line.mult) counts (itself counts) (splat counts long line.mult))
+    (splat counts long line.frac))
+    (splat counts long line.shift))
+    (splat counts long line.base)
 
-reaches-map : (line : Line) (v : List ℕ) → length v ≡ 8 →
-    reaches line v ≡ map (λ x. wrap_add (line_cycles line x) line.bias) v
-reaches-map line v long =
-    zip2_of_maps wrap_add (line_cycles line) (λ _. line.bias) v (cycles-map line v long) (splat v long line.bias)
+-- where the or of the gaps is within the span, no stamp lies behind, and each is near
+near_gap : (line : Line) → line.span ≤ line.half → (x : ℕ) → gap_of line x ≤ line.span → gap_of line x ≡ line_cycles line x
+unfolding gap_of line_cycles
+near_gap line leads x low =
+    let ahead : ltb line.half (gap_of line x) ≡ false = le-ltb _ _ (omega (arith, low, leads)) in
+    rw ahead refl
 
--- where the ors of the lanes are low, each stamp is near
-pub all_near : (line : Line) (v : List ℕ) → length v ≡ 8 → fold_l bit_or 0 (reaches line v) < 9223372036854775808 →
-    fold_l bit_or 0 v ≤ line.mask → IsEachNear line v
-all_near line v long near read =
-    let low : fold_l bit_or 0 (map (λ x. wrap_add (line_cycles line x) line.bias) v) ≤ 9223372036854775807 =
-    subst (λ l. fold_l bit_or 0 l ≤ 9223372036854775807) (reaches-map line v long) (omega (arith, near)) in
-    both _ _ (IsNear line) (λ x p q. record { near = omega (arith, p); read = q }) v
-    (each_of_map (λ x. wrap_add (line_cycles line x) line.bias) (λ y. y ≤ 9223372036854775807)
-    (λ x. wrap_add (line_cycles line x) line.bias ≤ 9223372036854775807) (λ x p. p) v
-    (most_is_or 0 _ 9223372036854775807 low).1)
+-- lists of lanes that agree at each stamp
+same_maps : (f g : ℕ → ℕ) (P : ℕ → Type 0) → ((x : ℕ) → P x → f x ≡ g x) → (v : List ℕ) → Each1 P v → map f v ≡ map g v
+same_maps f g P same [] all = refl
+same_maps f g P same (x ∷ xs) all = ap₂ (λ y ys. y ∷ ys) (same x all.0) (same_maps f g P same xs all.1)
+
+low_gaps : (line : Line) (v : List ℕ) → length v ≡ 8 → fold_l bit_or 0 (gaps line v) ≤ line.span → Each1 (λ x. gap_of line x ≤ line.span) v
+low_gaps line v long low =
+    let ors : fold_l bit_or 0 (map (gap_of line) v) ≤ line.span =
+    subst (λ l. fold_l bit_or 0 l ≤ line.span) (gaps-map line v long) low in
+    each_of_map (gap_of line) (λ y. y ≤ line.span) (λ x. gap_of line x ≤ line.span) (λ x p. p) v (most_is_or 0 _ line.span ors).1
+
+pub gaps-long : (line : Line) (v : List ℕ) → length v ≡ 8 → length (gaps line v) ≡ 8
+gaps-long line v long = ap length (gaps-map line v long) ∙ length-map v (gap_of line) ∙ long
+
+pub cycles-long : (line : Line) (v : List ℕ) → length v ≡ 8 → length (cycles line v) ≡ 8
+cycles-long line v long = ap length (cycles-map line v long) ∙ length-map v (line_cycles line) ∙ long
+
+-- the line after the cycles of each stamp is the line at each
+pub nanos_at_each : (line : Line) (v counts : List ℕ) → counts ≡ map (line_cycles line) v → map (nanos_after line) counts ≡ map (line_nanos line) v
+nanos_at_each line v counts e = ap (map (nanos_after line)) e ∙ fused v
+  where
+    fused : (v : List ℕ) → map (nanos_after line) (map (line_cycles line) v) ≡ map (line_nanos line) v
+    fused [] = refl
+    fused (x ∷ xs) = ap (λ r. line_nanos line x ∷ r) (fused xs)
+
+pub gaps-are_cycles : (line : Line) (v : List ℕ) → length v ≡ 8 → line.span ≤ line.half → fold_l bit_or 0 (gaps line v) ≤ line.span →
+    gaps line v ≡ map (line_cycles line) v
+gaps-are_cycles line v long leads low =
+    gaps-map line v long
+    ∙ same_maps (gap_of line) (line_cycles line) (λ x. gap_of line x ≤ line.span) (near_gap line leads) v (low_gaps line v long low)
+
+pub near_by_gaps : (line : Line) (v : List ℕ) → length v ≡ 8 → line.span ≤ line.half → fold_l bit_or 0 v ≤ line.mask →
+    fold_l bit_or 0 (gaps line v) ≤ line.span → IsEachNear line v
+near_by_gaps line v long leads read low =
+    both _ _ (IsNear line)
+    (λ x p q. record { near = subst (λ n. n ≤ line.span) (near_gap line leads x p) p; read = q }) v
+    (low_gaps line v long low)
+    (most_is_or 0 v line.mask read).1
+
+-- a sum with this bias has no top bit, so the cycles are within the span
+within_span : (cycles span bias : ℕ) → cycles < 9223372036854775808 → bias + span + 1 ≡ 9223372036854775808 →
+    wrap_add cycles bias ≤ 9223372036854775807 → cycles ≤ span
+within_span cycles span bias few e low =
+    let plain : wrap_add cycles bias ≡ cycles + bias = mod-eq_of_lt (omega arith) in
+    omega (arith, plain)
+
+cycles_low : (line : Line) (x : ℕ) → line_cycles line x ≤ line.half
+unfolding line_cycles gap_of
+cycles_low line x =
+    let g = gap_of line x in
+    elim (cases_lt line.half g) [
+      | inl behind ↦ let t = lt-ltb _ _ behind in rw t (omega arith)
+      | inr forward ↦ let t = le-ltb _ _ forward in rw t forward
+    ]
+
+pub near_by_reaches : (line : Line) (v : List ℕ) (bias : ℕ) → length v ≡ 8 → line.half < 9223372036854775808 →
+    bias + line.span + 1 ≡ 9223372036854775808 → fold_l bit_or 0 v ≤ line.mask →
+    fold_l bit_or 0 (reaches line v bias) < 9223372036854775808 → IsEachNear line v
+near_by_reaches line v bias long halved e read low =
+    let reach : ℕ → ℕ = λ x. wrap_add (line_cycles line x) bias in
+    let mapped : reaches line v bias ≡ map reach v =
+    zip2_of_maps wrap_add (line_cycles line) (λ _. bias) v (cycles-map line v long) (splat v long bias) in
+    let ors : fold_l bit_or 0 (map reach v) ≤ 9223372036854775807 =
+    subst (λ l. fold_l bit_or 0 l ≤ 9223372036854775807) mapped (omega (arith, low)) in
+    both _ _ (IsNear line)
+    (λ x p q. record { near = within_span (line_cycles line x) line.span bias (omega (arith, cycles_low line x)) e p; read = q }) v
+    (each_of_map reach (λ y. y ≤ 9223372036854775807) (λ x. reach x ≤ 9223372036854775807) (λ x p. p) v
+    (most_is_or 0 _ 9223372036854775807 ors).1)
     (most_is_or 0 v line.mask read).1

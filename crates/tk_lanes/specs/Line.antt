@@ -46,14 +46,17 @@ line_cycles line stamp =
     let gap = bit_and ((stamp + (2 ^ 64 - line.last)) % 2 ^ 64) line.mask in
     if nat_lt line.half gap then 0 else gap
 
--- the line at a stamp, in words of 64 bits
-unfoldable pub line_nanos : Line → ℕ → ℕ
-line_nanos line stamp =
-    (((line_cycles line stamp * line.mult) % 2 ^ 64 + line.frac) % 2 ^ 64 / 2 ^ line.shift + line.base) % 2 ^ 64
+-- the line after so many cycles, in words of 64 bits
+unfoldable pub nanos_after : Line → ℕ → ℕ
+nanos_after line cycles = (((cycles * line.mult) % 2 ^ 64 + line.frac) % 2 ^ 64 / 2 ^ line.shift + line.base) % 2 ^ 64
+
+-- the line at a stamp
+abbrev pub line_nanos : Line → ℕ → ℕ
+line_nanos line stamp = nanos_after line (line_cycles line stamp)
 
 -- the stamp is a reading of the counter, and within the line's span
 pub record IsNear (line : Line) (stamp : ℕ) : Type 0 where
-  pub near : (line_cycles line stamp + line.bias) % 2 ^ 64 < 2 ^ 63
+  pub near : line_cycles line stamp ≤ line.span
   pub read : stamp ≤ line.mask
 
 abbrev pub IsEachNear : Line → List ℕ → Type 0

@@ -30,14 +30,17 @@ pub(crate) struct Line {
     mask: u64,
     /// The longest gap that leads forward, in cycles.
     half: u64,
-    /// How far the span, the line's longest gap, lies below `2^63 - 1`: past the span a sum with it has the top bit.
-    bias: u64,
+    /// The longest gap up to which the line is the clock.
+    span: u64,
 }
 
 impl Line {
     /// The line of a snapshot's clock; None where the clock is out of range even at the last command.
     pub(crate) fn of(snapshot: &Snapshot, clock: ClockId) -> Option<Line>
-        ensures { IfSome result (λ line. (line.shift < 64) × IsLine snapshot.now.base clock line) }
+        ensures drawn { IfSome result (λ line. IsLine snapshot.now.base clock line) }
+        ensures shift { IfSome result (λ line. line.shift < 64) }
+        ensures leads { IfSome result (λ line. line.span ≤ line.half) }
+        ensures half { IfSome result (λ line. line.half < 2 ^ 63) }
     {
         let desc = snapshot.desc();
         let origin = Origin::of(snapshot, clock);
@@ -55,7 +58,7 @@ impl Line {
             base: base as u64,
             mask: desc.mask(),
             half: desc.half(),
-            bias: (1 << 63) - 1 - span,
+            span,
         })
     }
 }

@@ -26,7 +26,7 @@ loop-chunk-preserved c =
           subst (λ o. IsFilled base clock stamps 0 (8 * (c.loop-chunk.chunk + 1)) old o) (sym w.out-is)
           (more c.converts.new.out w.plain_from.new.out w.if-not-converts.ensures w.in_ok-plain_from.ensures)
       | else-not-converts w ↦
-          let drawn : IsLine base clock c.in-Some.line = c.in-Some.ensures.1 in
+          let drawn : IsLine base clock c.in-Some.line = c.in-Some.ensures.drawn in
           let lanes = filled_lanes base clock c.in-Some.line stamps at c.loop-chunk.out c.type_inv.stamps (omega arith) inside drawn w.if-not-converts.ensures.0 in
           let e = w.out-is ∙ w.if-not-converts.ensures.1 in
           more c.loop-chunk.out c.if-not-converts.out refl

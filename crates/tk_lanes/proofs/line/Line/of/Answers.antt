@@ -5,8 +5,8 @@ use Rattle.tk_lanes.specs.declared.line.Line.{Line}
 use Rattle.tk_lanes.proofs.Drawn.{IsDrawn, drawn_reads}
 use Rattle.tk_lanes.proofs.line.Line.of.Goals as goal
 
-pub returns : goal.returns
-returns c =
+pub returns-clause-drawn : goal.returns-clause-drawn
+returns-clause-drawn c =
     let base = c.args.snapshot.now.base in
     let origin = c.of-origin.result in
     let span = c.in_ok-span.span in
@@ -18,7 +18,7 @@ returns c =
       base = c.from.result * 1000000000 + c.offset.result;
       mask = c.mask.result;
       half = c.half-2.result;
-      bias = 9223372036854775807 - span;
+      span = span;
     } in
     let same = c.desc-desc.ensures in
     let room = c.limit-end.result - line.base in
@@ -31,7 +31,7 @@ returns c =
     let half_low : half base.counter < 2 ^ 63 = omega arith in
     let inside : span ≤ c.half.result = c.in_ok-span.ensures.inside in
     let seconds : c.from.result * 1000000000 ≡ origin.sec * 1000000000 = ap (λ a. a * 1000000000) c.from.ensures in
-    let drawn : IsDrawn base c.args.clock line origin.sec span room = record {
+    let drawn : IsDrawn base c.args.clock line origin.sec room = record {
       counter = subst IsCounter same c.shift-2.ensures.counter;
       last = c.last.ensures;
       last_low = omega (arith, c.last.ensures);
@@ -41,11 +41,9 @@ returns c =
       start = ap (λ n. pos (n + c.offset.result)) seconds ∙ ap (λ o. pos (origin.sec * 1000000000) +ℤ o) c.offset.ensures.value;
       masked = masked;
       halved = halved;
-      half_low = half_low;
-      bias = omega arith;
       fits = c.in_ok-span.ensures.fits;
       in_range = subst (λ k. span * line.mult + line.frac < room * 2 ^ k) first_shift c.in_ok-span.ensures.in_range;
       ends = ap pos whole ∙ c.limit-end.ensures.value;
       limit_low = omega (arith, c.limit-end.ensures.most);
     } in
-    (omega (arith, c.shift-2.ensures.counter.shift_high), λ stamp low near. drawn_reads base c.args.clock line origin.sec span room drawn stamp near)
+    (λ stamp low near. drawn_reads base c.args.clock line origin.sec room drawn stamp near)
