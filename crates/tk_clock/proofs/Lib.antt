@@ -7,6 +7,7 @@ pub mod Legal
 pub mod Monotone
 pub mod Honest
 pub mod Units
+pub mod LongUnits
 pub mod Forwarding
 pub mod Rates
 pub mod Ranges
