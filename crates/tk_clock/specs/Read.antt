@@ -12,4 +12,5 @@ unless_refused None value = Ok (unsigned_abs value)
 
 -- the clock of a base at a reading, in nanoseconds, or the first test that it fails
 unfoldable pub read_of : ReadBase → ClockId → ℕ → Result ℕ ReadError
-read_of base clock reading = unless_refused (read_refusal base clock reading) (base_value base clock reading)
+read_of base clock reading =
+    unless_refused (read_refusal base clock reading) (base_value base clock reading)

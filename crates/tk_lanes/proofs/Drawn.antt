@@ -17,7 +17,8 @@ use Rattle.tk_clock.proofs.Offsets.{cycles_since-self}
 use Rattle.tk_lanes.specs.declared.line.Line.{Line}
 use Rattle.tk_lanes.specs.Line.{line_cycles, line_nanos, nanos_after, IsNear, is_coarse, units_at_last, running_mult, mult_of, offset_of}
 
--- a line with a clock's numbers: seconds at the last reading, the span in cycles, and the nanoseconds to the clock's limit
+-- a line with a clock's numbers: seconds at the last reading, the span in cycles, and the
+-- nanoseconds to the clock's limit
 pub record IsDrawn (base : ReadBase) (clock : ClockId) (line : Line) (sec room : ℕ) : Type 0 where
   pub counter : IsCounter base.counter
   pub last : line.last ≡ base.last
@@ -33,29 +34,42 @@ pub record IsDrawn (base : ReadBase) (clock : ClockId) (line : Line) (sec room :
   pub ends : pos (line.base + room) ≡ limit clock
   pub limit_low : line.base + room < 2 ^ 64
 
+-- the difference of two words
+abbrev gap_word : ℕ → ℕ → ℕ
+gap_word stamp last = (stamp + (2 ^ 64 - last)) % 2 ^ 64
+
+-- its low bits, where they lead forward
+abbrev ahead : ℕ → ℕ → ℕ → ℕ
+ahead m h word = let g = bit_and word m in if nat_lt h g then 0 else g
+
 -- the cycles of the lanes are those of the clock
-cycles_are : (counter : Counter) (last m h stamp : ℕ) → IsCounter counter → last < 2 ^ 64 → m ≡ mask counter → h ≡ half counter →
-    (let g = bit_and ((stamp + (2 ^ 64 - last)) % 2 ^ 64) m in if nat_lt h g then 0 else g) ≡ cycles_since counter false last stamp
+cycles_are : (counter : Counter) (last m h stamp : ℕ) → IsCounter counter → last < 2 ^ 64 →
+    m ≡ mask counter → h ≡ half counter →
+    ahead m h (gap_word stamp last) ≡ cycles_since counter false last stamp
 cycles_are counter last m h stamp held low p q =
-    ap₂ (λ m h. let g = bit_and ((stamp + (2 ^ 64 - last)) % 2 ^ 64) m in if nat_lt h g then 0 else g) p q
-    ∙ ap (λ g. if nat_lt (half counter) g then 0 else g) (word_gap counter.bits last stamp held.bits_high low)
+    ap₂ (λ m h. ahead m h (gap_word stamp last)) p q
+    ∙ ap (λ g. if nat_lt (half counter) g then 0 else g)
+        (word_gap counter.bits last stamp held.bits_high low)
 
 -- a clock that stands still has no units a cycle
 same_units : (asleep coarse : Bool) (counter : Counter) (last stamp u : ℕ) →
     cycles_since counter false last stamp * (if asleep || coarse then 0 else u)
     ≡ cycles_since counter asleep last (if coarse then last else stamp) * u
 same_units true coarse counter last stamp u = omega arith
-same_units false true counter last stamp u = let none = cycles_since-self counter false last in rw none (omega arith)
+same_units false true counter last stamp u =
+    let none = cycles_since-self counter false last in rw none (omega arith)
 same_units false false counter last stamp u = refl
 
 -- what a clock counts at a stamp, in nanoseconds, without its offset
 abbrev counted : ReadBase → ClockId → ℕ → ℕ
 counted base clock stamp =
     (units_at_last base clock
-    + cycles_since base.counter base.asleep base.last (if is_coarse clock then base.last else stamp) * running_mult base clock)
+    + cycles_since base.counter base.asleep base.last
+        (if is_coarse clock then base.last else stamp) * running_mult base clock)
     / 2 ^ base.counter.shift
 
-value_is : (base : ReadBase) (clock : ClockId) (stamp : ℕ) → base_value base clock stamp ≡ pos (counted base clock stamp) +ℤ offset_of base clock
+value_is : (base : ReadBase) (clock : ClockId) (stamp : ℕ) →
+    base_value base clock stamp ≡ pos (counted base clock stamp) +ℤ offset_of base clock
 value_is base Monotonic stamp = omega (arith, ints)
 value_is base Realtime stamp = refl
 value_is base Boottime stamp = refl
@@ -65,12 +79,14 @@ value_is base MonotonicCoarse stamp = omega (arith, ints)
 value_is base MonotonicRaw stamp = omega (arith, ints)
 
 -- the nanoseconds of seconds and further units
-split_amount : (sec units shift : ℕ) → (sec * (10 ^ 9 * 2 ^ shift) + units) / 2 ^ shift ≡ sec * 10 ^ 9 + units / 2 ^ shift
+split_amount : (sec units shift : ℕ) →
+    (sec * (10 ^ 9 * 2 ^ shift) + units) / 2 ^ shift ≡ sec * 10 ^ 9 + units / 2 ^ shift
 split_amount sec units shift =
     let e : sec * (10 ^ 9 * 2 ^ shift) + units ≡ 2 ^ shift * (sec * 10 ^ 9) + units = omega arith in
     ap (λ n. n / 2 ^ shift) e ∙ mul-add-div (pow_pos shift) (sec * 10 ^ 9) units
 
-module _ (base : ReadBase) (clock : ClockId) (line : Line) (sec room : ℕ) (drawn : IsDrawn base clock line sec room)
+module _ (base : ReadBase) (clock : ClockId) (line : Line) (sec room : ℕ)
+    (drawn : IsDrawn base clock line sec room)
     (stamp : ℕ) (near : IsNear line stamp) where
   abbrev cycles : ℕ
   cycles = line_cycles line stamp
@@ -78,8 +94,9 @@ module _ (base : ReadBase) (clock : ClockId) (line : Line) (sec room : ℕ) (dra
   cycles_of : line_cycles line stamp ≡ cycles_since base.counter false base.last stamp
   unfolding line_cycles
   cycles_of =
-      ap (λ l. let g = bit_and ((stamp + (2 ^ 64 - l)) % 2 ^ 64) line.mask in if nat_lt line.half g then 0 else g) drawn.last
-      ∙ cycles_are base.counter base.last line.mask line.half stamp drawn.counter drawn.last_low drawn.masked drawn.halved
+      ap (λ l. ahead line.mask line.half (gap_word stamp l)) drawn.last
+      ∙ cycles_are base.counter base.last line.mask line.half stamp drawn.counter drawn.last_low
+          drawn.masked drawn.halved
 
   abbrev units : ℕ
   units = cycles * line.mult + line.frac
@@ -91,14 +108,18 @@ module _ (base : ReadBase) (clock : ClockId) (line : Line) (sec room : ℕ) (dra
   nanos = units / 2 ^ line.shift
 
   nanos_low : nanos < room
-  nanos_low = div_below units (2 ^ line.shift) room (pow_pos line.shift) (omega (arith, grown, drawn.in_range))
+  nanos_low = div_below units (2 ^ line.shift) room (pow_pos line.shift)
+      (omega (arith, grown, drawn.in_range))
 
   line_is : line_nanos line stamp ≡ nanos + line.base
   unfolding nanos_after
   line_is =
-      let a : (cycles * line.mult) % 2 ^ 64 ≡ cycles * line.mult = mod-eq_of_lt (omega (arith, grown, drawn.fits)) in
-      let b : (cycles * line.mult + line.frac) % 2 ^ 64 ≡ units = mod-eq_of_lt (omega (arith, grown, drawn.fits)) in
-      let d : (nanos + line.base) % 2 ^ 64 ≡ nanos + line.base = mod-eq_of_lt (omega (arith, nanos_low, drawn.limit_low)) in
+      let a : (cycles * line.mult) % 2 ^ 64 ≡ cycles * line.mult =
+          mod-eq_of_lt (omega (arith, grown, drawn.fits)) in
+      let b : (cycles * line.mult + line.frac) % 2 ^ 64 ≡ units =
+          mod-eq_of_lt (omega (arith, grown, drawn.fits)) in
+      let d : (nanos + line.base) % 2 ^ 64 ≡ nanos + line.base =
+          mod-eq_of_lt (omega (arith, nanos_low, drawn.limit_low)) in
       ap (λ n. ((n + line.frac) % 2 ^ 64 / 2 ^ line.shift + line.base) % 2 ^ 64) a
       ∙ ap (λ n. (n / 2 ^ line.shift + line.base) % 2 ^ 64) b
       ∙ d
@@ -106,9 +127,13 @@ module _ (base : ReadBase) (clock : ClockId) (line : Line) (sec room : ℕ) (dra
   counted_is : counted base clock stamp ≡ sec * 10 ^ 9 + nanos
   counted_is =
       let at = if is_coarse clock then base.last else stamp in
-      let same : cycles * line.mult ≡ cycles_since base.counter base.asleep base.last at * running_mult base clock =
-      ap₂ (λ a b. a * b) cycles_of drawn.mult ∙ same_units base.asleep (is_coarse clock) base.counter base.last stamp (running_mult base clock) in
-      let e : units_at_last base clock + cycles_since base.counter base.asleep base.last at * running_mult base clock
+      let same : cycles * line.mult
+          ≡ cycles_since base.counter base.asleep base.last at * running_mult base clock =
+      ap₂ (λ a b. a * b) cycles_of drawn.mult
+          ∙ same_units base.asleep (is_coarse clock) base.counter base.last stamp
+          (running_mult base clock) in
+      let e : units_at_last base clock + cycles_since base.counter base.asleep base.last
+          at * running_mult base clock
       ≡ sec * (10 ^ 9 * 2 ^ base.counter.shift) + units =
       omega (arith, same, drawn.units) in
       ap (λ n. n / 2 ^ base.counter.shift) e ∙ split_amount sec units base.counter.shift
@@ -127,7 +152,8 @@ module _ (base : ReadBase) (clock : ClockId) (line : Line) (sec room : ℕ) (dra
   pub drawn_reads : read_of base clock stamp ≡ Ok (line_nanos line stamp)
   unfolding read_of
   drawn_reads =
-      let within : nat_lt (mask base.counter) stamp ≡ false = le-ltb _ _ (omega (arith, near.read, drawn.masked)) in
+      let within : nat_lt (mask base.counter) stamp ≡ false =
+          le-ltb _ _ (omega (arith, near.read, drawn.masked)) in
       let ranged : int_lt (base_value base clock stamp) (limit clock) ≡ true =
       ap₂ int_lt value (sym drawn.ends) ∙ lt-ltb _ _ (omega (arith, nanos_low)) in
       rw (within, ranged) (ap Ok (ap unsigned_abs value ∙ sym line_is))

@@ -13,11 +13,13 @@ use Rattle.tk_clock.specs.Read.{read_of, unless_refused}
 pub refused_read : (base : ReadBase) (clock : ClockId) (stamp : ℕ) (refusal : ReadError) →
     read_refusal base clock stamp ≡ Some refusal → Err refusal ≡ read_of base clock stamp
 unfolding read_of
-refused_read base clock stamp refusal e = sym (ap (λ r. unless_refused r (base_value base clock stamp)) e)
+refused_read base clock stamp refusal e =
+    sym (ap (λ r. unless_refused r (base_value base clock stamp)) e)
 
 -- another one gives its time in nanoseconds
 pub told_read : (base : ReadBase) (clock : ClockId) (stamp : ℕ) (time : Timespec) (nanos : ℕ) →
-    pos nanos ≡ nanoseconds time → read_refusal base clock stamp ≡ None → nanoseconds time ≡ base_value base clock stamp →
+    pos nanos ≡ nanoseconds time → read_refusal base clock stamp ≡ None →
+    nanoseconds time ≡ base_value base clock stamp →
     Ok nanos ≡ read_of base clock stamp
 unfolding read_of
 told_read base clock stamp time nanos same none value =

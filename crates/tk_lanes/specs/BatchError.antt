@@ -12,5 +12,7 @@ refused_at index Range = errors.Range index
 
 -- the sentence that a fault is told in, with the place of its stamp
 abbrev pub batch_text : BatchError → Option (List ℕ)
-batch_text (errors.Invalid index) = Some (codes "item " ++ decimal index ++ codes ": stamp above the mask")
-batch_text (errors.Range index) = Some (codes "item " ++ decimal index ++ codes ": value out of range")
+batch_text (errors.Invalid index) =
+    Some (codes "item " ++ decimal index ++ codes ": stamp above the mask")
+batch_text (errors.Range index) =
+    Some (codes "item " ++ decimal index ++ codes ": value out of range")

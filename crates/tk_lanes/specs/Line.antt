@@ -48,7 +48,9 @@ line_cycles line stamp =
 
 -- the line after so many cycles, in words of 64 bits
 unfoldable pub nanos_after : Line → ℕ → ℕ
-nanos_after line cycles = (((cycles * line.mult) % 2 ^ 64 + line.frac) % 2 ^ 64 / 2 ^ line.shift + line.base) % 2 ^ 64
+nanos_after line cycles =
+    let units = ((cycles * line.mult) % 2 ^ 64 + line.frac) % 2 ^ 64 in
+    (units / 2 ^ line.shift + line.base) % 2 ^ 64
 
 -- the line at a stamp
 abbrev pub line_nanos : Line → ℕ → ℕ
@@ -64,4 +66,6 @@ IsEachNear line stamps = Each1 (IsNear line) stamps
 
 -- within its span the line is the clock
 abbrev pub IsLine : ReadBase → ClockId → Line → Type 0
-IsLine base clock line = (stamp : ℕ) → stamp < 2 ^ 64 → IsNear line stamp → read_of base clock stamp ≡ Ok (line_nanos line stamp)
+IsLine base clock line =
+    (stamp : ℕ) → stamp < 2 ^ 64 → IsNear line stamp →
+    read_of base clock stamp ≡ Ok (line_nanos line stamp)

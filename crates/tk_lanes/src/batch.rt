@@ -11,7 +11,8 @@ const NANOS_PER_SECOND: u64 = 1_000_000_000;
 
 /// A clock at each stamp, in ns, one stamp after the other.
 ///
-/// The first stamp that `Snapshot::get` refuses ends it: the items before are written, the others stay as they were.
+/// The first stamp that `Snapshot::get` refuses ends it: the items before are written, the others
+/// stay as they were.
 pub fn plain_batch(
     snapshot: &Snapshot,
     clock: ClockId,
@@ -26,8 +27,8 @@ pub fn plain_batch(
 
 /// As `plain_batch`, eight stamps at a time.
 ///
-/// Eight of which one is too far from the last command for a line, and those behind the last eight, are converted one
-/// after the other.
+/// Eight of which one is too far from the last command for a line, and those behind the last
+/// eight, are converted one after the other.
 pub fn lane_batch(
     snapshot: &Snapshot,
     clock: ClockId,

@@ -1,4 +1,4 @@
-//! Whole lists of stamps, converted to clock time by one snapshot: one after the other, or eight at a time.
+//! Whole lists of stamps, converted to clock time by one snapshot: one by one, or eight at a time.
 //!
 //! | Item | What it is |
 //! |---|---|

@@ -1,5 +1,5 @@
-//! A clock as a straight line over the cycles since the last command, as far as no sum or product leaves a word and no
-//! value is out of range.
+//! A clock as a straight line over the cycles since the last command, as far as no sum or product
+//! leaves a word and no value is out of range.
 ghost use Rattle.std.specs.Prelude.{◌≡◌, ◌+◌, ◌*◌, ◌^◌, ◌<◌, ◌≤◌, IfSome};
 ghost use Rattle.tk_lanes.specs.Line.{IsLine};
 
@@ -12,8 +12,9 @@ use tk_clock::{ClockId, Snapshot};
 /// The number of stamps that are converted at a time.
 pub(crate) const LANES: usize = 8;
 
-/// At a stamp within its span the clock is `((cycles * mult + frac) >> shift) + base`, in ns. `cycles` is what the
-/// counter counted since the last command, or 0 where the stamp lies behind that.
+/// At a stamp within its span the clock is `((cycles * mult + frac) >> shift) + base`, in ns.
+///
+/// `cycles` is what the counter counted since the last command, or 0 where the stamp lies behind.
 #[derive(Clone, Copy)]
 pub(crate) struct Line {
     /// The reading of the last command.
@@ -35,7 +36,8 @@ pub(crate) struct Line {
 }
 
 impl Line {
-    /// The line of a snapshot's clock; None where the clock is out of range even at the last command.
+    /// The line of a snapshot's clock; None where the clock is out of range even at the last
+    /// command.
     pub(crate) fn of(snapshot: &Snapshot, clock: ClockId) -> Option<Line>
         ensures drawn { IfSome result (λ line. IsLine snapshot.now.base clock line) }
         ensures shift { IfSome result (λ line. line.shift < 64) }
@@ -63,7 +65,8 @@ impl Line {
     }
 }
 
-/// The longest gap, up to `half`, at which the units stay in a word and the clock gains less than `room` ns.
+/// The longest gap, up to `half`, at which the units stay in a word and the clock gains less than
+/// `room` ns.
 fn span_of(room: u64, origin: Origin, shift: u32, half: u64) -> Option<u64>
     requires { shift ≤ 32 }
     ensures inside { IfSome result (λ span. span ≤ half) }

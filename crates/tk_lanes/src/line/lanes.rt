@@ -7,10 +7,11 @@ use super::{LANES, Line};
 use std::simd::prelude::*;
 
 impl Line {
-    /// Converts the eight stamps from the place `at` on, unless one is above the mask or beyond the span.
+    /// Converts the eight stamps from the place `at` on, unless one is above the mask or beyond
+    /// the span.
     ///
-    /// What all lanes are tested for is a test of the or of their words, which is at least each of them. So eight
-    /// gaps whose or is within the span need no look for stamps that lie behind.
+    /// What all lanes are tested for is a test of the or of their words, which is at least each of
+    /// them. So eight gaps whose or is within the span need no look for stamps that lie behind.
     #[inline(always)]
     pub(crate) fn converts(self, stamps: &[u64], out: &mut [u64], at: usize) -> bool
         requires shift { self.shift < 64 }

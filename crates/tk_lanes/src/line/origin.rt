@@ -9,7 +9,7 @@ use tk_clock::{ClockId, Snapshot};
 /// The nanoseconds of a second.
 pub(super) const NANOS_PER_SECOND: u128 = 1_000_000_000;
 
-/// What a clock counts at the last command, without its offset, and what a cycle adds from there on.
+/// What a clock counts at the last command, without its offset, and what a cycle adds from then on.
 #[derive(Clone, Copy)]
 pub(super) struct Origin {
     /// Whole seconds.

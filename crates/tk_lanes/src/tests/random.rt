@@ -37,7 +37,8 @@ fn command(number: u64) -> Command {
     }
 }
 
-/// A stamp by a number, round the last command more often than elsewhere, and now and then above the mask.
+/// A stamp by a number, round the last command more often than elsewhere, and now and then above
+/// the mask.
 fn stamp(number: u64, last: u64, mask: u64) -> u64 {
     let far = number >> 12;
     match number % 64 {

@@ -3,7 +3,7 @@ use crate::lane_batch;
 use std::test::Fail;
 use tk_clock::{ClockId, Command};
 
-/// Round the last command, at the bound where 63 bits of units end, and at the bound where readings lie behind.
+/// Round the last command, where 63 bits of units end, and where readings begin to lie behind.
 const STAMPS: [u64; 17] = [
     999,
     1_000,

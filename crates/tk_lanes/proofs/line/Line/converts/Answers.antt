@@ -17,7 +17,8 @@ returns-then-gap-self c =
       near_by_gaps line v long c.requires.leads c.if-stamp-self.false c.if-gap-self.true,
       c.write.ensures
           ∙ ap (put_chunk c.args.at c.args.out.now)
-          (nanos_at_each line v _ (gaps-are_cycles line v long c.requires.leads c.if-gap-self.true)),
+          (nanos_at_each line v _
+              (gaps-are_cycles line v long c.requires.leads c.if-gap-self.true)),
     )
 
 pub write-requires-2-clause-lanes : goal.write-requires-2-clause-lanes
@@ -30,7 +31,8 @@ returns c =
     let line = c.args.self in
     let v = chunk c.args.at 8 c.args.stamps.now in
     let long = length-chunk c.args.at 8 c.args.stamps.now c.requires.inside in (
-      near_by_reaches line v _ long c.requires.half (omega (arith, c.requires.leads, c.requires.half)) c.if-stamp-self.false c.if-reach.false,
+      near_by_reaches line v _ long c.requires.half
+          (omega (arith, c.requires.leads, c.requires.half)) c.if-stamp-self.false c.if-reach.false,
       c.write-2.ensures
           ∙ ap (put_chunk c.args.at c.args.out.now)
           (nanos_at_each line v _ (cycles-map line v long)),

@@ -6,4 +6,5 @@ use Rattle.tk_lanes.proofs.line.Line.write.Goals as goal
 pub returns : goal.returns
 returns c =
     ap (put_chunk c.args.at c.args.out.now)
-    (nanos-map c.args.self c.args.cycles c.requires.lanes c.from.result c.from-2.result c.from.ensures c.from-2.ensures)
+    (nanos-map c.args.self c.args.cycles c.requires.lanes c.from.result c.from-2.result
+        c.from.ensures c.from-2.ensures)
