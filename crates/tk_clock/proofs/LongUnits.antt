@@ -19,7 +19,7 @@ pub units_by_halves : (frac mult cycles : ℕ) →
 units_by_halves frac mult cycles =
     let lower = cycles % 4294967296 in
     gathered frac mult cycles (cycles / 4294967296) lower (lower * mult)
-        (lower * mult / 4294967296) (lower * mult % 4294967296)
+    (lower * mult / 4294967296) (lower * mult % 4294967296)
     (div-add-mod cycles 4294967296) (omega arith) (div-add-mod (lower * mult) 4294967296)
 
 -- 2^32 units are a whole number of nanoseconds
@@ -28,7 +28,7 @@ pub long_nanos-parts : (upper rest shift : ℕ) → shift ≤ 32 →
 long_nanos-parts upper rest shift low =
     let whole : shift + (32 - shift) ≡ 32 = omega arith in
     let split : 2 ^ 32 ≡ 2 ^ shift * 2 ^ (32 - shift) = ap (λ n. 2 ^ n) (sym whole)
-        ∙ pow-add 2 shift (32 - shift) in
+    ∙ pow-add 2 shift (32 - shift) in
     ap (λ p. (p * upper + rest) / 2 ^ shift) split
     ∙ ap (λ n. n / 2 ^ shift) (turned (2 ^ shift) (2 ^ (32 - shift)) upper rest)
     ∙ mul-add-div (pow_pos shift) (upper * 2 ^ (32 - shift)) rest
@@ -50,10 +50,10 @@ pub long_fits : (upper shift : ℕ) → shift ≤ 32 → upper / 2 ^ (31 + shift
 long_fits upper shift low none =
     let p = 2 ^ (31 + shift) in
     let below : upper < p =
-        only_rest upper p (upper / p) (upper % p) (div-add-mod upper p) none
-        (mod-lt upper (pow_pos (31 + shift))) in
+    only_rest upper p (upper / p) (upper % p) (div-add-mod upper p) none
+    (mod-lt upper (pow_pos (31 + shift))) in
     let grown : (upper + 1) * 2 ^ (32 - shift) ≤ p * 2 ^ (32 - shift) =
-        mul-le-mul_right (2 ^ (32 - shift)) (omega (arith, below)) in
+    mul-le-mul_right (2 ^ (32 - shift)) (omega (arith, below)) in
     omega (arith, grown, powers shift low, pow_pos (32 - shift))
 
 some_whole : (upper p q r : ℕ) → p * q + r ≡ upper → p * 1 ≤ p * q → p ≤ upper
@@ -64,21 +64,21 @@ pub long_beyond : (upper rest shift : ℕ) → shift ≤ 32 → 1 ≤ upper / 2 
 long_beyond upper rest shift low some =
     let p = 2 ^ (31 + shift) in
     let above : p ≤ upper =
-        some_whole upper p (upper / p) (upper % p) (div-add-mod upper p) (mul-le-mul_left p some) in
+    some_whole upper p (upper / p) (upper % p) (div-add-mod upper p) (mul-le-mul_left p some) in
     let grown : p * 2 ^ (32 - shift) ≤ upper * 2 ^ (32 - shift) =
-        mul-le-mul_right (2 ^ (32 - shift)) above in
+    mul-le-mul_right (2 ^ (32 - shift)) above in
     omega (arith, grown, powers shift low, long_nanos-parts upper rest shift low)
 
 -- a quotient is at most its dividend
 pub shifted_low : (rest shift : ℕ) → rest / 2 ^ shift ≤ rest
 shifted_low rest shift =
     let more : 1 * (rest / 2 ^ shift) ≤ 2 ^ shift * (rest / 2 ^ shift) =
-        mul-le-mul_right (rest / 2 ^ shift) (pow_pos shift) in
+    mul-le-mul_right (rest / 2 ^ shift) (pow_pos shift) in
     omega (arith, more, div-add-mod rest (2 ^ shift))
 
 -- the nanoseconds of an amount and further units
 pub more_nanos : (sec frac grown shift : ℕ) →
     sec * 10 ^ 9 + (frac + grown) / 2 ^ shift
-        ≡ (sec * (10 ^ 9 * 2 ^ shift) + frac + grown) / 2 ^ shift
+    ≡ (sec * (10 ^ 9 * 2 ^ shift) + frac + grown) / 2 ^ shift
 more_nanos sec frac grown shift =
     nanos-parts sec (frac + grown) shift ∙ ap (λ n. n / 2 ^ shift) (omega arith)

@@ -49,7 +49,7 @@ cycles_are : (counter : Counter) (last m h stamp : ℕ) → IsCounter counter �
 cycles_are counter last m h stamp held low p q =
     ap₂ (λ m h. ahead m h (gap_word stamp last)) p q
     ∙ ap (λ g. if nat_lt (half counter) g then 0 else g)
-        (word_gap counter.bits last stamp held.bits_high low)
+    (word_gap counter.bits last stamp held.bits_high low)
 
 -- a clock that stands still has no units a cycle
 same_units : (asleep coarse : Bool) (counter : Counter) (last stamp u : ℕ) →
@@ -65,7 +65,7 @@ abbrev counted : ReadBase → ClockId → ℕ → ℕ
 counted base clock stamp =
     (units_at_last base clock
     + cycles_since base.counter base.asleep base.last
-        (if is_coarse clock then base.last else stamp) * running_mult base clock)
+    (if is_coarse clock then base.last else stamp) * running_mult base clock)
     / 2 ^ base.counter.shift
 
 value_is : (base : ReadBase) (clock : ClockId) (stamp : ℕ) →
@@ -96,7 +96,7 @@ module _ (base : ReadBase) (clock : ClockId) (line : Line) (sec room : ℕ)
   cycles_of =
       ap (λ l. ahead line.mask line.half (gap_word stamp l)) drawn.last
       ∙ cycles_are base.counter base.last line.mask line.half stamp drawn.counter drawn.last_low
-          drawn.masked drawn.halved
+      drawn.masked drawn.halved
 
   abbrev units : ℕ
   units = cycles * line.mult + line.frac
@@ -115,11 +115,11 @@ module _ (base : ReadBase) (clock : ClockId) (line : Line) (sec room : ℕ)
   unfolding nanos_after
   line_is =
       let a : (cycles * line.mult) % 2 ^ 64 ≡ cycles * line.mult =
-          mod-eq_of_lt (omega (arith, grown, drawn.fits)) in
+      mod-eq_of_lt (omega (arith, grown, drawn.fits)) in
       let b : (cycles * line.mult + line.frac) % 2 ^ 64 ≡ units =
-          mod-eq_of_lt (omega (arith, grown, drawn.fits)) in
+      mod-eq_of_lt (omega (arith, grown, drawn.fits)) in
       let d : (nanos + line.base) % 2 ^ 64 ≡ nanos + line.base =
-          mod-eq_of_lt (omega (arith, nanos_low, drawn.limit_low)) in
+      mod-eq_of_lt (omega (arith, nanos_low, drawn.limit_low)) in
       ap (λ n. ((n + line.frac) % 2 ^ 64 / 2 ^ line.shift + line.base) % 2 ^ 64) a
       ∙ ap (λ n. (n / 2 ^ line.shift + line.base) % 2 ^ 64) b
       ∙ d
@@ -128,12 +128,12 @@ module _ (base : ReadBase) (clock : ClockId) (line : Line) (sec room : ℕ)
   counted_is =
       let at = if is_coarse clock then base.last else stamp in
       let same : cycles * line.mult
-          ≡ cycles_since base.counter base.asleep base.last at * running_mult base clock =
+      ≡ cycles_since base.counter base.asleep base.last at * running_mult base clock =
       ap₂ (λ a b. a * b) cycles_of drawn.mult
-          ∙ same_units base.asleep (is_coarse clock) base.counter base.last stamp
-          (running_mult base clock) in
+      ∙ same_units base.asleep (is_coarse clock) base.counter base.last stamp
+      (running_mult base clock) in
       let e : units_at_last base clock + cycles_since base.counter base.asleep base.last
-          at * running_mult base clock
+      at * running_mult base clock
       ≡ sec * (10 ^ 9 * 2 ^ base.counter.shift) + units =
       omega (arith, same, drawn.units) in
       ap (λ n. n / 2 ^ base.counter.shift) e ∙ split_amount sec units base.counter.shift
@@ -153,7 +153,7 @@ module _ (base : ReadBase) (clock : ClockId) (line : Line) (sec room : ℕ)
   unfolding read_of
   drawn_reads =
       let within : nat_lt (mask base.counter) stamp ≡ false =
-          le-ltb _ _ (omega (arith, near.read, drawn.masked)) in
+      le-ltb _ _ (omega (arith, near.read, drawn.masked)) in
       let ranged : int_lt (base_value base clock stamp) (limit clock) ≡ true =
       ap₂ int_lt value (sym drawn.ends) ∙ lt-ltb _ _ (omega (arith, nanos_low)) in
       rw (within, ranged) (ap Ok (ap unsigned_abs value ∙ sym line_is))

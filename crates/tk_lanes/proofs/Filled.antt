@@ -13,7 +13,7 @@ use Rattle.tk_lanes.specs.Line.{line_nanos, IsNear, IsEachNear, IsLine}
 pub filled_joined : (base : ReadBase) (clock : ClockId) (stamps : List ℕ) (first at end : ℕ)
     (old mid new : List ℕ) → first ≤ at → at ≤ end →
     IsFilled base clock stamps first at old mid → IsFilled base clock stamps at end mid new →
-        IsFilled base clock stamps first end old new
+    IsFilled base clock stamps first end old new
 filled_joined base clock stamps first at end old mid new low high front back = record {
   converted = λ k from to. elim (cases_lt k at) [
     | inl early ↦ front.converted k from early ∙ ap Ok (sym (back.before k early))
@@ -27,9 +27,9 @@ filled_joined base clock stamps first at end old mid new low high front back = r
 pub filled_lanes : (base : ReadBase) (clock : ClockId) (line : Line) (stamps : List ℕ) (at : ℕ)
     (out : List ℕ) →
     ((k : ℕ) → Fits w64 (get_or stamps k 0)) → length stamps ≡ length out →
-        at + 8 ≤ length stamps → IsLine base clock line → IsEachNear line (chunk at 8 stamps) →
+    at + 8 ≤ length stamps → IsLine base clock line → IsEachNear line (chunk at 8 stamps) →
     IsFilled base clock stamps at (at + 8) out
-        (put_chunk at out (map (line_nanos line) (chunk at 8 stamps)))
+    (put_chunk at out (map (line_nanos line) (chunk at 8 stamps)))
 filled_lanes base clock line stamps at out fits same inside drawn near =
     let v = chunk at 8 stamps in
     let ys = map (line_nanos line) v in
@@ -41,9 +41,9 @@ filled_lanes base clock line stamps at out fits same inside drawn near =
           let back : at + j ≡ k = omega arith in
           let low : j < 8 = omega arith in
           let stamp_is : get_or v j 0 ≡ get_or stamps k 0 = get_or-chunk at 8 stamps j 0 low
-              ∙ ap (λ n. get_or stamps n 0) back in
+          ∙ ap (λ n. get_or stamps n 0) back in
           let near_here : IsNear line (get_or stamps k 0) =
-              subst (IsNear line) stamp_is (Each1-get_or (IsNear line) v j 0 (omega arith) near) in
+          subst (IsNear line) stamp_is (Each1-get_or (IsNear line) v j 0 (omega arith) near) in
           let new_is : get_or (put_chunk at out ys) k 0 ≡ line_nanos line (get_or stamps k 0) =
           ap (λ n. get_or (put_chunk at out ys) n 0) (sym back)
           ∙ get_or-put_chunk_at at out ys j 0 (omega arith) (omega arith)

@@ -62,7 +62,7 @@ gaps line v = zip2 bit_and (zip2 wrap_sub v (replicate 8 line.last)) (replicate 
 abbrev cycles : Line → List ℕ → List ℕ
 cycles line v =
     sel_l (map (top 63) (zip2 (λ a b. cond (ltb a b) 18446744073709551615 0)
-        (replicate 8 line.half) (gaps line v))) (replicate 8 0) (gaps line v)
+    (replicate 8 line.half) (gaps line v))) (replicate 8 0) (gaps line v)
 
 abbrev reaches : Line → List ℕ → ℕ → List ℕ
 reaches line v bias = zip2 wrap_add (cycles line v) (replicate 8 bias)
@@ -70,8 +70,8 @@ reaches line v bias = zip2 wrap_add (cycles line v) (replicate 8 bias)
 abbrev nanos : Line → List ℕ → ℕ → ℕ → List ℕ
 nanos line counts mult shift =
     zip2 wrap_add (zip2 shr
-        (zip2 wrap_add (zip2 wrap_mul counts (replicate 8 mult)) (replicate 8 line.frac))
-        (replicate 8 shift))
+    (zip2 wrap_add (zip2 wrap_mul counts (replicate 8 mult)) (replicate 8 line.frac))
+    (replicate 8 shift))
     (replicate 8 line.base)
 
 splat : (v : List ℕ) → length v ≡ 8 → (y : ℕ) → replicate 8 y ≡ map (λ _. y) v
@@ -94,7 +94,7 @@ cycles-map line v long =
     selected (λ x. ltb line.half (gap_of line x)) (λ _. 0) (gap_of line) v
     (tops_compared w64 ltb (replicate 8 line.half) (gaps line v)
     ∙ zip2_of_maps ltb (λ _. line.half) (gap_of line) v (splat v long line.half)
-        (gaps-map line v long))
+    (gaps-map line v long))
     (splat v long 0)
     (gaps-map line v long)
 
@@ -109,7 +109,7 @@ nanos-map line counts long mult shift p q =
     (zip2_of_maps shr _ (λ _. line.shift) counts
     (zip2_of_maps wrap_add _ (λ _. line.frac) counts
     (zip2_of_maps wrap_mul (λ x. x) (λ _. line.mult) counts (itself counts)
-        (splat counts long line.mult))
+    (splat counts long line.mult))
     (splat counts long line.frac))
     (splat counts long line.shift))
     (splat counts long line.base)
@@ -135,7 +135,7 @@ low_gaps line v long low =
     let ors : fold_l bit_or 0 (map (gap_of line) v) ≤ line.span =
     subst (λ l. fold_l bit_or 0 l ≤ line.span) (gaps-map line v long) low in
     each_of_map (gap_of line) (λ y. y ≤ line.span) (λ x. gap_of line x ≤ line.span) (λ x p. p) v
-        (most_is_or 0 _ line.span ors).1
+    (most_is_or 0 _ line.span ors).1
 
 pub gaps-long : (line : Line) (v : List ℕ) → length v ≡ 8 → length (gaps line v) ≡ 8
 gaps-long line v long = ap length (gaps-map line v long) ∙ length-map v (gap_of line) ∙ long
@@ -160,7 +160,7 @@ pub gaps-are_cycles : (line : Line) (v : List ℕ) → length v ≡ 8 → line.s
 gaps-are_cycles line v long leads low =
     gaps-map line v long
     ∙ same_maps (gap_of line) (line_cycles line) (λ x. gap_of line x ≤ line.span)
-        (near_gap line leads) v (low_gaps line v long low)
+    (near_gap line leads) v (low_gaps line v long low)
 
 pub near_by_gaps : (line : Line) (v : List ℕ) → length v ≡ 8 → line.span ≤ line.half →
     fold_l bit_or 0 v ≤ line.mask →
@@ -196,14 +196,16 @@ near_by_reaches line v bias long halved e read low =
     let reach : ℕ → ℕ = λ x. wrap_add (line_cycles line x) bias in
     let mapped : reaches line v bias ≡ map reach v =
     zip2_of_maps wrap_add (line_cycles line) (λ _. bias) v (cycles-map line v long)
-        (splat v long bias) in
+    (splat v long bias) in
     let ors : fold_l bit_or 0 (map reach v) ≤ 9223372036854775807 =
     subst (λ l. fold_l bit_or 0 l ≤ 9223372036854775807) mapped (omega (arith, low)) in
     both _ _ (IsNear line)
-    (λ x p q. record { near =
-        within_span (line_cycles line x) line.span bias (omega (arith, cycles_low line x)) e p;
-        read = q }) v
+    (λ x p q. record {
+      near =
+          within_span (line_cycles line x) line.span bias (omega (arith, cycles_low line x)) e p;
+      read = q;
+    }) v
     (each_of_map reach (λ y. y ≤ 9223372036854775807) (λ x. reach x ≤ 9223372036854775807)
-        (λ x p. p) v
+    (λ x p. p) v
     (most_is_or 0 _ 9223372036854775807 ors).1)
     (most_is_or 0 v line.mask read).1

@@ -4,14 +4,14 @@ mod random;
 mod refusals;
 mod values;
 
+ghost use Rattle.std.specs.Prelude.{◌≡◌, vec_len, IfOk};
+
 use crate::{BatchError, lane_batch, plain_batch};
 use std::alloc::{AllocError, Global};
 use std::process::Abort;
 use std::test::Fail;
 use tk_clock::{Clock, ClockId, Snapshot, Timespec};
 use tk_counter::CounterDesc;
-
-ghost use Rattle.std.specs.Prelude.{◌≡◌, vec_len, IfOk};
 
 /// The clocks of a counter of 48 bits and one nanosecond a cycle, opened at reading 1000.
 fn opened() -> Result<Clock, Fail> {

@@ -55,11 +55,7 @@ fn counter(number: u64) -> Result<CounterDesc, Fail> {
     let bits = ((number >> 8) % 57) as u32;
     let shift = ((number >> 16) % 33) as u32;
     let mult = ((number >> 24) % 3_869_000_000) as u32;
-    Ok(CounterDesc::new(
-        bits.wrapping_add(8),
-        mult.max(256),
-        shift,
-    )?)
+    Ok(CounterDesc::new(bits.wrapping_add(8), mult.max(256), shift)?)
 }
 
 #[test]

@@ -120,10 +120,7 @@ fn a_fault_is_told_in_words(rt: HostRuntime) -> Result<(), Fail> {
             BatchError::Invalid { index: 12 },
             "item 12: stamp above the mask",
         ),
-        (
-            BatchError::Range { index: 0 },
-            "item 0: value out of range",
-        ),
+        (BatchError::Range { index: 0 }, "item 0: value out of range"),
     ] {
         assert_eq!(rt; format!(in alloc; "{fault}")?.as_str(), text);
     }

@@ -9,7 +9,7 @@ returns-then-upper-shift-ne0 c =
     let rest = c.halves-upper.result.1 in
     let shift = c.args.shift in
     let beyond = long_beyond upper rest shift c.requires.shift
-        (omega (arith, c.if-upper-shift-ne0.true)) in
+    (omega (arith, c.if-upper-shift-ne0.true)) in
     subst (λ n. 9223372036854775808 ≤ n / 2 ^ shift) c.halves-upper.ensures.value beyond
 
 pub overflow_add-result : goal.overflow_add-result
@@ -28,7 +28,7 @@ returns c =
     let shift = c.args.shift in
     let fits = long_fits upper shift c.requires.shift (omega (arith, c.if-upper-shift-ne0.false)) in
     let plain : upper * 2 ^ (32 - shift) % 18446744073709551616 ≡ upper * 2 ^ (32 - shift) =
-        mod-eq_of_lt (omega (arith, fits)) in
+    mod-eq_of_lt (omega (arith, fits)) in
     ap (λ n. n + rest / 2 ^ shift) plain
     ∙ sym (long_nanos-parts upper rest shift c.requires.shift)
     ∙ ap (λ n. n / 2 ^ shift) c.halves-upper.ensures.value

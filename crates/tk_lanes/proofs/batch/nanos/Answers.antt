@@ -5,7 +5,7 @@ pub returns-in-Ok : goal.returns-in-Ok
 returns-in-Ok c =
     let told = c.in-Ok.ensures in
     told_read c.args.snapshot.now.base c.args.clock c.args.stamp c.in-Ok.time c.nanos_of.result
-        c.nanos_of.ensures told.0 told.1
+    c.nanos_of.ensures told.0 told.1
 
 pub returns-in-Err : goal.returns-in-Err
 returns-in-Err c = refused_read c.args.snapshot.now.base c.args.clock c.args.stamp

@@ -18,7 +18,7 @@ returns-then-gap-self c =
       c.write.ensures
           ∙ ap (put_chunk c.args.at c.args.out.now)
           (nanos_at_each line v _
-              (gaps-are_cycles line v long c.requires.leads c.if-gap-self.true)),
+          (gaps-are_cycles line v long c.requires.leads c.if-gap-self.true)),
     )
 
 pub write-requires-2-clause-lanes : goal.write-requires-2-clause-lanes

@@ -26,11 +26,11 @@ returns-clause-drawn c =
     let halved : c.half-2.result ≡ half base.counter = c.half-2.ensures ∙ ap half same in
     let masked : c.mask.result ≡ mask base.counter = c.mask.ensures.value ∙ ap mask same in
     let shift : c.shift-2.result ≡ base.counter.shift = c.shift-2.ensures.value
-        ∙ ap (λ (d : Counter). d.shift) same in
+    ∙ ap (λ (d : Counter). d.shift) same in
     let first_shift : c.shift.result ≡ c.shift-2.result = c.shift.ensures.value
-        ∙ sym c.shift-2.ensures.value in
+    ∙ sym c.shift-2.ensures.value in
     let seconds : c.from.result * 1000000000 ≡ origin.sec * 1000000000 =
-        ap (λ a. a * 1000000000) c.from.ensures in
+    ap (λ a. a * 1000000000) c.from.ensures in
     let drawn : IsDrawn base c.args.clock line origin.sec room = record {
       counter = subst IsCounter same c.shift-2.ensures.counter;
       last = c.last.ensures;

@@ -7,4 +7,4 @@ pub returns : goal.returns
 returns c =
     ap (put_chunk c.args.at c.args.out.now)
     (nanos-map c.args.self c.args.cycles c.requires.lanes c.from.result c.from-2.result
-        c.from.ensures c.from-2.ensures)
+    c.from.ensures c.from-2.ensures)
