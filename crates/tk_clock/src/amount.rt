@@ -85,20 +85,20 @@ fn gained_nanos(frac: u64, cycles: u64, mult: u32, shift: u32) -> Option<u64>
     ensures { let nanos = (frac + cycles * mult) / 2 ^ shift in
         MatchOption result (2 ^ 63 ≤ nanos) (λ told. told ≡ nanos) }
 {
-    match word_of(frac, cycles, mult) {
+    match narrow_units(frac, cycles, mult) {
         Some(units) => Some(units >> shift),
         None => long_nanos(frac, cycles, mult, shift),
     }
 }
 
-/// `frac` and so many cycles at `mult`, in units of `2^-shift` ns, where they fit a word.
-fn word_of(frac: u64, cycles: u64, mult: u32) -> Option<u64>
+/// `frac` and so many cycles at `mult`, in units of `2^-shift` ns, where they fit 64 bits.
+fn narrow_units(frac: u64, cycles: u64, mult: u32) -> Option<u64>
     ensures { SomeIff result (frac + cycles * mult < 2 ^ 64) (frac + cycles * mult) }
 {
     cycles.checked_mul(u64::from(mult))?.checked_add(frac)
 }
 
-/// As `gained_nanos`, where the units don't fit a word.
+/// As `gained_nanos`, where the units don't fit 64 bits.
 ///
 /// `2^32` units are `2^(32 - shift)` ns, whole ones, so no division is needed.
 fn long_nanos(frac: u64, cycles: u64, mult: u32, shift: u32) -> Option<u64>
