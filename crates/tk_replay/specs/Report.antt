@@ -43,7 +43,8 @@ answer_line journal reading (Err refusal) = no_line refusal
 abbrev pub reply_line : ℕ → Reply → List ℕ
 reply_line reading reply = answer_line reply.journal reading reply.answer
 
--- why a clock can't be told at a reading: the reading is above the mask, or the clock has come to its end
+-- why a clock can't be told at a reading: the reading is above the mask, or the clock has come to
+-- its end
 abbrev pub look_refusal : Journal → ClockId → ℕ → Option Refusal
 look_refusal journal clock reading =
     if nat_lt (mask journal.opening.counter) reading then Some Invalid
