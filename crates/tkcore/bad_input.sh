@@ -1,7 +1,8 @@
 #!/usr/bin/env bash
-# Runs the built program on bad words and bytes, on input and output that fail, and on the largest scripts, each within 20
-# seconds and 800 MB of address space. It prints a line for each case, and ends with status 1 at the first that differs.
-# `rt run < /dev/null` in this folder builds the program.
+# Runs the built program on bad words and bytes, on input and output that fail, and on the largest
+# scripts, each within 20 seconds and 800 MB of address space. It prints a line for each case, and
+# ends with status 1 at the first that differs. `rt run < /dev/null` in this folder builds the
+# program.
 set -u
 cd "$(dirname "$0")" || exit 1
 export program=$PWD/out/tkcore row=$PWD/stdin opening='open,32,16777216,24,0,1700000000,0'
@@ -9,8 +10,8 @@ work=$(mktemp -d)
 export work
 trap 'rm -rf "$work"' EXIT
 
-# NAME STATUS FAULT LINES LAST COMMAND: with this status the program tells the fault, or nothing, on standard error, and on
-# standard output so many lines, of which this is the last
+# NAME STATUS FAULT LINES LAST COMMAND: with this status the program tells the fault, or nothing, on
+# standard error, and on standard output so many lines, of which this is the last
 expect() {
     local told=${3:+tkcore: $3} got
     (ulimit -v 800000 && exec timeout 20 bash -c "$6") >"$work/out" 2>"$work/err"

@@ -1,7 +1,8 @@
 //! Makes the report of each example, and tells whether it is the one that stands beside its script.
 //!
-//! Standard input has the examples' names, a line each. An example is a script `NAME.csv` beside `NAME.report`, or beside
-//! `NAME.fault` where the program refuses it. Status 0: each is as expected. Status 1: one isn't, or can't be read.
+//! Standard input has the examples' names, a line each. An example is a script `NAME.csv` beside
+//! `NAME.report`, or beside `NAME.fault` where the program refuses it. Status 0: each is as
+//! expected. Status 1: one isn't, or can't be read.
 #![tactic(auto)]
 
 use std::alloc::{AllocError, Global};
@@ -40,7 +41,8 @@ fn check_all(rt: &HostRuntime) -> io::Result<Verdict> {
     Ok(all)
 }
 
-/// Compares the report of an example with the one beside it. No example fills a journal, so folding changes nothing.
+/// Compares the report of an example with the one beside it. No example fills a journal, so folding
+/// changes nothing.
 fn check(rt: &HostRuntime, name: &str) -> io::Result<Verdict> {
     let alloc = rt.alloc();
     let script = fs::read(rt, format!(in alloc; "{name}.csv")?)?;

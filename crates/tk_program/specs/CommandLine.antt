@@ -20,7 +20,10 @@ replay_words = with_rule (new_app (codes "replay")) keep_rule
 -- the program without its subcommands: no word asks for help
 abbrev pub bare_words : App
 bare_words = record {
-  top = record (new_app (codes "tkcore")).top { disable_help_flag = true; disable_help_subcommand = true };
+  top = record (new_app (codes "tkcore")).top {
+    disable_help_flag = true;
+    disable_help_subcommand = true;
+  };
   subs = [];
 }
 
@@ -28,7 +31,8 @@ bare_words = record {
 abbrev pub program_words : App
 program_words = with_subcommand bare_words replay_words.top
 
--- what a subcommand asks for, by its name and by what was found behind it; without one it is a replay
+-- what a subcommand asks for, by its name and by what was found behind it; without one it is a
+-- replay
 abbrev pub request_of : Option (Text × List Row) → Option Request
 request_of None = Some (requests.Replay None)
 request_of (Some found) =

@@ -28,7 +28,8 @@ IsKeep (Some keep) = (1 ≤ keep) × (keep ≤ greatest_keep)
 abbrev pub IsAllowed : Request → Type 0
 IsAllowed (requests.Replay keep) = IsKeep keep
 
--- which text is the report of which bytes: of a journal that may be full, or of one that is folded in time
+-- which text is the report of which bytes: of a journal that may be full, or of one that is folded
+-- in time
 abbrev pub told_by : Option ℕ → List ℕ → List ℕ → Type 0
 told_by None = IsReport
 told_by (Some keep) = IsReportUnlimited

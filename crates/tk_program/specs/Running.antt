@@ -13,7 +13,8 @@ use Rattle.tk_program.specs.CommandLine.{asked_of}
 use Rattle.tk_program.specs.Ending.{ending_of}
 use Rattle.tk_program.specs.Request.{told_by}
 
--- of a reader and of a writer: what is known of their bytes, what their calls came to, and each before and after
+-- of a reader and of a writer: what is known of their bytes, what their calls came to, and each
+-- before and after
 module _ {R W : Type 0} (remaining : R → Option (List ℕ)) (read_gives : R → Option ℕ → R → Type 0)
     (contents : W → Option (List ℕ)) (write_gives : W → List ℕ → Option ℕ → W → Type 0)
     (flush_gives : W → Bool → W → Type 0) (reader reader' : R) (writer writer' : W) where
@@ -26,8 +27,8 @@ module _ {R W : Type 0} (remaining : R → Option (List ℕ)) (read_gives : R �
   abbrev pub EndsReplay : Option ℕ → Ending → Type 0
   EndsReplay keep ending =
       (result : Result Unit Fault) × (ending ≡ ending_of result)
-      × IsReplayed (told_by keep) (remaining reader) (remaining reader') (ReadFailed read_gives reader')
-      contents write_gives flush_gives writer writer' result
+      × IsReplayed (told_by keep) (remaining reader) (remaining reader')
+      (ReadFailed read_gives reader') contents write_gives flush_gives writer writer' result
 
   -- what was asked for ended so; refused words touch nothing
   abbrev pub Ends : Option Request → Ending → Type 0
@@ -36,4 +37,5 @@ module _ {R W : Type 0} (remaining : R → Option (List ℕ)) (read_gives : R �
 
   -- words ended so: as what they ask for, or memory was refused before that was known
   abbrev pub IsRun : Option (List Text) → Ending → Type 0
-  IsRun words ending = ((ending ≡ endings.Fault faults.Memory) × IsUntouched) ⊎ Ends (asked_of words) ending
+  IsRun words ending =
+      ((ending ≡ endings.Fault faults.Memory) × IsUntouched) ⊎ Ends (asked_of words) ending

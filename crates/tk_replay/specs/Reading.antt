@@ -17,7 +17,8 @@ abbrev pub IsReadToEnd : Option (List ℕ) → Option (List ℕ) → List ℕ �
 IsReadToEnd old new bytes =
     Consumes old new bytes × (length bytes ≤ reading_limit) × ((length bytes ≡ reading_limit) ⊎ IsAtEnd new)
 
--- the last read failed, by the relation that tells what each read came to, and left the source as it is now
+-- the last read failed, by the relation that tells what each read came to, and left the source as
+-- it is now
 abbrev pub ReadFailed : {S : Type 0} → (S → Option ℕ → S → Type 0) → S → Type 0
 ReadFailed {S} read_gives now = (before : S) × read_gives before None now
 

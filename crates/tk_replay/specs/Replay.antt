@@ -1,4 +1,5 @@
--- What a call comes to that reads inputs, makes a text of them and writes it; and a replay, which reads one script.
+-- What a call comes to that reads inputs, makes a text of them and writes it; and a replay, which
+-- reads one script.
 use Rattle.std.specs.Prelude.{◌≡◌, ◌≢◌, ℕ, List, Option, Bool, Result, Ok, Err}
 use Rattle.std.specs.Io.KnownBytes.{Appends}
 use Rattle.tk_script.specs.declared.script_error.ScriptError.TheVariants as errors
@@ -12,46 +13,56 @@ use Rattle.tk_replay.specs.Writing.{IsFlushed, IsWrittenUpTo, WriteFailed}
 abbrev pub IsDone : (List ℕ → Type 0) → Type 0 → (List ℕ → Type 0) → Type 0
 IsDone IsText flushed WentOut = ((text : List ℕ) × IsText text × WentOut text) × flushed
 
--- what stopped a call, and what it left: the last read failed, the inputs have a fault, memory was refused, and the
--- writer is as it was; or the last write or the flush failed, and so many bytes of a text went out
+-- what stopped a call, and what it left: the last read failed, the inputs have a fault, memory was
+-- refused, and the writer is as it was; or the last write or the flush failed, and so many bytes of
+-- a text went out
 abbrev pub IsStopped :
-    (List ℕ → Type 0) → (Fault → Type 0) → Type 0 → Type 0 → Type 0 → (List ℕ → ℕ → Type 0) → Fault → Type 0
+    (List ℕ → Type 0) → (Fault → Type 0) → Type 0 → Type 0 → Type 0 → (List ℕ → ℕ → Type 0) →
+    Fault → Type 0
 IsStopped IsText IsFault read write same WentOut faults.Read = read × same
-IsStopped IsText IsFault read write same WentOut (faults.Script error) = IsFault (faults.Script error) × same
-IsStopped IsText IsFault read write same WentOut (faults.Stamps error) = IsFault (faults.Stamps error) × same
-IsStopped IsText IsFault read write same WentOut (faults.Trace error) = IsFault (faults.Trace error) × same
+IsStopped IsText IsFault read write same WentOut (faults.Script error) =
+    IsFault (faults.Script error) × same
+IsStopped IsText IsFault read write same WentOut (faults.Stamps error) =
+    IsFault (faults.Stamps error) × same
+IsStopped IsText IsFault read write same WentOut (faults.Trace error) =
+    IsFault (faults.Trace error) × same
 IsStopped IsText IsFault read write same WentOut faults.Memory = same
 IsStopped IsText IsFault read write same WentOut (faults.Write written) =
     ((text : List ℕ) × IsText text × WentOut text written) × write
 
--- what such a call came to, whatever its inputs are: `IsText` says which text they tell, `IsFault` which fault they
--- have, and `read` that the last read of them failed. The writer is known by its bytes and by what its calls came to
+-- what such a call came to, whatever its inputs are: `IsText` says which text they tell, `IsFault`
+-- which fault they have, and `read` that the last read of them failed. The writer is known by its
+-- bytes and by what its calls came to
 abbrev pub CameTo :
     (List ℕ → Type 0) → (Fault → Type 0) → Type 0 →
-    {W : Type 0} → (W → Option (List ℕ)) → (W → List ℕ → Option ℕ → W → Type 0) → (W → Bool → W → Type 0) →
-    W → W → Result Unit Fault → Type 0
+    {W : Type 0} → (W → Option (List ℕ)) → (W → List ℕ → Option ℕ → W → Type 0) →
+    (W → Bool → W → Type 0) → W → W → Result Unit Fault → Type 0
 CameTo IsText IsFault read contents write_gives flush_gives old new (Ok done) =
     IsDone IsText (IsFlushed flush_gives new) (Appends (contents old) (contents new))
 CameTo IsText IsFault read contents write_gives flush_gives old new (Err fault) =
     IsStopped IsText IsFault read (WriteFailed write_gives flush_gives new) (new ≡ old)
     (IsWrittenUpTo (contents old) (contents new)) fault
 
--- the text of all that was read of one input, by the fact that tells which text is told of which bytes
-abbrev pub IsTextOfAll : (List ℕ → List ℕ → Type 0) → Option (List ℕ) → Option (List ℕ) → List ℕ → Type 0
-IsTextOfAll IsTold unread left text = (bytes : List ℕ) × IsReadToEnd unread left bytes × IsTold bytes text
+-- the text of all that was read of one input, by the fact that tells which text is told of which
+-- bytes
+abbrev pub IsTextOfAll :
+    (List ℕ → List ℕ → Type 0) → Option (List ℕ) → Option (List ℕ) → List ℕ → Type 0
+IsTextOfAll IsTold unread left text =
+    (bytes : List ℕ) × IsReadToEnd unread left bytes × IsTold bytes text
 
 -- the fault of a script, in all that was read of it
 abbrev pub IsScriptFault : Option (List ℕ) → Option (List ℕ) → Fault → Type 0
 IsScriptFault unread left (faults.Script error) =
-    (bytes : List ℕ) × IsReadToEnd unread left bytes × (parse_of bytes ≡ Err error) × (error ≢ errors.Memory)
+    (bytes : List ℕ) × IsReadToEnd unread left bytes
+    × (parse_of bytes ≡ Err error) × (error ≢ errors.Memory)
 IsScriptFault unread left faults.Read = ⊥
 IsScriptFault unread left (faults.Stamps error) = ⊥
 IsScriptFault unread left (faults.Trace error) = ⊥
 IsScriptFault unread left faults.Memory = ⊥
 IsScriptFault unread left (faults.Write written) = ⊥
 
--- what a replay came to, by the fact that tells which text is the report of which bytes: of the reader by the bytes
--- that it had left and has, and by the fact that its last read failed
+-- what a replay came to, by the fact that tells which text is the report of which bytes: of the
+-- reader by the bytes that it had left and has, and by the fact that its last read failed
 pub record IsReplayed
     {W : Type 0} (IsTold : List ℕ → List ℕ → Type 0) (unread left : Option (List ℕ)) (read : Type 0)
     (contents : W → Option (List ℕ)) (write_gives : W → List ℕ → Option ℕ → W → Type 0)

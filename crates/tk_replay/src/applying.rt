@@ -15,8 +15,8 @@ const CALLER: u32 = 0;
 
 /// Does a command to the clocks; its number, or its first refusal.
 ///
-/// Where the journal is full, it is first folded to its last `keep` entries. Without that the command
-/// is refused as Full.
+/// Where the journal is full, it is first folded to its last `keep` entries. Without that the
+/// command is refused as Full.
 pub(crate) fn apply<A: Allocator + Copy>(
     keeper: &mut Timekeeper<A>,
     keep: Option<u64>,
@@ -50,8 +50,7 @@ fn apply_folding<A: Allocator + Copy>(
     ensures replied { IsReplied (Some keep)
         (reply_by (rule_of (Some keep)) keeper.old.journal (event reading cmd))
         result keeper.new.journal }
-    ensures listed {
-        length keeper.new.journal.entries
+    ensures listed { length keeper.new.journal.entries
         ≡ listed_after (listed_then keep keeper.old.journal) result }
 {
     match keeper.apply(CALLER, reading, cmd) {

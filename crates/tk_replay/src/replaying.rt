@@ -45,8 +45,8 @@ pub fn replay_bounded<R: Source, W: Sink>(
     replay_by(alloc, reader, writer, Some(keep))
 }
 
-/// Reads a script to its end, makes its report, writes it and flushes. A full journal is folded to its
-/// last `keep` entries, or refuses commands.
+/// Reads a script to its end, makes its report, writes it and flushes. A full journal is folded to
+/// its last `keep` entries, or refuses commands.
 fn replay_by<R: Source, W: Sink>(
     alloc: Global,
     reader: &mut R,

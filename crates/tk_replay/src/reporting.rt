@@ -17,9 +17,9 @@ use tk_script::{Calendar, Row, RowReader, ScriptError, Start, line_no, line_ok, 
 
 /// The report of a script's bytes: a line for the opening, and one for each record after it.
 ///
-/// Commands are applied in their order, all by the caller 0. An accepted one is told with MONOTONIC at
-/// its reading. One that meets a journal of 1,048,576 entries is refused as Full.
-/// `Memory` may stand in the place of any other answer.
+/// Commands are applied in their order, all by the caller 0. An accepted one is told with MONOTONIC
+/// at its reading. One that meets a journal of 1,048,576 entries is refused as Full. `Memory` may
+/// stand in the place of any other answer.
 pub fn report(alloc: Global, script: &[u8]) -> Result<Vec<u8>, ScriptError>
     ensures { MatchResult result
         (λ text. IsReport script.now text.items)
@@ -57,8 +57,8 @@ pub(crate) fn report_by(
     report_rows(alloc, start, &mut rows, keep)
 }
 
-/// The report of an opening and of the rows that are still to be read, or the fault of these. All that
-/// it takes is from `alloc`, but for what the reader of the rows takes.
+/// The report of an opening and of the rows that are still to be read, or the fault of these. All
+/// that it takes is from `alloc`, but for what the reader of the rows takes.
 pub(crate) fn report_rows<A: Allocator + Copy>(
     alloc: A,
     start: Start,

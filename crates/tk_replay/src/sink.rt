@@ -6,20 +6,20 @@ use std::io::Write;
 
 /// Where a report goes: any writer.
 ///
-/// `replay` writes by this trait, so that its contract can say that a write failed: it is proved for
-/// all relations `write_gives` and `flush_gives`, and so can name only a call that it made. Every
-/// writer has it; write no impl of it.
+/// `replay` writes by this trait, so that its contract can say that a write failed: it is proved
+/// for all relations `write_gives` and `flush_gives`, and so can name only a call that it made.
+/// Every writer has it; write no impl of it.
 pub trait Sink: Write {
-    // What a write may come to: the writer before it, the text, how many bytes it took, none where it
-    // failed or took nothing, and the writer after it.
+    // What a write may come to: the writer before it, the text, how many bytes it took, none where
+    // it failed or took nothing, and the writer after it.
     ghost write_gives: { Self → List ℕ → Option ℕ → Self → Type 0 };
 
     // What a flush may come to: the writer before it, whether it went through, and the writer after
     // it.
     ghost flush_gives: { Self → Bool → Self → Type 0 };
 
-    /// Writes once from the front of the text: how many bytes were taken, or nothing where the write
-    /// answered an error or took none.
+    /// Writes once from the front of the text: how many bytes were taken, or nothing where the
+    /// write answered an error or took none.
     fn write_once(&mut self, text: &[u8]) -> Option<usize>
         ensures bound { IfSome result (λ count. (0 < count) × (count ≤ length text.now)) }
         ensures bytes { MatchOption result
@@ -48,7 +48,8 @@ impl<W: Write> Sink for W {
     }
 }
 
-/// Writes the whole text and flushes. At `Err` so many bytes of it, from its beginning, had gone out.
+/// Writes the whole text and flushes. At `Err` so many bytes of it, from its beginning, had gone
+/// out.
 pub(crate) fn write_whole<S: Sink>(sink: &mut S, text: &[u8]) -> Result<(), u64>
     ensures ok { OnOk result
         (Appends (S.Write.contents sink.old) (S.Write.contents sink.new) text.now) }

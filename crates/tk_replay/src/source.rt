@@ -9,11 +9,11 @@ use std::io::Read;
 /// Where a script comes from: any reader.
 ///
 /// `replay` reads by this trait, so that its contract can say that a read failed: it is proved for
-/// every relation `read_gives`, and so can name only a read that it made. Every reader has it; write
-/// no impl of it.
+/// every relation `read_gives`, and so can name only a read that it made. Every reader has it;
+/// write no impl of it.
 pub trait Source: Read {
-    // What a read may come to: the reader before it, how many bytes it gave, none where it failed, and
-    // the reader after it.
+    // What a read may come to: the reader before it, how many bytes it gave, none where it failed,
+    // and the reader after it.
     ghost read_gives: { Self → Option ℕ → Self → Type 0 };
 
     /// Reads once into `room`, from its front: how many bytes it gave, or nothing where the read
@@ -44,11 +44,10 @@ const FIRST_ROOM: usize = 65_536;
 
 /// Reads to the end, or 16,777,217 bytes, whichever comes first.
 ///
-/// Read where a read fails, and Memory. No read is tried again: one that is interrupted (EINTR) is a
-/// fault as any other.
+/// Read where a read fails, and Memory. No read is tried again: one that is interrupted (EINTR) is
+/// a fault as any other.
 pub fn read_to_end<S: Source>(alloc: Global, source: &mut S) -> Result<Vec<u8>, Fault>
-    ensures within {
-        IsReadWithin (S.Read.remaining source.old) (S.Read.remaining source.new) }
+    ensures within { IsReadWithin (S.Read.remaining source.old) (S.Read.remaining source.new) }
     ensures ok { IfOk result (λ bytes.
         IsReadToEnd (S.Read.remaining source.old) (S.Read.remaining source.new) bytes.items) }
     ensures err { IfErr result (StopsReading (ReadFailed S.Source.read_gives source.new)) }

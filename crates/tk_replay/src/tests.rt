@@ -1,13 +1,16 @@
-//! What no clause says: the printed lines, the texts of the faults, and that calls go through at all.
+//! What no clause says: the printed lines, the texts of the faults, and that calls go through at
+//! all.
 
 mod fakes;
+mod files;
 mod full;
 mod memory;
 mod reports;
 mod scenarios;
 mod streams;
 
-/// Opens a counter of one nanosecond a cycle, and brings the clocks forward by half of the counter's range.
+/// Opens a counter of one nanosecond a cycle, and brings the clocks forward by half of the
+/// counter's range.
 const SCRIPT: &[u8] = b"open,32,16777216,24,0,1700000000,0\nget,0,monotonic\nupdate,2147483647\n\
 get,2147483648,monotonic\nupdate,0\n";
 

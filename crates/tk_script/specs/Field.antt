@@ -1,4 +1,5 @@
--- The fields of a record, read from left to right: each is what its place wants, or the record's fault.
+-- The fields of a record, read from left to right: each is what its place wants, or the record's
+-- fault.
 use Rattle.std.specs.Prelude.{ℕ, ℤ, ◌+◌, List, [], Result, Ok, Err, unwrap_or}
 use Rattle.std.specs.Option.{ok_or}
 use Rattle.csv.specs.Records.{field_at}

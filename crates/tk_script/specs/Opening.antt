@@ -1,4 +1,5 @@
--- The first record of a script: the counter, its reading and the real time at which the clocks are opened.
+-- The first record of a script: the counter, its reading and the real time at which the clocks are
+-- opened.
 use Rattle.std.specs.Prelude.{ℕ, List, length, is_none, Option, Some, None, Result, Ok, Err, ◌==◌, if◌then◌else◌, codes}
 use Rattle.std.specs.Option.{ok_or}
 use Rattle.tk_counter.specs.Counter.{Counter}
@@ -23,7 +24,8 @@ abbrev pub timed_counter : ℕ → ℕ → ℕ → Option Counter
 timed_counter bits hz maxsec =
     if is_none (frequency.frequency_fault bits hz maxsec) then frequency.from_frequency bits hz maxsec else None
 
--- the counter of so many bits that two numbers tell: its mult and shift, or its frequency and the longest gap
+-- the counter of so many bits that two numbers tell: its mult and shift, or its frequency and the
+-- longest gap
 abbrev pub counter_of : Telling → ℕ → ℕ → ℕ → Result Counter ScriptError
 counter_of tellings.Scale bits mult shift =
     ok_or (scaled_counter (record { bits = bits; mult = mult; shift = shift })) (errors.Opening 1)
@@ -49,7 +51,8 @@ opening_of telling fields =
       started counter reading real)
     else Err (errors.Fields 1)
 
--- the opening that the first record tells by its word: `open` with mult and shift, `openhz` with hz and maxsec
+-- the opening that the first record tells by its word: `open` with mult and shift, `openhz` with hz
+-- and maxsec
 unfoldable pub start_of : List (List ℕ) → Result Start ScriptError
 start_of fields =
     if is_word (field fields 0) (codes "open") then opening_of tellings.Scale fields

@@ -18,7 +18,8 @@ IsReading reader =
     (reader_trim reader ≡ trim.None) × Ready reader × (reader_config reader ≡ default_config)
     × (is_flexible reader ≡ true)
 
--- why such a read may fail: memory was refused, or the bytes underneath could not be read, as bytes in memory always can
+-- why such a read may fail: memory was refused, or the bytes underneath could not be read, as bytes
+-- in memory always can
 abbrev pub IsWantOfMemory : ErrorKind → Type 0
 IsWantOfMemory kinds.OutOfMemory = Unit {0}
 IsWantOfMemory (kinds.Io error) = Unit {0}

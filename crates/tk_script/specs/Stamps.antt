@@ -30,7 +30,8 @@ items_of pairs =
 abbrev pub told : ℕ → List (List (List ℕ)) → Result Items ScriptError
 told row records = each stamp_of row records >>= λ pairs. Ok (items_of pairs)
 
--- what the bytes of a stamp file say, of which there are at most 16,777,216; a file without a record has no items
+-- what the bytes of a stamp file say, of which there are at most 16,777,216; a file without a
+-- record has no items
 unfoldable pub stamps_of : List ℕ → Result Items ScriptError
 stamps_of bytes =
     if nat_lt (2 ^ 24) (length bytes) then Err errors.TooLarge

@@ -25,7 +25,8 @@ time_part second nsec =
 abbrev pub IsDateText : ℕ → List ℕ → Type 0
 IsDateText day text = (date : Date) × (epoch_day date ≡ pos day) × (text ≡ date_text date)
 
--- `YYYY-MM-DDThh:mm:ss.nnnnnnnnnZ`, where the date is that day of the calendar, counted from 1970-01-01
+-- `YYYY-MM-DDThh:mm:ss.nnnnnnnnnZ`, where the date is that day of the calendar, counted from
+-- 1970-01-01
 abbrev pub IsUtcText : ℕ → ℕ → List ℕ → Type 0
 IsUtcText sec nsec text = (date : Date) × (epoch_day date ≡ pos (sec / 86400))
     × (text ≡ date_text date ++ time_part (sec % 86400) nsec)

@@ -55,8 +55,8 @@ impl<A: Allocator + Copy> Calendar<A> {
     }
 }
 
-/// A time since 1970 as UTC text, `YYYY-MM-DDThh:mm:ss.nnnnnnnnnZ`, by the Gregorian calendar without
-/// leap seconds.
+/// A time since 1970 as UTC text, `YYYY-MM-DDThh:mm:ss.nnnnnnnnnZ`, by the Gregorian calendar
+/// without leap seconds.
 pub fn utc<A: Allocator + Copy>(alloc: A, sec: i64, nsec: u32) -> Result<String<A>, ScriptError>
     requires { IsWritable (record { sec = sec; nsec = nsec }) }
     ensures ok { IfOk result (λ s. IsUtcText (unsigned_abs sec) nsec (string_bytes s)) }

@@ -10,7 +10,8 @@ use crate::script_error::ScriptError;
 use csv::{ByteRecord, Reader};
 use std::alloc::Global;
 
-/// The rows of a script, read one after the other: it keeps one record in memory, however long the script is.
+/// The rows of a script, read one after the other: it keeps one record in memory, however long the
+/// script is.
 #[derive(Drop)]
 pub struct RowReader<'a> {
     reader: Reader<&'a [u8]>,
@@ -23,8 +24,8 @@ pub struct RowReader<'a> {
 impl<'a> RowReader<'a> {
     /// Reads the opening of a script; what is returned beside it reads the rows.
     ///
-    /// TooLarge above 16,777,216 bytes, then Empty, then the fault of the first record. Memory may stand in the place of any
-    /// other answer.
+    /// TooLarge above 16,777,216 bytes, then Empty, then the fault of the first record. Memory may
+    /// stand in the place of any other answer.
     pub fn open(alloc: Global, bytes: &'a [u8]) -> Result<(Start, RowReader<'a>), ScriptError>
         ensures gives { MatchResult result
             (λ opened. IsReady opened.1
@@ -53,7 +54,8 @@ impl<'a> RowReader<'a> {
         ))
     }
 
-    /// The next row, or none where no record is left; a fault is that of the next record. After either it reads no more.
+    /// The next row, or none where no record is left; a fault is that of the next record. After
+    /// either it reads no more.
     pub fn next_row(&mut self) -> Result<Option<Row>, ScriptError>
         requires { IsReady self.old }
         ensures { MatchResult result

@@ -22,7 +22,8 @@ pub struct Stamps {
 
 impl Stamps {
     /// The stamps that the bytes of a file spell, or its first fault: too many bytes, and then of
-    /// each record the number of fields, the front and the stamp. Without a record it has no stamps.
+    /// each record the number of fields, the front and the stamp. Without a record it has no
+    /// stamps.
     pub fn from_bytes(alloc: Global, bytes: &[u8]) -> Result<Stamps, ScriptError>
         ensures gives { Gives spec.items result (spec.stamps_of bytes.now) }
         ensures paired { IfOk result (λ s. length s.fronts.items ≡ length s.stamps.items) }

@@ -1,20 +1,36 @@
-//! Readers and writers that fail when they are told to.
+//! Readers and writers that fail once, when they are told to, and then go on.
 
 use std::io::{Error, ErrorKind, Read, Result, Write};
 
 /// Gives ten bytes a read, and fails at one of its reads.
 #[derive(Drop)]
 pub(super) struct Reader<'a> {
-    pub(super) rest: &'a [u8],
-    pub(super) reads_until_fault: u32,
+    rest: &'a [u8],
+    fault_at: u32,
+    fault: ErrorKind,
+    /// How many reads there were.
+    pub(super) reads: u32,
+}
+
+impl<'a> Reader<'a> {
+    /// A reader of the bytes that fails at this read, the first of which is 0.
+    pub(super) fn new(bytes: &'a [u8], fault_at: u32, fault: ErrorKind) -> Reader<'a> {
+        Reader {
+            rest: bytes,
+            fault_at,
+            fault,
+            reads: 0,
+        }
+    }
 }
 
 impl Read for Reader<'_> {
     fn read(&mut self, buf: &mut [u8]) -> Result<usize> {
-        if self.reads_until_fault == 0 {
-            return Err(Error::from(ErrorKind::Other));
+        let read = self.reads;
+        self.reads = read.saturating_add(1);
+        if read == self.fault_at {
+            return Err(Error::from(self.fault));
         }
-        self.reads_until_fault -= 1;
         let room = buf.len().min(10);
         self.rest.read(&mut buf[..room])
     }
@@ -34,33 +50,38 @@ impl Read for Endless {
     }
 }
 
-/// What a writer does at one of its calls.
+/// What a writer does at one of its writes.
 #[derive(Clone, Copy, Debug, PartialEq, Eq)]
 pub(super) enum Turn {
-    Fails,
+    Fails(ErrorKind),
     TakesNone,
 }
 
-/// Takes a piece of the text at each write, until its turn comes.
+/// Takes a piece of the text at each write but one, at which it has its turn.
 #[derive(Drop)]
 pub(super) struct Writer {
     piece: usize,
-    calls_until_turn: u32,
+    turn_at: u32,
     turn: Turn,
-    pub(super) flushes: bool,
+    /// The fault of the first flush, if it has one.
+    pub(super) flush_fault: Option<ErrorKind>,
     taken: [u8; 128],
     pub(super) len: usize,
+    /// How many writes and flushes there were.
+    pub(super) calls: u32,
 }
 
 impl Writer {
-    pub(super) fn new(piece: usize, calls_until_turn: u32, turn: Turn) -> Writer {
+    /// A writer of such pieces that has its turn at this write, the first of which is 0.
+    pub(super) fn new(piece: usize, turn_at: u32, turn: Turn) -> Writer {
         Writer {
             piece,
-            calls_until_turn,
+            turn_at,
             turn,
-            flushes: true,
+            flush_fault: None,
             taken: [0; 128],
             len: 0,
+            calls: 0,
         }
     }
 
@@ -71,13 +92,14 @@ impl Writer {
 
 impl Write for Writer {
     fn write(&mut self, buf: &[u8]) -> Result<usize> {
-        if self.calls_until_turn == 0 {
+        let call = self.calls;
+        self.calls = call.saturating_add(1);
+        if call == self.turn_at {
             return match self.turn {
-                Turn::Fails => Err(Error::from(ErrorKind::Other)),
+                Turn::Fails(fault) => Err(Error::from(fault)),
                 Turn::TakesNone => Ok(0),
             };
         }
-        self.calls_until_turn -= 1;
         let piece = &buf[..buf.len().min(self.piece)];
         for byte in piece {
             if self.len < 128 {
@@ -89,10 +111,10 @@ impl Write for Writer {
     }
 
     fn flush(&mut self) -> Result<()> {
-        if self.flushes {
-            Ok(())
-        } else {
-            Err(Error::from(ErrorKind::Other))
+        self.calls = self.calls.saturating_add(1);
+        match self.flush_fault.take() {
+            None => Ok(()),
+            Some(fault) => Err(Error::from(fault)),
         }
     }
 }

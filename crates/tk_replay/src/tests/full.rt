@@ -10,7 +10,8 @@ const COMMANDS: usize = 1_048_577;
 /// How the report ends where the last of them is accepted.
 const LAST: &[u8] = b"ok,1048576,0.000000000\nok,1048577,0.000000000\n";
 
-/// How long it is then: 20 bytes for the opening, 16 for each command, and 6,228,935 digits of their numbers.
+/// How long it is then: 20 bytes for the opening, 16 for each command, and 6,228,935 digits of
+/// their numbers.
 const LENGTH: usize = 20 + 16 * COMMANDS + 6_228_935;
 
 /// A script of so many updates that the journal has no room for the last one.

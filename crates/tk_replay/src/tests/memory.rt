@@ -1,8 +1,12 @@
+//! Memory that is refused: the whole report, or `Memory` and nothing written.
+
 use super::fakes::{Turn, Writer};
+use crate::reporting::report_rows;
 use crate::{Fault, replay, replay_bounded, report, report_bounded};
 use std::process::Abort;
 use std::test::Fail;
-use tk_script::ScriptError;
+use tk_heap::Heap;
+use tk_script::{RowReader, ScriptError};
 
 /// How long the script is: its opening, and 600 updates.
 const LENGTH: usize = 35 + 600 * 9;
@@ -54,7 +58,7 @@ fn assert_written(rt: &impl Abort, outcome: Result<(), Fault>, writer: &Writer) 
 fn replay_or_want_of_it(rt: HostRuntime) {
     let script = script();
     let mut reader = script.as_slice();
-    let mut writer = Writer::new(1000, u32::MAX, Turn::Fails);
+    let mut writer = Writer::new(1000, u32::MAX, Turn::TakesNone);
     let outcome = replay(rt.alloc(), &mut reader, &mut writer);
     assert_written(&rt, outcome, &writer);
 }
@@ -63,7 +67,7 @@ fn replay_or_want_of_it(rt: HostRuntime) {
 fn bounded_replay_or_want_of_it(rt: HostRuntime) {
     let script = script();
     let mut reader = script.as_slice();
-    let mut writer = Writer::new(1000, u32::MAX, Turn::Fails);
+    let mut writer = Writer::new(1000, u32::MAX, Turn::TakesNone);
     let outcome = replay_bounded(rt.alloc(), &mut reader, &mut writer, 1);
     assert_written(&rt, outcome, &writer);
 }
@@ -73,5 +77,44 @@ fn there_is_memory(rt: HostRuntime) -> Result<(), Fail> {
     let script = script();
     let text = report_bounded(rt.alloc(), &script, 1)?;
     assert!(rt; text == report(rt.alloc(), &script)?);
+    Ok(())
+}
+
+/// A script whose report takes growths of the journal, of the text and of two dates.
+const DATED: &[u8] = b"open,64,16777216,24,0,1700000000,0\n\
+update,1\nupdate,2\nupdate,3\nupdate,4\nupdate,5\nget,5,realtime\nupdate,6\nupdate,7\n\
+update,8\nupdate,9\nget,86400000000000,realtime\nget,86400000000000,tai\nupdate,10\n";
+
+#[test]
+fn each_growth_of_a_report_refused_in_turn(rt: HostRuntime) -> Result<(), Fail> {
+    let heap = Heap::new(rt.alloc());
+    let whole = report(rt.alloc(), DATED)?;
+    assert!(rt;
+        whole.ends_with(
+            b",2023-11-15T22:13:20.000000000Z\n\
+at,tai,1700086400.000000000\nok,10,0.000000010\n"
+        )
+    );
+    for keep in [None, Some(1)] {
+        let mut is_whole = false;
+        'requests: for request in 1..=1_000 {
+            let (start, mut rows) = RowReader::open(rt.alloc(), DATED)?;
+            heap.refuse(request);
+            let told = report_rows(&heap, start, &mut rows, keep);
+            is_whole = heap.grant_all();
+            match told {
+                Ok(text) => {
+                    assert!(rt; is_whole && request > 5);
+                    assert_eq!(rt; text.as_slice(), whole.as_slice());
+                    break 'requests;
+                }
+                Err(error) => {
+                    assert!(rt; !is_whole);
+                    assert_eq!(rt; error, ScriptError::Memory);
+                }
+            }
+        }
+        assert!(rt; is_whole);
+    }
     Ok(())
 }

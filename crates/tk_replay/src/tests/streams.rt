@@ -2,11 +2,14 @@ use super::fakes::{Endless, Reader, Turn, Writer};
 use super::{REPORT, SCRIPT};
 use crate::{Fault, replay, replay_bounded};
 use std::alloc::Global;
-use std::io::{Read, Write};
+use std::io::{ErrorKind, Read, Write};
 use tk_script::ScriptError;
 
-/// The most calls that a writer of this report gets.
+/// More calls than a reader or a writer gets here.
 const NEVER: u32 = 1000;
+
+/// A fault that ends all, and one after which a call could be tried again.
+const FAULTS: [ErrorKind; 2] = [ErrorKind::Other, ErrorKind::Interrupted];
 
 /// Replays the script with a journal that may be folded, or without.
 fn replayed<R: Read, W: Write>(
@@ -25,21 +28,26 @@ fn replayed<R: Read, W: Write>(
 /// Both ways to replay.
 const BOTH: [bool; 2] = [false, true];
 
+/// A writer that takes all in pieces of ten bytes.
+fn willing() -> Writer {
+    Writer::new(10, NEVER, Turn::TakesNone)
+}
+
 #[test]
-fn writes_nothing_after_a_read_that_fails(rt: HostRuntime) {
+fn a_read_that_fails_is_not_tried_again(rt: HostRuntime) {
     for is_bounded in BOTH {
-        for reads in 0..12 {
-            let mut reader = Reader {
-                rest: SCRIPT,
-                reads_until_fault: reads,
-            };
-            let mut writer = Writer::new(10, NEVER, Turn::Fails);
-            let outcome = replayed(rt.alloc(), is_bounded, &mut reader, &mut writer);
-            assert!(rt;
-                outcome == Err(Fault::Read) || outcome == Err(Fault::Memory),
-                "at {reads}"
-            );
-            assert_eq!(rt; writer.len, 0);
+        for fault in FAULTS {
+            for read in 0..12 {
+                let mut reader = Reader::new(SCRIPT, read, fault);
+                let mut writer = willing();
+                let outcome = replayed(rt.alloc(), is_bounded, &mut reader, &mut writer);
+                if outcome == Err(Fault::Memory) {
+                    return;
+                }
+                assert_eq!(rt; outcome, Err(Fault::Read), "at {read}");
+                assert_eq!(rt; reader.reads, read + 1);
+                assert_eq!(rt; writer.calls, 0);
+            }
         }
     }
 }
@@ -47,11 +55,8 @@ fn writes_nothing_after_a_read_that_fails(rt: HostRuntime) {
 #[test]
 fn reads_to_the_end(rt: HostRuntime) {
     for is_bounded in BOTH {
-        let mut reader = Reader {
-            rest: SCRIPT,
-            reads_until_fault: 12,
-        };
-        let mut writer = Writer::new(10, NEVER, Turn::Fails);
+        let mut reader = Reader::new(SCRIPT, 12, ErrorKind::Other);
+        let mut writer = willing();
         let outcome = replayed(rt.alloc(), is_bounded, &mut reader, &mut writer);
         assert_eq!(rt; outcome, Ok(()));
         assert_eq!(rt; writer.text(), REPORT);
@@ -62,39 +67,59 @@ fn reads_to_the_end(rt: HostRuntime) {
 fn stops_reading_at_the_limit(rt: HostRuntime) {
     for is_bounded in BOTH {
         let mut reader = Endless { given: 0 };
-        let mut writer = Writer::new(10, NEVER, Turn::Fails);
+        let mut writer = willing();
         let outcome = replayed(rt.alloc(), is_bounded, &mut reader, &mut writer);
         assert_eq!(rt; outcome, Err(Fault::Script(ScriptError::TooLarge)));
         assert_eq!(rt; reader.given, 16_777_217);
-        assert_eq!(rt; writer.len, 0);
+        assert_eq!(rt; writer.calls, 0);
     }
 }
 
-/// So many bytes a write, the turn after so many calls, whether flushes go through, and how much goes out.
-const TURNS: [(usize, u32, Turn, bool, usize); 4] = [
-    (10, 3, Turn::Fails, true, 30),
-    (10, 9, Turn::TakesNone, true, 90),
-    (10, NEVER, Turn::Fails, false, 97),
-    (1, NEVER, Turn::Fails, true, 97),
-];
+#[test]
+fn a_write_that_fails_is_not_tried_again(rt: HostRuntime) {
+    let turns = [
+        Turn::Fails(ErrorKind::Other),
+        Turn::Fails(ErrorKind::Interrupted),
+        Turn::TakesNone,
+    ];
+    for is_bounded in BOTH {
+        for turn in turns {
+            for write in 0..10 {
+                let mut writer = Writer::new(10, write, turn);
+                let mut script = SCRIPT;
+                let outcome = replayed(rt.alloc(), is_bounded, &mut script, &mut writer);
+                let written = u64::from(write) * 10;
+                assert_eq!(rt; outcome, Err(Fault::Write { written }), "{turn:?}");
+                assert_eq!(rt; writer.text(), &REPORT[..write as usize * 10]);
+                assert_eq!(rt; writer.calls, write + 1);
+            }
+        }
+    }
+}
 
 #[test]
-fn counts_what_went_out_before_a_write_fails(rt: HostRuntime) {
+fn a_flush_that_fails_is_not_tried_again(rt: HostRuntime) {
     for is_bounded in BOTH {
-        for (piece, calls, turn, flushes, len) in TURNS {
-            let mut writer = Writer::new(piece, calls, turn);
-            writer.flushes = flushes;
+        for fault in FAULTS {
+            let mut writer = willing();
+            writer.flush_fault = Some(fault);
             let mut script = SCRIPT;
             let outcome = replayed(rt.alloc(), is_bounded, &mut script, &mut writer);
-            let wanted = if piece == 1 {
-                Ok(())
-            } else {
-                Err(Fault::Write {
-                    written: len as u64,
-                })
-            };
-            assert_eq!(rt; outcome, wanted);
-            assert_eq!(rt; writer.text(), &REPORT[..len.min(97)]);
+            assert_eq!(rt; outcome, Err(Fault::Write { written: 97 }));
+            assert_eq!(rt; writer.text(), REPORT);
+            assert_eq!(rt; writer.calls, 11);
         }
+    }
+}
+
+#[test]
+fn writes_by_single_bytes(rt: HostRuntime) {
+    for is_bounded in BOTH {
+        let mut writer = Writer::new(1, NEVER, Turn::TakesNone);
+        let mut script = SCRIPT;
+        let outcome = replayed(rt.alloc(), is_bounded, &mut script, &mut writer);
+        assert_eq!(rt; outcome, Ok(()));
+        assert_eq!(rt; writer.text(), REPORT);
+        assert_eq!(rt; writer.calls, 98);
     }
 }
