@@ -1,11 +1,13 @@
-//! Conversions of stamps in plain Rust, one stamp after the other by the same rules, and a copy of the same bytes.
+//! Conversions of stamps in plain Rust, one stamp after the other by the same rules, and a copy of
+//! the same bytes.
 
 use std::hint::black_box;
 use std::time::Instant;
 
 const OPENING: u64 = 12_345;
 
-/// A clock as a line over the cycles since the last command, as far as its numbers stay in a word and in range.
+/// A clock as a line over the cycles since the last command, as far as its numbers stay in a word
+/// and in range.
 struct Line {
     last: u64,
     mult: u32,
@@ -50,6 +52,19 @@ fn plain(line: &Line, stamps: &[u64], out: &mut [u64]) -> Result<(), Fault> {
     Ok(())
 }
 
+/// The same without a test of any stamp: what it makes of a stamp that should be refused is wrong.
+#[inline(never)]
+fn untested(line: &Line, stamps: &[u64], out: &mut [u64]) {
+    for (stamp, out) in stamps.iter().zip(out) {
+        let gap = stamp.wrapping_sub(line.last) & line.mask;
+        let cycles = if gap > line.half { 0 } else { gap };
+        let units = cycles
+            .wrapping_mul(line.mult as u64)
+            .wrapping_add(line.frac);
+        *out = (units >> line.shift).wrapping_add(line.base);
+    }
+}
+
 fn stamps(n: usize) -> Vec<u64> {
     let mut x = 88172645463325252u64;
     (0..n)
@@ -84,6 +99,10 @@ fn main() {
             }
         });
         println!("plain Rust of {n}: {least} ps a stamp, last {:?}", out.last());
+        let least = least_of(rounds, turns, n, || {
+            untested(&line, black_box(&stamps), black_box(&mut out));
+        });
+        println!("plain Rust without tests of {n}: {least} ps a stamp, last {:?}", out.last());
         let least = least_of(rounds, turns, n, || {
             black_box(&mut out).copy_from_slice(black_box(&stamps));
         });
