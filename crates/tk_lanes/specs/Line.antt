@@ -7,6 +7,10 @@ use Rattle.tk_clock.specs.State.{ReadBase}
 use Rattle.tk_clock.specs.Read.{read_of}
 use Rattle.tk_lanes.specs.declared.line.Line.{Line}
 
+-- how many stamps are converted at a time
+abbrev pub lane_count : ℕ
+lane_count = 8
+
 -- does a clock stand still between commands?
 abbrev pub is_coarse : ClockId → Bool
 is_coarse RealtimeCoarse = true

@@ -1,9 +1,9 @@
 //! Eight stamps at a time.
 ghost use Rattle.std.specs.Prelude.{◌≡◌, ◌+◌, ◌^◌, ◌<◌, ◌≤◌, length, MatchBool, map};
 ghost use Rattle.std.specs.Simd.Lanes.{chunk, put_chunk};
-ghost use Rattle.tk_lanes.specs.Line.{nanos_after, line_nanos, IsEachNear};
+ghost use Rattle.tk_lanes.specs.Line.{lane_count, nanos_after, line_nanos, IsEachNear};
 
-use super::{LANES, Line};
+use super::Line;
 use std::simd::prelude::*;
 
 impl Line {
@@ -18,8 +18,8 @@ impl Line {
         requires leads { self.span ≤ self.half }
         requires half { self.half < 2 ^ 63 }
         requires same { length stamps.now ≡ length out.old }
-        requires inside { at + LANES ≤ length stamps.now }
-        ensures { let lanes = chunk at LANES stamps.now in
+        requires inside { at + lane_count ≤ length stamps.now }
+        ensures { let lanes = chunk at lane_count stamps.now in
             MatchBool result
             (IsEachNear self lanes × (out.new ≡ put_chunk at out.old (map (line_nanos self) lanes)))
             (out.new ≡ out.old) }
@@ -48,8 +48,8 @@ impl Line {
     #[inline(always)]
     fn write(self, cycles: u64x8, out: &mut [u64], at: usize)
         requires shift { self.shift < 64 }
-        requires lanes { length cycles ≡ LANES }
-        requires inside { at + LANES ≤ length out.old }
+        requires lanes { length cycles ≡ lane_count }
+        requires inside { at + lane_count ≤ length out.old }
         ensures { out.new ≡ put_chunk at out.old (map (nanos_after self) cycles) }
     {
         let units = cycles * u64x8::splat(u64::from(self.mult)) + u64x8::splat(self.frac);
