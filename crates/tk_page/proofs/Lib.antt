@@ -1,0 +1,4 @@
+pub mod Beginnings
+pub mod Shown
+pub mod Views
+pub mod Steps

@@ -1,0 +1,25 @@
+use Rattle.std.proofs.Common.{rules}
+use Rattle.tk_page.specs.History.{opened_by}
+use Rattle.tk_page.proofs.Shown.{shows}
+use Rattle.tk_page.proofs.Steps.{makes, publisher_copies_as}
+use Rattle.tk_page.proofs.page.Page.open.Goals as goal
+
+pub ruled-requires : goal.ruled-requires
+ruled-requires g c =
+    let words = c.words.ensures in (
+      search rules,
+      (
+        search rules,
+        makes (opened_by c.args.snapshot) _
+            (shows _ _ _ words.value words.back c.requires),
+      ),
+    )
+
+pub split_pass-requires : goal.split_pass-requires
+split_pass-requires g c = (
+  search rules,
+  (
+    search rules,
+    (search rules, publisher_copies_as _ _ _ c.take_opening.ensures.view),
+  ),
+)

@@ -1,0 +1,3 @@
+pub mod History
+pub mod Views
+pub mod PageError

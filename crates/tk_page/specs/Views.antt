@@ -1,0 +1,95 @@
+-- The rule of the page's cell: what its ten words are, whatever each pass to it knows.
+use Rattle.std.specs.Prelude.{◌≡◌, ℕ, List, length, Bool, true, false, Some}
+use mathlib.Core.Option.{some}
+use lib.ListN.{get_elem?}
+use Rattle.tk_counter.specs.Counter.{Counter}
+use Rattle.tk_clock.specs.declared.command.Entry.{Entry}
+use Rattle.tk_clock.specs.Journal.{Journal, followed_by}
+use Rattle.tk_clock.specs.Snapshot.{snapshot_of}
+use Rattle.tk_clock.specs.Words.{words_of, restored}
+use Rattle.tk_page.specs.declared.view.View.{View}
+use Rattle.tk_page.specs.declared.view.View.TheVariants.{Fresh, Spent, Viewing, Publishing, Comparing}
+use Rattle.tk_page.specs.History.{Begins, no_journal, longer}
+
+-- the journal that a pass knows
+abbrev pub journal_of : View → Journal
+journal_of Fresh = no_journal
+journal_of Spent = no_journal
+journal_of (Viewing seen) = seen
+journal_of (Publishing own) = own
+journal_of (Comparing own noted) = own
+
+-- what a viewer saw, noted beside the publisher's journal
+abbrev pub noted_of : View → Journal
+noted_of (Comparing own noted) = noted
+noted_of _ = no_journal
+
+abbrev pub is_fresh : View → Bool
+is_fresh Fresh = true
+is_fresh _ = false
+
+-- a viewer's pass, the counter of its journal, and how many entries that has; none was folded
+-- before the first
+pub record IsViewer (view : View) (counter : Counter) (front : ℕ) : Type 0 where
+  pub viewing : view ≡ Viewing (journal_of view)
+  pub counted : counter ≡ (journal_of view).opening.counter
+  pub fronted : front ≡ length (journal_of view).entries
+  pub whole : (journal_of view).opening.count ≡ 0
+
+-- words are those of a journal's snapshot, and tell it back
+pub record Shows (words : List ℕ) (journal : Journal) : Type 0 where
+  pub value : words ≡ words_of (snapshot_of journal)
+  pub back : restored journal.opening.counter words ≡ Some (snapshot_of journal)
+
+-- what the pass `by` knows is true of the journal published so far: a viewer's journal begins it,
+-- and that of the one publisher, which is the pass `seat`, is all of it
+abbrev pub Fits : Journal → ℕ → ℕ → View → Type 0
+Fits published seat by Fresh = Unit {0}
+Fits published seat by Spent = Unit {0}
+Fits published seat by (Viewing seen) = Begins seen published
+Fits published seat by (Publishing own) = (by ≡ seat) × (own ≡ published)
+Fits published seat by (Comparing own noted) =
+    (by ≡ seat) × (own ≡ published) × Begins noted published
+
+-- the words are those of the snapshot of the journal published so far, and each pass knows true
+-- things of it; a fresh pass is the only one
+pub record Kept (words : List ℕ) (views : List View) : Type 0 where
+  pub published : Journal
+  pub seat : ℕ
+  pub shown : Shows words published
+  pub each : (by : ℕ) (view : View) → get_elem? views by ≡ some view → Fits published seat by view
+  pub alone : (by : ℕ) (view : View) → get_elem? views by ≡ some view →
+      is_fresh view ≡ true → length views ≡ 1
+
+-- the page is opened: the pass is then the publisher's, of a journal without entries
+abbrev pub Opened : Journal → View → List ℕ → List ℕ → View → Type 0
+Opened journal view before after view' = view' ≡ Publishing journal
+
+-- the journal has one more entry
+abbrev pub Published : Entry → View → List ℕ → List ℕ → View → Type 0
+Published entry view before after view' = view' ≡ Publishing (followed_by (journal_of view) entry)
+
+-- the journal published so far is seen, and the words are those of its snapshot
+abbrev pub Seen : View → List ℕ → List ℕ → View → Type 0
+Seen view before after view' =
+    (view' ≡ Viewing (journal_of view')) × Begins (journal_of view) (journal_of view')
+    × Shows after (journal_of view')
+
+-- the journal that was noted begins the publisher's, and the words are those of the snapshot of the
+-- publisher's
+abbrev pub Compared : View → List ℕ → List ℕ → View → Type 0
+Compared view before after view' =
+    (view' ≡ Publishing (journal_of view)) × Begins (noted_of view) (journal_of view)
+    × Shows after (journal_of view)
+
+-- a viewer that knows as much
+abbrev pub copy_of : View → View
+copy_of view = Viewing (journal_of view)
+
+-- a viewer that knows the longer journal
+abbrev pub longer_of : View → View → View
+longer_of one other = Viewing (longer (journal_of one) (journal_of other))
+
+-- the publisher, with what a viewer has seen beside its own journal
+abbrev pub with_note : View → View → View
+with_note own noted = Comparing (journal_of own) (journal_of noted)

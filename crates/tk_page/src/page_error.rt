@@ -1,0 +1,24 @@
+ghost use Rattle.std.specs.Prelude.{Some};
+ghost use Rattle.tk_page.specs.PageError.{fault_text};
+
+use std::error::Error;
+use std::fmt;
+
+/// Why a page isn't opened.
+#[derive(Clone, Copy, Debug, PartialEq, Eq)]
+pub enum PageError {
+    /// There is no memory for it.
+    Memory,
+}
+
+impl fmt::Display for PageError {
+    ghost output = { λ fault. Some (fault_text fault) };
+
+    fn fmt<W: fmt::Write>(&self, f: &mut fmt::Formatter<W>) -> fmt::Result {
+        f.write_str(match self {
+            PageError::Memory => "no memory for the page",
+        })
+    }
+}
+
+impl Error for PageError {}

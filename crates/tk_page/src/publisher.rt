@@ -1,0 +1,69 @@
+ghost use Rattle.std.specs.Prelude.{◌≡◌};
+ghost use Rattle.crossbeam_utils.specs.Seq.{cell_view};
+ghost use Rattle.tk_clock.specs.Journal.{followed_by};
+ghost use Rattle.tk_clock.specs.Snapshot.{snapshot_of};
+ghost use Rattle.tk_page.specs.declared.view.View.TheVariants.{Publishing};
+ghost use Rattle.tk_page.specs.Views.{journal_of};
+
+use crate::page::Page;
+use crate::rule::{Cell, NamesEntry, Pass, Publishes};
+use std::marker::{Brand, Model};
+use std::sync::Wait;
+use tk_clock::{Entry, Snapshot};
+
+/// Who adds entries to the journal of a page. There is one for each page.
+///
+/// Contracts see it as the page and all that was published on it.
+#[derive(Drop)]
+pub struct Publisher {
+    pub(crate) pass: Pass,
+}
+
+impl Model for Publisher {
+    ghost use Rattle.std.specs.Prelude.{◌≡◌};
+    ghost use Rattle.crossbeam_utils.specs.Seq.{cell_view};
+    ghost use Rattle.tk_page.specs.declared.view.View.TheVariants.{Publishing};
+    ghost use Rattle.tk_page.specs.History.{History};
+    ghost use Rattle.tk_page.specs.Views.{journal_of};
+
+    ghost Value = { History };
+
+    ghost view = { λ p.
+        record { page = p.pass.table_id; journal = journal_of (cell_view p.pass) } };
+
+    ghost invariant = { λ p.
+        (cell_view p.pass ≡ Publishing (journal_of (cell_view p.pass)))
+        × ((journal_of (cell_view p.pass)).opening.count ≡ 0) };
+}
+
+impl Publisher {
+    /// Adds an entry to the journal, and shows the snapshot of the longer one. It takes no memory.
+    pub fn publish<R: Wait>(&mut self, rt: &R, page: &Page, entry: Entry, snapshot: Snapshot)
+        requires page { self.old.page ≡ page.now }
+        requires snapshot { snapshot ≡ snapshot_of (followed_by self.old.journal entry) }
+        ensures { self.new ≡ record self.old { journal = followed_by self.old.journal entry } }
+    {
+        publish_entry::<Brand, R>(rt, &page.cell, &mut self.pass, entry, snapshot);
+    }
+}
+
+/// Publishes an entry that the type names, so that the step can tell it.
+fn publish_entry<E: NamesEntry, R: Wait>(
+    rt: &R,
+    cell: &Cell,
+    pass: &mut Pass,
+    entry: Entry,
+    snapshot: Snapshot,
+)
+    requires cell { pass.old.table_id ≡ cell.now.table.shared.table_id }
+    requires view { cell_view pass.old ≡ Publishing (journal_of (cell_view pass.old)) }
+    requires entry { E.entry ≡ entry }
+    requires snapshot { snapshot
+        ≡ snapshot_of (followed_by (journal_of (cell_view pass.old)) entry) }
+    ensures cell { pass.new.table_id ≡ pass.old.table_id }
+    ensures view { cell_view pass.new
+        ≡ Publishing (followed_by (journal_of (cell_view pass.old)) entry) }
+{
+    // Step 2.
+    cell.swap_as::<Publishes<E>, R>(rt, pass, snapshot.words());
+}

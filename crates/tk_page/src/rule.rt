@@ -1,0 +1,137 @@
+//! The rule of the page's cell, and what each step on it tells.
+use crate::view::View;
+use atomic_table::{Join, Split};
+use crossbeam_utils::atomic::seq_cell;
+use crossbeam_utils::atomic::seq_cell::RuledSeqCell;
+use crossbeam_utils::rule::{Outcome, Protocol};
+use std::marker::{Brand, PhantomData};
+
+/// The page's cell: ten words, and its own version word.
+pub type Cell = RuledSeqCell<[u64; 10], View, Law, 10>;
+
+/// What a publisher or a viewer holds of the cell. It has no bytes.
+pub type Pass = seq_cell::Pass<[u64; 10], View>;
+
+/// The rule.
+pub struct Law;
+
+impl Protocol<[u64; 10], View> for Law {
+    ghost use Rattle.tk_page.specs.Views.{Kept};
+    ghost use Rattle.tk_page.specs.declared.view.View.TheVariants.{Fresh};
+
+    ghost holds = { λ words views. Kept words views };
+
+    ghost first = { Fresh };
+}
+
+/// Names the journal that a page is opened with.
+pub trait NamesJournal {
+    ghost use Rattle.tk_clock.specs.Journal.{Journal};
+
+    ghost journal: { Journal };
+}
+
+impl NamesJournal for Brand {
+    ghost use Rattle.tk_page.specs.History.{no_journal};
+
+    ghost journal = { no_journal };
+}
+
+/// Names the entry that a publication adds.
+pub trait NamesEntry {
+    ghost use Rattle.tk_clock.specs.declared.command.Entry.{Entry};
+
+    ghost entry: { Entry };
+}
+
+impl NamesEntry for Brand {
+    ghost use Rattle.tk_clock.specs.declared.command.Command.TheVariants.{Update};
+
+    ghost entry = { record { who = 0; reading = 0; cmd = Update } };
+}
+
+/// The store that opens the page.
+pub struct Opens<J> {
+    journal: PhantomData<J>,
+}
+
+impl<J: NamesJournal> Outcome<[u64; 10], View> for Opens<J> {
+    ghost use Rattle.tk_page.specs.Views.{Opened};
+
+    ghost then = { Opened J.journal };
+}
+
+/// The store that is a publication.
+pub struct Publishes<E> {
+    entry: PhantomData<E>,
+}
+
+impl<E: NamesEntry> Outcome<[u64; 10], View> for Publishes<E> {
+    ghost use Rattle.tk_page.specs.Views.{Published};
+
+    ghost then = { Published E.entry };
+}
+
+/// The load that is a viewer's read.
+pub struct Reads;
+
+impl Outcome<[u64; 10], View> for Reads {
+    ghost use Rattle.tk_page.specs.Views.{Seen};
+
+    ghost then = { Seen };
+}
+
+/// The load that tells how a noted journal stands to the publisher's.
+pub struct Compares;
+
+impl Outcome<[u64; 10], View> for Compares {
+    ghost use Rattle.tk_page.specs.Views.{Compared};
+
+    ghost then = { Compared };
+}
+
+/// A second pass, of a viewer, knows as much.
+pub struct Copies;
+
+impl Split<View> for Copies {
+    ghost use Rattle.tk_page.specs.Views.{copy_of};
+
+    ghost left = { λ view. view };
+
+    ghost right = { copy_of };
+}
+
+/// A second pass takes all that the first one knew.
+pub struct Leaves;
+
+impl Split<View> for Leaves {
+    ghost use Rattle.tk_page.specs.declared.view.View.TheVariants.{Spent};
+
+    ghost left = { λ _. Spent };
+
+    ghost right = { λ view. view };
+}
+
+/// A viewer takes in another one, and keeps the longer journal.
+pub struct KeepsLonger;
+
+impl Join<View> for KeepsLonger {
+    ghost use Rattle.tk_page.specs.Views.{longer_of};
+    ghost use Rattle.tk_page.specs.declared.view.View.TheVariants.{Spent};
+
+    ghost both = { longer_of };
+
+    ghost spent = { Spent };
+}
+
+/// The publisher takes in a viewer, and notes its journal.
+pub struct Notes;
+
+impl Join<View> for Notes {
+    ghost use Rattle.tk_page.specs.Views.{with_note};
+    ghost use Rattle.tk_page.specs.declared.view.View.TheVariants.{Spent};
+
+    ghost both = { with_note };
+
+    ghost spent = { Spent };
+}

@@ -1,0 +1,109 @@
+ghost use Rattle.std.specs.Prelude.{◌≡◌, length};
+ghost use Rattle.tk_clock.specs.Snapshot.{snapshot_of};
+ghost use Rattle.tk_page.specs.History.{Begins, longer};
+
+use crate::page::Page;
+use crate::rule::{Copies, KeepsLonger, Leaves, Pass, Reads};
+use std::marker::Model;
+use std::sync::Wait;
+use tk_clock::Snapshot;
+use tk_counter::CounterDesc;
+
+/// Who reads a page.
+///
+/// Contracts see it as the page and the journal that it has seen.
+#[derive(Drop)]
+pub struct Viewer {
+    pub(crate) pass: Pass,
+    /// The counter that the snapshots are of.
+    pub(crate) desc: CounterDesc,
+    /// How many entries it has seen.
+    pub(crate) front: u64,
+}
+
+impl Model for Viewer {
+    ghost use Rattle.std.specs.Prelude.{◌≡◌, length};
+    ghost use Rattle.crossbeam_utils.specs.Seq.{cell_view};
+    ghost use Rattle.tk_page.specs.History.{History};
+    ghost use Rattle.tk_page.specs.Views.{journal_of, IsViewer};
+
+    ghost Value = { History };
+
+    ghost view = { λ p.
+        record { page = p.pass.table_id; journal = journal_of (cell_view p.pass) } };
+
+    ghost invariant = { λ p. IsViewer (cell_view p.pass) p.desc p.front };
+}
+
+impl Viewer {
+    /// The snapshot of the journal published so far, no shorter than any that this viewer saw.
+    ///
+    /// It takes no lock of a keeper's. Where a publication comes between, it waits for the words of
+    /// the page.
+    pub fn read<R: Wait>(&mut self, rt: &R, page: &Page) -> Snapshot
+        requires page { self.old.page ≡ page.now }
+        ensures page { self.new.page ≡ self.old.page }
+        ensures begins { Begins self.old.journal self.new.journal }
+        ensures answer { result ≡ snapshot_of self.new.journal }
+    {
+        // Step 3 or 4.
+        let words = page.cell.load_as::<Reads, R>(rt, &mut self.pass);
+        self.front = words[0];
+        Snapshot::from_known_words(self.desc, words)
+    }
+
+    /// How many entries it has seen: the front of its latest snapshot. None was folded before the
+    /// first.
+    pub fn front(&self) -> u64
+        ensures value { result ≡ length self.now.journal.entries }
+        ensures whole { self.now.journal.opening.count ≡ 0 }
+    {
+        self.front
+    }
+
+    /// Two viewers that have seen as much.
+    pub fn split(self, page: &Page) -> (Viewer, Viewer)
+        requires page { self.page ≡ page.now }
+        ensures first { result.0 ≡ self }
+        ensures second { result.1 ≡ self }
+    {
+        let Viewer {
+            mut pass,
+            desc,
+            front,
+        } = self;
+        // Step 5.
+        let other = page.cell.split_pass::<Copies>(&mut pass);
+        (
+            Viewer { pass, desc, front },
+            Viewer {
+                pass: other,
+                desc,
+                front,
+            },
+        )
+    }
+
+    /// One viewer in place of two: it has seen the longer of their journals.
+    pub fn join(self, other: Viewer, page: &Page) -> Viewer
+        requires page { self.page ≡ page.now }
+        requires other { other.page ≡ page.now }
+        ensures { result ≡ record self { journal = longer self.journal other.journal } }
+    {
+        let Viewer {
+            mut pass,
+            desc,
+            front,
+        } = self;
+        let mut left = other.pass;
+        // Steps 5 and 6: a pass that has read can't be joined itself, so what it knows is moved to
+        // a new one first.
+        let whole = page.cell.split_pass::<Leaves>(&mut left);
+        page.cell.join_pass::<KeepsLonger>(&mut pass, whole);
+        Viewer {
+            pass,
+            desc,
+            front: front.max(other.front),
+        }
+    }
+}
