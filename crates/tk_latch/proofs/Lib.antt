@@ -1,0 +1,6 @@
+pub mod Prefixes
+pub mod Publications
+pub mod Keeping
+pub mod Writing
+pub mod Reading
+pub mod Seats

@@ -1,0 +1,63 @@
+-- What a latch's writer and readers know, and what a read tells (Documentation/locking/seqlock.rst, seqcount_latch_t).
+use Rattle.std.specs.Prelude.{◌≡◌, ℕ, ◌+◌, ◌-◌, ◌*◌, ◌/◌, ◌^◌, ◌<◌, ◌≤◌, List, [], ◌∷◌, ◌++◌, length, slice_get, Some}
+use Rattle.atomic_table.specs.Seated.{TableId}
+use Rattle.tk_counter.specs.Counter.{Counter}
+use Rattle.tk_clock.specs.Snapshot.{Snapshot}
+
+-- which latch it is, and the counter that all its snapshots are of
+pub record LatchId : Type 0 where
+  pub table : TableId
+  pub counter : Counter
+
+-- what the writer knows: all publications, the opening first
+pub record Published : Type 0 where
+  pub latch : LatchId
+  pub publications : List Snapshot
+
+-- what a reader knows: the first of the publications, and in order the sequence numbers that its loads have found
+pub record Learnt : Type 0 where
+  pub latch : LatchId
+  pub publications : List Snapshot
+  pub found : List ℕ
+
+-- how many readers a latch may be opened with
+abbrev pub IsReaderCount : ℕ → Type 0
+IsReaderCount count = (1 ≤ count) × (count ≤ 64)
+
+-- the number of the latest of these publications, the opening being number 0
+abbrev pub mark_of : List Snapshot → ℕ
+mark_of publications = length publications - 1
+
+-- the most publications that a latch's sequence can count
+abbrev pub most_publications : ℕ
+most_publications = 2 ^ 63 - 1
+
+-- the writer and each reader of a latch that was just opened
+abbrev pub opened_writer : LatchId → Snapshot → Published
+opened_writer latch opening = record { latch = latch; publications = opening ∷ [] }
+
+abbrev pub opened_reader : LatchId → Snapshot → Learnt
+opened_reader latch opening = record { latch = latch; publications = opening ∷ []; found = [] }
+
+-- a reader that was told of all that the writer published
+abbrev pub told_reader : Published → Learnt
+told_reader writer = record { latch = writer.latch; publications = writer.publications; found = [] }
+
+-- a read that found one sequence number at both of its looks: the answer is publication k, whole and with front k; it is the
+-- latest that the reader now knows of, and not earlier than its mark was
+pub record IsRead (old new : Learnt) (snapshot : Snapshot) : Type 0 where
+  pub whole : slice_get new.publications snapshot.front ≡ Some snapshot
+  pub counter : snapshot.base.counter ≡ new.latch.counter
+  pub mark : mark_of new.publications ≡ snapshot.front
+  pub newer : mark_of old.publications ≤ snapshot.front
+  pub sequence : ℕ
+  pub found : new.found ≡ old.found ++ sequence ∷ sequence ∷ []
+  pub half : sequence / 2 ≡ snapshot.front
+
+-- a read whose looks found two sequence numbers, the first not before the mark: the mark is then the latest publication when the
+-- second was found
+pub record IsMoved (old new : Learnt) (first last : ℕ) : Type 0 where
+  pub found : new.found ≡ old.found ++ first ∷ last ∷ []
+  pub from : 2 * mark_of old.publications ≤ first
+  pub later : first < last
+  pub mark : mark_of new.publications ≡ last / 2

@@ -1,0 +1,6 @@
+pub mod Latch
+pub mod Publications
+pub mod Views
+pub mod Rule
+pub mod Steps
+pub mod Look

@@ -1,0 +1,32 @@
+-- What a read has found so far.
+use Rattle.std.specs.Prelude.{◌≡◌, ℕ, ◌+◌, ◌*◌, ◌<◌, ◌≤◌, List, [], ◌∷◌, ◌++◌, length, slice_index, slice_get, Some}
+use Rattle.tk_clock.specs.Snapshot.{Snapshot}
+use Rattle.tk_clock.specs.Words.{restored}
+use Rattle.tk_latch.specs.declared.rule.History.{History}
+use Rattle.tk_latch.specs.declared.rule.View.{View}
+use Rattle.tk_latch.specs.Publications.{latest_words, IsBeginning}
+use Rattle.tk_latch.specs.Rule.{Counts}
+use Rattle.tk_latch.specs.Views.{resting, reading, found_by}
+
+-- the first so many words that were loaded are the latest publication's, where the sequence is still that of the beginning
+abbrev pub Gathered : View → ℕ → List ℕ → View → ℕ → Type 0
+Gathered begun first words view count =
+    (now : ℕ) × (view ≡ reading begun.history (found_by begun.role) first now) × (first ≤ now) × (length words ≡ 10)
+    × (now ≤ first → (i : ℕ) → i < count → slice_index words i ≡ slice_index (latest_words begun.history.list) i)
+
+-- these words are a publication's, the latest of the history
+pub record AreLatest (history : History) (words : List ℕ) : Type 0 where
+  pub snapshot : Snapshot
+  pub told : restored history.counter words ≡ Some snapshot
+  pub listed : slice_get history.list snapshot.front ≡ Some snapshot
+  pub latest : snapshot.front + 1 ≡ length history.list
+
+-- both looks and the words between them
+pub record IsLook (old new : View) (first : ℕ) (words : List ℕ) (last : ℕ) : Type 0 where
+  pub reader : new ≡ resting new.history (found_by new.role)
+  pub found : found_by new.role ≡ found_by old.role ++ first ∷ last ∷ []
+  pub extends : IsBeginning old.history new.history
+  pub counts : Counts new.history.list last
+  pub order : first ≤ last
+  pub from : 2 * length old.history.list ≤ first + 2
+  pub whole : first ≡ last → AreLatest new.history words

@@ -1,0 +1,44 @@
+-- Publications: snapshots of one counter under consecutive numbers.
+use Rattle.std.specs.Prelude.{◌≡◌, ℕ, ◌+◌, List, [], ◌∷◌, ◌++◌, length, Some}
+use mathlib.Core.List.{IsPrefix}
+use Rattle.tk_counter.specs.Counter.{Counter}
+use Rattle.tk_clock.specs.Snapshot.{Snapshot}
+use Rattle.tk_clock.specs.Words.{words_of, restored, snapshot_told}
+use Rattle.tk_latch.specs.declared.rule.History.{History}
+
+-- the words of the latest of these publications
+abbrev pub latest_words : List Snapshot → List ℕ
+latest_words [] = []
+latest_words (snapshot ∷ []) = words_of snapshot
+latest_words (snapshot ∷ next ∷ more) = latest_words (next ∷ more)
+
+-- publication k of a latch over this counter: its words tell it, and its front is k
+pub record IsPublication (counter : Counter) (k : ℕ) (snapshot : Snapshot) : Type 0 where
+  pub told : restored counter (words_of snapshot) ≡ Some snapshot
+  pub front : snapshot.front ≡ k
+
+-- these are the publications k, k + 1, and so on
+abbrev pub AreNumbered : Counter → ℕ → List Snapshot → Type 0
+AreNumbered counter k [] = Unit {0}
+AreNumbered counter k (snapshot ∷ more) = IsPublication counter k snapshot × AreNumbered counter (k + 1) more
+
+-- a history over the same counter, with the first of the publications
+abbrev pub IsBeginning : History → History → Type 0
+IsBeginning history later = (history.counter ≡ later.counter) × IsPrefix history.list later.list
+
+-- the history of an opening alone
+abbrev pub opening_of : Snapshot → History
+opening_of snapshot = record { counter = snapshot.base.counter; list = snapshot ∷ [] }
+
+-- one publication more
+abbrev pub pushed : History → Snapshot → History
+pushed history snapshot = record history { list = history.list ++ snapshot ∷ [] }
+
+-- one publication more, the one that these words tell
+abbrev pub pushed_told : History → List ℕ → History
+pushed_told history words = pushed history (snapshot_told history.counter words)
+
+-- these words tell the next publication
+pub record IsNext (history : History) (words : List ℕ) : Type 0 where
+  pub publication : IsPublication history.counter (length history.list) (snapshot_told history.counter words)
+  pub words_again : words_of (snapshot_told history.counter words) ≡ words

@@ -1,0 +1,166 @@
+//! A snapshot in two copies, so that one of them is always whole.
+//!
+//! The words are the sequence, copy 0 and copy 1. The sequence is twice the number of the latest publication, and 1
+//! more while the next one is being made:
+//!
+//! - even: at rest. Copy 0 is whole and is the latest publication; copy 1 may still be of the one before.
+//! - odd: copy 0 is being written. Copy 1 is whole and is the latest publication.
+//!
+//! So the copy to read is always that of the lowest bit, `sequence & 1`. Each step is one load or one store.
+//!
+//! The writer publishes:
+//!
+//! 1. It makes the sequence odd: from now on readers take copy 1.
+//! 2. It writes each word into copy 0.
+//! 3. It makes the sequence even. This is the publication: from now on readers take copy 0.
+//! 4. It writes each word into copy 1.
+//!
+//! A reader reads:
+//!
+//! 5. It looks at the sequence.
+//! 6. It loads each word of the copy that the sequence names.
+//! 7. It looks at the sequence again. The same number: the words are one publication, whole. Another one: the words
+//!    may be of two, and the answer is `Moved`.
+//!
+//! A reader is told of what was published (`tell`):
+//!
+//! 8. It is handed the writer's history, and what it knew goes to the writer as a note.
+//! 9. The writer looks at the sequence: the note is a beginning of its history.
+//!
+//! Nobody waits. A read takes 12 loads whatever the writer does, so it may be called where nothing may wait, as in an
+//! interrupt; what it doesn't promise is that `Moved` ever ends while others publish. A publication takes 22 stores.
+//! This is the kernel's `seqcount_latch_t` (Documentation/locking/seqlock.rst, include/linux/seqlock.h).
+ghost use Rattle.std.specs.Prelude.{◌≡◌, ◌↔◌, replicate, IfOk, MatchResult};
+ghost use mathlib.Core.List.{IsPrefix};
+
+use crate::errors::LatchError;
+use crate::reader::LatchReader;
+use crate::rule::{Compares, Hands, KeepsNote, Words};
+use crate::writer::LatchWriter;
+use std::alloc::{AllocError, Allocator, Global};
+use std::marker::Model;
+use std::mem;
+use tk_clock::Snapshot;
+use tk_counter::CounterDesc;
+
+/// How many words a snapshot has.
+pub(crate) const SNAPSHOT_WORDS: usize = 10;
+
+/// Where the sequence and the copies stand among the words, and how many words there are.
+pub(crate) const SEQUENCE: usize = 0;
+pub(crate) const COPY_0: usize = 1;
+pub(crate) const COPY_1: usize = COPY_0 + SNAPSHOT_WORDS;
+const WORDS: usize = COPY_1 + SNAPSHOT_WORDS;
+
+/// The most readers that a latch is opened with.
+const READERS_LIMIT: usize = 64;
+
+/// The page: a sequence word and two copies of a snapshot's words.
+///
+/// Its memory comes from the allocator that it was opened with.
+#[derive(Drop)]
+pub struct Latch<A: Allocator = Global> {
+    pub(crate) words: Words<A>,
+    /// The counter of all its snapshots.
+    pub(crate) desc: CounterDesc,
+}
+
+impl<A: Allocator> Model for Latch<A> {
+    ghost use Rattle.std.specs.Prelude.{◌≡◌};
+    ghost use Rattle.tk_latch.specs.Latch.{LatchId};
+
+    ghost Value = { LatchId };
+
+    ghost view = { λ a. record { table = a.words.shared.table_id; counter = a.desc } };
+
+    ghost invariant = { λ a.
+        (a.words.shared.table_id.words ≡ 21) × (a.words.shared.table_id.slots ≡ 0) };
+}
+
+impl<A: Allocator + Copy> Latch<A> {
+    ghost use Rattle.tk_latch.specs.Latch.{IsReaderCount, opened_writer, opened_reader};
+
+    /// A latch whose publication 0 is this snapshot, its writer, and so many readers that know of it.
+    ///
+    /// Count where fewer readers than 1 or more than 64 are asked for, then Memory.
+    pub fn open(
+        alloc: A,
+        snapshot: Snapshot,
+        readers: usize,
+    ) -> Result<(Latch<A>, LatchWriter, Vec<LatchReader, A>), LatchError>
+        requires opening { snapshot.front ≡ 0 }
+        ensures { MatchResult result
+            (λ opened. IsReaderCount readers × (opened.0.counter ≡ snapshot.base.counter)
+            × (opened.1 ≡ opened_writer opened.0 snapshot)
+            × (opened.2.items ≡ replicate readers (opened_reader opened.0 snapshot)))
+            (λ error. (error ≡ LatchError.Count) ↔ (¬ IsReaderCount readers)) }
+    {
+        if readers < 1 || readers > READERS_LIMIT {
+            return Err(LatchError::Count);
+        }
+        let Ok(mut seats) = Vec::with_capacity(alloc, readers) else {
+            return Err(LatchError::Memory);
+        };
+        let Ok((latch, mut writer)) = Latch::with_writer(alloc, snapshot) else {
+            return Err(LatchError::Memory);
+        };
+        for _ in 0..readers {
+            seats.push_reserved(latch.reader(&mut writer));
+        }
+        Ok((latch, writer, seats))
+    }
+
+    /// The words of a latch, both copies of this snapshot.
+    fn with_writer(alloc: A, snapshot: Snapshot) -> Result<(Latch<A>, LatchWriter), AllocError>
+        requires opening { snapshot.front ≡ 0 }
+        ensures { IfOk result (λ opened. (opened.0.counter ≡ snapshot.base.counter)
+            × (opened.1 ≡ opened_writer opened.0 snapshot)) }
+    {
+        let told = snapshot.words();
+        let mut words = [0; WORDS];
+        words[COPY_0..COPY_1].copy_from_slice(&told);
+        words[COPY_1..].copy_from_slice(&told);
+        let (words, seat) = Words::of_words(alloc, &words, &snapshot)?;
+        let latch = Latch {
+            words,
+            desc: snapshot.desc(),
+        };
+        Ok((latch, LatchWriter { seat, sequence: 0 }))
+    }
+}
+
+impl<A: Allocator> Latch<A> {
+    ghost use Rattle.tk_latch.specs.Latch.{told_reader};
+
+    /// One more reader, which knows what the writer knows.
+    fn reader(&self, writer: &mut LatchWriter) -> LatchReader
+        requires latch { writer.old.latch ≡ self.now }
+        ensures writer { writer.new ≡ writer.old }
+        ensures reader { result ≡ told_reader writer.old }
+    {
+        LatchReader {
+            seat: self.words.shared.split_seat::<Hands>(&mut writer.seat),
+            mark: writer.sequence / 2,
+        }
+    }
+
+    /// Tells a reader of the latest publication: its mark becomes that one, which isn't earlier than the mark was.
+    ///
+    /// It waits for nobody and takes no memory. Both come from this latch's `open`.
+    pub fn tell(&self, writer: &mut LatchWriter, reader: &mut LatchReader)
+        requires writer { writer.old.latch ≡ self.now }
+        requires reader { reader.old.latch ≡ self.now }
+        ensures writer { writer.new ≡ writer.old }
+        ensures reader { reader.new ≡ told_reader writer.old }
+        ensures extends { IsPrefix reader.old.publications writer.old.publications }
+    {
+        // 8. The reader has the writer's history, and the writer a note of what it knew.
+        let shared = &self.words.shared;
+        let told = shared.split_seat::<Hands>(&mut writer.seat);
+        let former = mem::replace(&mut reader.seat, told);
+        shared.join_seat::<KeepsNote>(&mut writer.seat, former);
+        // 9. The note is a beginning of the history.
+        shared.load::<Compares>(&mut writer.seat, SEQUENCE);
+        reader.mark = writer.sequence / 2;
+    }
+}

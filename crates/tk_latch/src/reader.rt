@@ -1,0 +1,122 @@
+ghost use Rattle.std.specs.Prelude.{◌≡◌, ◌+◌, ◌*◌, ◌%◌, length, MatchResult};
+ghost use mathlib.Core.List.{IsPrefix};
+ghost use Rattle.tk_latch.specs.Look.{IsLook, Gathered};
+ghost use Rattle.tk_latch.specs.Views.{resting, reading, found_by};
+
+use crate::errors::Moved;
+use crate::latch::{COPY_0, COPY_1, Latch, SEQUENCE, SNAPSHOT_WORDS};
+use crate::rule::{Begins, Ends, Loads, View};
+use atomic_table::Seat;
+use std::alloc::Allocator;
+use std::marker::Model;
+use tk_clock::Snapshot;
+
+/// One that reads a latch, with the publications that it knows of. The latest of them is its mark.
+#[derive(Drop)]
+pub struct LatchReader {
+    pub(crate) seat: Seat<(), View>,
+    pub(crate) mark: u64,
+}
+
+impl Model for LatchReader {
+    ghost use Rattle.std.specs.Prelude.{◌≡◌, ◌+◌, [], length};
+    ghost use Rattle.tk_latch.specs.Latch.{Learnt};
+    ghost use Rattle.tk_latch.specs.Views.{resting, found_by};
+
+    ghost Value = { Learnt };
+
+    ghost view = { λ a. record {
+      latch = record { table = a.seat.table_id; counter = a.seat.me.0.history.counter };
+      publications = a.seat.me.0.history.list;
+      found = found_by a.seat.me.0.role;
+    } };
+
+    ghost invariant = { λ a.
+        (a.seat.me.0 ≡ resting a.seat.me.0.history (found_by a.seat.me.0.role))
+        × (a.seat.me.1 ≡ []) × (a.mark + 1 ≡ length a.seat.me.0.history.list) };
+}
+
+impl LatchReader {
+    ghost use Rattle.tk_latch.specs.Latch.{IsRead, IsMoved};
+
+    /// The number of the latest publication that it knows of: 0 at first.
+    pub fn mark(&self) -> u64
+        ensures { result + 1 ≡ length self.now.publications }
+    {
+        self.mark
+    }
+
+    /// The latest publication, whole, which becomes the mark; or Moved, where the sequence didn't stay the same.
+    ///
+    /// Moved tells the two sequence numbers that this call found; the mark becomes half the second, rounded down. It
+    /// waits for nobody and takes no memory.
+    pub fn try_read<A: Allocator>(&mut self, latch: &Latch<A>) -> Result<Snapshot, Moved>
+        requires latch { self.old.latch ≡ latch.now }
+        ensures latch { self.new.latch ≡ self.old.latch }
+        ensures extends { IsPrefix self.old.publications self.new.publications }
+        ensures answer { MatchResult result
+            (λ snapshot. IsRead self.old self.new snapshot)
+            (λ moved. IsMoved self.old self.new moved.first moved.last) }
+    {
+        let Look { first, words, last } = look_twice(latch, &mut self.seat);
+        self.mark = last / 2;
+        if first != last {
+            return Err(Moved { first, last });
+        }
+        Ok(Snapshot::from_known_words(latch.desc, words))
+    }
+}
+
+/// What a read finds: the words, and the sequence before and after.
+struct Look {
+    first: u64,
+    words: [u64; SNAPSHOT_WORDS],
+    last: u64,
+}
+
+/// Loads the words of the copy that the sequence names, and looks at the sequence before and after.
+fn look_twice<A: Allocator>(latch: &Latch<A>, seat: &mut Seat<(), View>) -> Look
+    requires latch { seat.old.table_id ≡ latch.now.table }
+    requires reader { seat.old.me.0 ≡ resting seat.old.me.0.history (found_by seat.old.me.0.role) }
+    ensures latch { seat.new.table_id ≡ seat.old.table_id }
+    ensures carried { seat.new.me.1 ≡ seat.old.me.1 }
+    ensures look { IsLook seat.old.me.0 seat.new.me.0 result.first result.words result.last }
+{
+    let shared = &latch.words.shared;
+    // 5. The first look.
+    let first = shared.load::<Begins>(seat, SEQUENCE);
+    let words = gather(latch, seat, first);
+    // 7. The second look.
+    let last = shared.load::<Ends>(seat, SEQUENCE);
+    Look { first, words, last }
+}
+
+/// The words of the copy that the sequence names.
+fn gather<A: Allocator>(
+    latch: &Latch<A>,
+    seat: &mut Seat<(), View>,
+    first: u64,
+) -> [u64; SNAPSHOT_WORDS]
+    requires latch { seat.old.table_id ≡ latch.now.table }
+    requires reader { seat.old.me.0
+        ≡ reading seat.old.me.0.history (found_by seat.old.me.0.role) first first }
+    ensures latch { seat.new.table_id ≡ seat.old.table_id }
+    ensures carried { seat.new.me.1 ≡ seat.old.me.1 }
+    ensures words { Gathered seat.old.me.0 first result seat.new.me.0 10 }
+{
+    let shared = &latch.words.shared;
+    let copy = copy_named(first);
+    let mut words = [0; SNAPSHOT_WORDS];
+    for i in 0..SNAPSHOT_WORDS {
+        // 6. A word of the copy.
+        words[i] = shared.load::<Loads>(seat, copy + i);
+    }
+    words
+}
+
+/// Where the copy begins that a sequence names.
+fn copy_named(sequence: u64) -> usize
+    ensures { result ≡ 1 + 10 * (sequence % 2) }
+{
+    if sequence % 2 == 0 { COPY_0 } else { COPY_1 }
+}

@@ -1,0 +1,98 @@
+//! The steps of a latch: what each tells the seat that takes it.
+use super::View;
+use atomic_table::{Join, Play, Split};
+
+/// The sequence becomes odd.
+pub struct Opens;
+
+impl Play<(), View> for Opens {
+    ghost use Rattle.tk_latch.specs.Steps.{opened};
+
+    ghost then = { opened };
+}
+
+/// A word of the publication being made goes into copy 0.
+pub struct WritesWord;
+
+impl Play<(), View> for WritesWord {
+    ghost use Rattle.tk_latch.specs.Steps.{wrote_word};
+
+    ghost then = { wrote_word };
+}
+
+/// The sequence becomes even: the publication is made.
+pub struct Commits;
+
+impl Play<(), View> for Commits {
+    ghost use Rattle.tk_latch.specs.Steps.{committed};
+
+    ghost then = { committed };
+}
+
+/// A word of the latest publication goes into copy 1.
+pub struct CopiesWord;
+
+impl Play<(), View> for CopiesWord {
+    ghost use Rattle.tk_latch.specs.Steps.{copied_word};
+
+    ghost then = { copied_word };
+}
+
+/// A read begins with a look at the sequence.
+pub struct Begins;
+
+impl Play<(), View> for Begins {
+    ghost use Rattle.tk_latch.specs.Steps.{began};
+
+    ghost then = { began };
+}
+
+/// A reader loads a word.
+pub struct Loads;
+
+impl Play<(), View> for Loads {
+    ghost use Rattle.tk_latch.specs.Steps.{loaded};
+
+    ghost then = { loaded };
+}
+
+/// A read ends with a look at the sequence.
+pub struct Ends;
+
+impl Play<(), View> for Ends {
+    ghost use Rattle.tk_latch.specs.Steps.{ended};
+
+    ghost then = { ended };
+}
+
+/// The writer looks at the sequence, and so learns how a note stands to its history.
+pub struct Compares;
+
+impl Play<(), View> for Compares {
+    ghost use Rattle.tk_latch.specs.Steps.{compared};
+
+    ghost then = { compared };
+}
+
+/// The writer hands what it knows to a new reader.
+pub struct Hands;
+
+impl Split<View> for Hands {
+    ghost use Rattle.std.specs.Prelude.{[]};
+    ghost use Rattle.tk_latch.specs.Views.{resting};
+
+    ghost left = { λ view. view };
+
+    ghost right = { λ view. resting view.history [] };
+}
+
+/// The writer takes in a reader's seat, and notes what it had seen.
+pub struct KeepsNote;
+
+impl Join<View> for KeepsNote {
+    ghost use Rattle.tk_latch.specs.Views.{noting, spent};
+
+    ghost both = { λ writer reader. noting writer.history reader.history };
+
+    ghost spent = { spent };
+}

@@ -1,0 +1,117 @@
+ghost use Rattle.std.specs.Prelude.{◌≡◌, ◌+◌, ◌*◌, ◌<◌, length, []};
+ghost use Rattle.tk_latch.specs.Publications.{IsNext, pushed_told};
+ghost use Rattle.tk_latch.specs.Views.{making, copying};
+
+use crate::errors::PageFull;
+use crate::latch::{COPY_0, COPY_1, Latch, SEQUENCE, SNAPSHOT_WORDS};
+use crate::rule::{Commits, CopiesWord, Opens, View, WritesWord};
+use atomic_table::Seat;
+use std::alloc::Allocator;
+use std::marker::Model;
+use tk_clock::Snapshot;
+
+/// The greatest even sequence, that of the last publication.
+const SEQUENCE_LIMIT: u64 = u64::MAX - 1;
+
+/// The one that publishes in a latch. It knows every publication.
+#[derive(Drop)]
+pub struct LatchWriter {
+    pub(crate) seat: Seat<(), View>,
+    /// The sequence, which is even while the writer is at rest.
+    pub(crate) sequence: u64,
+}
+
+impl Model for LatchWriter {
+    ghost use Rattle.std.specs.Prelude.{◌≡◌, ◌+◌, ◌*◌, length};
+    ghost use Rattle.tk_latch.specs.Latch.{Published};
+    ghost use Rattle.tk_latch.specs.Views.{copying};
+
+    ghost Value = { Published };
+
+    ghost view = { λ a. record {
+      latch = record { table = a.seat.table_id; counter = a.seat.me.0.history.counter };
+      publications = a.seat.me.0.history.list;
+    } };
+
+    ghost invariant = { λ a.
+        (a.seat.me.0 ≡ copying a.seat.me.0.history 10)
+        × (a.sequence + 2 ≡ 2 * length a.seat.me.0.history.list) };
+}
+
+impl LatchWriter {
+    ghost use Rattle.std.specs.Prelude.{◌++◌, ◌∷◌, MatchResult};
+    ghost use Rattle.tk_latch.specs.Latch.{mark_of, most_publications};
+
+    /// Publishes a snapshot of the latch's counter, whose front is the number of this publication, from 1.
+    ///
+    /// PageFull where 2^63 - 1 were published: it then changes nothing. It waits for nobody and takes no memory.
+    pub fn publish<A: Allocator>(
+        &mut self,
+        latch: &Latch<A>,
+        snapshot: Snapshot,
+    ) -> Result<(), PageFull>
+        requires latch { self.old.latch ≡ latch.now }
+        requires counter { snapshot.base.counter ≡ latch.now.counter }
+        requires number { snapshot.front ≡ length self.old.publications }
+        ensures { MatchResult result
+            (λ _. (mark_of self.old.publications < most_publications)
+            × (self.new ≡ record self.old {
+              publications = self.old.publications ++ snapshot ∷ [];
+            }))
+            (λ _. (mark_of self.old.publications ≡ most_publications) × (self.new ≡ self.old)) }
+    {
+        if self.sequence >= SEQUENCE_LIMIT {
+            return Err(PageFull);
+        }
+        let words = snapshot.words();
+        make(latch, &mut self.seat, self.sequence + 1, &words);
+        commit(latch, &mut self.seat, self.sequence + 2, &words);
+        self.sequence += 2;
+        Ok(())
+    }
+}
+
+/// Writes copy 0, while readers take copy 1.
+fn make<A: Allocator>(
+    latch: &Latch<A>,
+    seat: &mut Seat<(), View>,
+    odd: u64,
+    words: &[u64; SNAPSHOT_WORDS],
+)
+    requires latch { seat.old.table_id ≡ latch.now.table }
+    requires writer { seat.old.me.0 ≡ copying seat.old.me.0.history 10 }
+    requires odd { odd + 1 ≡ 2 * length seat.old.me.0.history.list }
+    ensures latch { seat.new.table_id ≡ seat.old.table_id }
+    ensures writer { seat.new.me.0 ≡ making seat.old.me.0.history words.now }
+{
+    let shared = &latch.words.shared;
+    // 1. Readers turn to copy 1.
+    shared.store::<Opens>(seat, SEQUENCE, odd);
+    for i in 0..SNAPSHOT_WORDS {
+        // 2. A word goes into copy 0.
+        shared.store::<WritesWord>(seat, COPY_0 + i, words[i]);
+    }
+}
+
+/// Publishes what is in copy 0, and writes copy 1, while readers take copy 0.
+fn commit<A: Allocator>(
+    latch: &Latch<A>,
+    seat: &mut Seat<(), View>,
+    even: u64,
+    words: &[u64; SNAPSHOT_WORDS],
+)
+    requires latch { seat.old.table_id ≡ latch.now.table }
+    requires next { IsNext seat.old.me.0.history words.now }
+    requires writer { seat.old.me.0 ≡ making seat.old.me.0.history words.now }
+    requires even { even ≡ 2 * length seat.old.me.0.history.list }
+    ensures latch { seat.new.table_id ≡ seat.old.table_id }
+    ensures writer { seat.new.me.0 ≡ copying (pushed_told seat.old.me.0.history words.now) 10 }
+{
+    let shared = &latch.words.shared;
+    // 3. Readers turn to copy 0: the publication is made.
+    shared.store::<Commits>(seat, SEQUENCE, even);
+    for i in 0..SNAPSHOT_WORDS {
+        // 4. A word goes into copy 1.
+        shared.store::<CopiesWord>(seat, COPY_1 + i, words[i]);
+    }
+}
