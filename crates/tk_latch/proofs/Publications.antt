@@ -1,6 +1,6 @@
 -- Publications, one more of them, and the latest.
 use Rattle.std.proofs.Common.{◌≡◌, ℕ, suc, ◌+◌, ◌-◌, ◌<◌, ◌≤◌, List, [], ◌∷◌, ◌++◌, length, Some, slice_get, refl, ap, sym, ◌∙◌, subst, arith}
-use Rattle.std.specs.Prelude.{IsSome}
+use Rattle.std.specs.Prelude.{Option, None, IsSome, IfSome, slice_index}
 use Rattle.std.proofs.lemmas.Option.{same_Some}
 use Rattle.tk_counter.specs.Counter.{Counter}
 use Rattle.tk_clock.specs.Snapshot.{Snapshot}
@@ -17,6 +17,17 @@ pub told_is : (counter : Counter) (words : List ℕ) (snapshot : Snapshot) → r
 told_is counter words snapshot is =
     let told = told-restored counter words (subst IsSome (sym is) refl) in
     same_Some (snapshot_told counter words) snapshot (sym (restored-told counter words told.range told.within) ∙ is)
+
+-- the front and the counter of a snapshot that words restore
+pub restored_parts : (counter : Counter) (words : List ℕ) (front : ℕ) → slice_index words 0 ≡ front →
+    IfSome (restored counter words) (λ snapshot. (snapshot.front ≡ front) × (snapshot.base.counter ≡ counter))
+restored_parts counter words front is = by (restored counter words) refl
+  where
+    by : (told : Option Snapshot) → restored counter words ≡ told →
+        IfSome told (λ snapshot. (snapshot.front ≡ front) × (snapshot.base.counter ≡ counter))
+    by None e = tt
+    by (Some snapshot) e =
+        let same = sym (told_is counter words snapshot e) in (ap (λ s. s.front) same ∙ is, ap (λ s. s.base.counter) same)
 
 -- the words of a snapshot of the counter whose front is the next number tell the next publication
 pub next_told : (history : History) (snapshot : Snapshot) → restored snapshot.base.counter (words_of snapshot) ≡ Some snapshot →

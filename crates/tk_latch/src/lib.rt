@@ -22,3 +22,6 @@ pub use errors::{LatchError, Moved, PageFull};
 pub use latch::Latch;
 pub use reader::LatchReader;
 pub use writer::LatchWriter;
+
+#[cfg(test)]
+mod tests;
