@@ -7,7 +7,7 @@ use Rattle.tk_clock.specs.Snapshot.{Snapshot}
 use Rattle.tk_clock.specs.Words.{words_of, restored, snapshot_told}
 use Rattle.tk_clock.proofs.Words.{told-restored, restored-told}
 use Rattle.tk_latch.specs.declared.rule.History.{History}
-use Rattle.tk_latch.specs.Publications.{latest_words, IsPublication, AreNumbered, IsBeginning, pushed, IsNext}
+use Rattle.tk_latch.specs.Publications.{latest_words, IsPublication, AreNumbered, IsBeginning}
 use Rattle.tk_latch.specs.Look.{AreLatest}
 use Rattle.tk_latch.proofs.Prefixes.{prefix_self, prefix_trans, prefix_whole}
 
@@ -28,19 +28,6 @@ restored_parts counter words front is = by (restored counter words) refl
     by None e = tt
     by (Some snapshot) e =
         let same = sym (told_is counter words snapshot e) in (ap (λ s. s.front) same ∙ is, ap (λ s. s.base.counter) same)
-
--- the words of a snapshot of the counter whose front is the next number tell the next publication
-pub next_told : (history : History) (snapshot : Snapshot) → restored snapshot.base.counter (words_of snapshot) ≡ Some snapshot →
-    snapshot.base.counter ≡ history.counter → snapshot.front ≡ length history.list →
-    IsNext history (words_of snapshot) × (snapshot_told history.counter (words_of snapshot) ≡ snapshot)
-next_told history snapshot back counter front =
-    let told : restored history.counter (words_of snapshot) ≡ Some snapshot =
-    ap (λ c. restored c (words_of snapshot)) (sym counter) ∙ back in
-    let is = told_is history.counter (words_of snapshot) snapshot told in
-    (record {
-      publication = subst (IsPublication history.counter (length history.list)) (sym is) (record { told = told; front = front });
-      words_again = ap words_of is;
-    }, is)
 
 pub begins_self : (history : History) → IsBeginning history history
 begins_self history = (refl, prefix_self history.list)

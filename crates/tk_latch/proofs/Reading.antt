@@ -3,9 +3,8 @@ use Rattle.std.proofs.Common.{◌≡◌, ℕ, ◌+◌, ◌*◌, ◌%◌, ◌<◌
 use Rattle.std.proofs.lemmas.List.{ext_get_or}
 use Rattle.std.proofs.lemmas.Option.{same_Some}
 use mathlib.Core.Logic.{dite}
-use mathlib.Core.Option.{some, none}
+use mathlib.Core.Option.{none}
 use native.Mathlib.Decide.{ℕ_discrete}
-use lib.ListN.{get_elem?}
 use Rattle.atomic_table.specs.Table.{step, keeps, Allows}
 use Rattle.atomic_table.specs.Seated.{TableId}
 use Rattle.tk_clock.specs.Snapshot.{Snapshot}
@@ -22,7 +21,7 @@ use Rattle.tk_latch.specs.Views.{resting, reading, found_by}
 use Rattle.tk_latch.specs.Look.{Gathered, AreLatest, IsLook}
 use Rattle.tk_latch.proofs.Prefixes.{prefix_length}
 use Rattle.tk_latch.proofs.Publications.{told_is, begins_self, begins_trans, begins_whole, are_latest, latest_long}
-use Rattle.tk_latch.proofs.Keeping.{Words, word, history_of, known_of, unmoved, counted}
+use Rattle.tk_latch.proofs.Keeping.{word, history_of, known_of, unmoved, counted}
 
 -- the copy that the sequence names is the latest publication
 named : (words : List ℕ) (list : List Snapshot) (role : Role) → Copies words list role → (n i : ℕ) → n ≡ get_or words 0 0 → i < 10 →
@@ -148,7 +147,7 @@ gathers_one begun first words old new i x g now is later inside right =
       length-set words i x ∙ long,
       λ still j l. dite (ℕ_discrete j i)
           (λ e. ap (λ (z : ℕ). get_or (set words i x) z 0) e
-              ∙ (get_or-set_same words i x 0 (omega arith) ∙ (right still ∙ ap (λ (z : ℕ). get_or (latest_words begun.history.list) z 0) (sym e))))
+          ∙ (get_or-set_same words i x 0 (omega arith) ∙ (right still ∙ ap (λ (z : ℕ). get_or (latest_words begun.history.list) z 0) (sym e))))
           (λ other. get_or-set_other words i j x 0 other ∙ g.4 (omega arith) j (omega arith)),
     )
 

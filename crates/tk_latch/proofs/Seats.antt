@@ -1,5 +1,5 @@
 -- Handing what the writer knows to a reader, and noting what a reader knew, keep the rule.
-use Rattle.std.proofs.Common.{◌≡◌, ◌≢◌, ◌⊎◌, ℕ, List, [], ◌∷◌, ◌++◌, get_or, set, refl, sym, ap, ◌∙◌, subst, ⊎_elim}
+use Rattle.std.proofs.Common.{◌≡◌, ◌≢◌, ℕ, List, [], set, refl, sym, ap, ◌∙◌, subst, ⊎_elim}
 use mathlib.Core.Option.{some, none}
 use lib.ListN.{get_elem?}
 use Rattle.atomic_table.specs.Table.{step, keeps, Allows, Splits, Joins}
@@ -7,7 +7,7 @@ use Rattle.atomic_table.proofs.Lists.{at_set, at_snoc, set_again}
 use Rattle.tk_latch.specs.declared.rule.History.{History}
 use Rattle.tk_latch.specs.declared.rule.View.{View}
 use Rattle.tk_latch.specs.declared.rule.Role.{Role}
-use Rattle.tk_latch.specs.declared.rule.Role.TheVariants.{Spent, Resting, Reading, Making, Copying, Noting}
+use Rattle.tk_latch.specs.declared.rule.Role.TheVariants.{Noting}
 use Rattle.tk_latch.specs.Publications.{IsBeginning}
 use Rattle.tk_latch.specs.Rule.{Knows, Latched}
 use Rattle.tk_latch.specs.Steps.{Seated, compared}
@@ -30,7 +30,7 @@ hands id view history is s r at =
       copies = r.copies;
       each = λ seat u e. ⊎_elim (λ h. r.each seat u (subst (λ l. get_elem? l seat ≡ some u) (set_again s.views id view at) h))
           (λ (t : new ≡ u). subst (λ (x : View). Knows (word s 0) r.history r.role r.writer seat x.history x.role) t
-              (subst (λ h. IsBeginning h r.history) (sym same) (begins_self r.history)))
+          (subst (λ h. IsBeginning h r.history) (sym same) (begins_self r.history)))
           (at_snoc (set s.views id view) new u seat e);
     }
 

@@ -1,5 +1,5 @@
 -- Each step of the writer keeps the rule.
-use Rattle.std.proofs.Common.{◌≡◌, ◌≢◌, ℕ, zero, suc, ◌+◌, ◌*◌, ◌<◌, ◌≤◌, List, [], ◌∷◌, ◌++◌, length, get_or, set, refl, sym, ap, ◌∙◌, subst, arith, length-append, get_or-set_other, get_or-set_same, add-one}
+use Rattle.std.proofs.Common.{◌≡◌, ℕ, zero, suc, ◌+◌, ◌*◌, ◌<◌, ◌≤◌, List, [], ◌∷◌, ◌++◌, length, get_or, set, refl, sym, ap, ◌∙◌, subst, arith, length-append, get_or-set_other, get_or-set_same, add-one}
 use Rattle.std.proofs.Math.ListN.{get_or-append}
 use Rattle.std.proofs.lemmas.List.{get_or-append-add}
 use mathlib.Core.Logic.{dite}
@@ -8,13 +8,13 @@ use native.Mathlib.Decide.{ℕ_discrete}
 use lib.ListN.{get_elem?}
 use Rattle.atomic_table.specs.Table.{step, keeps, Allows, opening}
 use Rattle.tk_clock.specs.Snapshot.{Snapshot}
-use Rattle.tk_clock.specs.Words.{words_of, restored, snapshot_told}
+use Rattle.tk_clock.specs.Words.{words_of, snapshot_told}
 use Rattle.tk_latch.specs.declared.rule.History.{History}
 use Rattle.tk_latch.specs.declared.rule.View.{View}
 use Rattle.tk_latch.specs.declared.rule.Role.{Role}
-use Rattle.tk_latch.specs.declared.rule.Role.TheVariants.{Spent, Resting, Reading, Making, Copying, Noting}
+use Rattle.tk_latch.specs.declared.rule.Role.TheVariants.{Making, Copying}
 use Rattle.tk_latch.specs.Publications.{latest_words, IsPublication, AreNumbered, IsBeginning, opening_of, pushed, pushed_told, IsNext}
-use Rattle.tk_latch.specs.Rule.{started, InCopy0, InCopy1, Copies, Knows, Latched}
+use Rattle.tk_latch.specs.Rule.{started, Copies, Knows, Latched}
 use Rattle.tk_latch.specs.Steps.{Seated, opened, wrote_word, committed, copied_word}
 use Rattle.tk_latch.specs.Views.{making, copying}
 use Rattle.tk_latch.proofs.Publications.{begins_self, latest_words-push, numbered_push}
@@ -92,10 +92,10 @@ writes_word slots id me history written k x is place room s r _ at _ =
         (λ i l. get_or-set_other s.words k (i + 11) x 0 (λ e. omega arith) ∙ copies.2 i l),
         (λ i l. dite (ℕ_discrete i (length written))
             (λ e. let here : i + 1 ≡ k = omega arith in
-                ap (λ (z : ℕ). get_or (set s.words k x) z 0) here
-                ∙ (get_or-set_same s.words k x 0 (omega arith) ∙ sym (get_or-push_new written x i e)))
+            ap (λ (z : ℕ). get_or (set s.words k x) z 0) here
+            ∙ (get_or-set_same s.words k x 0 (omega arith) ∙ sym (get_or-push_new written x i e)))
             (λ other. let h : i < length written = omega (arith, long) in
-                get_or-set_other s.words k (i + 1) x 0 (λ e. other (omega arith)) ∙ (copies.3 i h ∙ sym (get_or-push_old written x i h)))),
+            get_or-set_other s.words k (i + 1) x 0 (λ e. other (omega arith)) ∙ (copies.3 i h ∙ sym (get_or-push_old written x i h)))),
       )
           (known.0, refl, refl),
       λ history' written' is'. ap (λ (v : View). with_word x v.history v.role) (sym is ∙ is'),
@@ -150,8 +150,8 @@ copies_word slots id me history count i x is place room right s r _ at _ =
         (λ j l. get_or-set_other s.words i (j + 1) x 0 (λ e. omega arith) ∙ copies.2 j l),
         (λ j l. dite (ℕ_discrete j count)
             (λ e. let here : j + 11 ≡ i = omega arith in
-                ap (λ (z : ℕ). get_or (set s.words i x) z 0) here
-                ∙ (get_or-set_same s.words i x 0 (omega arith) ∙ (right ∙ ap (λ (z : ℕ). get_or (latest_words history.list) z 0) (sym e))))
+            ap (λ (z : ℕ). get_or (set s.words i x) z 0) here
+            ∙ (get_or-set_same s.words i x 0 (omega arith) ∙ (right ∙ ap (λ (z : ℕ). get_or (latest_words history.list) z 0) (sym e))))
             (λ other. get_or-set_other s.words i (j + 11) x 0 (λ e. other (omega arith)) ∙ copies.3 j (omega arith))),
       )
           (known.0, refl, refl),

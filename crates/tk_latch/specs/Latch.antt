@@ -1,5 +1,5 @@
 -- What a latch's writer and readers know, and what a read tells (Documentation/locking/seqlock.rst, seqcount_latch_t).
-use Rattle.std.specs.Prelude.{◌≡◌, ℕ, ◌+◌, ◌-◌, ◌*◌, ◌/◌, ◌^◌, ◌<◌, ◌≤◌, List, [], ◌∷◌, ◌++◌, length, slice_get, Some}
+use Rattle.std.specs.Prelude.{◌≡◌, ℕ, ◌-◌, ◌*◌, ◌/◌, ◌^◌, ◌<◌, ◌≤◌, List, [], ◌∷◌, ◌++◌, length, slice_get, Some}
 use Rattle.atomic_table.specs.Seated.{TableId}
 use Rattle.tk_counter.specs.Counter.{Counter}
 use Rattle.tk_clock.specs.Snapshot.{Snapshot}

@@ -48,8 +48,11 @@ pub(crate) const SNAPSHOT_WORDS: usize = 10;
 
 /// Where the sequence and the copies stand among the words, and how many words there are.
 pub(crate) const SEQUENCE: usize = 0;
+
 pub(crate) const COPY_0: usize = 1;
+
 pub(crate) const COPY_1: usize = COPY_0 + SNAPSHOT_WORDS;
+
 const WORDS: usize = COPY_1 + SNAPSHOT_WORDS;
 
 /// The most readers that a latch is opened with.

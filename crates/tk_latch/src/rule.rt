@@ -2,13 +2,12 @@
 
 mod steps;
 
-pub(crate) use steps::{
-    Begins, Commits, Compares, CopiesWord, Ends, Hands, KeepsNote, Loads, Opens, WritesWord,
-};
-
 use atomic_table::{Table, TableRule};
 use std::alloc::Global;
 use std::collections::LinkedList;
+pub(crate) use steps::{
+    Begins, Commits, Compares, CopiesWord, Ends, Hands, KeepsNote, Loads, Opens, WritesWord,
+};
 use tk_clock::Snapshot;
 use tk_counter::CounterDesc;
 

@@ -8,7 +8,10 @@ fn the_opening_is_read_by_each_of_1_to_64_readers(rt: HostRuntime) -> Result<(),
     let clock = opened()?;
     for count in [0, 65] {
         let refused = Latch::open(rt.alloc(), clock.snapshot(0), count);
-        assert!(rt; matches!(refused, Err(LatchError::Count)), "{count} readers");
+        assert!(rt;
+            matches!(refused, Err(LatchError::Count)),
+            "{count} readers"
+        );
     }
     for count in [1, 64] {
         let (latch, _writer, readers) = Latch::open(rt.alloc(), clock.snapshot(0), count)?;

@@ -23,7 +23,16 @@ fn words_at(number: u64) -> [u64; 10]
     let sec = last / 1_000_000_000;
     let frac = last % 1_000_000_000 << 24;
     [
-        number, last, 16_777_216, frac, sec, OPENED_REAL, 0, 0, frac, sec,
+        number,
+        last,
+        16_777_216,
+        frac,
+        sec,
+        OPENED_REAL,
+        0,
+        0,
+        frac,
+        sec,
     ]
 }
 

@@ -1,4 +1,4 @@
-use Rattle.std.proofs.Common.{rules, refl, sym, ap, ◌∙◌, get_or, List, ℕ}
+use Rattle.std.proofs.Common.{rules, sym, ap, ◌∙◌, get_or, List, ℕ}
 use Rattle.tk_clock.specs.Words.{snapshot_told}
 use Rattle.tk_latch.proofs.Publications.{latest_words-push}
 use Rattle.tk_latch.proofs.Writing.{commits, copies_word}
@@ -11,9 +11,12 @@ pub store-requires-in-loop-i : goal.store-requires-in-loop-i
 store-requires-in-loop-i g c =
     let history = c.args.seat.now.me.0.history in
     let told = snapshot_told history.counter c.args.words.now in
-    let shown = latest_words-push history.list told ∙ c.requires.next.words_again in
-    (search rules, search rules, copies_word _ _ _ _ _ _ _ c.loop-i.invariant.writer (search rules) (search rules)
-    (ap (λ (p : List ℕ). get_or p c.loop-i.i 0) (sym shown)))
+    let shown = latest_words-push history.list told ∙ c.requires.next.words_again in (
+      search rules,
+      search rules,
+      copies_word _ _ _ _ _ _ _ c.loop-i.invariant.writer (search rules) (search rules)
+          (ap (λ (p : List ℕ). get_or p c.loop-i.i 0) (sym shown)),
+    )
 
 pub loop-i-preserved : goal.loop-i-preserved
 loop-i-preserved g c =

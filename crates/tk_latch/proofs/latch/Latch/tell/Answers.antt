@@ -1,4 +1,4 @@
-use Rattle.std.proofs.Common.{◌*◌, length, rules, sym, ap, ◌∙◌, subst, List, ℕ}
+use Rattle.std.proofs.Common.{◌*◌, length, rules, sym, ap, ◌∙◌, subst, List}
 use mathlib.Core.List.{IsPrefix}
 use Rattle.atomic_table.specs.Seated.{TableId}
 use Rattle.tk_clock.specs.Snapshot.{Snapshot}
@@ -15,9 +15,13 @@ pub join_seat-requires : goal.join_seat-requires
 join_seat-requires g c =
     let kept = ap (λ m. m.0) c.split_seat-told.ensures.2 in
     let seen = ap (λ s. s.me.0) c.replace-former.ensures.value in
-    let none = ap (λ s. s.me.1) c.replace-former.ensures.value in
-    (search rules, search rules, none ∙ c.reader.invariant.1, search rules,
-    notes _ _ _ _ _ _ _ (kept ∙ c.writer.invariant.0) (seen ∙ c.reader.invariant.0))
+    let none = ap (λ s. s.me.1) c.replace-former.ensures.value in (
+      search rules,
+      search rules,
+      none ∙ c.reader.invariant.1,
+      search rules,
+      notes _ _ _ _ _ _ _ (kept ∙ c.writer.invariant.0) (seen ∙ c.reader.invariant.0),
+    )
 
 pub load-requires : goal.load-requires
 load-requires g c =
@@ -28,9 +32,10 @@ invariant_of-writer g c =
     let both = ap (λ m. m.0) c.join_seat.ensures.2 in
     let kept = ap (λ m. m.0) c.split_seat-told.ensures.2 in
     let now = (c.load.ensures.2 _ _ both).0 in
-    let same = ap (λ v. v.history) now ∙ ap (λ v. v.history) kept in
-    (now ∙ ap (λ h. copying h 10) (sym (ap (λ v. v.history) now)),
-    c.writer.invariant.1 ∙ ap (λ (h : History). 2 * length h.list) (sym same))
+    let same = ap (λ v. v.history) now ∙ ap (λ v. v.history) kept in (
+      now ∙ ap (λ h. copying h 10) (sym (ap (λ v. v.history) now)),
+      c.writer.invariant.1 ∙ ap (λ (h : History). 2 * length h.list) (sym same),
+    )
 
 pub returns-clause-writer : goal.returns-clause-writer
 returns-clause-writer g c =

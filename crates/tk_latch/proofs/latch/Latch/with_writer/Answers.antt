@@ -1,6 +1,5 @@
-use Rattle.std.proofs.Common.{◌≡◌, ◌∷◌, ◌++◌, rules}
+use Rattle.std.proofs.Common.{rules}
 use Rattle.std.proofs.lemmas.Grind.{common_steps}
-use Rattle.tk_clock.specs.Words.{words_of}
 use Rattle.tk_latch.proofs.Writing.{begins}
 use Rattle.tk_latch.proofs.latch.Latch.with_writer.Goals as goal
 
