@@ -1,4 +1,5 @@
--- What a latch's writer and readers know, and what a read tells (Documentation/locking/seqlock.rst, seqcount_latch_t).
+-- What a latch's writer and readers know, and what a read tells (seqcount_latch_t in
+-- Documentation/locking/seqlock.rst).
 use Rattle.std.specs.Prelude.{◌≡◌, ℕ, ◌-◌, ◌*◌, ◌/◌, ◌^◌, ◌<◌, ◌≤◌, List, [], ◌∷◌, ◌++◌, length, slice_get, Some}
 use Rattle.atomic_table.specs.Seated.{TableId}
 use Rattle.tk_counter.specs.Counter.{Counter}
@@ -14,7 +15,8 @@ pub record Published : Type 0 where
   pub latch : LatchId
   pub publications : List Snapshot
 
--- what a reader knows: the first of the publications, and in order the sequence numbers that its loads have found
+-- what a reader knows: the first of the publications, and in order the sequence numbers that its
+-- loads have found
 pub record Learnt : Type 0 where
   pub latch : LatchId
   pub publications : List Snapshot
@@ -43,8 +45,8 @@ opened_reader latch opening = record { latch = latch; publications = opening ∷
 abbrev pub told_reader : Published → Learnt
 told_reader writer = record { latch = writer.latch; publications = writer.publications; found = [] }
 
--- a read that found one sequence number at both of its looks: the answer is publication k, whole and with front k; it is the
--- latest that the reader now knows of, and not earlier than its mark was
+-- a read that found one sequence number at both of its looks: the answer is publication k, whole
+-- and with front k; it is the latest that the reader now knows of, and not earlier than its mark
 pub record IsRead (old new : Learnt) (snapshot : Snapshot) : Type 0 where
   pub whole : slice_get new.publications snapshot.front ≡ Some snapshot
   pub counter : snapshot.base.counter ≡ new.latch.counter
@@ -54,8 +56,8 @@ pub record IsRead (old new : Learnt) (snapshot : Snapshot) : Type 0 where
   pub found : new.found ≡ old.found ++ sequence ∷ sequence ∷ []
   pub half : sequence / 2 ≡ snapshot.front
 
--- a read whose looks found two sequence numbers, the first not before the mark: the mark is then the latest publication when the
--- second was found
+-- a read whose looks found two sequence numbers, the first not before the mark: the mark is then
+-- the latest publication when the second was found
 pub record IsMoved (old new : Learnt) (first last : ℕ) : Type 0 where
   pub found : new.found ≡ old.found ++ first ∷ last ∷ []
   pub from : 2 * mark_of old.publications ≤ first

@@ -8,11 +8,14 @@ use Rattle.tk_latch.specs.Publications.{latest_words, IsBeginning}
 use Rattle.tk_latch.specs.Rule.{Counts}
 use Rattle.tk_latch.specs.Views.{resting, reading, found_by}
 
--- the first so many words that were loaded are the latest publication's, where the sequence is still that of the beginning
+-- the first so many words that were loaded are the latest publication's, where the sequence is
+-- still that of the beginning
 abbrev pub Gathered : View → ℕ → List ℕ → View → ℕ → Type 0
 Gathered begun first words view count =
-    (now : ℕ) × (view ≡ reading begun.history (found_by begun.role) first now) × (first ≤ now) × (length words ≡ 10)
-    × (now ≤ first → (i : ℕ) → i < count → slice_index words i ≡ slice_index (latest_words begun.history.list) i)
+    (now : ℕ) × (view ≡ reading begun.history (found_by begun.role) first now) × (first ≤ now)
+    × (length words ≡ 10)
+    × (now ≤ first → (i : ℕ) → i < count →
+    slice_index words i ≡ slice_index (latest_words begun.history.list) i)
 
 -- these words are a publication's, the latest of the history
 pub record AreLatest (history : History) (words : List ℕ) : Type 0 where

@@ -20,7 +20,8 @@ pub record IsPublication (counter : Counter) (k : ℕ) (snapshot : Snapshot) : T
 -- these are the publications k, k + 1, and so on
 abbrev pub AreNumbered : Counter → ℕ → List Snapshot → Type 0
 AreNumbered counter k [] = Unit {0}
-AreNumbered counter k (snapshot ∷ more) = IsPublication counter k snapshot × AreNumbered counter (k + 1) more
+AreNumbered counter k (snapshot ∷ more) =
+    IsPublication counter k snapshot × AreNumbered counter (k + 1) more
 
 -- a history over the same counter, with the first of the publications
 abbrev pub IsBeginning : History → History → Type 0
@@ -40,5 +41,6 @@ pushed_told history words = pushed history (snapshot_told history.counter words)
 
 -- these words tell the next publication
 pub record IsNext (history : History) (words : List ℕ) : Type 0 where
-  pub publication : IsPublication history.counter (length history.list) (snapshot_told history.counter words)
+  pub publication :
+      IsPublication history.counter (length history.list) (snapshot_told history.counter words)
   pub words_again : words_of (snapshot_told history.counter words) ≡ words

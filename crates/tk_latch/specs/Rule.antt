@@ -15,15 +15,17 @@ use Rattle.tk_latch.specs.Views.{copying}
 abbrev pub started : Snapshot → View
 started opening = copying (opening_of opening) 10
 
--- these words stand in copy 0, which begins at word 1, or in copy 1, which begins at word 11: the first so many of them
+-- the first so many of these words stand in copy 0, which begins at word 1, or in copy 1, which
+-- begins at word 11
 abbrev pub InCopy0 : List ℕ → ℕ → List ℕ → Type 0
 InCopy0 words count copy = (i : ℕ) → i < count → slice_index words (i + 1) ≡ slice_index copy i
 
 abbrev pub InCopy1 : List ℕ → ℕ → List ℕ → Type 0
 InCopy1 words count copy = (i : ℕ) → i < count → slice_index words (i + 11) ≡ slice_index copy i
 
--- Word 0 is the sequence: twice the number of the latest publication, and 1 more while one is being made. While it is odd, copy 1
--- is the latest publication, and the writer's words are in copy 0. While it is even, copy 0 is it, and so much of copy 1
+-- Word 0 is the sequence: twice the number of the latest publication, and 1 more while one is being
+-- made. While it is odd, copy 1 is the latest publication, and the words that the writer has
+-- written are in copy 0. While it is even, copy 0 is it, and copy 1 agrees in so many words
 abbrev pub Copies : List ℕ → List Snapshot → Role → Type 0
 Copies words list (Making written) =
     (slice_index words 0 + 2 ≡ 2 * length list + 1) × (length written ≤ 10)
@@ -37,15 +39,18 @@ Copies words list _ = ⊥
 abbrev pub Counts : List Snapshot → ℕ → Type 0
 Counts list sequence = (2 * length list ≤ sequence + 2) × (sequence + 1 ≤ 2 * length list)
 
--- what holds of what a seat knows: a reader's history is a beginning of the publications, and the writer's is all of them
+-- what holds of what a seat knows: a reader's history is a beginning of the publications, and the
+-- writer's is all of them
 module _ (sequence : ℕ) (history : History) (role : Role) (writer seat : ℕ) where
   abbrev pub Knows : History → Role → Type 0
   Knows known Spent = Unit {0}
   Knows known (Resting found) = IsBeginning known history
-  Knows known (Reading found first now) = IsBeginning known history × Counts known.list first × (first ≤ now) × (now ≤ sequence)
+  Knows known (Reading found first now) =
+      IsBeginning known history × Counts known.list first × (first ≤ now) × (now ≤ sequence)
   Knows known (Making written) = (seat ≡ writer) × (known ≡ history) × (role ≡ Making written)
   Knows known (Copying count) = (seat ≡ writer) × (known ≡ history) × (role ≡ Copying count)
-  Knows known (Noting note) = (seat ≡ writer) × (known ≡ history) × (role ≡ Copying 10) × IsBeginning note history
+  Knows known (Noting note) =
+      (seat ≡ writer) × (known ≡ history) × (role ≡ Copying 10) × IsBeginning note history
 
 -- the rule: there is one history and one writer, whose role tells what the copies hold
 pub record Latched (state : State (Unit {0}) View) : Type 0 where

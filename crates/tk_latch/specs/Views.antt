@@ -27,7 +27,10 @@ noting history note = record { history = history; role = Noting note }
 
 -- a seat that was joined to another
 abbrev pub spent : View
-spent = record { history = record { counter = record { bits = 0; mult = 0; shift = 0 }; list = [] }; role = Spent }
+spent = record {
+  history = record { counter = record { bits = 0; mult = 0; shift = 0 }; list = [] };
+  role = Spent;
+}
 
 -- the sequence numbers that a reader's loads have found, in order
 abbrev pub found_by : Role → List ℕ

@@ -1,12 +1,14 @@
 //! A snapshot in two copies, so that one of them is always whole.
 //!
-//! The words are the sequence, copy 0 and copy 1. The sequence is twice the number of the latest publication, and 1
-//! more while the next one is being made:
+//! The words are the sequence, copy 0 and copy 1. The sequence is twice the number of the latest
+//! publication, and 1 more while the next one is being made:
 //!
-//! - even: at rest. Copy 0 is whole and is the latest publication; copy 1 may still be of the one before.
+//! - even: at rest. Copy 0 is whole and is the latest publication; copy 1 may still be of the one
+//!   before.
 //! - odd: copy 0 is being written. Copy 1 is whole and is the latest publication.
 //!
-//! So the copy to read is always that of the lowest bit, `sequence & 1`. Each step is one load or one store.
+//! So the copy to read is always that of the lowest bit, `sequence & 1`. Each step is one load or
+//! one store.
 //!
 //! The writer publishes:
 //!
@@ -19,17 +21,20 @@
 //!
 //! 5. It looks at the sequence.
 //! 6. It loads each word of the copy that the sequence names.
-//! 7. It looks at the sequence again. The same number: the words are one publication, whole. Another one: the words
-//!    may be of two, and the answer is `Moved`.
+//! 7. It looks at the sequence again. The same number: the words are one publication, whole.
+//!    Another one: the words may be of two, and the answer is `Moved`.
 //!
 //! A reader is told of what was published (`tell`):
 //!
 //! 8. It is handed the writer's history, and what it knew goes to the writer as a note.
 //! 9. The writer looks at the sequence: the note is a beginning of its history.
 //!
-//! Nobody waits. A read takes 12 loads whatever the writer does, so it may be called where nothing may wait, as in an
-//! interrupt; what it doesn't promise is that `Moved` ever ends while others publish. A publication takes 22 stores.
-//! This is the kernel's `seqcount_latch_t` (Documentation/locking/seqlock.rst, include/linux/seqlock.h).
+//! `try_read` waits for nobody: it takes 12 loads whatever the writer does, so it may be called
+//! where nothing may wait, as in an interrupt. It doesn't promise that `Moved` ever ends while
+//! others publish. `publish` takes 22 stores and waits for nobody either, nor does `tell`.
+//!
+//! This is the kernel's `seqcount_latch_t` (Documentation/locking/seqlock.rst,
+//! include/linux/seqlock.h).
 ghost use Rattle.std.specs.Prelude.{◌≡◌, ◌↔◌, replicate, IfOk, MatchResult};
 ghost use mathlib.Core.List.{IsPrefix};
 
@@ -83,7 +88,8 @@ impl<A: Allocator> Model for Latch<A> {
 impl<A: Allocator + Copy> Latch<A> {
     ghost use Rattle.tk_latch.specs.Latch.{IsReaderCount, opened_writer, opened_reader};
 
-    /// A latch whose publication 0 is this snapshot, its writer, and so many readers that know of it.
+    /// A latch whose publication 0 is this snapshot, its writer, and so many readers that know
+    /// of it.
     ///
     /// Count where fewer readers than 1 or more than 64 are asked for, then Memory.
     pub fn open(
@@ -147,7 +153,8 @@ impl<A: Allocator> Latch<A> {
         }
     }
 
-    /// Tells a reader of the latest publication: its mark becomes that one, which isn't earlier than the mark was.
+    /// Tells a reader of the latest publication: its mark becomes that one, which isn't earlier
+    /// than the mark was.
     ///
     /// It waits for nobody and takes no memory. Both come from this latch's `open`.
     pub fn tell(&self, writer: &mut LatchWriter, reader: &mut LatchReader)

@@ -4,12 +4,12 @@
 //! |---|---|
 //! | `Latch` | the page: a sequence word and two copies of a snapshot's ten words |
 //! | `LatchWriter` | the one that publishes snapshots |
-//! | `LatchReader` | one that reads the latest of them, with the number of the latest that it knows |
+//! | `LatchReader` | one that reads the latest of them, and knows how many there were |
 //! | `LatchError` | why a latch isn't opened |
 //! | `PageFull`, `Moved` | why a snapshot isn't published, and why none was read |
 //!
-//! Publications are counted: the opening is number 0, and publication k is the snapshot with front k. Units are those
-//! of `tk_clock`.
+//! Publications are counted: the opening is number 0, and publication k is the snapshot with
+//! front k. Units are those of `tk_clock`.
 #![tactic(auto)]
 
 mod errors;

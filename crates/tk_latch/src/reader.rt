@@ -46,10 +46,11 @@ impl LatchReader {
         self.mark
     }
 
-    /// The latest publication, whole, which becomes the mark; or Moved, where the sequence didn't stay the same.
+    /// The latest publication, whole, which becomes the mark; or Moved, where the sequence didn't
+    /// stay the same.
     ///
-    /// Moved tells the two sequence numbers that this call found; the mark becomes half the second, rounded down. It
-    /// waits for nobody and takes no memory.
+    /// Moved tells the two sequence numbers that this call found; the mark becomes half the
+    /// second, rounded down. It waits for nobody, not even for the writer, and takes no memory.
     pub fn try_read<A: Allocator>(&mut self, latch: &Latch<A>) -> Result<Snapshot, Moved>
         requires latch { self.old.latch ≡ latch.now }
         ensures latch { self.new.latch ≡ self.old.latch }

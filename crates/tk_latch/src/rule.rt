@@ -1,4 +1,5 @@
-//! What the seats of a latch know, and the rule that every step keeps. No value of these types is ever made.
+//! What the seats of a latch know, and the rule that every step keeps. No value of these types is
+//! ever made.
 
 mod steps;
 
@@ -24,11 +25,14 @@ pub enum Role {
     Spent,
     /// A reader at rest, with the sequence numbers that its loads have found.
     Resting(LinkedList<u64>),
-    /// A reader between its two looks: also the sequence that it began with, and the latest that it knows of.
+    /// A reader between its two looks: also the sequence that it began with, and the latest that
+    /// it knows of.
     Reading(LinkedList<u64>, u64, u64),
-    /// The writer while the sequence is odd: these words of the publication being made are in copy 0.
+    /// The writer while the sequence is odd: these words of the publication being made are in
+    /// copy 0.
     Making(LinkedList<u64>),
-    /// The writer while the sequence is even: so many words of the latest publication are in copy 1.
+    /// The writer while the sequence is even: so many words of the latest publication are in
+    /// copy 1.
     Copying(u64),
     /// The writer at rest, with what a reader has seen beside its own history.
     Noting(History),

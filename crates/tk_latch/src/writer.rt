@@ -42,9 +42,11 @@ impl LatchWriter {
     ghost use Rattle.std.specs.Prelude.{◌++◌, ◌∷◌, MatchResult};
     ghost use Rattle.tk_latch.specs.Latch.{mark_of, most_publications};
 
-    /// Publishes a snapshot of the latch's counter, whose front is the number of this publication, from 1.
+    /// Publishes a snapshot of the latch's counter, whose front is the number of this
+    /// publication, from 1.
     ///
-    /// PageFull where 2^63 - 1 were published: it then changes nothing. It waits for nobody and takes no memory.
+    /// PageFull where 2^63 - 1 were published: it then changes nothing. It waits for nobody and
+    /// takes no memory.
     pub fn publish<A: Allocator>(
         &mut self,
         latch: &Latch<A>,

@@ -62,7 +62,8 @@ fn publishes_all(latch: &Latch, mut writer: LatchWriter, desc: CounterDesc) -> b
     true
 }
 
-/// Reads until it has read the last publication: was each one whole, and none older than one that it knew of?
+/// Reads until it has read the last publication: was each one whole, and none older than one that
+/// it knew of?
 fn reads_all(latch: &Latch, mut reader: LatchReader) -> bool
     requires { reader.latch ≡ latch.now }
 {
