@@ -24,28 +24,39 @@ abbrev pub history_of : View → History
 history_of view = view.history
 
 -- what a seat other than the writer's knows stays so
-others_know : (n n' : ℕ) (history history' : History) (role role' : Role) (writer seat : ℕ) → seat ≢ writer → n ≤ n' → IsBeginning history history' →
-    (known : History) (own : Role) → Knows n history role writer seat known own → Knows n' history' role' writer seat known own
+others_know : (n n' : ℕ) (history history' : History) (role role' : Role) (writer seat : ℕ) →
+    seat ≢ writer → n ≤ n' → IsBeginning history history' →
+    (known : History) (own : Role) → Knows n history role writer seat known own →
+    Knows n' history' role' writer seat known own
 others_know n n' h h' role role' writer seat apart le more known Spent k = tt
-others_know n n' h h' role role' writer seat apart le more known (Resting found) k = begins_trans known h h' k more
+others_know n n' h h' role role' writer seat apart le more known (Resting found) k =
+    begins_trans known h h' k more
 others_know n n' h h' role role' writer seat apart le more known (Reading found first now) k =
     let low = k.3 in (begins_trans known h h' k.0 more, k.1, k.2, omega arith)
-others_know n n' h h' role role' writer seat apart le more known (Making written) k = absurd (apart k.0)
-others_know n n' h h' role role' writer seat apart le more known (Copying count) k = absurd (apart k.0)
-others_know n n' h h' role role' writer seat apart le more known (Noting note) k = absurd (apart k.0)
+others_know n n' h h' role role' writer seat apart le more known (Making written) k =
+    absurd (apart k.0)
+others_know n n' h h' role role' writer seat apart le more known (Copying count) k =
+    absurd (apart k.0)
+others_know n n' h h' role role' writer seat apart le more known (Noting note) k =
+    absurd (apart k.0)
 
 -- what holds of each seat after one of them has changed
 pub seats_after : (P : ℕ → View → Type 0) (views : List View) (id : ℕ) (view : View) → P id view →
     ((seat : ℕ) (v : View) → seat ≢ id → get_elem? views seat ≡ some v → P seat v) →
     (seat : ℕ) (v : View) → get_elem? (set views id view) seat ≡ some v → P seat v
 seats_after P views id view mine others seat v at =
-    ⊎_elim (λ (t : (seat ≡ id) × (view ≡ v)). subst (λ (x : ℕ × View). P x.0 x.1) (λ i. (sym t.0 i, t.1 i)) mine)
-    (λ (t : (seat ≢ id) × (get_elem? views seat ≡ some v)). others seat v t.0 t.1) (at_set views id seat view v at)
+    ⊎_elim (λ (t : (seat ≡ id) × (view ≡ v)). subst (λ (x : ℕ × View). P x.0 x.1)
+    (λ i. (sym t.0 i, t.1 i)) mine)
+    (λ (t : (seat ≢ id) × (get_elem? views seat ≡ some v)). others seat v t.0 t.1)
+    (at_set views id seat view v at)
 
 -- a store of the writer keeps the rule
-pub writes : (s : Words) (r : Latched s) (i n id : ℕ) (cs : List (ℕ × Unit {0})) (history : History) (role : Role) →
-    id ≡ r.writer → word s 0 ≤ get_or (set s.words i n) 0 0 → IsBeginning r.history history → AreNumbered history.counter 0 history.list →
-    Copies (set s.words i n) history.list role → Knows (get_or (set s.words i n) 0 0) history role r.writer id history role →
+pub writes : (s : Words) (r : Latched s) (i n id : ℕ) (cs : List (ℕ × Unit {0})) (history : History)
+    (role : Role) →
+    id ≡ r.writer → word s 0 ≤ get_or (set s.words i n) 0 0 → IsBeginning r.history history →
+    AreNumbered history.counter 0 history.list →
+    Copies (set s.words i n) history.list role →
+    Knows (get_or (set s.words i n) 0 0) history role r.writer id history role →
     Latched (stepped s i n id cs (record { history = history; role = role }) keeps)
 writes s r i n id cs history role own le more numbered copies mine = record {
   history = history;
@@ -54,35 +65,47 @@ writes s r i n id cs history role own le more numbered copies mine = record {
   wide = length-set s.words i n ∙ r.wide;
   numbered = numbered;
   copies = copies;
-  each = seats_after (λ seat v. Knows (get_or (set s.words i n) 0 0) history role r.writer seat v.history v.role) s.views id
+  each = seats_after (λ seat v. Knows
+      (get_or (set s.words i n) 0 0) history role r.writer seat v.history v.role) s.views id
       (record { history = history; role = role }) mine
-      (λ seat v apart at. others_know (word s 0) (get_or (set s.words i n) 0 0) r.history history r.role role r.writer seat
+      (λ seat v apart at. others_know (word s 0)
+      (get_or (set s.words i n) 0 0) r.history history r.role role r.writer seat
       (λ e. apart (e ∙ sym own)) le more v.history v.role (r.each seat v at));
 }
 
 -- a load keeps the rule
 pub unmoved : (s : Words) (r : Latched s) (i id : ℕ) (cs : List (ℕ × Unit {0})) (view : View) →
-    Knows (word s 0) r.history r.role r.writer id view.history view.role → Latched (stepped s i (word s i) id cs view keeps)
+    Knows (word s 0) r.history r.role r.writer id view.history view.role →
+    Latched (stepped s i (word s i) id cs view keeps)
 unmoved s r i id cs view mine =
-    subst (λ (ws : List ℕ). Latched record { words = ws; homes = s.homes; views = set s.views id view }) (sym (set-get_or s.words i 0)) record {
+    let after : List ℕ → Words = λ ws. record {
+      words = ws;
+      homes = s.homes;
+      views = set s.views id view;
+    } in
+    subst (λ ws. Latched (after ws)) (sym (set-get_or s.words i 0)) record {
       history = r.history;
       role = r.role;
       writer = r.writer;
       wide = r.wide;
       numbered = r.numbered;
       copies = r.copies;
-      each = seats_after (λ seat v. Knows (word s 0) r.history r.role r.writer seat v.history v.role) s.views id view mine
+      each = seats_after (λ seat v. Knows
+          (word s 0) r.history r.role r.writer seat v.history v.role) s.views id view mine
           (λ seat v apart at. r.each seat v at);
     }
 
 -- what the rule knows of one seat
-pub known_of : (s : Words) (r : Latched s) (id : ℕ) (view is : View) → get_elem? s.views id ≡ some view → view ≡ is →
+pub known_of : (s : Words) (r : Latched s) (id : ℕ) (view is : View) →
+    get_elem? s.views id ≡ some view → view ≡ is →
     Knows (word s 0) r.history r.role r.writer id is.history is.role
 known_of s r id view is at same =
-    subst (λ (w : View). Knows (word s 0) r.history r.role r.writer id w.history w.role) same (r.each id view at)
+    subst (λ (w : View). Knows (word s 0) r.history r.role r.writer id w.history w.role) same
+    (r.each id view at)
 
 -- what the sequence says of the publications
-pub counted : (words : List ℕ) (list : List Snapshot) (role : Role) → Copies words list role → Counts list (get_or words 0 0)
+pub counted : (words : List ℕ) (list : List Snapshot) (role : Role) → Copies words list role →
+    Counts list (get_or words 0 0)
 counted words list Spent c = absurd c
 counted words list (Resting found) c = absurd c
 counted words list (Reading found first now) c = absurd c

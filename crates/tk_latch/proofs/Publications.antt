@@ -12,22 +12,27 @@ use Rattle.tk_latch.specs.Look.{AreLatest}
 use Rattle.tk_latch.proofs.Prefixes.{prefix_self, prefix_trans, prefix_whole}
 
 -- the snapshot that words tell is the one that they restore
-pub told_is : (counter : Counter) (words : List ℕ) (snapshot : Snapshot) → restored counter words ≡ Some snapshot →
+pub told_is : (counter : Counter) (words : List ℕ) (snapshot : Snapshot) →
+    restored counter words ≡ Some snapshot →
     snapshot_told counter words ≡ snapshot
 told_is counter words snapshot is =
     let told = told-restored counter words (subst IsSome (sym is) refl) in
-    same_Some (snapshot_told counter words) snapshot (sym (restored-told counter words told.range told.within) ∙ is)
+    same_Some (snapshot_told counter words) snapshot
+    (sym (restored-told counter words told.range told.within) ∙ is)
 
 -- the front and the counter of a snapshot that words restore
-pub restored_parts : (counter : Counter) (words : List ℕ) (front : ℕ) → slice_index words 0 ≡ front →
-    IfSome (restored counter words) (λ snapshot. (snapshot.front ≡ front) × (snapshot.base.counter ≡ counter))
+pub restored_parts : (counter : Counter) (words : List ℕ) (front : ℕ) →
+    slice_index words 0 ≡ front →
+    IfSome (restored counter words)
+    (λ snapshot. (snapshot.front ≡ front) × (snapshot.base.counter ≡ counter))
 restored_parts counter words front is = by (restored counter words) refl
   where
     by : (told : Option Snapshot) → restored counter words ≡ told →
         IfSome told (λ snapshot. (snapshot.front ≡ front) × (snapshot.base.counter ≡ counter))
     by None e = tt
     by (Some snapshot) e =
-        let same = sym (told_is counter words snapshot e) in (ap (λ s. s.front) same ∙ is, ap (λ s. s.base.counter) same)
+        let same = sym (told_is counter words snapshot e) in
+        (ap (λ s. s.front) same ∙ is, ap (λ s. s.base.counter) same)
 
 pub begins_self : (history : History) → IsBeginning history history
 begins_self history = (refl, prefix_self history.list)
@@ -40,17 +45,22 @@ pub begins_whole : (a b : History) → IsBeginning a b → length b.list ≤ len
 begins_whole a b p le =
     let same = prefix_whole a.list b.list p.1 le in λ i. record { counter = p.0 i; list = same i }
 
-pub latest_words-push : (list : List Snapshot) (x : Snapshot) → latest_words (list ++ x ∷ []) ≡ words_of x
+pub latest_words-push : (list : List Snapshot) (x : Snapshot) →
+    latest_words (list ++ x ∷ []) ≡ words_of x
 latest_words-push [] x = refl
 latest_words-push (y ∷ []) x = refl
 latest_words-push (y ∷ z ∷ ys) x = latest_words-push (z ∷ ys) x
 
 -- one publication more, under the next number
-pub numbered_push : (c : Counter) (k : ℕ) (list : List Snapshot) (x : Snapshot) → AreNumbered c k list →
+pub numbered_push : (c : Counter) (k : ℕ) (list : List Snapshot) (x : Snapshot) →
+    AreNumbered c k list →
     IsPublication c (k + length list) x → AreNumbered c k (list ++ x ∷ [])
 numbered_push c k [] x all new = (subst (λ (n : ℕ). IsPublication c n x) (omega arith) new, tt)
-numbered_push c k (y ∷ ys) x all new =
-    (all.0, numbered_push c (k + 1) ys x all.1 (subst (λ (n : ℕ). IsPublication c n x) (omega arith) new))
+numbered_push c k (y ∷ ys) x all new = (
+  all.0,
+  numbered_push c (k + 1) ys x all.1
+      (subst (λ (n : ℕ). IsPublication c n x) (omega arith) new),
+)
 
 -- the latest publication stands last, has the last number, and its words are the latest
 record IsLatest (c : Counter) (k : ℕ) (list : List Snapshot) : Type 0 where
@@ -59,7 +69,8 @@ record IsLatest (c : Counter) (k : ℕ) (list : List Snapshot) : Type 0 where
   shown : latest_words list ≡ words_of snapshot
   publication : IsPublication c (k + (length list - 1)) snapshot
 
-latest_from : (c : Counter) (k : ℕ) (x : Snapshot) (xs : List Snapshot) → AreNumbered c k (x ∷ xs) → IsLatest c k (x ∷ xs)
+latest_from : (c : Counter) (k : ℕ) (x : Snapshot) (xs : List Snapshot) → AreNumbered c k (x ∷ xs) →
+    IsLatest c k (x ∷ xs)
 latest_from c k x [] all = record {
   snapshot = x;
   listed = refl;
@@ -73,24 +84,31 @@ latest_from c k x (y ∷ ys) all =
       snapshot = rest.snapshot;
       listed = ap (slice_get (x ∷ y ∷ ys)) place ∙ rest.listed;
       shown = rest.shown;
-      publication = subst (λ (n : ℕ). IsPublication c n rest.snapshot) (omega arith) rest.publication;
+      publication = subst (λ (n : ℕ). IsPublication c n rest.snapshot)
+          (omega arith) rest.publication;
     }
 
 -- the words of the latest publication of a history
-pub are_latest : (history : History) → AreNumbered history.counter 0 history.list → 0 < length history.list →
+pub are_latest : (history : History) → AreNumbered history.counter 0 history.list →
+    0 < length history.list →
     AreLatest history (latest_words history.list)
 are_latest history all some_there = by history.list refl
   where
-    by : (list : List Snapshot) → history.list ≡ list → AreLatest history (latest_words history.list)
+    by : (list : List Snapshot) → history.list ≡ list →
+        AreLatest history (latest_words history.list)
     by [] is = absurd (omega (arith, ap length is))
     by (x ∷ xs) is =
-        let last = latest_from history.counter 0 x xs (subst (AreNumbered history.counter 0) is all) in
-        let front : last.snapshot.front ≡ length (x ∷ xs) - 1 = last.publication.front ∙ omega arith in
+        let last = latest_from history.counter 0 x xs
+        (subst (AreNumbered history.counter 0) is all) in
+        let front : last.snapshot.front ≡ length (x ∷ xs) - 1 = last.publication.front
+        ∙ omega arith in
         let long = ap length is in
         record {
           snapshot = last.snapshot;
-          told = ap (λ l. restored history.counter (latest_words l)) is ∙ ap (restored history.counter) last.shown ∙ last.publication.told;
-          listed = ap (λ l. slice_get l last.snapshot.front) is ∙ ap (slice_get (x ∷ xs)) front ∙ last.listed;
+          told = ap (λ l. restored history.counter (latest_words l)) is
+              ∙ ap (restored history.counter) last.shown ∙ last.publication.told;
+          listed = ap (λ l. slice_get l last.snapshot.front) is ∙ ap (slice_get (x ∷ xs)) front
+              ∙ last.listed;
           latest = omega (arith, front, long);
         }
 

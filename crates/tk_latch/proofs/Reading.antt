@@ -24,19 +24,23 @@ use Rattle.tk_latch.proofs.Publications.{told_is, begins_self, begins_trans, beg
 use Rattle.tk_latch.proofs.Keeping.{word, history_of, known_of, unmoved, counted}
 
 -- the copy that the sequence names is the latest publication
-named : (words : List ℕ) (list : List Snapshot) (role : Role) → Copies words list role → (n i : ℕ) → n ≡ get_or words 0 0 → i < 10 →
+named : (words : List ℕ) (list : List Snapshot) (role : Role) → Copies words list role → (n i : ℕ) →
+    n ≡ get_or words 0 0 → i < 10 →
     get_or words (i + (1 + 10 * (n % 2))) 0 ≡ get_or (latest_words list) i 0
 named words list Spent c n i here l = absurd c
 named words list (Resting found) c n i here l = absurd c
 named words list (Reading found first now) c n i here l = absurd c
 named words list (Making written) c n i here l =
-    let h = c.0 in let odd : i + (1 + 10 * (n % 2)) ≡ i + 11 = omega arith in ap (λ (k : ℕ). get_or words k 0) odd ∙ c.2 i l
+    let h = c.0 in let odd : i + (1 + 10 * (n % 2)) ≡ i + 11 = omega arith in
+    ap (λ (k : ℕ). get_or words k 0) odd ∙ c.2 i l
 named words list (Copying count) c n i here l =
-    let h = c.0 in let even : i + (1 + 10 * (n % 2)) ≡ i + 1 = omega arith in ap (λ (k : ℕ). get_or words k 0) even ∙ c.2 i l
+    let h = c.0 in let even : i + (1 + 10 * (n % 2)) ≡ i + 1 = omega arith in
+    ap (λ (k : ℕ). get_or words k 0) even ∙ c.2 i l
 named words list (Noting note) c n i here l = absurd c
 
 -- a reader that knows as many publications as there are knows them all
-all_known : (known history : History) (first n : ℕ) → IsBeginning known history → Counts known.list first → Counts history.list n → n ≡ first →
+all_known : (known history : History) (first n : ℕ) → IsBeginning known history →
+    Counts known.list first → Counts history.list n → n ≡ first →
     known ≡ history
 all_known known history first n begins mine theirs same =
     begins_whole known history begins
@@ -54,7 +58,8 @@ now_by (Reading found first now) = now
 now_by _ = 0
 
 -- a read begins
-pub reads_begin : (slots id : ℕ) (me : Seated) (known : History) (before : List ℕ) → me.0 ≡ resting known before →
+pub reads_begin : (slots id : ℕ) (me : Seated) (known : History) (before : List ℕ) →
+    me.0 ≡ resting known before →
     Allows Latched slots id me 0 (λ n. n) (began (step slots 0 0 0 none) me)
 reads_begin slots id me known before is s r _ at _ =
     let begins = known_of s r id me.0 (resting known before) at is in
@@ -68,13 +73,20 @@ reads_begin slots id me known before is s r _ at _ =
       (
         refl,
         refl,
-        λ known' before' is'. let same = sym is ∙ is' in
-            (r.history, ap (λ f. reading r.history (f ++ n ∷ []) n n) (ap found_of same), subst (λ h. IsBeginning h r.history) (ap history_of same) begins, counts, r.numbered),
+        λ known' before' is'. let same = sym is ∙ is' in (
+          r.history,
+          ap (λ f. reading r.history (f ++ n ∷ []) n n) (ap found_of same),
+          subst
+              (λ h. IsBeginning h r.history) (ap history_of same) begins,
+          counts,
+          r.numbered,
+        ),
       ),
     )
 
 -- a word is loaded
-pub reads_word : (slots id : ℕ) (me : Seated) (known : History) (before : List ℕ) (first last k : ℕ) → me.0 ≡ reading known before first last →
+pub reads_word : (slots id : ℕ) (me : Seated) (known : History) (before : List ℕ)
+    (first last k : ℕ) → me.0 ≡ reading known before first last →
     Allows Latched slots id me k (λ n. n) (loaded (step slots k 0 0 none) me)
 reads_word slots id me known before first last k is s r _ at _ =
     let held = known_of s r id me.0 (reading known before first last) at is in
@@ -84,14 +96,16 @@ reads_word slots id me known before first last k is s r _ at _ =
     let above = held.3 in
     let w = reading known before first n in
     let told : (now : ℕ) × (w ≡ reading known before first now) × (last ≤ now)
-    × (now ≤ first → (i : ℕ) → i < 10 → k ≡ i + (1 + 10 * (first % 2)) → word s k ≡ get_or (latest_words known.list) i 0) = (
+    × (now ≤ first → (i : ℕ) → i < 10 → k ≡ i + (1 + 10 * (first % 2)) →
+    word s k ≡ get_or (latest_words known.list) i 0) = (
       n,
       refl,
       above,
       λ still i inside place.
           let here : n ≡ first = omega arith in
           let all = all_known known r.history first n held.0 held.1 counts here in
-          ap (λ (z : ℕ). word s z) place ∙ named s.words r.history.list r.role r.copies first i (sym here) inside
+          ap (λ (z : ℕ). word s z) place ∙ named s.words r.history.list r.role r.copies first i
+          (sym here) inside
           ∙ ap (λ h. get_or (latest_words h.list) i 0) (sym all),
     ) in (
       w,
@@ -101,14 +115,24 @@ reads_word slots id me known before first last k is s r _ at _ =
       (
         refl,
         λ known' before' first' last' is'. let same = sym is ∙ is' in
-            subst (λ (t : History × List ℕ × ℕ × ℕ). (now : ℕ) × (w ≡ reading t.0 t.1 t.2 now) × (t.3 ≤ now)
-            × (now ≤ t.2 → (i : ℕ) → i < 10 → k ≡ i + (1 + 10 * (t.2 % 2)) → word s k ≡ get_or (latest_words t.0.list) i 0))
-            (λ i. (ap history_of same i, ap found_of same i, ap (λ (v : View). first_by v.role) same i, ap (λ (v : View). now_by v.role) same i)) told,
+            subst (λ (t : History × List ℕ × ℕ × ℕ). (now : ℕ) × (w ≡ reading t.0 t.1 t.2 now)
+            × (t.3 ≤ now)
+            × (now ≤ t.2 → (i : ℕ) → i < 10 → k ≡ i + (1 + 10 * (t.2 % 2)) →
+            word s k ≡ get_or (latest_words t.0.list) i 0))
+            (λ i. (
+              ap history_of same i,
+              ap found_of same i,
+              ap
+                  (λ (v : View). first_by v.role) same i,
+              ap
+                  (λ (v : View). now_by v.role) same i,
+            )) told,
       ),
     )
 
 -- a read ends
-pub reads_end : (slots id : ℕ) (me : Seated) (known : History) (before : List ℕ) (first last : ℕ) → me.0 ≡ reading known before first last →
+pub reads_end : (slots id : ℕ) (me : Seated) (known : History) (before : List ℕ) (first last : ℕ) →
+    me.0 ≡ reading known before first last →
     Allows Latched slots id me 0 (λ n. n) (ended (step slots 0 0 0 none) me)
 reads_end slots id me known before first last is s r _ at _ =
     let held = known_of s r id me.0 (reading known before first last) at is in
@@ -117,9 +141,18 @@ reads_end slots id me known before first last is s r _ at _ =
     let below = held.2 in
     let above = held.3 in
     let w = resting r.history (before ++ n ∷ []) in
-    let told : (later : History) × (w ≡ resting later (before ++ n ∷ [])) × IsBeginning known later × Counts later.list n × (last ≤ n)
-    × (first ≤ n) × (n ≡ first → later ≡ known) =
-    (r.history, refl, held.0, counts, above, omega arith, λ here. sym (all_known known r.history first n held.0 held.1 counts here)) in (
+    let told : (later : History) × (w ≡ resting later (before ++ n ∷ [])) × IsBeginning known later
+    × Counts later.list n × (last ≤ n)
+    × (first ≤ n) × (n ≡ first → later ≡ known) = (
+      r.history,
+      refl,
+      held.0,
+      counts,
+      above,
+      omega arith,
+      λ here. sym
+          (all_known known r.history first n held.0 held.1 counts here),
+    ) in (
       w,
       keeps,
       tt,
@@ -128,16 +161,26 @@ reads_end slots id me known before first last is s r _ at _ =
         refl,
         refl,
         λ known' before' first' last' is'. let same = sym is ∙ is' in
-            subst (λ (t : History × List ℕ × ℕ × ℕ). (later : History) × (w ≡ resting later (t.1 ++ n ∷ [])) × IsBeginning t.0 later
+            subst (λ (t : History × List ℕ × ℕ × ℕ). (later : History)
+            × (w ≡ resting later (t.1 ++ n ∷ [])) × IsBeginning t.0 later
             × Counts later.list n × (t.3 ≤ n) × (t.2 ≤ n) × (n ≡ t.2 → later ≡ t.0))
-            (λ i. (ap history_of same i, ap found_of same i, ap (λ (v : View). first_by v.role) same i, ap (λ (v : View). now_by v.role) same i)) told,
+            (λ i. (
+              ap history_of same i,
+              ap found_of same i,
+              ap
+                  (λ (v : View). first_by v.role) same i,
+              ap
+                  (λ (v : View). now_by v.role) same i,
+            )) told,
       ),
     )
 
 -- one more word was loaded
-pub gathers_one : (begun : View) (first : ℕ) (words : List ℕ) (old new : View) (i x : ℕ) → (g : Gathered begun first words old i) →
+pub gathers_one : (begun : View) (first : ℕ) (words : List ℕ) (old new : View) (i x : ℕ) →
+    (g : Gathered begun first words old i) →
     (now : ℕ) → new ≡ reading begun.history (found_by begun.role) first now → g.0 ≤ now → i < 10 →
-    (now ≤ first → x ≡ get_or (latest_words begun.history.list) i 0) → Gathered begun first (set words i x) new (i + 1)
+    (now ≤ first → x ≡ get_or (latest_words begun.history.list) i 0) →
+    Gathered begun first (set words i x) new (i + 1)
 gathers_one begun first words old new i x g now is later inside right =
     let up = g.2 in
     let long = g.3 in (
@@ -147,24 +190,29 @@ gathers_one begun first words old new i x g now is later inside right =
       length-set words i x ∙ long,
       λ still j l. dite (ℕ_discrete j i)
           (λ e. ap (λ (z : ℕ). get_or (set words i x) z 0) e
-          ∙ (get_or-set_same words i x 0 (omega arith) ∙ (right still ∙ ap (λ (z : ℕ). get_or (latest_words begun.history.list) z 0) (sym e))))
+          ∙ (get_or-set_same words i x 0 (omega arith)
+          ∙ (right still ∙ ap (λ (z : ℕ). get_or (latest_words begun.history.list) z 0)
+          (sym e))))
           (λ other. get_or-set_other words i j x 0 other ∙ g.4 (omega arith) j (omega arith)),
     )
 
 -- what the first look told, and what the second
 abbrev pub Begun : View → View → ℕ → Type 0
 Begun old begun first =
-    (later : History) × (begun ≡ reading later (found_by old.role ++ first ∷ []) first first) × IsBeginning old.history later
+    (later : History) × (begun ≡ reading later (found_by old.role ++ first ∷ []) first first)
+    × IsBeginning old.history later
     × Counts later.list first × AreNumbered later.counter 0 later.list
 
 abbrev pub Finishes : View → View → ℕ → Type 0
 Finishes view new last =
     (known : History) (before : List ℕ) (first now : ℕ) → view ≡ reading known before first now →
-    (later : History) × (new ≡ resting later (before ++ last ∷ [])) × IsBeginning known later × Counts later.list last × (now ≤ last)
+    (later : History) × (new ≡ resting later (before ++ last ∷ [])) × IsBeginning known later
+    × Counts later.list last × (now ≤ last)
     × (first ≤ last) × (last ≡ first → later ≡ known)
 
 -- a whole read
-pub looks : (old begun view new : View) (first last : ℕ) (words : List ℕ) → Begun old begun first → Gathered begun first words view 10 →
+pub looks : (old begun view new : View) (first last : ℕ) (words : List ℕ) → Begun old begun first →
+    Gathered begun first words view 10 →
     Finishes view new last → IsLook old new first words last
 looks old begun view new first last words b g finish =
     let known = b.0 in
@@ -179,8 +227,10 @@ looks old begun view new first last words b g finish =
     let some_there : 0 < length known.list = (let h = b.3.1 in omega arith) in
     let latest = are_latest known b.4 some_there in
     record {
-      reader = e.1 ∙ ap (λ (t : History × List ℕ). resting t.0 t.1) (λ i. (sym now i, sym listed i));
-      found = listed ∙ (ap (λ (f : List ℕ). f ++ last ∷ []) before ∙ append_assoc (found_by old.role) (first ∷ []) (last ∷ []));
+      reader = e.1 ∙ ap (λ (t : History × List ℕ). resting t.0 t.1)
+          (λ i. (sym now i, sym listed i));
+      found = listed ∙ (ap (λ (f : List ℕ). f ++ last ∷ []) before
+          ∙ append_assoc (found_by old.role) (first ∷ []) (last ∷ []));
       extends = subst (IsBeginning old.history) (sym now) more;
       counts = subst (λ h. Counts h.list last) (sym now) e.3;
       order = e.5;
@@ -189,9 +239,11 @@ looks old begun view new first last words b g finish =
           let still : g.0 ≤ first = (let h = e.4 in omega arith) in
           let after : known ≡ new.history = sym here ∙ (sym (e.6 (sym same)) ∙ sym now) in
           let shown = ap (λ h. latest_words h.list) here in
-          let long : length words ≡ length (latest_words begun.history.list) = g.3 ∙ sym (ap length shown ∙ latest_long known.list some_there) in
+          let long : length words ≡ length (latest_words begun.history.list) = g.3
+          ∙ sym (ap length shown ∙ latest_long known.list some_there) in
           let words_are : words ≡ latest_words known.list =
-          ext_get_or 0 words (latest_words begun.history.list) long (λ i l. g.4 still i (let h = g.3 in omega arith)) ∙ shown in
+          ext_get_or 0 words (latest_words begun.history.list) long
+          (λ i l. g.4 still i (let h = g.3 in omega arith)) ∙ shown in
           subst (λ h. AreLatest h words) after (subst (AreLatest known) (sym words_are) latest);
     }
 
@@ -204,24 +256,32 @@ learnt_of table view = record {
 }
 
 -- a read that found one sequence twice
-pub whole_read : (table : TableId) (old : Learnt) (before after : View) (first last : ℕ) (words : List ℕ) (snapshot : Snapshot) →
-    IsLook before after first words last → first ≡ last → old.publications ≡ before.history.list → old.found ≡ found_of before →
-    restored after.history.counter words ≡ Some snapshot → IsRead old (learnt_of table after) snapshot
+pub whole_read : (table : TableId) (old : Learnt) (before after : View) (first last : ℕ)
+    (words : List ℕ) (snapshot : Snapshot) →
+    IsLook before after first words last → first ≡ last → old.publications ≡ before.history.list →
+    old.found ≡ found_of before →
+    restored after.history.counter words ≡ Some snapshot →
+    IsRead old (learnt_of table after) snapshot
 whole_read table old before after first last words snapshot look same publications found told =
     let latest = look.whole same in
-    let is : latest.snapshot ≡ snapshot = same_Some latest.snapshot snapshot (sym latest.told ∙ told) in
-    let number : snapshot.front + 1 ≡ length after.history.list = subst (λ (s : Snapshot). s.front + 1 ≡ length after.history.list) is latest.latest in
+    let is : latest.snapshot ≡ snapshot = same_Some latest.snapshot snapshot
+    (sym latest.told ∙ told) in
+    let number : snapshot.front + 1 ≡ length after.history.list =
+    subst (λ (s : Snapshot). s.front + 1 ≡ length after.history.list) is latest.latest in
     let long = ap length publications in
     let count = look.counts in
     let low = count.0 in
     let high = count.1 in
     let from = look.from in
     record {
-      whole = subst (λ (s : Snapshot). slice_get after.history.list s.front ≡ Some s) is latest.listed;
-      counter = ap (λ (s : Snapshot). s.base.counter) (sym (told_is after.history.counter words snapshot told));
+      whole =
+          subst (λ (s : Snapshot). slice_get after.history.list s.front ≡ Some s) is latest.listed;
+      counter = ap (λ (s : Snapshot). s.base.counter)
+          (sym (told_is after.history.counter words snapshot told));
       mark = omega (arith, number);
       newer = omega (arith, number, long, low, high, from, same);
       sequence = first;
-      found = look.found ∙ ap (λ (f : List ℕ). f ++ first ∷ last ∷ []) (sym found) ∙ ap (λ (n : ℕ). old.found ++ first ∷ n ∷ []) (sym same);
+      found = look.found ∙ ap (λ (f : List ℕ). f ++ first ∷ last ∷ []) (sym found)
+          ∙ ap (λ (n : ℕ). old.found ++ first ∷ n ∷ []) (sym same);
       half = omega (arith, number, low, high, same);
     }

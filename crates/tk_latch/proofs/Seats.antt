@@ -16,7 +16,8 @@ use Rattle.tk_latch.proofs.Publications.{begins_self}
 use Rattle.tk_latch.proofs.Keeping.{word, history_of, known_of, seats_after, unmoved}
 
 -- the writer's seat gives a reader's
-pub hands : (id : ℕ) (view : View) (history : History) → view ≡ copying history 10 → Splits Latched id view view (resting view.history [])
+pub hands : (id : ℕ) (view : View) (history : History) → view ≡ copying history 10 →
+    Splits Latched id view view (resting view.history [])
 hands id view history is s r at =
     let known = known_of s r id view (copying history 10) at is in
     let same : view.history ≡ r.history = ap history_of is ∙ known.1 in
@@ -28,23 +29,37 @@ hands id view history is s r at =
       wide = r.wide;
       numbered = r.numbered;
       copies = r.copies;
-      each = λ seat u e. ⊎_elim (λ h. r.each seat u (subst (λ l. get_elem? l seat ≡ some u) (set_again s.views id view at) h))
-          (λ (t : new ≡ u). subst (λ (x : View). Knows (word s 0) r.history r.role r.writer seat x.history x.role) t
+      each = λ seat u e. ⊎_elim
+          (λ h. r.each seat u (subst (λ l. get_elem? l seat ≡ some u)
+          (set_again s.views id view at) h))
+          (λ (t : new ≡ u). subst
+          (λ (x : View). Knows (word s 0) r.history r.role r.writer seat x.history x.role) t
           (subst (λ h. IsBeginning h r.history) (sym same) (begins_self r.history)))
           (at_snoc (set s.views id view) new u seat e);
     }
 
 -- the writer takes in what a reader knew
-pub notes : (id : ℕ) (view : View) (other : ℕ) (reader : View) (history note : History) (found : List ℕ) → view ≡ copying history 10 →
-    reader ≡ resting note found → Joins Latched id view other reader (noting view.history reader.history) spent
+pub notes : (id : ℕ) (view : View) (other : ℕ) (reader : View) (history note : History)
+    (found : List ℕ) → view ≡ copying history 10 →
+    reader ≡ resting note found → Joins Latched id view other reader
+    (noting view.history reader.history) spent
 notes id view other reader history note found is there s r at apart from =
     let known = known_of s r id view (copying history 10) at is in
     let w = noting view.history reader.history in
     let here = ⊎_elim (λ (t : (other ≡ id) × (w ≡ reader)). absurd (apart t.0))
-    (λ (t : (other ≢ id) × (get_elem? s.views other ≡ some reader)). t.1) (at_set s.views id other w reader from) in
+    (λ (t : (other ≢ id) × (get_elem? s.views other ≡ some reader)). t.1)
+    (at_set s.views id other w reader from) in
     let begins = known_of s r other reader (resting note found) here there in
-    let P : ℕ → View → Type 0 = λ seat x. Knows (word s 0) r.history r.role r.writer seat x.history x.role in
-    let mine : P id w = (known.0, ap history_of is ∙ known.1, known.2, subst (λ h. IsBeginning h r.history) (sym (ap history_of there)) begins) in
+    let P : ℕ → View → Type 0 = λ seat x. Knows
+    (word s 0) r.history r.role r.writer seat x.history x.role in
+    let mine : P id w = (
+      known.0,
+      ap history_of is
+          ∙ known.1,
+      known.2,
+      subst (λ h. IsBeginning h r.history)
+          (sym (ap history_of there)) begins,
+    ) in
     record {
       history = r.history;
       role = r.role;
@@ -66,7 +81,8 @@ pub compares : (slots id : ℕ) (me : Seated) (history note : History) → me.0 
 compares slots id me history note is s r _ at _ =
     let known = known_of s r id me.0 (noting history note) at is in
     let w = copying history 10 in
-    let begins : IsBeginning note history = subst (λ h. IsBeginning note h) (sym known.1) known.3 in (
+    let begins : IsBeginning note history =
+    subst (λ h. IsBeginning note h) (sym known.1) known.3 in (
       w,
       keeps,
       tt,

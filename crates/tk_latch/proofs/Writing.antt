@@ -20,7 +20,8 @@ use Rattle.tk_latch.specs.Views.{making, copying}
 use Rattle.tk_latch.proofs.Publications.{begins_self, latest_words-push, numbered_push}
 use Rattle.tk_latch.proofs.Keeping.{Words, word, writes, known_of}
 
-get_or-push_old : (xs : List ℕ) (x i : ℕ) → i < length xs → get_or (xs ++ x ∷ []) i 0 ≡ get_or xs i 0
+get_or-push_old : (xs : List ℕ) (x i : ℕ) → i < length xs →
+    get_or (xs ++ x ∷ []) i 0 ≡ get_or xs i 0
 get_or-push_old [] x i h = absurd (omega arith)
 get_or-push_old (y ∷ ys) x zero h = refl
 get_or-push_old (y ∷ ys) x (suc i) h = get_or-push_old ys x i (omega arith)
@@ -32,11 +33,14 @@ get_or-push_new (y ∷ ys) x zero h = absurd (omega arith)
 get_or-push_new (y ∷ ys) x (suc i) h = get_or-push_new ys x i (omega arith)
 
 -- the rule's copies and history at the writer's view
-copies_at : (s : Words) (r : Latched s) (history : History) (role : Role) → history ≡ r.history → r.role ≡ role →
+copies_at : (s : Words) (r : Latched s) (history : History) (role : Role) → history ≡ r.history →
+    r.role ≡ role →
     Copies s.words history.list role
-copies_at s r history role same is = subst (λ (t : History × Role). Copies s.words t.0.list t.1) (λ i. (sym same i, is i)) r.copies
+copies_at s r history role same is = subst (λ (t : History × Role). Copies s.words t.0.list t.1)
+    (λ i. (sym same i, is i)) r.copies
 
-numbered_at : (s : Words) (r : Latched s) (history : History) → history ≡ r.history → AreNumbered history.counter 0 history.list
+numbered_at : (s : Words) (r : Latched s) (history : History) → history ≡ r.history →
+    AreNumbered history.counter 0 history.list
 numbered_at s r history same = subst (λ h. AreNumbered h.counter 0 h.list) (sym same) r.numbered
 
 begins_at : (history other : History) → history ≡ other → IsBeginning other history
@@ -56,65 +60,81 @@ with_copied history (Copying count) = copying history (count + 1)
 with_copied history role = record { history = history; role = role }
 
 -- the sequence becomes odd
-pub opens : (slots id : ℕ) (me : Seated) (history : History) (odd : ℕ) → me.0 ≡ copying history 10 → odd + 1 ≡ 2 * length history.list →
+pub opens : (slots id : ℕ) (me : Seated) (history : History) (odd : ℕ) → me.0 ≡ copying history 10 →
+    odd + 1 ≡ 2 * length history.list →
     Allows Latched slots id me 0 (λ _. odd) (λ _. opened (step slots 0 odd 0 none) me odd)
 opens slots id me history odd is up s r _ at _ =
     let known = known_of s r id me.0 (copying history 10) at is in
     let wide = r.wide in
     let copies = copies_at s r history (Copying 10) known.1 known.2 in
-    let now : get_or (set s.words 0 odd) 0 0 ≡ odd = get_or-set_same s.words 0 odd 0 (omega arith) in
+    let now : get_or (set s.words 0 odd) 0 0 ≡ odd =
+    get_or-set_same s.words 0 odd 0 (omega arith) in
     let before = copies.0 in (
       making history [],
       keeps,
       tt,
-      writes s r 0 odd id me.1 history (Making []) known.0 (omega arith) (begins_at history r.history known.1) (numbered_at s r history known.1)
-          (omega arith, omega arith, (λ i l. get_or-set_other s.words 0 (i + 11) odd 0 (λ e. omega arith) ∙ copies.3 i l), (λ i l. absurd (omega arith)))
+      writes s r 0 odd id me.1 history (Making []) known.0 (omega arith)
+          (begins_at history r.history known.1) (numbered_at s r history known.1) (
+            omega arith,
+            omega arith,
+            (λ i l. get_or-set_other s.words 0 (i + 11) odd 0 (λ e. omega arith) ∙ copies.3 i l),
+            (λ i l. absurd (omega arith)),
+          )
           (known.0, refl, refl),
       λ history' is'. ap (λ (v : View). making v.history []) (sym is ∙ is'),
     )
 
 -- a word of the publication being made goes into copy 0
-pub writes_word : (slots id : ℕ) (me : Seated) (history : History) (written : List ℕ) (k x : ℕ) → me.0 ≡ making history written →
-    k ≡ length written + 1 → k ≤ 10 → Allows Latched slots id me k (λ _. x) (λ _. wrote_word (step slots k x 0 none) me x)
+pub writes_word : (slots id : ℕ) (me : Seated) (history : History) (written : List ℕ) (k x : ℕ) →
+    me.0 ≡ making history written →
+    k ≡ length written + 1 → k ≤ 10 → Allows Latched slots id me k (λ _. x)
+    (λ _. wrote_word (step slots k x 0 none) me x)
 writes_word slots id me history written k x is place room s r _ at _ =
     let known = known_of s r id me.0 (making history written) at is in
     let wide = r.wide in
     let copies = copies_at s r history (Making written) known.1 known.2 in
-    let still : get_or (set s.words k x) 0 0 ≡ word s 0 = get_or-set_other s.words k 0 x 0 (λ e. omega arith) in
+    let still : get_or (set s.words k x) 0 0 ≡ word s 0 =
+    get_or-set_other s.words k 0 x 0 (λ e. omega arith) in
     let before = copies.0 in
     let long = length-append written (x ∷ []) in (
       making history (written ++ x ∷ []),
       keeps,
       tt,
-      writes s r k x id me.1 history (Making (written ++ x ∷ [])) known.0 (omega arith) (begins_at history r.history known.1) (numbered_at s r history known.1) (
-        omega arith,
-        omega (arith, long),
-        (λ i l. get_or-set_other s.words k (i + 11) x 0 (λ e. omega arith) ∙ copies.2 i l),
-        (λ i l. dite (ℕ_discrete i (length written))
-            (λ e. let here : i + 1 ≡ k = omega arith in
-            ap (λ (z : ℕ). get_or (set s.words k x) z 0) here
-            ∙ (get_or-set_same s.words k x 0 (omega arith) ∙ sym (get_or-push_new written x i e)))
-            (λ other. let h : i < length written = omega (arith, long) in
-            get_or-set_other s.words k (i + 1) x 0 (λ e. other (omega arith)) ∙ (copies.3 i h ∙ sym (get_or-push_old written x i h)))),
-      )
+      writes s r k x id me.1 history (Making (written ++ x ∷ [])) known.0 (omega arith)
+          (begins_at history r.history known.1) (numbered_at s r history known.1) (
+            omega arith,
+            omega (arith, long),
+            (λ i l. get_or-set_other s.words k (i + 11) x 0 (λ e. omega arith) ∙ copies.2 i l),
+            (λ i l. dite (ℕ_discrete i (length written))
+                (λ e. let here : i + 1 ≡ k = omega arith in
+                ap (λ (z : ℕ). get_or (set s.words k x) z 0) here
+                ∙ (get_or-set_same s.words k x 0 (omega arith)
+                ∙ sym (get_or-push_new written x i e)))
+                (λ other. let h : i < length written = omega (arith, long) in
+                get_or-set_other s.words k (i + 1) x 0 (λ e. other (omega arith))
+                ∙ (copies.3 i h ∙ sym (get_or-push_old written x i h)))),
+          )
           (known.0, refl, refl),
       λ history' written' is'. ap (λ (v : View). with_word x v.history v.role) (sym is ∙ is'),
     )
 
 -- the publication is made
-pub commits : (slots id : ℕ) (me : Seated) (history : History) (written : List ℕ) (even : ℕ) → me.0 ≡ making history written →
+pub commits : (slots id : ℕ) (me : Seated) (history : History) (written : List ℕ) (even : ℕ) →
+    me.0 ≡ making history written →
     IsNext history written → even ≡ 2 * length history.list →
     Allows Latched slots id me 0 (λ _. even) (λ _. committed (step slots 0 even 0 none) me even)
 commits slots id me history written even is next up s r _ at _ =
     let known = known_of s r id me.0 (making history written) at is in
     let wide = r.wide in
     let copies = copies_at s r history (Making written) known.1 known.2 in
-    let now : get_or (set s.words 0 even) 0 0 ≡ even = get_or-set_same s.words 0 even 0 (omega arith) in
+    let now : get_or (set s.words 0 even) 0 0 ≡ even =
+    get_or-set_same s.words 0 even 0 (omega arith) in
     let before = copies.0 in
     let told = snapshot_told history.counter written in
     let more = pushed history told in
     let long = length-append history.list (told ∷ []) in
-    let shown : latest_words more.list ≡ written = latest_words-push history.list told ∙ next.words_again in
+    let shown : latest_words more.list ≡ written = latest_words-push history.list told
+    ∙ next.words_again in
     let ten : length written ≡ 10 = ap length (sym next.words_again) in (
       copying more 0,
       keeps,
@@ -122,10 +142,12 @@ commits slots id me history written even is next up s r _ at _ =
       writes s r 0 even id me.1 more (Copying 0) known.0 (omega arith)
           (subst (λ h. IsBeginning h more) known.1 (refl, (told ∷ [], refl)))
           (numbered_push history.counter 0 history.list told (numbered_at s r history known.1)
-          (subst (λ (n : ℕ). IsPublication history.counter n told) (omega arith) next.publication)) (
+          (subst (λ (n : ℕ). IsPublication history.counter n told) (omega arith)
+          next.publication)) (
             omega (arith, long),
             omega arith,
-            (λ i l. get_or-set_other s.words 0 (i + 1) even 0 (λ e. omega arith) ∙ (copies.3 i (omega (arith, ten)) ∙ ap (λ p. get_or p i 0) (sym shown))),
+            (λ i l. get_or-set_other s.words 0 (i + 1) even 0 (λ e. omega arith)
+                ∙ (copies.3 i (omega (arith, ten)) ∙ ap (λ p. get_or p i 0) (sym shown))),
             (λ i l. absurd (omega arith)),
           )
           (known.0, refl, refl),
@@ -133,42 +155,53 @@ commits slots id me history written even is next up s r _ at _ =
     )
 
 -- a word of it goes into copy 1
-pub copies_word : (slots id : ℕ) (me : Seated) (history : History) (count i x : ℕ) → me.0 ≡ copying history count → i ≡ count + 11 → count < 10 →
-    x ≡ get_or (latest_words history.list) count 0 → Allows Latched slots id me i (λ _. x) (λ _. copied_word (step slots i x 0 none) me x)
+pub copies_word : (slots id : ℕ) (me : Seated) (history : History) (count i x : ℕ) →
+    me.0 ≡ copying history count → i ≡ count + 11 → count < 10 →
+    x ≡ get_or (latest_words history.list) count 0 →
+    Allows Latched slots id me i (λ _. x) (λ _. copied_word (step slots i x 0 none) me x)
 copies_word slots id me history count i x is place room right s r _ at _ =
     let known = known_of s r id me.0 (copying history count) at is in
     let wide = r.wide in
     let copies = copies_at s r history (Copying count) known.1 known.2 in
-    let still : get_or (set s.words i x) 0 0 ≡ word s 0 = get_or-set_other s.words i 0 x 0 (λ e. omega arith) in
+    let still : get_or (set s.words i x) 0 0 ≡ word s 0 =
+    get_or-set_other s.words i 0 x 0 (λ e. omega arith) in
     let before = copies.0 in (
       copying history (count + 1),
       keeps,
       tt,
-      writes s r i x id me.1 history (Copying (count + 1)) known.0 (omega arith) (begins_at history r.history known.1) (numbered_at s r history known.1) (
-        omega arith,
-        omega arith,
-        (λ j l. get_or-set_other s.words i (j + 1) x 0 (λ e. omega arith) ∙ copies.2 j l),
-        (λ j l. dite (ℕ_discrete j count)
-            (λ e. let here : j + 11 ≡ i = omega arith in
-            ap (λ (z : ℕ). get_or (set s.words i x) z 0) here
-            ∙ (get_or-set_same s.words i x 0 (omega arith) ∙ (right ∙ ap (λ (z : ℕ). get_or (latest_words history.list) z 0) (sym e))))
-            (λ other. get_or-set_other s.words i (j + 11) x 0 (λ e. other (omega arith)) ∙ copies.3 j (omega arith))),
-      )
+      writes s r i x id me.1 history (Copying (count + 1)) known.0 (omega arith)
+          (begins_at history r.history known.1) (numbered_at s r history known.1) (
+            omega arith,
+            omega arith,
+            (λ j l. get_or-set_other s.words i (j + 1) x 0 (λ e. omega arith) ∙ copies.2 j l),
+            (λ j l. dite (ℕ_discrete j count)
+                (λ e. let here : j + 11 ≡ i = omega arith in
+                ap (λ (z : ℕ). get_or (set s.words i x) z 0) here
+                ∙ (get_or-set_same s.words i x 0 (omega arith)
+                ∙ (right ∙ ap (λ (z : ℕ). get_or (latest_words history.list) z 0) (sym e))))
+                (λ other. get_or-set_other s.words i (j + 11) x 0 (λ e. other (omega arith))
+                ∙ copies.3 j (omega arith))),
+          )
           (known.0, refl, refl),
       λ history' count' is'. ap (λ (v : View). with_copied v.history v.role) (sym is ∙ is'),
     )
 
 -- a latch that was just opened
-pub begins : (words : List ℕ) (snapshot : Snapshot) → IsPublication snapshot.base.counter 0 snapshot →
-    words ≡ 0 ∷ (words_of snapshot ++ words_of snapshot) → Latched (opening words [] (started snapshot))
+pub begins : (words : List ℕ) (snapshot : Snapshot) →
+    IsPublication snapshot.base.counter 0 snapshot →
+    words ≡ 0 ∷ (words_of snapshot ++ words_of snapshot) →
+    Latched (opening words [] (started snapshot))
 begins words snapshot new is = holds (words_of snapshot) refl refl
   where
     one : (seat : ℕ) (view : View) → get_elem? (started snapshot ∷ []) seat ≡ some view →
         Knows 0 (opening_of snapshot) (Copying 10) 0 seat view.history view.role
-    one zero view e = subst (λ (w : View). Knows 0 (opening_of snapshot) (Copying 10) 0 0 w.history w.role) (some-injective _ _ e) (refl, refl, refl)
+    one zero view e = subst
+        (λ (w : View). Knows 0 (opening_of snapshot) (Copying 10) 0 0 w.history w.role)
+        (some-injective _ _ e) (refl, refl, refl)
     one (suc seat) view e = absurd (some-ne-none view (sym e))
 
-    holds : (first : List ℕ) → words_of snapshot ≡ first → length first ≡ 10 → Latched (opening words [] (started snapshot))
+    holds : (first : List ℕ) → words_of snapshot ≡ first → length first ≡ 10 →
+        Latched (opening words [] (started snapshot))
     holds first same long =
         let all : words ≡ 0 ∷ (first ++ first) = is ∙ ap (λ ws. 0 ∷ (ws ++ ws)) same in
         subst (λ (ws : List ℕ). Latched (opening ws [] (started snapshot))) (sym all) record {
@@ -180,11 +213,13 @@ begins words snapshot new is = holds (words_of snapshot) refl refl
           copies = (
             refl,
             omega arith,
-            (λ i l. ap (λ (k : ℕ). get_or (0 ∷ (first ++ first)) k 0) (add-one i) ∙ get_or-append first first 0 i (omega arith)
+            (λ i l. ap (λ (k : ℕ). get_or (0 ∷ (first ++ first)) k 0) (add-one i)
+                ∙ get_or-append first first 0 i (omega arith)
                 ∙ ap (λ ws. get_or ws i 0) (sym same)),
             (λ i l. let here : i + 11 ≡ suc (10 + i) = omega arith in
                 ap (λ (k : ℕ). get_or (0 ∷ (first ++ first)) k 0) here
-                ∙ (ap (λ (k : ℕ). get_or (first ++ first) (k + i) 0) (sym long) ∙ get_or-append-add first first i 0)
+                ∙ (ap (λ (k : ℕ). get_or (first ++ first) (k + i) 0) (sym long)
+                ∙ get_or-append-add first first i 0)
                 ∙ ap (λ ws. get_or ws i 0) (sym same)),
           );
           each = one;

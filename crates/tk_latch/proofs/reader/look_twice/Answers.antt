@@ -15,8 +15,11 @@ gather-words-requires-clause-reader g c =
     (λ i. (sym (ap (λ v. v.history) begun.1) i, sym (ap (λ v. found_by v.role) begun.1) i))
 
 pub load-last-requires : goal.load-last-requires
-load-last-requires g c = (search rules, search rules, reads_end _ _ _ _ _ _ _ c.gather-words.ensures.words.1)
+load-last-requires g c =
+    (search rules, search rules, reads_end _ _ _ _ _ _ _ c.gather-words.ensures.words.1)
 
 pub returns-clause-look : goal.returns-clause-look
 returns-clause-look g c =
-    looks _ _ c.gather-words.new.seat.me.0 _ _ _ _ (c.load-first.ensures.2.2 _ _ c.requires.reader) c.gather-words.ensures.words c.load-last.ensures.2.2
+    looks _ _ c.gather-words.new.seat.me.0 _ _ _ _
+    (c.load-first.ensures.2.2 _ _ c.requires.reader) c.gather-words.ensures.words
+    c.load-last.ensures.2.2

@@ -5,7 +5,11 @@ use Rattle.tk_latch.proofs.Writing.{commits, copies_word}
 use Rattle.tk_latch.proofs.writer.commit.Goals as goal
 
 pub store-requires : goal.store-requires
-store-requires g c = (search rules, search rules, commits _ _ _ _ _ _ c.requires.writer c.requires.next c.requires.even)
+store-requires g c = (
+  search rules,
+  search rules,
+  commits _ _ _ _ _ _ c.requires.writer c.requires.next c.requires.even,
+)
 
 pub store-requires-in-loop-i : goal.store-requires-in-loop-i
 store-requires-in-loop-i g c =

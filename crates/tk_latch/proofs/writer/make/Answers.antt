@@ -8,11 +8,19 @@ pub store-requires : goal.store-requires
 store-requires g c = (search rules, search rules, opens _ _ _ _ _ c.requires.writer c.requires.odd)
 
 pub loop-i-init : goal.loop-i-init
-loop-i-init g c = record { latch = refl; writer = c.store.ensures.2 c.args.seat.now.me.0.history c.requires.writer }
+loop-i-init g c = record {
+  latch = refl;
+  writer =
+      c.store.ensures.2 c.args.seat.now.me.0.history c.requires.writer;
+}
 
 pub store-requires-in-loop-i : goal.store-requires-in-loop-i
-store-requires-in-loop-i g c =
-    (search rules, search rules, writes_word _ _ _ _ _ _ _ c.loop-i.invariant.writer (search rules) (search rules))
+store-requires-in-loop-i g c = (
+  search rules,
+  search rules,
+  writes_word _ _ _ _ _ _ _ c.loop-i.invariant.writer (search rules)
+      (search rules),
+)
 
 pub loop-i-preserved : goal.loop-i-preserved
 loop-i-preserved g c =
@@ -20,5 +28,6 @@ loop-i-preserved g c =
     record {
       latch = s.0 ∙ c.loop-i.invariant.latch;
       writer = s.2 _ _ c.loop-i.invariant.writer
-          ∙ ap (making c.args.seat.now.me.0.history) (sym (take_more c.args.words.now c.loop-i.i 0 (search rules)));
+          ∙ ap (making c.args.seat.now.me.0.history)
+          (sym (take_more c.args.words.now c.loop-i.i 0 (search rules)));
     }

@@ -25,7 +25,8 @@ join_seat-requires g c =
 
 pub load-requires : goal.load-requires
 load-requires g c =
-    let both = ap (λ m. m.0) c.join_seat.ensures.2 in (search rules, search rules, compares _ _ _ _ _ both)
+    let both = ap (λ m. m.0) c.join_seat.ensures.2 in
+    (search rules, search rules, compares _ _ _ _ _ both)
 
 pub invariant_of-writer : goal.invariant_of-writer
 invariant_of-writer g c =
@@ -43,12 +44,20 @@ returns-clause-writer g c =
     let kept = ap (λ m. m.0) c.split_seat-told.ensures.2 in
     let same = ap (λ v. v.history) (c.load.ensures.2 _ _ both).0 ∙ ap (λ v. v.history) kept in
     let table = c.load.ensures.0 ∙ c.join_seat.ensures.0 ∙ c.split_seat-told.ensures.0 in
-    let P : TableId × History → Published = λ t. record { latch = record { table = t.0; counter = t.1.counter }; publications = t.1.list } in
+    let P : TableId × History → Published =
+    λ t. record {
+      latch = record { table = t.0; counter = t.1.counter };
+      publications =
+          t.1.list;
+    } in
     ap P (λ i. (table i, same i)) ∙ c.writer.view_is
 
 pub returns-clause-extends : goal.returns-clause-extends
 returns-clause-extends g c =
     let both = ap (λ m. m.0) c.join_seat.ensures.2 in
-    let kept = ap (λ v. v.history.list) (ap (λ m. m.0) c.split_seat-told.ensures.2) ∙ ap (λ p. p.publications) c.writer.view_is in
-    let seen = ap (λ s. s.me.0.history.list) c.replace-former.ensures.value ∙ ap (λ p. p.publications) c.reader.view_is in
-    subst (λ (t : List Snapshot × List Snapshot). IsPrefix t.0 t.1) (λ i. (seen i, kept i)) (c.load.ensures.2 _ _ both).1.1
+    let kept = ap (λ v. v.history.list) (ap (λ m. m.0) c.split_seat-told.ensures.2)
+    ∙ ap (λ p. p.publications) c.writer.view_is in
+    let seen = ap (λ s. s.me.0.history.list) c.replace-former.ensures.value
+    ∙ ap (λ p. p.publications) c.reader.view_is in
+    subst (λ (t : List Snapshot × List Snapshot). IsPrefix t.0 t.1) (λ i. (seen i, kept i))
+    (c.load.ensures.2 _ _ both).1.1
