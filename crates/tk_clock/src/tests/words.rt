@@ -1,5 +1,5 @@
-use super::{nanosecond_counter, time};
-use crate::{ClockId, ReadError, Snapshot};
+use super::{nanosecond_counter, opened, time};
+use crate::{ClockId, Command, ReadError, Snapshot};
 use std::process::Abort;
 use std::test::Fail;
 use tk_counter::CounterDesc;
@@ -106,5 +106,30 @@ fn the_greatest_monotonic_reads_beyond_its_limit_soon(rt: HostRuntime) -> Result
     }
     words[2] = 18_622_710;
     is_taken(&rt, desc, words, false);
+    Ok(())
+}
+
+#[test]
+fn known_words_give_their_snapshot_back(rt: HostRuntime) -> Result<(), Fail> {
+    let mut clock = opened()?;
+    clock.apply(1_000, Command::Tai(37))?;
+    clock.apply(2_000, Command::Suspend)?;
+    let snapshot = clock.snapshot(2);
+    let again = Snapshot::from_known_words(snapshot.desc(), snapshot.words());
+    let told = [
+        2,
+        2_000,
+        16_777_216,
+        33_554_432_000,
+        0,
+        1_700_000_000_000_000_000,
+        0,
+        75,
+        33_554_432_000,
+        0,
+    ];
+    assert_eq!(rt; again.words(), told);
+    assert_eq!(rt; (again.front(), again.last(), again.tai()), (2, 2_000, 37));
+    assert!(rt; again.asleep());
     Ok(())
 }
