@@ -1,4 +1,5 @@
-// A latch of ten words in C: reads by relaxed atomics, publications by sequentially consistent stores.
+// A latch of ten words in C: reads by relaxed atomics, publications by sequentially consistent
+// stores.
 #define _POSIX_C_SOURCE 199309L
 #include <stdatomic.h>
 #include <stdint.h>

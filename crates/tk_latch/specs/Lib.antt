@@ -4,3 +4,4 @@ pub mod Views
 pub mod Rule
 pub mod Steps
 pub mod Look
+pub mod Errors

@@ -1,6 +1,6 @@
 use super::heap::Heap;
 use super::{OPENED_WORDS, opened};
-use crate::{Latch, LatchError};
+use crate::{Latch, LatchError, Moved, PageFull};
 use std::test::Fail;
 
 #[test]
@@ -62,4 +62,24 @@ fn each_request_refused_in_turn_is_told_as_memory(rt: HostRuntime) -> Result<(),
         }
     }
     Err("each run met a refusal".into())
+}
+
+#[test]
+fn each_error_says_what_it_is(rt: HostRuntime) -> Result<(), Fail> {
+    let moved = Moved { first: 3, last: 10 };
+    for (text, said) in [
+        (
+            format!(in rt.alloc(); "{}", LatchError::Count)?,
+            "count out of range",
+        ),
+        (
+            format!(in rt.alloc(); "{}", LatchError::Memory)?,
+            "out of memory",
+        ),
+        (format!(in rt.alloc(); "{PageFull}")?, "page full"),
+        (format!(in rt.alloc(); "{moved}")?, "moved from 3 to 10"),
+    ] {
+        assert_eq!(rt; text.as_str(), said);
+    }
+    Ok(())
 }

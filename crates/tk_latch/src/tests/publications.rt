@@ -21,17 +21,11 @@ fn the_words_of_each_publication_are_read(rt: HostRuntime) -> Result<(), Fail> {
     let mut reader = readers.pop().ok_or("a reader")?;
     assert_eq!(rt; told(&latch, &mut reader), Some((OPENED_WORDS, 0)));
     clock.apply(100, Command::Update)?;
-    writer
-        .publish(&latch, clock.snapshot(1))
-        .ok()
-        .ok_or("room")?;
+    writer.publish(&latch, clock.snapshot(1))?;
     assert_eq!(rt; reader.mark(), 0);
     assert_eq!(rt; told(&latch, &mut reader), Some((UPDATED_WORDS, 1)));
     clock.apply(300, Command::Tai(37))?;
-    writer
-        .publish(&latch, clock.snapshot(2))
-        .ok()
-        .ok_or("room")?;
+    writer.publish(&latch, clock.snapshot(2))?;
     let mut late = readers.pop().ok_or("a reader")?;
     latch.tell(&mut writer, &mut late);
     assert_eq!(rt; late.mark(), 2);
