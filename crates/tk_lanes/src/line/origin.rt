@@ -1,7 +1,7 @@
 //! Where a clock's line begins, and how steep it is.
 ghost use Rattle.std.specs.Prelude.{◌≡◌, ◌+◌, ◌*◌, ◌^◌, ◌<◌, ◌≤◌, pos};
 ghost use Rattle.tk_counter.specs.Counter.{second};
-ghost use Rattle.tk_clock.specs.Limits.{limit};
+ghost use Rattle.tk_clock.specs.Limits.{limit, clock_end};
 ghost use Rattle.tk_lanes.specs.Line.{is_coarse, is_raw, units_at_last, mult_of, offset_of};
 
 use tk_clock::{ClockId, Snapshot};
@@ -83,7 +83,7 @@ pub(super) fn offset(snapshot: &Snapshot, clock: ClockId) -> u128
 /// The nanoseconds at which a clock ends.
 pub(super) fn limit(clock: ClockId) -> u128
     ensures value { pos result ≡ limit clock }
-    ensures most { result ≤ 9223372036 * 10 ^ 9 }
+    ensures most { result ≤ clock_end * 10 ^ 9 }
 {
     match clock {
         ClockId::Monotonic | ClockId::MonotonicCoarse => 946_080_000 * NANOS_PER_SECOND,
