@@ -1,5 +1,4 @@
 //! Values from outside the contracts: worked out by hand, the edges of each range, and threads.
-mod heap;
 mod openings;
 mod publications;
 mod threads;

@@ -59,7 +59,8 @@ publishes by own entry new shown words views kept at =
     Fits t.0 t.1 j u) (λ i. (sym mine.1 i, sym mine.0 i)) kept.each in (
       view,
       changed words new views by (Publishing own) view (followed_by own entry) by kept at refl refl
-          shown (λ j u apart there. fits_longer own entry by j u apart (each j u there)) (refl, refl),
+          shown (λ j u apart there. fits_longer own entry by j u apart (each j u there))
+          (refl, refl),
       refl,
     )
 

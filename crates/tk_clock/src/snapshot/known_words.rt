@@ -16,6 +16,7 @@ impl Snapshot {
         ensures value { restored desc words ≡ Some result }
         ensures again { words_of result ≡ words }
     {
+        describes(&desc);
         Snapshot {
             front: words[0],
             base: base_told(desc, &words),
@@ -23,9 +24,17 @@ impl Snapshot {
     }
 }
 
+/// A description describes a counter. It does nothing: its contract alone is wanted.
+fn describes(desc: &CounterDesc)
+    ensures { IsCounter desc.now }
+{
+    let _ = desc.bits();
+}
+
 /// What the words behind the front tell of the clocks.
 pub(super) fn base_told(desc: CounterDesc, words: &[u64; 10]) -> ReadBase
     requires range { are_in_range desc words.now ≡ true }
+    requires counter { IsCounter desc }
     ensures value { result ≡ (snapshot_told desc words.now).base }
     ensures ten { length words.now ≡ 10 }
 {
@@ -41,7 +50,6 @@ pub(super) fn base_told(desc: CounterDesc, words: &[u64; 10]) -> ReadBase
         raw_frac,
         raw_sec,
     ] = words;
-    prove!(desc.mult() >= 256);
     ReadBase {
         desc,
         last,

@@ -1,7 +1,7 @@
-use super::heap::Heap;
 use super::{OPENED_WORDS, opened};
 use crate::{Latch, LatchError, Moved, PageFull};
 use std::test::Fail;
+use tk_heap::Heap;
 
 #[test]
 fn the_opening_is_read_by_each_of_1_to_64_readers(rt: HostRuntime) -> Result<(), Fail> {

@@ -5,9 +5,9 @@ use Rattle.tk_clock.specs.Words.{snapshot_told, words_of}
 use Rattle.tk_clock.proofs.Words.{in_range, is_within-told, words_again, restored-told, told-restored}
 use Rattle.tk_clock.proofs.snapshot.Snapshot.from_known_words.Goals as goal
 
-pub base_told-requires : goal.base_told-requires
-base_told-requires c =
-    record { range = (told-restored c.args.desc c.args.words c.requires.known).range }
+pub base_told-requires-clause-range : goal.base_told-requires-clause-range
+base_told-requires-clause-range c =
+    (told-restored c.args.desc c.args.words c.requires.known).range
 
 pub invariant_of-result : goal.invariant_of-result
 invariant_of-result c =

@@ -5,7 +5,7 @@ use Rattle.tk_clock.proofs.snapshot.known_words.base_told.Goals as goal
 pub overflow_cast-result : goal.overflow_cast-result
 overflow_cast-result c =
     let low = (in_range c.args.desc c.args.words.now c.requires.range).mult_low in
-    let fits = c.mult.ensures.counter.adjustable in
+    let fits = c.requires.counter.adjustable in
     omega (arith, low, fits)
 
 pub overflow_cast-result-2 : goal.overflow_cast-result-2
@@ -17,7 +17,7 @@ pub invariant_of-result : goal.invariant_of-result
 invariant_of-result c =
     let range = in_range c.args.desc c.args.words.now c.requires.range in
     record {
-      described = c.mult.ensures.counter;
+      described = c.requires.counter;
       last_low = range.last_low;
       mult_some = range.mult_some;
       mult_low = range.mult_low;
