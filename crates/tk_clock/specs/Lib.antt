@@ -16,3 +16,4 @@ pub mod Effect
 pub mod Run
 pub mod Snapshot
 pub mod Words
+pub mod Read

@@ -1,0 +1,133 @@
+-- A line drawn from a snapshot is its clock.
+use Rattle.std.proofs.Common.{◌≡◌, ℕ, ◌+◌, ◌-◌, ◌*◌, ◌/◌, ◌%◌, ◌^◌, ◌<◌, ◌≤◌, Bool, true, false, bit_and, Ok, refl, sym, ap, ap₂, ◌∙◌, arith}
+use Rattle.std.specs.Prelude.{ℤ, pos, ◌+ℤ◌, int_lt, nat_lt, ◌||◌, if◌then◌else◌, unsigned_abs}
+use Rattle.std.proofs.lemmas.Bool.{le-ltb, lt-ltb}
+use Rattle.std.proofs.lemmas.Nat.{pow_pos, div_below}
+use Rattle.std.proofs.lemmas.Int.{ints}
+use Rattle.std.proofs.Math.Nat.{mul-add-div, mod-eq_of_lt, mul-le-mul_right}
+use Rattle.tk_counter.specs.Counter.{Counter, IsCounter, mask, half, second}
+use Rattle.tk_counter.proofs.Gaps.{word_gap}
+use Rattle.tk_clock.specs.declared.clock_id.ClockId.{ClockId}
+use Rattle.tk_clock.specs.declared.clock_id.ClockId.TheVariants.{Realtime, Monotonic, Boottime, Tai, RealtimeCoarse, MonotonicCoarse, MonotonicRaw}
+use Rattle.tk_clock.specs.Monotonic.{cycles_since}
+use Rattle.tk_clock.specs.State.{ReadBase, base_value}
+use Rattle.tk_clock.specs.Limits.{limit}
+use Rattle.tk_clock.specs.Read.{read_of}
+use Rattle.tk_clock.proofs.Offsets.{cycles_since-self}
+use Rattle.tk_lanes.specs.declared.line.Line.{Line}
+use Rattle.tk_lanes.specs.Line.{line_cycles, line_nanos, nanos_after, IsNear, is_coarse, units_at_last, running_mult, mult_of, offset_of}
+
+-- a line with a clock's numbers: seconds at the last reading, the span in cycles, and the nanoseconds to the clock's limit
+pub record IsDrawn (base : ReadBase) (clock : ClockId) (line : Line) (sec room : ℕ) : Type 0 where
+  pub counter : IsCounter base.counter
+  pub last : line.last ≡ base.last
+  pub last_low : base.last < 2 ^ 64
+  pub mult : line.mult ≡ mult_of base clock
+  pub shift : line.shift ≡ base.counter.shift
+  pub units : units_at_last base clock ≡ sec * second base.counter + line.frac
+  pub start : pos line.base ≡ pos (sec * 10 ^ 9) +ℤ offset_of base clock
+  pub masked : line.mask ≡ mask base.counter
+  pub halved : line.half ≡ half base.counter
+  pub fits : line.span * line.mult + line.frac < 2 ^ 64
+  pub in_range : line.span * line.mult + line.frac < room * 2 ^ line.shift
+  pub ends : pos (line.base + room) ≡ limit clock
+  pub limit_low : line.base + room < 2 ^ 64
+
+-- the cycles of the lanes are those of the clock
+cycles_are : (counter : Counter) (last m h stamp : ℕ) → IsCounter counter → last < 2 ^ 64 → m ≡ mask counter → h ≡ half counter →
+    (let g = bit_and ((stamp + (2 ^ 64 - last)) % 2 ^ 64) m in if nat_lt h g then 0 else g) ≡ cycles_since counter false last stamp
+cycles_are counter last m h stamp held low p q =
+    ap₂ (λ m h. let g = bit_and ((stamp + (2 ^ 64 - last)) % 2 ^ 64) m in if nat_lt h g then 0 else g) p q
+    ∙ ap (λ g. if nat_lt (half counter) g then 0 else g) (word_gap counter.bits last stamp held.bits_high low)
+
+-- a clock that stands still has no units a cycle
+same_units : (asleep coarse : Bool) (counter : Counter) (last stamp u : ℕ) →
+    cycles_since counter false last stamp * (if asleep || coarse then 0 else u)
+    ≡ cycles_since counter asleep last (if coarse then last else stamp) * u
+same_units true coarse counter last stamp u = omega arith
+same_units false true counter last stamp u = let none = cycles_since-self counter false last in rw none (omega arith)
+same_units false false counter last stamp u = refl
+
+-- what a clock counts at a stamp, in nanoseconds, without its offset
+abbrev counted : ReadBase → ClockId → ℕ → ℕ
+counted base clock stamp =
+    (units_at_last base clock
+    + cycles_since base.counter base.asleep base.last (if is_coarse clock then base.last else stamp) * running_mult base clock)
+    / 2 ^ base.counter.shift
+
+value_is : (base : ReadBase) (clock : ClockId) (stamp : ℕ) → base_value base clock stamp ≡ pos (counted base clock stamp) +ℤ offset_of base clock
+value_is base Monotonic stamp = omega (arith, ints)
+value_is base Realtime stamp = refl
+value_is base Boottime stamp = refl
+value_is base Tai stamp = omega (arith, ints)
+value_is base RealtimeCoarse stamp = refl
+value_is base MonotonicCoarse stamp = omega (arith, ints)
+value_is base MonotonicRaw stamp = omega (arith, ints)
+
+-- the nanoseconds of seconds and further units
+split_amount : (sec units shift : ℕ) → (sec * (10 ^ 9 * 2 ^ shift) + units) / 2 ^ shift ≡ sec * 10 ^ 9 + units / 2 ^ shift
+split_amount sec units shift =
+    let e : sec * (10 ^ 9 * 2 ^ shift) + units ≡ 2 ^ shift * (sec * 10 ^ 9) + units = omega arith in
+    ap (λ n. n / 2 ^ shift) e ∙ mul-add-div (pow_pos shift) (sec * 10 ^ 9) units
+
+module _ (base : ReadBase) (clock : ClockId) (line : Line) (sec room : ℕ) (drawn : IsDrawn base clock line sec room)
+    (stamp : ℕ) (near : IsNear line stamp) where
+  abbrev cycles : ℕ
+  cycles = line_cycles line stamp
+
+  cycles_of : line_cycles line stamp ≡ cycles_since base.counter false base.last stamp
+  unfolding line_cycles
+  cycles_of =
+      ap (λ l. let g = bit_and ((stamp + (2 ^ 64 - l)) % 2 ^ 64) line.mask in if nat_lt line.half g then 0 else g) drawn.last
+      ∙ cycles_are base.counter base.last line.mask line.half stamp drawn.counter drawn.last_low drawn.masked drawn.halved
+
+  abbrev units : ℕ
+  units = cycles * line.mult + line.frac
+
+  grown : cycles * line.mult ≤ line.span * line.mult
+  grown = mul-le-mul_right line.mult near.near
+
+  abbrev nanos : ℕ
+  nanos = units / 2 ^ line.shift
+
+  nanos_low : nanos < room
+  nanos_low = div_below units (2 ^ line.shift) room (pow_pos line.shift) (omega (arith, grown, drawn.in_range))
+
+  line_is : line_nanos line stamp ≡ nanos + line.base
+  unfolding nanos_after
+  line_is =
+      let a : (cycles * line.mult) % 2 ^ 64 ≡ cycles * line.mult = mod-eq_of_lt (omega (arith, grown, drawn.fits)) in
+      let b : (cycles * line.mult + line.frac) % 2 ^ 64 ≡ units = mod-eq_of_lt (omega (arith, grown, drawn.fits)) in
+      let d : (nanos + line.base) % 2 ^ 64 ≡ nanos + line.base = mod-eq_of_lt (omega (arith, nanos_low, drawn.limit_low)) in
+      ap (λ n. ((n + line.frac) % 2 ^ 64 / 2 ^ line.shift + line.base) % 2 ^ 64) a
+      ∙ ap (λ n. (n / 2 ^ line.shift + line.base) % 2 ^ 64) b
+      ∙ d
+
+  counted_is : counted base clock stamp ≡ sec * 10 ^ 9 + nanos
+  counted_is =
+      let at = if is_coarse clock then base.last else stamp in
+      let same : cycles * line.mult ≡ cycles_since base.counter base.asleep base.last at * running_mult base clock =
+      ap₂ (λ a b. a * b) cycles_of drawn.mult ∙ same_units base.asleep (is_coarse clock) base.counter base.last stamp (running_mult base clock) in
+      let e : units_at_last base clock + cycles_since base.counter base.asleep base.last at * running_mult base clock
+      ≡ sec * (10 ^ 9 * 2 ^ base.counter.shift) + units =
+      omega (arith, same, drawn.units) in
+      ap (λ n. n / 2 ^ base.counter.shift) e ∙ split_amount sec units base.counter.shift
+      ∙ ap (λ k. sec * 10 ^ 9 + units / 2 ^ k) (sym drawn.shift)
+
+  value : base_value base clock stamp ≡ pos (nanos + line.base)
+  value =
+      value_is base clock stamp
+      ∙ ap (λ n. pos n +ℤ offset_of base clock) counted_is
+      ∙ together (sec * 10 ^ 9) nanos line.base (offset_of base clock) drawn.start
+    where
+      together : (a n b : ℕ) (o : ℤ) → pos b ≡ pos a +ℤ o → pos (a + n) +ℤ o ≡ pos (n + b)
+      together a n b o e = omega (arith, ints)
+
+  -- the clock reads as the line
+  pub drawn_reads : read_of base clock stamp ≡ Ok (line_nanos line stamp)
+  unfolding read_of
+  drawn_reads =
+      let within : nat_lt (mask base.counter) stamp ≡ false = le-ltb _ _ (omega (arith, near.read, drawn.masked)) in
+      let ranged : int_lt (base_value base clock stamp) (limit clock) ≡ true =
+      ap₂ int_lt value (sym drawn.ends) ∙ lt-ltb _ _ (omega (arith, nanos_low)) in
+      rw (within, ranged) (ap Ok (ap unsigned_abs value ∙ sym line_is))

@@ -1,0 +1,72 @@
+-- What was converted so far, and some stamps more.
+use Rattle.std.proofs.Common.{◌≡◌, ℕ, ◌+◌, ◌-◌, ◌<◌, ◌≤◌, List, map, length, get_or, Ok, Err, Result, sym, ap, ◌∙◌, subst, arith, inl, inr, Fits, w64}
+use Rattle.std.specs.Bool.{⊤}
+use Rattle.std.proofs.lemmas.Bool.{cases_lt}
+use Rattle.std.proofs.lemmas.List.{length-map, get_or-map}
+use Rattle.std.proofs.lemmas.Simd.{length-chunk, get_or-chunk, get_or-put_chunk_below, get_or-put_chunk_at, get_or-put_chunk_above, Each1-get_or}
+use Rattle.std.specs.Simd.Lanes.{chunk, put_chunk}
+use Rattle.tk_clock.specs.declared.clock_id.ClockId.{ClockId}
+use Rattle.tk_clock.specs.State.{ReadBase}
+use Rattle.tk_lanes.specs.declared.batch_error.BatchError.{BatchError}
+use Rattle.tk_lanes.specs.declared.batch_error.BatchError.TheVariants.{Invalid, Range}
+use Rattle.tk_lanes.specs.declared.line.Line.{Line}
+use Rattle.tk_lanes.specs.Batch.{IsFilled, IsRefusedAt, IsBatchFrom}
+use Rattle.tk_lanes.specs.Line.{line_nanos, IsNear, IsEachNear, IsLine}
+
+pub filled_joined : (base : ReadBase) (clock : ClockId) (stamps : List ℕ) (first at end : ℕ) (old mid new : List ℕ) → first ≤ at → at ≤ end →
+    IsFilled base clock stamps first at old mid → IsFilled base clock stamps at end mid new → IsFilled base clock stamps first end old new
+filled_joined base clock stamps first at end old mid new low high front back = record {
+  converted = λ k from to. elim (cases_lt k at) [
+    | inl early ↦ front.converted k from early ∙ ap Ok (sym (back.before k early))
+    | inr late ↦ back.converted k late to
+  ];
+  before = λ k early. back.before k (omega arith) ∙ front.before k early;
+  after = λ k late. back.after k late ∙ front.after k (omega arith);
+}
+
+refused_joined : (base : ReadBase) (clock : ClockId) (stamps : List ℕ) (first at end total : ℕ) (old mid new : List ℕ) (index : ℕ) (error : _) → first ≤ at → at ≤ end → end ≤ total →
+    IsFilled base clock stamps first at old mid → IsRefusedAt base clock stamps at end mid new index error → IsRefusedAt base clock stamps first total old new index error
+refused_joined base clock stamps first at end total old mid new index error low high within front back = record {
+  low = omega (arith, back.low);
+  high = omega (arith, back.high);
+  refused = back.refused;
+  filled = filled_joined base clock stamps first at index old mid new low back.low front back.filled;
+}
+
+pub error_joined : (base : ReadBase) (clock : ClockId) (stamps : List ℕ) (first at end total : ℕ) (old mid new : List ℕ) (error : BatchError) → first ≤ at → at ≤ end → end ≤ total →
+    IsFilled base clock stamps first at old mid → IsBatchFrom base clock stamps at end mid new (Err error) → IsBatchFrom base clock stamps first total old new (Err error)
+error_joined base clock stamps first at end total old mid new (Invalid index) low high within front back =
+    refused_joined base clock stamps first at end total old mid new index _ low high within front back
+error_joined base clock stamps first at end total old mid new (Range index) low high within front back =
+    refused_joined base clock stamps first at end total old mid new index _ low high within front back
+
+pub batch_joined : (base : ReadBase) (clock : ClockId) (stamps : List ℕ) (first at end : ℕ) (old mid new : List ℕ) (answer : Result ⊤ BatchError) → first ≤ at → at ≤ end →
+    IsFilled base clock stamps first at old mid → IsBatchFrom base clock stamps at end mid new answer → IsBatchFrom base clock stamps first end old new answer
+batch_joined base clock stamps first at end old mid new (Ok done) low high front back = filled_joined base clock stamps first at end old mid new low high front back
+batch_joined base clock stamps first at end old mid new (Err error) low high front back = error_joined base clock stamps first at end end old mid new error low high (omega arith) front back
+
+-- eight lanes more
+pub filled_lanes : (base : ReadBase) (clock : ClockId) (line : Line) (stamps : List ℕ) (at : ℕ) (out : List ℕ) →
+    ((k : ℕ) → Fits w64 (get_or stamps k 0)) → length stamps ≡ length out → at + 8 ≤ length stamps → IsLine base clock line → IsEachNear line (chunk at 8 stamps) →
+    IsFilled base clock stamps at (at + 8) out (put_chunk at out (map (line_nanos line) (chunk at 8 stamps)))
+filled_lanes base clock line stamps at out fits same inside drawn near =
+    let v = chunk at 8 stamps in
+    let ys = map (line_nanos line) v in
+    let long : length v ≡ 8 = length-chunk at 8 stamps inside in
+    let many : length ys ≡ 8 = length-map v (line_nanos line) ∙ long in
+    record {
+      converted = λ k from to.
+          let j = k - at in
+          let back : at + j ≡ k = omega arith in
+          let low : j < 8 = omega arith in
+          let stamp_is : get_or v j 0 ≡ get_or stamps k 0 = get_or-chunk at 8 stamps j 0 low ∙ ap (λ n. get_or stamps n 0) back in
+          let near_here : IsNear line (get_or stamps k 0) = subst (IsNear line) stamp_is (Each1-get_or (IsNear line) v j 0 (omega arith) near) in
+          let new_is : get_or (put_chunk at out ys) k 0 ≡ line_nanos line (get_or stamps k 0) =
+          ap (λ n. get_or (put_chunk at out ys) n 0) (sym back)
+          ∙ get_or-put_chunk_at at out ys j 0 (omega arith) (omega arith)
+          ∙ get_or-map (line_nanos line) v j 0 0 (omega arith)
+          ∙ ap (line_nanos line) stamp_is in
+          drawn (get_or stamps k 0) (fits k).fits near_here ∙ ap Ok (sym new_is);
+      before = λ k early. get_or-put_chunk_below at out ys k 0 early;
+      after = λ k late. get_or-put_chunk_above at out ys k 0 (omega arith);
+    }

@@ -1,0 +1,180 @@
+-- Eight lanes at a time: what is computed of each.
+use Rattle.std.proofs.Common.{◌≡◌, ℕ, ◌+◌, ◌-◌, ◌*◌, ◌/◌, ◌%◌, ◌^◌, ◌<◌, ◌≤◌, Bool, cond, ltb, List, [], ◌∷◌, map, length, bit_and, bit_or, w64, replicate, refl, false, inl, inr, ap, ap₂, ◌∙◌, subst, arith}
+use Rattle.std.proofs.lemmas.Nat.{le_or_l, le_or_r}
+use Rattle.std.proofs.lemmas.Simd.{zip2_of_maps, splat_is_map, tops_compared}
+use Rattle.std.specs.Simd.Lanes.{zip2, sel_l, fold_l, Each1}
+use Rattle.std.proofs.lemmas.Bool.{le-ltb, lt-ltb, cases_lt}
+use Rattle.std.proofs.lemmas.List.{length-map}
+use Rattle.std.proofs.Math.Nat.{mod-eq_of_lt}
+use lib.Lanes.{top}
+use Rattle.tk_lanes.specs.declared.line.Line.{Line}
+use Rattle.tk_lanes.specs.Line.{line_cycles, line_nanos, nanos_after, IsNear, IsEachNear}
+
+itself : (v : List ℕ) → v ≡ map (λ x. x) v
+itself [] = refl
+itself (x ∷ xs) = ap (λ r. x ∷ r) (itself xs)
+
+selected : (m : ℕ → Bool) (f g : ℕ → ℕ) (v : List ℕ) {ms : List Bool} {a b : List ℕ} → ms ≡ map m v → a ≡ map f v → b ≡ map g v →
+    sel_l ms a b ≡ map (λ x. cond (m x) (f x) (g x)) v
+selected m f g v {ms} {a} {b} p q r =
+    ap (λ l. sel_l l a b) p ∙ ap₂ (λ k l. sel_l (map m v) k l) q r ∙ of_maps v
+  where
+    of_maps : (v : List ℕ) → sel_l (map m v) (map f v) (map g v) ≡ map (λ x. cond (m x) (f x) (g x)) v
+    of_maps [] = refl
+    of_maps (x ∷ xs) = ap (λ r. cond (m x) (f x) (g x) ∷ r) (of_maps xs)
+
+-- each number of a list is at most the or of all
+most_is_or : (a : ℕ) (xs : List ℕ) (most : ℕ) → fold_l bit_or a xs ≤ most → (a ≤ most) × Each1 (λ x. x ≤ most) xs
+most_is_or a [] most low = (low, tt)
+most_is_or a (x ∷ xs) most low =
+    let later = most_is_or (bit_or a x) xs most low in
+    let here = later.0 in
+    (omega (arith, le_or_l a x), (omega (arith, le_or_r a x), later.1))
+
+each_of_map : (f : ℕ → ℕ) (P Q : ℕ → Type 0) → ((x : ℕ) → P (f x) → Q x) → (v : List ℕ) → Each1 P (map f v) → Each1 Q v
+each_of_map f P Q step [] all = tt
+each_of_map f P Q step (x ∷ xs) all = (step x all.0, each_of_map f P Q step xs all.1)
+
+both : (P Q R : ℕ → Type 0) → ((x : ℕ) → P x → Q x → R x) → (v : List ℕ) → Each1 P v → Each1 Q v → Each1 R v
+both P Q R step [] p q = tt
+both P Q R step (x ∷ xs) p q = (step x p.0 q.0, both P Q R step xs p.1 q.1)
+
+abbrev wrap_sub : ℕ → ℕ → ℕ
+wrap_sub a b = (a + (18446744073709551616 - b)) % 18446744073709551616
+
+abbrev wrap_add : ℕ → ℕ → ℕ
+wrap_add a b = (a + b) % 18446744073709551616
+
+abbrev wrap_mul : ℕ → ℕ → ℕ
+wrap_mul a b = (a * b) % 18446744073709551616
+
+abbrev shr : ℕ → ℕ → ℕ
+shr a b = a / 2 ^ b
+
+abbrev gaps : Line → List ℕ → List ℕ
+gaps line v = zip2 bit_and (zip2 wrap_sub v (replicate 8 line.last)) (replicate 8 line.mask)
+
+abbrev cycles : Line → List ℕ → List ℕ
+cycles line v =
+    sel_l (map (top 63) (zip2 (λ a b. cond (ltb a b) 18446744073709551615 0) (replicate 8 line.half) (gaps line v))) (replicate 8 0) (gaps line v)
+
+abbrev reaches : Line → List ℕ → ℕ → List ℕ
+reaches line v bias = zip2 wrap_add (cycles line v) (replicate 8 bias)
+
+abbrev nanos : Line → List ℕ → ℕ → ℕ → List ℕ
+nanos line counts mult shift =
+    zip2 wrap_add (zip2 shr (zip2 wrap_add (zip2 wrap_mul counts (replicate 8 mult)) (replicate 8 line.frac)) (replicate 8 shift))
+    (replicate 8 line.base)
+
+splat : (v : List ℕ) → length v ≡ 8 → (y : ℕ) → replicate 8 y ≡ map (λ _. y) v
+splat v long y = splat_is_map v 8 y long
+
+gap_of : Line → ℕ → ℕ
+gap_of line x = bit_and (wrap_sub x line.last) line.mask
+
+gaps-map : (line : Line) (v : List ℕ) → length v ≡ 8 → gaps line v ≡ map (gap_of line) v
+unfolding gap_of
+gaps-map line v long =
+    zip2_of_maps bit_and (λ x. wrap_sub x line.last) (λ _. line.mask) v
+    (zip2_of_maps wrap_sub (λ x. x) (λ _. line.last) v (itself v) (splat v long line.last))
+    (splat v long line.mask)
+
+pub cycles-map : (line : Line) (v : List ℕ) → length v ≡ 8 → cycles line v ≡ map (line_cycles line) v
+unfolding gap_of line_cycles
+cycles-map line v long =
+    selected (λ x. ltb line.half (gap_of line x)) (λ _. 0) (gap_of line) v
+    (tops_compared w64 ltb (replicate 8 line.half) (gaps line v)
+    ∙ zip2_of_maps ltb (λ _. line.half) (gap_of line) v (splat v long line.half) (gaps-map line v long))
+    (splat v long 0)
+    (gaps-map line v long)
+
+-- the lanes hold the line after so many cycles each
+pub nanos-map : (line : Line) (counts : List ℕ) → length counts ≡ 8 → (mult shift : ℕ) → mult ≡ line.mult → shift ≡ line.shift →
+    nanos line counts mult shift ≡ map (nanos_after line) counts
+unfolding nanos_after
+nanos-map line counts long mult shift p q =
+    ap₂ (nanos line counts) p q ∙
+    zip2_of_maps wrap_add _ (λ _. line.base) counts
+    (zip2_of_maps shr _ (λ _. line.shift) counts
+    (zip2_of_maps wrap_add _ (λ _. line.frac) counts
+    (zip2_of_maps wrap_mul (λ x. x) (λ _. line.mult) counts (itself counts) (splat counts long line.mult))
+    (splat counts long line.frac))
+    (splat counts long line.shift))
+    (splat counts long line.base)
+
+-- where the or of the gaps is within the span, no stamp lies behind, and each is near
+near_gap : (line : Line) → line.span ≤ line.half → (x : ℕ) → gap_of line x ≤ line.span → gap_of line x ≡ line_cycles line x
+unfolding gap_of line_cycles
+near_gap line leads x low =
+    let ahead : ltb line.half (gap_of line x) ≡ false = le-ltb _ _ (omega (arith, low, leads)) in
+    rw ahead refl
+
+-- lists of lanes that agree at each stamp
+same_maps : (f g : ℕ → ℕ) (P : ℕ → Type 0) → ((x : ℕ) → P x → f x ≡ g x) → (v : List ℕ) → Each1 P v → map f v ≡ map g v
+same_maps f g P same [] all = refl
+same_maps f g P same (x ∷ xs) all = ap₂ (λ y ys. y ∷ ys) (same x all.0) (same_maps f g P same xs all.1)
+
+low_gaps : (line : Line) (v : List ℕ) → length v ≡ 8 → fold_l bit_or 0 (gaps line v) ≤ line.span → Each1 (λ x. gap_of line x ≤ line.span) v
+low_gaps line v long low =
+    let ors : fold_l bit_or 0 (map (gap_of line) v) ≤ line.span =
+    subst (λ l. fold_l bit_or 0 l ≤ line.span) (gaps-map line v long) low in
+    each_of_map (gap_of line) (λ y. y ≤ line.span) (λ x. gap_of line x ≤ line.span) (λ x p. p) v (most_is_or 0 _ line.span ors).1
+
+pub gaps-long : (line : Line) (v : List ℕ) → length v ≡ 8 → length (gaps line v) ≡ 8
+gaps-long line v long = ap length (gaps-map line v long) ∙ length-map v (gap_of line) ∙ long
+
+pub cycles-long : (line : Line) (v : List ℕ) → length v ≡ 8 → length (cycles line v) ≡ 8
+cycles-long line v long = ap length (cycles-map line v long) ∙ length-map v (line_cycles line) ∙ long
+
+-- the line after the cycles of each stamp is the line at each
+pub nanos_at_each : (line : Line) (v counts : List ℕ) → counts ≡ map (line_cycles line) v → map (nanos_after line) counts ≡ map (line_nanos line) v
+nanos_at_each line v counts e = ap (map (nanos_after line)) e ∙ fused v
+  where
+    fused : (v : List ℕ) → map (nanos_after line) (map (line_cycles line) v) ≡ map (line_nanos line) v
+    fused [] = refl
+    fused (x ∷ xs) = ap (λ r. line_nanos line x ∷ r) (fused xs)
+
+pub gaps-are_cycles : (line : Line) (v : List ℕ) → length v ≡ 8 → line.span ≤ line.half → fold_l bit_or 0 (gaps line v) ≤ line.span →
+    gaps line v ≡ map (line_cycles line) v
+gaps-are_cycles line v long leads low =
+    gaps-map line v long
+    ∙ same_maps (gap_of line) (line_cycles line) (λ x. gap_of line x ≤ line.span) (near_gap line leads) v (low_gaps line v long low)
+
+pub near_by_gaps : (line : Line) (v : List ℕ) → length v ≡ 8 → line.span ≤ line.half → fold_l bit_or 0 v ≤ line.mask →
+    fold_l bit_or 0 (gaps line v) ≤ line.span → IsEachNear line v
+near_by_gaps line v long leads read low =
+    both _ _ (IsNear line)
+    (λ x p q. record { near = subst (λ n. n ≤ line.span) (near_gap line leads x p) p; read = q }) v
+    (low_gaps line v long low)
+    (most_is_or 0 v line.mask read).1
+
+-- a sum with this bias has no top bit, so the cycles are within the span
+within_span : (cycles span bias : ℕ) → cycles < 9223372036854775808 → bias + span + 1 ≡ 9223372036854775808 →
+    wrap_add cycles bias ≤ 9223372036854775807 → cycles ≤ span
+within_span cycles span bias few e low =
+    let plain : wrap_add cycles bias ≡ cycles + bias = mod-eq_of_lt (omega arith) in
+    omega (arith, plain)
+
+cycles_low : (line : Line) (x : ℕ) → line_cycles line x ≤ line.half
+unfolding line_cycles gap_of
+cycles_low line x =
+    let g = gap_of line x in
+    elim (cases_lt line.half g) [
+      | inl behind ↦ let t = lt-ltb _ _ behind in rw t (omega arith)
+      | inr forward ↦ let t = le-ltb _ _ forward in rw t forward
+    ]
+
+pub near_by_reaches : (line : Line) (v : List ℕ) (bias : ℕ) → length v ≡ 8 → line.half < 9223372036854775808 →
+    bias + line.span + 1 ≡ 9223372036854775808 → fold_l bit_or 0 v ≤ line.mask →
+    fold_l bit_or 0 (reaches line v bias) < 9223372036854775808 → IsEachNear line v
+near_by_reaches line v bias long halved e read low =
+    let reach : ℕ → ℕ = λ x. wrap_add (line_cycles line x) bias in
+    let mapped : reaches line v bias ≡ map reach v =
+    zip2_of_maps wrap_add (line_cycles line) (λ _. bias) v (cycles-map line v long) (splat v long bias) in
+    let ors : fold_l bit_or 0 (map reach v) ≤ 9223372036854775807 =
+    subst (λ l. fold_l bit_or 0 l ≤ 9223372036854775807) mapped (omega (arith, low)) in
+    both _ _ (IsNear line)
+    (λ x p q. record { near = within_span (line_cycles line x) line.span bias (omega (arith, cycles_low line x)) e p; read = q }) v
+    (each_of_map reach (λ y. y ≤ 9223372036854775807) (λ x. reach x ≤ 9223372036854775807) (λ x p. p) v
+    (most_is_or 0 _ 9223372036854775807 ors).1)
+    (most_is_or 0 v line.mask read).1

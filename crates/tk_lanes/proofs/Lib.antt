@@ -1,0 +1,4 @@
+pub mod Lanes
+pub mod Drawn
+pub mod Filled
+pub mod Reading

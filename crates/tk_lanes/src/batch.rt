@@ -1,0 +1,96 @@
+ghost use Rattle.std.specs.Prelude.{◌≡◌, ◌≤◌, ◌^◌, length, pos, ◌≤ℤ◌, ◌<ℤ◌};
+ghost use Rattle.tk_clock.specs.Read.{read_of};
+ghost use Rattle.tk_clock.specs.Time.{nanoseconds};
+ghost use Rattle.tk_lanes.specs.Batch.{IsBatch, IsBatchFrom};
+
+use crate::batch_error::BatchError;
+use crate::line::{LANES, Line};
+use tk_clock::{ClockId, ReadError, Snapshot, Timespec};
+
+const NANOS_PER_SECOND: u64 = 1_000_000_000;
+
+/// A clock at each stamp, in ns, one stamp after the other.
+///
+/// The first stamp that `Snapshot::get` refuses ends it: the items before are written, the others stay as they were.
+pub fn plain_batch(
+    snapshot: &Snapshot,
+    clock: ClockId,
+    stamps: &[u64],
+    out: &mut [u64],
+) -> Result<(), BatchError>
+    requires { length stamps.now ≡ length out.old }
+    ensures { IsBatch snapshot.now.base clock stamps.now out.old out.new result }
+{
+    plain_from(snapshot, clock, stamps, out, 0, stamps.len())
+}
+
+/// As `plain_batch`, eight stamps at a time.
+///
+/// Eight of which one is too far from the last command for a line, and those behind the last eight, are converted one
+/// after the other.
+pub fn lane_batch(
+    snapshot: &Snapshot,
+    clock: ClockId,
+    stamps: &[u64],
+    out: &mut [u64],
+) -> Result<(), BatchError>
+    requires { length stamps.now ≡ length out.old }
+    ensures { IsBatch snapshot.now.base clock stamps.now out.old out.new result }
+{
+    if stamps.len() < LANES {
+        return plain_batch(snapshot, clock, stamps, out);
+    }
+    let Some(line) = Line::of(snapshot, clock) else {
+        return plain_batch(snapshot, clock, stamps, out);
+    };
+    let chunks = stamps.len() / LANES;
+    for chunk in 0..chunks {
+        let at = LANES * chunk;
+        if !line.converts(stamps, out, at) {
+            plain_from(snapshot, clock, stamps, out, at, at + LANES)?;
+        }
+    }
+    plain_from(snapshot, clock, stamps, out, LANES * chunks, stamps.len())
+}
+
+/// The stamps from the place `first` up to `end`, where those before are converted.
+fn plain_from(
+    snapshot: &Snapshot,
+    clock: ClockId,
+    stamps: &[u64],
+    out: &mut [u64],
+    first: usize,
+    end: usize,
+) -> Result<(), BatchError>
+    requires lengths { length stamps.now ≡ length out.old }
+    requires order { first ≤ end }
+    requires inside { end ≤ length stamps.now }
+    ensures { IsBatchFrom snapshot.now.base clock stamps.now first end out.old out.new result }
+{
+    for index in first..end {
+        match nanos(snapshot, clock, stamps[index]) {
+            Ok(nanos) => out[index] = nanos,
+            Err(refusal) => return Err(BatchError::at(index, refusal)),
+        }
+    }
+    Ok(())
+}
+
+/// A clock at a stamp, in ns.
+fn nanos(snapshot: &Snapshot, clock: ClockId, stamp: u64) -> Result<u64, ReadError>
+    ensures { result ≡ read_of snapshot.now.base clock stamp }
+{
+    match snapshot.get(clock, stamp) {
+        Ok(time) => Ok(nanos_of(time)),
+        Err(refusal) => Err(refusal),
+    }
+}
+
+/// A time in ns (`timespec64_to_ns`).
+fn nanos_of(time: Timespec) -> u64
+    requires since { pos 0 ≤ℤ time.sec }
+    requires until { nanoseconds time <ℤ pos (2 ^ 64) }
+    ensures { pos result ≡ nanoseconds time }
+{
+    time.sec.unsigned_abs() * NANOS_PER_SECOND + u64::from(time.nsec)
+}

@@ -1,0 +1,77 @@
+//! A clock as a straight line over the cycles since the last command, as far as no sum or product leaves a word and no
+//! value is out of range.
+ghost use Rattle.std.specs.Prelude.{◌≡◌, ◌+◌, ◌*◌, ◌^◌, ◌<◌, ◌≤◌, IfSome};
+ghost use Rattle.tk_lanes.specs.Line.{IsLine};
+
+mod lanes;
+mod origin;
+
+use origin::{NANOS_PER_SECOND, Origin, limit, offset};
+use tk_clock::{ClockId, Snapshot};
+
+/// The number of stamps that are converted at a time.
+pub(crate) const LANES: usize = 8;
+
+/// At a stamp within its span the clock is `((cycles * mult + frac) >> shift) + base`, in ns. `cycles` is what the
+/// counter counted since the last command, or 0 where the stamp lies behind that.
+#[derive(Clone, Copy)]
+pub(crate) struct Line {
+    /// The reading of the last command.
+    last: u64,
+    /// The units of `2^-shift` ns that a cycle adds.
+    mult: u32,
+    /// How far units are shifted right to make them ns.
+    shift: u32,
+    /// The units at the last command that make no whole second.
+    frac: u64,
+    /// The clock at the last command without them, in ns.
+    base: u64,
+    /// The greatest reading.
+    mask: u64,
+    /// The longest gap that leads forward, in cycles.
+    half: u64,
+    /// The longest gap up to which the line is the clock.
+    span: u64,
+}
+
+impl Line {
+    /// The line of a snapshot's clock; None where the clock is out of range even at the last command.
+    pub(crate) fn of(snapshot: &Snapshot, clock: ClockId) -> Option<Line>
+        ensures drawn { IfSome result (λ line. IsLine snapshot.now.base clock line) }
+        ensures shift { IfSome result (λ line. line.shift < 64) }
+        ensures leads { IfSome result (λ line. line.span ≤ line.half) }
+        ensures half { IfSome result (λ line. line.half < 2 ^ 63) }
+    {
+        let desc = snapshot.desc();
+        let origin = Origin::of(snapshot, clock);
+        let base = u128::from(origin.sec) * NANOS_PER_SECOND + offset(snapshot, clock);
+        let end = limit(clock);
+        if base >= end {
+            return None;
+        }
+        let span = span_of((end - base) as u64, origin, desc.shift(), desc.half())?;
+        Some(Line {
+            last: snapshot.last(),
+            mult: origin.mult,
+            shift: desc.shift(),
+            frac: origin.frac,
+            base: base as u64,
+            mask: desc.mask(),
+            half: desc.half(),
+            span,
+        })
+    }
+}
+
+/// The longest gap, up to `half`, at which the units stay in a word and the clock gains less than `room` ns.
+fn span_of(room: u64, origin: Origin, shift: u32, half: u64) -> Option<u64>
+    requires { shift ≤ 32 }
+    ensures inside { IfSome result (λ span. span ≤ half) }
+    ensures fits { IfSome result (λ span. span * origin.mult + origin.frac < 2 ^ 64) }
+    ensures in_range { IfSome result (λ span. span * origin.mult + origin.frac < room * 2 ^ shift) }
+{
+    let end = (u128::from(room) << shift).min(1 << 64);
+    let most = end.checked_sub(1)? as u64;
+    let left = most.checked_sub(origin.frac)?;
+    Some((left / u64::from(origin.mult.max(1))).min(half))
+}

@@ -1,0 +1,92 @@
+//! Where a clock's line begins, and how steep it is.
+ghost use Rattle.std.specs.Prelude.{◌≡◌, ◌+◌, ◌*◌, ◌^◌, ◌<◌, ◌≤◌, pos};
+ghost use Rattle.tk_counter.specs.Counter.{second};
+ghost use Rattle.tk_clock.specs.Limits.{limit};
+ghost use Rattle.tk_lanes.specs.Line.{is_coarse, is_raw, units_at_last, mult_of, offset_of};
+
+use tk_clock::{ClockId, Snapshot};
+
+/// The nanoseconds of a second.
+pub(super) const NANOS_PER_SECOND: u128 = 1_000_000_000;
+
+/// What a clock counts at the last command, without its offset, and what a cycle adds from there on.
+#[derive(Clone, Copy)]
+pub(super) struct Origin {
+    /// Whole seconds.
+    pub(super) sec: u64,
+    /// What is left of them, in `2^-shift` ns.
+    pub(super) frac: u64,
+    /// What a cycle adds, in `2^-shift` ns: nothing where the clock stands still.
+    pub(super) mult: u32,
+}
+
+impl Origin {
+    /// The origin of a snapshot's clock.
+    pub(super) fn of(snapshot: &Snapshot, clock: ClockId) -> Origin
+        ensures units { units_at_last snapshot.now.base clock
+            ≡ result.sec * second snapshot.now.base.counter + result.frac }
+        ensures mult { result.mult ≡ mult_of snapshot.now.base clock }
+    {
+        let mult = mult(snapshot, clock);
+        if is_raw(clock) {
+            let (sec, frac) = (snapshot.raw_sec(), snapshot.raw_frac());
+            Origin { sec, frac, mult }
+        } else {
+            let (sec, frac) = (snapshot.sec(), snapshot.frac());
+            Origin { sec, frac, mult }
+        }
+    }
+}
+
+/// What a cycle adds to the clock, in `2^-shift` ns: nothing where it stands still.
+fn mult(snapshot: &Snapshot, clock: ClockId) -> u32
+    ensures { result ≡ mult_of snapshot.now.base clock }
+{
+    if snapshot.asleep() || is_coarse(clock) {
+        0
+    } else if is_raw(clock) {
+        snapshot.desc().mult()
+    } else {
+        snapshot.mult()
+    }
+}
+
+/// Does the clock count at the counter's own rate?
+fn is_raw(clock: ClockId) -> bool
+    ensures { result ≡ is_raw clock }
+{
+    matches!(clock, ClockId::MonotonicRaw)
+}
+
+/// Does the clock stand still between commands?
+fn is_coarse(clock: ClockId) -> bool
+    ensures { result ≡ is_coarse clock }
+{
+    matches!(clock, ClockId::RealtimeCoarse | ClockId::MonotonicCoarse)
+}
+
+/// How far the clock is from what it counts, in ns.
+pub(super) fn offset(snapshot: &Snapshot, clock: ClockId) -> u128
+    ensures value { pos result ≡ offset_of snapshot.now.base clock }
+    ensures low { result < 2 ^ 65 }
+{
+    match clock {
+        ClockId::Monotonic | ClockId::MonotonicCoarse | ClockId::MonotonicRaw => 0,
+        ClockId::Boottime => u128::from(snapshot.boot_offset()),
+        ClockId::Realtime | ClockId::RealtimeCoarse => u128::from(snapshot.real_offset()),
+        ClockId::Tai => {
+            u128::from(snapshot.real_offset()) + u128::from(snapshot.tai()) * NANOS_PER_SECOND
+        }
+    }
+}
+
+/// The nanoseconds at which a clock ends.
+pub(super) fn limit(clock: ClockId) -> u128
+    ensures value { pos result ≡ limit clock }
+    ensures most { result ≤ 9223372036 * 10 ^ 9 }
+{
+    match clock {
+        ClockId::Monotonic | ClockId::MonotonicCoarse => 946_080_000 * NANOS_PER_SECOND,
+        _ => 9_223_372_036 * NANOS_PER_SECOND,
+    }
+}

@@ -1,0 +1,69 @@
+//! Values from outside the contracts: worked out by hand, and one call against the other.
+
+mod random;
+mod refusals;
+mod values;
+
+use crate::{BatchError, lane_batch, plain_batch};
+use std::alloc::{AllocError, Global};
+use std::process::Abort;
+use std::test::Fail;
+use tk_clock::{Clock, ClockId, Snapshot, Timespec};
+use tk_counter::CounterDesc;
+
+ghost use Rattle.std.specs.Prelude.{◌≡◌, vec_len, IfOk};
+
+/// The clocks of a counter of 48 bits and one nanosecond a cycle, opened at reading 1000.
+fn opened() -> Result<Clock, Fail> {
+    let desc = CounterDesc::new(48, 16_777_216, 24)?;
+    Ok(Clock::open(desc, 1_000, time(1_700_000_000, 0))?)
+}
+
+fn time(sec: i64, nsec: u32) -> Timespec {
+    Timespec { sec, nsec }
+}
+
+/// As many sevens: what a list has where nothing was written.
+fn sevens(alloc: Global, n: usize) -> Result<Vec<u64>, AllocError>
+    ensures { IfOk result (λ v. vec_len v ≡ n) }
+{
+    vec![in alloc; 7u64; n]
+}
+
+/// Both calls must give this answer, and leave these values.
+fn converts(
+    rt: &impl Abort,
+    alloc: Global,
+    snapshot: &Snapshot,
+    clock: ClockId,
+    stamps: &[u64],
+    answer: Result<(), BatchError>,
+    values: &[u64],
+) -> Result<(), Fail> {
+    let mut plain = sevens(alloc, stamps.len())?;
+    let told = plain_batch(snapshot, clock, stamps, plain.as_mut_slice());
+    assert_eq!(rt; told, answer, "{clock:?}");
+    assert_eq!(rt; plain.as_slice(), values, "{clock:?}");
+    let mut lanes = sevens(alloc, stamps.len())?;
+    let told = lane_batch(snapshot, clock, stamps, lanes.as_mut_slice());
+    assert_eq!(rt; told, answer, "{clock:?}");
+    assert_eq!(rt; lanes.as_slice(), values, "{clock:?}");
+    Ok(())
+}
+
+/// Both calls must agree. Gives the answer.
+fn agree(
+    rt: &impl Abort,
+    alloc: Global,
+    snapshot: &Snapshot,
+    clock: ClockId,
+    stamps: &[u64],
+) -> Result<Result<(), BatchError>, Fail> {
+    let mut plain = sevens(alloc, stamps.len())?;
+    let answer = plain_batch(snapshot, clock, stamps, plain.as_mut_slice());
+    let mut lanes = sevens(alloc, stamps.len())?;
+    let told = lane_batch(snapshot, clock, stamps, lanes.as_mut_slice());
+    assert_eq!(rt; told, answer, "{clock:?}");
+    assert_eq!(rt; lanes.as_slice(), plain.as_slice(), "{clock:?}");
+    Ok(answer)
+}

@@ -1,0 +1,131 @@
+use super::{converts, opened, time};
+use crate::BatchError;
+use std::test::Fail;
+use tk_clock::{Clock, ClockId};
+use tk_counter::CounterDesc;
+
+/// The first reading above a mask of 48 bits.
+const ABOVE: u64 = 281_474_976_710_656;
+
+/// A counter of 4,194,304 nanoseconds a cycle, with readings of 64 bits.
+fn wide() -> Result<Clock, Fail> {
+    let desc = CounterDesc::new(64, 4_194_304, 0)?;
+    Ok(Clock::open(desc, 0, time(1_700_000_000, 0))?)
+}
+
+#[test]
+fn a_stamp_above_the_mask_ends_a_list(rt: HostRuntime) -> Result<(), Fail> {
+    let alloc = rt.alloc();
+    let snapshot = opened()?.snapshot(0);
+    let answer = Err(BatchError::Invalid { index: 1 });
+    for clock in [ClockId::Monotonic, ClockId::MonotonicRaw] {
+        converts(
+            &rt,
+            alloc,
+            &snapshot,
+            clock,
+            &[1_001, ABOVE, 1_002],
+            answer,
+            &[1, 7, 7],
+        )?;
+    }
+    // for a coarse clock too
+    converts(
+        &rt,
+        alloc,
+        &snapshot,
+        ClockId::MonotonicCoarse,
+        &[1_001, ABOVE, 1_002],
+        answer,
+        &[0, 7, 7],
+    )
+}
+
+#[test]
+fn a_value_at_the_limit_ends_a_list(rt: HostRuntime) -> Result<(), Fail> {
+    let alloc = rt.alloc();
+    let snapshot = wide()?.snapshot(0);
+    converts(
+        &rt,
+        alloc,
+        &snapshot,
+        ClockId::Monotonic,
+        &[1, 9_223_372_036_854_775_807],
+        Err(BatchError::Range { index: 1 }),
+        &[4_194_304, 7],
+    )?;
+    // 225563049316 cycles are 946079999.998296064 seconds, and one more is past the limit
+    converts(
+        &rt,
+        alloc,
+        &snapshot,
+        ClockId::Monotonic,
+        &[
+            225_563_049_316,
+            1,
+            1,
+            1,
+            1,
+            1,
+            1,
+            1,
+            225_563_049_316,
+            225_563_049_317,
+        ],
+        Err(BatchError::Range { index: 9 }),
+        &[
+            946_079_999_998_296_064,
+            4_194_304,
+            4_194_304,
+            4_194_304,
+            4_194_304,
+            4_194_304,
+            4_194_304,
+            4_194_304,
+            946_079_999_998_296_064,
+            7,
+        ],
+    )
+}
+
+#[test]
+fn the_place_of_a_refused_stamp_is_that_in_the_list(rt: HostRuntime) -> Result<(), Fail> {
+    let alloc = rt.alloc();
+    let snapshot = opened()?.snapshot(0);
+    for place in 0..24usize {
+        let mut stamps = [1_005; 24];
+        let mut values = [7; 24];
+        stamps[place] = ABOVE;
+        for value in values[..place].iter_mut() {
+            *value = 5;
+        }
+        converts(
+            &rt,
+            alloc,
+            &snapshot,
+            ClockId::Monotonic,
+            &stamps,
+            Err(BatchError::Invalid { index: place }),
+            &values,
+        )?;
+    }
+    Ok(())
+}
+
+#[test]
+fn a_fault_is_told_in_words(rt: HostRuntime) -> Result<(), Fail> {
+    let alloc = rt.alloc();
+    for (fault, text) in [
+        (
+            BatchError::Invalid { index: 12 },
+            "item 12: stamp above the mask",
+        ),
+        (
+            BatchError::Range { index: 0 },
+            "item 0: value out of range",
+        ),
+    ] {
+        assert_eq!(rt; format!(in alloc; "{fault}")?.as_str(), text);
+    }
+    Ok(())
+}

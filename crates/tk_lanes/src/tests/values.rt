@@ -1,0 +1,138 @@
+use super::{agree, converts, opened, sevens};
+use crate::lane_batch;
+use std::test::Fail;
+use tk_clock::{ClockId, Command};
+
+/// Round the last command, at the bound where 63 bits of units end, and at the bound where readings lie behind.
+const STAMPS: [u64; 17] = [
+    999,
+    1_000,
+    1_001,
+    2_000,
+    495_275_529_219,
+    495_275_529_220,
+    140_737_488_356_327,
+    140_737_488_356_328,
+    1_008,
+    1_009,
+    1_010,
+    1_011,
+    1_012,
+    1_013,
+    1_014,
+    1_015,
+    1_016,
+];
+
+/// MONOTONIC there, in ns.
+const VALUES: [u64; 17] = [
+    0,
+    0,
+    1,
+    1_000,
+    495_275_528_219,
+    495_275_528_220,
+    140_737_488_355_327,
+    0,
+    8,
+    9,
+    10,
+    11,
+    12,
+    13,
+    14,
+    15,
+    16,
+];
+
+#[test]
+fn each_rotation_and_prefix_is_converted(rt: HostRuntime) -> Result<(), Fail> {
+    let alloc = rt.alloc();
+    let snapshot = opened()?.snapshot(0);
+    for turn in 0..17usize {
+        let mut stamps = STAMPS;
+        let mut values = VALUES;
+        stamps.rotate_left(turn);
+        values.rotate_left(turn);
+        for len in 0..18usize {
+            converts(
+                &rt,
+                alloc,
+                &snapshot,
+                ClockId::Monotonic,
+                &stamps[..len],
+                Ok(()),
+                &values[..len],
+            )?;
+        }
+    }
+    Ok(())
+}
+
+#[test]
+fn a_steered_clock_and_the_raw_one_part(rt: HostRuntime) -> Result<(), Fail> {
+    let alloc = rt.alloc();
+    let mut clock = opened()?;
+    clock.apply(1_000, Command::Tick(11_000))?;
+    let snapshot = clock.snapshot(1);
+    // mult 18454937 in place of 16777216
+    for (clock, value) in [
+        (ClockId::Monotonic, 1_099_999_964),
+        (ClockId::MonotonicRaw, 1_000_000_000),
+        (ClockId::Realtime, 1_700_000_001_099_999_964),
+        (ClockId::Boottime, 1_099_999_964),
+        (ClockId::Tai, 1_700_000_001_099_999_964),
+        (ClockId::MonotonicCoarse, 0),
+        (ClockId::RealtimeCoarse, 1_700_000_000_000_000_000),
+    ] {
+        converts(
+            &rt,
+            alloc,
+            &snapshot,
+            clock,
+            &[1_000_001_000; 9],
+            Ok(()),
+            &[value; 9],
+        )?;
+    }
+    Ok(())
+}
+
+#[test]
+fn a_part_of_a_list_is_written_alone(rt: HostRuntime) -> Result<(), Fail> {
+    let snapshot = opened()?.snapshot(0);
+    let mut out = [7; 17];
+    let answer = lane_batch(
+        &snapshot,
+        ClockId::Monotonic,
+        &STAMPS[3..13],
+        &mut out[3..13],
+    );
+    assert_eq!(rt; answer, Ok(()));
+    let mut values = [7; 17];
+    values[3..13].copy_from_slice(&VALUES[3..13]);
+    assert_eq!(rt; out, values);
+    Ok(())
+}
+
+#[test]
+fn a_million_stamps_are_converted(rt: HostRuntime) -> Result<(), Fail> {
+    let alloc = rt.alloc();
+    let snapshot = opened()?.snapshot(0);
+    let mut stamps = sevens(alloc, 1_048_576)?;
+    for (place, stamp) in stamps.iter_mut().enumerate() {
+        *stamp = (place as u64).wrapping_mul(1_000);
+    }
+    let answer = agree(&rt, alloc, &snapshot, ClockId::Monotonic, stamps.as_slice())?;
+    assert_eq!(rt; answer, Ok(()));
+    let mut out = sevens(alloc, 1_048_576)?;
+    lane_batch(
+        &snapshot,
+        ClockId::Monotonic,
+        stamps.as_slice(),
+        out.as_mut_slice(),
+    )?;
+    // 1,048,575 times 1000 cycles, less the opening's reading
+    assert_eq!(rt; out.last(), Some(&1_048_574_000));
+    Ok(())
+}
