@@ -1,6 +1,8 @@
 pub mod Folding
+pub mod Items
 pub mod Kept
 pub mod Room
 pub mod Running
 pub mod Steps
+pub mod Stretches
 mod Worked

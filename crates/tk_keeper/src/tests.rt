@@ -11,6 +11,7 @@ mod settings;
 mod sleep;
 mod steering;
 mod times;
+mod traces;
 
 use crate::Timekeeper;
 use std::alloc::Allocator;

@@ -4,6 +4,7 @@ mod applying;
 mod folding;
 mod past;
 mod running;
+mod tracing;
 
 use std::alloc::{Allocator, Global};
 use std::marker::Model;

@@ -1,7 +1,12 @@
+ghost use Rattle.std.specs.Prelude.{◌≡◌, ◌+◌, ◌<◌, ◌^◌};
+ghost use Rattle.tk_keeper.specs.Item.{fault_of_front};
+ghost use Rattle.tk_keeper.specs.Trace.{fault_of_batch, place_of};
 ghost use Rattle.tk_keeper.specs.TraceError.{trace_text};
 
+use crate::front_error::FrontError;
 use std::error::Error;
 use std::fmt;
+use tk_lanes::BatchError;
 
 /// Why a trace isn't converted: the first item with a fault, counted from 0, or want of memory.
 ///
@@ -18,6 +23,33 @@ pub enum TraceError {
     Range { index: usize },
     /// Memory was refused.
     Memory,
+}
+
+impl TraceError {
+    /// The fault of an item's front.
+    pub(crate) fn of_front(index: usize, error: FrontError) -> TraceError
+        ensures { result ≡ fault_of_front index error }
+    {
+        match error {
+            FrontError::Unknown => TraceError::Unknown { index },
+            FrontError::Folded => TraceError::Folded { index },
+        }
+    }
+
+    /// The fault of a stamp of a batch that begins at the item `first`.
+    pub(crate) fn of_batch(first: usize, error: BatchError) -> TraceError
+        requires { first + place_of error < 2 ^ 64 }
+        ensures { result ≡ fault_of_batch first error }
+    {
+        match error {
+            BatchError::Invalid { index } => TraceError::Invalid {
+                index: first + index,
+            },
+            BatchError::Range { index } => TraceError::Range {
+                index: first + index,
+            },
+        }
+    }
 }
 
 impl fmt::Display for TraceError {

@@ -1,0 +1,150 @@
+-- A trace that is converted up to a place, and a stretch of items with one front more.
+use Rattle.std.proofs.Common.{◌≡◌, ℕ, ◌+◌, ◌-◌, ◌<◌, ◌≤◌, List, length, get_or, take, drop, Ok, Err, Result, refl, sym, ap, ◌∙◌, subst, arith, rules, inl, inr}
+use Rattle.std.specs.Prelude.{ℤ, pos, IsOk}
+use Rattle.std.proofs.lemmas.Bool.{cases_lt}
+use Rattle.std.proofs.lemmas.List.{get_or-take, get_or-drop, length-take-le, length-drop, places}
+use borrow.Rule.Slice.PartMut.{put_mid}
+use Rattle.tk_clock.specs.declared.clock_id.ClockId.{ClockId}
+use Rattle.tk_clock.specs.declared.refusal.ReadError.{ReadError}
+use Rattle.tk_clock.specs.Journal.{Journal}
+use Rattle.tk_clock.specs.State.{ReadBase}
+use Rattle.tk_clock.specs.Read.{read_of}
+use Rattle.tk_lanes.specs.Batch.{IsFilled, IsRefusedAt, IsBatch}
+use Rattle.tk_lanes.specs.declared.batch_error.BatchError.{BatchError}
+use Rattle.tk_lanes.specs.declared.batch_error.BatchError.TheVariants as batch
+use Rattle.tk_keeper.specs.declared.trace_error.TraceError.{TraceError}
+use Rattle.tk_keeper.specs.Item.{item, fault_of_stamp}
+use Rattle.tk_keeper.specs.Trace.{item_of, IsWritten, IsFirstFault, IsTraced, told, TellsItems, place_of, fault_of_batch}
+
+mid_below : (a n : ℕ) (xs ys : List ℕ) (i : ℕ) → a ≤ length xs → i < a →
+    get_or (put_mid a n xs ys) i 0 ≡ get_or xs i 0
+mid_below a n xs ys i inside low = search (rules, places)
+
+mid_at : (a n : ℕ) (xs ys : List ℕ) (i : ℕ) → a ≤ length xs → a ≤ i → i < a + length ys →
+    get_or (put_mid a n xs ys) i 0 ≡ get_or ys (i - a) 0
+mid_at a n xs ys i inside low high = search (rules, places)
+
+mid_above : (a n : ℕ) (xs ys : List ℕ) (i : ℕ) → a + n ≤ length xs → length ys ≡ n → a + n ≤ i →
+    get_or (put_mid a n xs ys) i 0 ≡ get_or xs i 0
+mid_above a n xs ys i inside long high = search (rules, places)
+
+-- a place of a part, in the whole list
+pub part_at : (from n i : ℕ) (xs : List ℕ) → from ≤ i → i - from < n →
+    get_or (take n (drop from xs)) (i - from) 0 ≡ get_or xs i 0
+part_at from n i xs low high =
+    let e : from + (i - from) ≡ i = omega arith in
+    get_or-take n (drop from xs) (i - from) 0 high
+    ∙ get_or-drop from xs (i - from) 0 ∙ ap (λ j. get_or xs j 0) e
+
+pub part_long : (from n : ℕ) (xs : List ℕ) → from + n ≤ length xs →
+    length (take n (drop from xs)) ≡ n
+part_long from n xs inside =
+    length-take-le n (drop from xs) (omega (arith, length-drop from xs))
+
+ok_is : {v : ℤ} (r : Result ℤ TraceError) → r ≡ Ok v → IsOk r
+ok_is r e = subst IsOk (sym e) refl
+
+-- the items that are written are good ones
+pub first_fault : (journal : Journal) (clock : ClockId) (fronts stamps old new : List ℕ)
+    (index : ℕ) (error : TraceError) → index < length stamps →
+    item_of journal clock fronts stamps index ≡ Err error →
+    IsWritten journal clock fronts stamps index old new →
+    IsFirstFault journal clock fronts stamps index error
+first_fault journal clock fronts stamps old new index error low fault written = record {
+  within = low;
+  fault = fault;
+  before = λ k early. ok_is (item_of journal clock fronts stamps k) (written.values k early);
+}
+
+pub place_low : (base : ReadBase) (clock : ClockId) (stamps old new : List ℕ)
+    (error : BatchError) → IsBatch base clock stamps old new (Err error) →
+    place_of error < length stamps
+place_low base clock stamps old new (batch.Invalid index) back = back.high
+place_low base clock stamps old new (batch.Range index) back = back.high
+
+-- a stretch from `first` on, of `n` items with one front, whose snapshot has this base
+module _ (journal : Journal) (clock : ClockId) (fronts stamps old out : List ℕ) (first n : ℕ)
+    (base : ReadBase)
+    (written : IsWritten journal clock fronts stamps first old out)
+    (inside : first + n ≤ length stamps)
+    (room : length stamps ≡ length out)
+    (same : (k : ℕ) → first ≤ k → k < first + n → get_or fronts k 0 ≡ get_or fronts first 0)
+    (tells : TellsItems journal (get_or fronts first 0) base) where
+  abbrev stretch : List ℕ
+  stretch = take n (drop first stamps)
+
+  -- each item of the stretch is told by the clock at its stamp
+  item_told : (k : ℕ) → first ≤ k → k < first + n →
+      item_of journal clock fronts stamps k
+      ≡ told k (read_of base clock (get_or stretch (k - first) 0))
+  item_told k low high =
+      ap (λ f. item journal clock k f (get_or stamps k 0)) (same k low high)
+      ∙ tells clock k (get_or stamps k 0)
+      ∙ ap (λ s. told k (read_of base clock s)) (sym (part_at first n k stamps low (omega arith)))
+
+  -- the items of the stretch up to a place of it
+  pub more_written : (m : ℕ) (part new : List ℕ) → m ≤ n → length new ≡ n →
+      part ≡ take n (drop first out) → IsFilled base clock stretch 0 m part new →
+      IsWritten journal clock fronts stamps (first + m) old (put_mid first n out new)
+  more_written m part new few long is_part filled = record {
+    values = λ k low. elim (cases_lt k first) [
+      | inl early ↦
+          written.values k early
+          ∙ ap (λ v. Ok (pos v)) (sym (mid_below first n out new k (omega arith) early))
+      | inr late ↦
+          let j : k - first < m = omega arith in
+          item_told k late (omega arith)
+          ∙ ap (told k) (filled.converted (k - first) (omega arith) j)
+          ∙ ap (λ v. Ok (pos v))
+          (sym (mid_at first n out new k (omega arith) late (omega arith)))
+    ];
+    others = λ k late. elim (cases_lt k (first + n)) [
+      | inl within ↦
+          mid_at first n out new k (omega arith) (omega arith) (omega arith)
+          ∙ filled.after (k - first) (omega arith)
+          ∙ ap (λ xs. get_or xs (k - first) 0) is_part
+          ∙ part_at first n k out (omega arith) (omega arith)
+          ∙ written.others k (omega arith)
+      | inr after ↦
+          mid_above first n out new k (omega arith) long after ∙ written.others k (omega arith)
+    ];
+  }
+
+  refused_at : (part new : List ℕ) (index : ℕ) (refusal : ReadError) (error : TraceError) →
+      length new ≡ n → part ≡ take n (drop first out) →
+      IsRefusedAt base clock stretch 0 (length stretch) part new index refusal →
+      fault_of_stamp (first + index) refusal ≡ error →
+      IsTraced journal clock fronts stamps old (put_mid first n out new) (Err error)
+  refused_at part new index refusal error long is_part back is_told =
+      let here : index < n = omega (arith, back.high, part_long first n stamps inside) in
+      let more = more_written index part new (omega arith) long is_part back.filled in
+      let e : first + index - first ≡ index = omega arith in
+      let fault : item_of journal clock fronts stamps (first + index) ≡ Err error =
+      item_told (first + index) (omega arith) (omega arith)
+      ∙ ap (λ j. told (first + index) (read_of base clock (get_or stretch j 0))) e
+      ∙ ap (told (first + index)) back.refused
+      ∙ ap Err is_told in (
+        first + index,
+        first_fault journal clock fronts stamps old (put_mid first n out new) (first + index) error
+            (omega arith) fault more,
+        more,
+      )
+
+  -- the first stamp of the stretch that is refused
+  pub batch_refused : (part new : List ℕ) (error : BatchError) →
+      length new ≡ n → part ≡ take n (drop first out) →
+      IsBatch base clock stretch part new (Err error) →
+      IsTraced journal clock fronts stamps old (put_mid first n out new)
+      (Err (fault_of_batch first error))
+  batch_refused part new (batch.Invalid index) long is_part back =
+      refused_at part new index _ _ long is_part back refl
+  batch_refused part new (batch.Range index) long is_part back =
+      refused_at part new index _ _ long is_part back refl
+
+  pub batch_written : (part new : List ℕ) → length new ≡ n → part ≡ take n (drop first out) →
+      IsFilled base clock stretch 0 (length stretch) part new →
+      IsWritten journal clock fronts stamps (first + n) old (put_mid first n out new)
+  batch_written part new long is_part filled =
+      more_written n part new (omega arith) long is_part
+      (subst (λ m. IsFilled base clock stretch 0 m part new) (part_long first n stamps inside)
+      filled)

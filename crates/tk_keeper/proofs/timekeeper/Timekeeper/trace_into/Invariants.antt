@@ -1,0 +1,12 @@
+use Rattle.std.proofs.Common.{◌-◌, ◌≤◌, length}
+use Rattle.tk_keeper.specs.Trace.{IsWritten}
+use Rattle.tk_keeper.proofs.timekeeper.Timekeeper.trace_into.Given as goal
+
+abbrev pub invariant-stretches : goal.invariant-stretches
+invariant-stretches g l = record {
+  inside : l.first ≤ length l.fronts;
+  written : IsWritten l.self.journal l.clock l.fronts l.stamps l.first l.fn.out l.out;
+}
+
+abbrev pub decreases-stretches : goal.decreases-stretches
+decreases-stretches g l = length l.fronts - l.first

@@ -1,0 +1,231 @@
+use super::{applied, opened, time};
+use crate::{Timekeeper, TraceError};
+use std::alloc::{Allocator, Global};
+use std::process::Abort;
+use std::test::Fail;
+use tk_clock::{ClockId, Command};
+use tk_heap::Heap;
+
+/// The first reading above the mask.
+const ABOVE: u64 = 4_294_967_296;
+
+/// What stands in the caller's memory before a call.
+const OLD: u64 = 77;
+
+/// A timekeeper with two settings of the frequency.
+fn steered<A: Allocator + Copy>(alloc: A) -> Result<Timekeeper<A>, Fail> {
+    let mut keeper = opened(alloc)?;
+    keeper.reserve(2)?;
+    keeper.apply(0, 0, Command::Freq(65_536_000))?;
+    keeper.apply(0, 1_000_000_000, Command::Freq(-32_768_000))?;
+    Ok(keeper)
+}
+
+/// One number, so many times.
+fn repeated(alloc: Global, number: u64, many: usize) -> Result<Vec<u64>, Fail> {
+    Ok(vec![in alloc; number; many]?)
+}
+
+/// The answer of both calls: the values, or the first fault. What is in memory from there on must
+/// be old.
+fn traced<A: Allocator + Copy>(
+    rt: &impl Abort,
+    alloc: Global,
+    keeper: &Timekeeper<A>,
+    fronts: &[u64],
+    stamps: &[u64],
+    clock: ClockId,
+    values: &[u64],
+    answer: Result<(), TraceError>,
+) -> Result<(), Fail> {
+    let mut out = repeated(alloc, OLD, stamps.len())?;
+    let done = keeper.trace_into(fronts, stamps, clock, out.as_mut_slice());
+    assert_eq!(rt; done, answer);
+    let written = values.len();
+    assert_eq!(rt; &out[..written], values);
+    for kept in &out[written..] {
+        assert_eq!(rt; *kept, OLD);
+    }
+    match keeper.trace(fronts, stamps, clock) {
+        Ok(list) => assert_eq!(rt; (list.as_slice(), Ok(())), (values, answer)),
+        Err(error) => assert_eq!(rt; Err(error), answer),
+    }
+    Ok(())
+}
+
+#[test]
+fn each_stamp_is_told_as_of_its_front(rt: HostRuntime) -> Result<(), Fail> {
+    let keeper = steered(rt.alloc())?;
+    let at = 1_000_000_000;
+    traced(
+        &rt,
+        rt.alloc(),
+        &keeper,
+        &[0, 1, 2, 2],
+        &[at, at, at, at + 1],
+        ClockId::Monotonic,
+        &[at, 1_000_499_963, 1_000_499_963, 1_000_499_964],
+        Ok(()),
+    )?;
+    // up and down, and none beside another of its front
+    traced(
+        &rt,
+        rt.alloc(),
+        &keeper,
+        &[2, 0, 1, 0, 2, 1],
+        &[at + 1, at, at, 5, at, 0],
+        ClockId::Monotonic,
+        &[1_000_499_964, at, 1_000_499_963, 5, 1_000_499_963, 0],
+        Ok(()),
+    )
+}
+
+#[test]
+fn the_first_fault_decides_by_its_place(rt: HostRuntime) -> Result<(), Fail> {
+    let mut keeper = steered(rt.alloc())?;
+    let at = 1_000_000_000;
+    let unknown = Err(TraceError::Unknown { index: 1 });
+    let clock = ClockId::Monotonic;
+    traced(
+        &rt,
+        rt.alloc(),
+        &keeper,
+        &[0, 3],
+        &[0, 0],
+        clock,
+        &[0],
+        unknown,
+    )?;
+    // of an item's own faults that of the front, and a later item's front is not looked at
+    traced(
+        &rt,
+        rt.alloc(),
+        &keeper,
+        &[0, 3, 0],
+        &[1, ABOVE, ABOVE],
+        clock,
+        &[1],
+        unknown,
+    )?;
+    traced(
+        &rt,
+        rt.alloc(),
+        &keeper,
+        &[1, 1, 2, 2, 2, 3],
+        &[0, 0, at, at + 1, ABOVE, 0],
+        clock,
+        &[0, 0, 1_000_499_963, 1_000_499_964],
+        Err(TraceError::Invalid { index: 4 }),
+    )?;
+    keeper.fold(1);
+    let folded = Err(TraceError::Folded { index: 1 });
+    traced(
+        &rt,
+        rt.alloc(),
+        &keeper,
+        &[1, 0],
+        &[0, 0],
+        clock,
+        &[0],
+        folded,
+    )?;
+    traced(
+        &rt,
+        rt.alloc(),
+        &keeper,
+        &[2, 1],
+        &[at + 1, at],
+        clock,
+        &[1_000_499_964, 1_000_499_963],
+        Ok(()),
+    )
+}
+
+#[test]
+fn a_clock_past_its_limit_is_told(rt: HostRuntime) -> Result<(), Fail> {
+    let mut keeper = opened(rt.alloc())?;
+    let latest = time(8_277_292_035, 999_999_999);
+    assert_eq!(rt;
+        applied(&rt, &mut keeper, 0, Command::SetTime(latest)),
+        Ok(1)
+    );
+    let away = time(946_079_999, 999_999_999);
+    assert_eq!(rt; applied(&rt, &mut keeper, 0, Command::Suspend), Ok(2));
+    assert_eq!(rt; applied(&rt, &mut keeper, 0, Command::Resume(away)), Ok(3));
+    // 9223372035 s and 999999998 ns at reading 0, so one nanosecond is left
+    traced(
+        &rt,
+        rt.alloc(),
+        &keeper,
+        &[3, 3, 3],
+        &[0, 1, 2],
+        ClockId::Realtime,
+        &[9_223_372_035_999_999_998, 9_223_372_035_999_999_999],
+        Err(TraceError::Range { index: 2 }),
+    )
+}
+
+#[test]
+fn a_long_trace_tells_the_place_in_the_whole_list(rt: HostRuntime) -> Result<(), Fail> {
+    let alloc = rt.alloc();
+    let keeper = opened(alloc)?;
+    let many = 100_000;
+    let mut fronts = repeated(alloc, 0, many)?;
+    let mut stamps = repeated(alloc, 0, many)?;
+    for (place, stamp) in stamps.iter_mut().enumerate() {
+        *stamp = place as u64;
+    }
+    let clock = ClockId::Monotonic;
+    let whole = keeper.trace(fronts.as_slice(), stamps.as_slice(), clock)?;
+    assert_eq!(rt; (whole.len(), whole[99_999]), (many, 99_999));
+    stamps[5_000] = ABOVE;
+    stamps[9_000] = ABOVE;
+    for (place, answer) in [
+        (0, TraceError::Invalid { index: 5_000 }),
+        (4_999, TraceError::Unknown { index: 4_999 }),
+    ] {
+        if place > 0 {
+            fronts[place] = 1;
+        }
+        let told = keeper.trace(fronts.as_slice(), stamps.as_slice(), clock);
+        assert_eq!(rt; told.err(), Some(answer));
+    }
+    Ok(())
+}
+
+#[test]
+fn no_stamps_are_no_values(rt: HostRuntime) -> Result<(), Fail> {
+    let heap = Heap::new(rt.alloc());
+    let keeper = opened(&heap)?;
+    heap.refuse_all();
+    assert_eq!(rt; keeper.trace(&[], &[], ClockId::Tai)?.len(), 0);
+    assert_eq!(rt; keeper.trace_into(&[], &[], ClockId::Tai, &mut []), Ok(()));
+    Ok(())
+}
+
+#[test]
+fn each_request_refused_in_turn_is_told_first(rt: HostRuntime) -> Result<(), Fail> {
+    let heap = Heap::new(rt.alloc());
+    let keeper = steered(&heap)?;
+    let at = 1_000_000_000;
+    let memory = Err(TraceError::Memory);
+    for request in 1..=10 {
+        heap.refuse(request);
+        let answer = keeper.trace(&[0, 1], &[at, at], ClockId::Monotonic);
+        if heap.grant_all() {
+            assert_eq!(rt; answer?.as_slice(), [at, 1_000_499_963].as_slice());
+            assert!(rt; request > 1);
+            // before the fault of any item
+            heap.refuse_all();
+            let fault = keeper.trace(&[3], &[ABOVE], ClockId::Monotonic);
+            assert_eq!(rt; fault.map(|_| ()), memory);
+            // memory that is there serves
+            let mut out = [OLD; 2];
+            let done = keeper.trace_into(&[0, 1], &[at, at], ClockId::Monotonic, &mut out);
+            assert_eq!(rt; (done, out), (Ok(()), [at, 1_000_499_963]));
+            return Ok(());
+        }
+        assert_eq!(rt; answer.map(|_| ()), memory);
+    }
+    Err("each trace met a refusal".into())
+}
