@@ -18,7 +18,6 @@ use Rattle.tk_program.specs.Request.{told_by}
 module _ {R W : Type 0} (remaining : R → Option (List ℕ)) (read_gives : R → Option ℕ → R → Type 0)
     (contents : W → Option (List ℕ)) (write_gives : W → List ℕ → Option ℕ → W → Type 0)
     (flush_gives : W → Bool → W → Type 0) (reader reader' : R) (writer writer' : W) where
-
   -- neither was touched
   abbrev pub IsUntouched : Type 0
   IsUntouched = (reader' ≡ reader) × (writer' ≡ writer)

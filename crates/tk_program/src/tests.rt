@@ -51,7 +51,12 @@ fn takes_its_words(rt: HostRuntime) -> Result<(), Fail> {
         ),
     ];
     for (words, keep) in bounded {
-        assert_words(&rt, rt.alloc(), words, Ok(Request::Replay { keep: Some(keep) }))?;
+        assert_words(
+            &rt,
+            rt.alloc(),
+            words,
+            Ok(Request::Replay { keep: Some(keep) }),
+        )?;
     }
     Ok(())
 }
@@ -161,11 +166,7 @@ fn tells_each_ending(rt: HostRuntime) -> Result<(), Fail> {
         (Ending::Done, 0, b""),
         (Ending::Words, 2, b"tkcore: words refused\n"),
         (Ending::Fault(Fault::Read), 1, b"tkcore: cannot read\n"),
-        (
-            Ending::Fault(Fault::Memory),
-            1,
-            b"tkcore: out of memory\n",
-        ),
+        (Ending::Fault(Fault::Memory), 1, b"tkcore: out of memory\n"),
         (
             Ending::Fault(Fault::Write { written: 97 }),
             1,

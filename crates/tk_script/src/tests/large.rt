@@ -1,7 +1,7 @@
 //! No count of rows or stamps is too many: the bytes alone have a limit.
 
 use super::{OPENING, act};
-use crate::{RowReader, Script, Stamps};
+use crate::{Script, Stamps};
 use std::alloc::{AllocError, Global};
 use std::test::Fail;
 use tk_clock::Command;
@@ -27,11 +27,6 @@ fn takes_a_script_of_more_rows_than_a_journal_lists(rt: HostRuntime) -> Result<(
     let script = Script::from_bytes(rt.alloc(), bytes.as_slice())?;
     assert_eq!(rt; script.rows.len(), ROWS);
     assert_eq!(rt; script.rows[ROWS - 1], act(7, Command::Update));
-    let (_, mut reader) = RowReader::open(rt.alloc(), bytes.as_slice())?;
-    for _ in 0..ROWS {
-        assert_eq!(rt; reader.next_row()?, Some(act(7, Command::Update)));
-    }
-    assert_eq!(rt; reader.next_row()?, None);
     Ok(())
 }
 

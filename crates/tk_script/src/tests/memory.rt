@@ -93,10 +93,11 @@ fn writes_a_line_or_nothing(rt: HostRuntime) -> Result<(), Fail> {
     Ok(())
 }
 
-/// How many lines the report of days has, and how long it is.
-const DAYS: usize = 100;
+/// How many lines the report of days has.
+const DAYS: u32 = 100;
 
-const LENGTH: usize = DAYS * 64;
+/// How long it is.
+const LENGTH: usize = 6_400;
 
 #[test]
 fn a_calendar_that_was_refused_a_date_goes_on(rt: HostRuntime) -> Result<(), Fail> {
@@ -105,9 +106,9 @@ fn a_calendar_that_was_refused_a_date_goes_on(rt: HostRuntime) -> Result<(), Fai
         let mut calendar = Calendar::new(&heap);
         let mut out = Vec::new(&heap);
         heap.refuse(request);
-        for day in 0..DAYS as i64 {
+        for day in 0..DAYS {
             let time = Timespec {
-                sec: 1_700_000_000 + day * 86_400,
+                sec: i64::from(1_700_000_000 + day * 86_400),
                 nsec: 0,
             };
             let before = out.len();
@@ -120,7 +121,7 @@ fn a_calendar_that_was_refused_a_date_goes_on(rt: HostRuntime) -> Result<(), Fai
         assert_eq!(rt; out.len(), LENGTH);
         assert!(rt; out.ends_with(b"1708553600.000000000,2024-02-21T22:13:20.000000000Z\n"));
         if heap.grant_all() {
-            assert!(rt; request > DAYS as u64);
+            assert!(rt; request > u64::from(DAYS));
             return Ok(());
         }
     }
