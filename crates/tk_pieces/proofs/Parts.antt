@@ -1,0 +1,162 @@
+-- Items by their place in a part of a list, and a piece more.
+use Rattle.std.proofs.Common.{◌≡◌, ℕ, ◌+◌, ◌-◌, ◌*◌, ◌<◌, ◌≤◌, List, length, get_or, take, drop, ◌++◌, length-take, Some, None, Ok, Err, Result, refl, sym, ap, ap₂, ◌∙◌, subst, arith, rules, inl, inr}
+use Rattle.std.specs.Prelude.{ℤ, pos, IsOk, Option}
+use Rattle.std.proofs.lemmas.Bool.{cases_lt}
+use Rattle.std.proofs.lemmas.List.{get_or-take, get_or-drop, length-take-le, length-drop, places}
+use Rattle.tk_clock.specs.declared.clock_id.ClockId.{ClockId}
+use Rattle.tk_clock.specs.declared.refusal.ReadError.{ReadError}
+use Rattle.tk_clock.specs.declared.refusal.ReadError.TheVariants.{Invalid, Range}
+use Rattle.tk_clock.specs.Clocks.{clock_value}
+use Rattle.tk_clock.specs.Journal.{Journal}
+use Rattle.tk_keeper.specs.declared.front_error.FrontError.{FrontError}
+use Rattle.tk_keeper.specs.declared.front_error.FrontError.TheVariants.{Unknown, Folded}
+use Rattle.tk_keeper.specs.declared.trace_error.TraceError.{TraceError}
+use Rattle.tk_keeper.specs.Item.{item, item_at, item_unless}
+use Rattle.tk_keeper.specs.Past.{at_front, front_refusal}
+use Rattle.tk_keeper.specs.Read.{read_fault}
+use Rattle.tk_keeper.specs.Trace.{item_of, AreValues, IsWritten, IsFirstFault, IsTraced}
+use Rattle.tk_keeper.proofs.Stretches.{part_at}
+use Rattle.tk_pieces.specs.Pieces.{ArePieces, IsPiece, IsTracedInPieces, further_on, place_told, piece_items, refused_mark}
+
+-- a value doesn't hang on the place of its item
+same_value : (index place : ℕ) (value v : ℤ) (stamp : Option ReadError) (front : Option FrontError) →
+    item_unless index (item_at index value stamp) front ≡ Ok v →
+    item_unless place (item_at place value stamp) front ≡ Ok v
+same_value index place value v None None e = e
+same_value index place value v (Some error) None e = cc
+same_value index place value v stamp (Some error) e = cc
+
+pub value_anywhere : (journal : Journal) (clock : ClockId) (index place front stamp : ℕ) (v : ℤ) →
+    item journal clock index front stamp ≡ Ok v → item journal clock place front stamp ≡ Ok v
+value_anywhere journal clock index place front stamp v e =
+    let there = at_front front journal in
+    same_value index place (clock_value there clock stamp) v (read_fault there clock stamp)
+    (front_refusal journal front) e
+
+abbrev moved_by : ℕ → Result ℤ TraceError → Result ℤ TraceError
+moved_by by (Ok v) = Ok v
+moved_by by (Err error) = Err (further_on error by)
+
+-- a fault moves with its item
+same_fault : (index by : ℕ) (value : ℤ) (error : TraceError) (stamp : Option ReadError)
+    (front : Option FrontError) →
+    item_unless index (item_at index value stamp) front ≡ Err error →
+    item_unless (by + index) (item_at (by + index) value stamp) front ≡ Err (further_on error by)
+same_fault index by value error None None e = cc
+same_fault index by value error (Some Invalid) None e = ap (moved_by by) e
+same_fault index by value error (Some Range) None e = ap (moved_by by) e
+same_fault index by value error stamp (Some Unknown) e = ap (moved_by by) e
+same_fault index by value error stamp (Some Folded) e = ap (moved_by by) e
+
+pub fault_further : (journal : Journal) (clock : ClockId) (index by front stamp : ℕ)
+    (error : TraceError) → item journal clock index front stamp ≡ Err error →
+    item journal clock (by + index) front stamp ≡ Err (further_on error by)
+fault_further journal clock index by front stamp error e =
+    let there = at_front front journal in
+    same_fault index by (clock_value there clock stamp) error (read_fault there clock stamp)
+    (front_refusal journal front) e
+
+module _ (journal : Journal) (clock : ClockId) (fronts stamps : List ℕ) where
+  abbrev pub IsDone : List ℕ → ℕ → Type 0
+  IsDone out k = item_of journal clock fronts stamps k ≡ Ok (pos (get_or out k 0))
+
+  -- a place of a piece lies in the part of the list that is the piece
+  within : (at k : ℕ) (xs : List ℕ) → at ≤ k → k < length xs → k - at < piece_items →
+      k - at < length (take piece_items (drop at xs))
+  within at k xs from inside until =
+      omega (arith, length-take piece_items (drop at xs), length-drop at xs)
+
+  -- the items of a piece without the mark
+  unmarked_done : (n : ℕ) (out : List ℕ) → length stamps ≡ length out →
+      ArePieces journal clock fronts stamps out → n * piece_items < length stamps →
+      get_or out (n * piece_items) 0 < refused_mark → (k : ℕ) → k < length stamps →
+      n * piece_items ≤ k → k - n * piece_items < piece_items → IsDone out k
+  unmarked_done n out room pieces low unmarked k inside from until =
+      let at = n * piece_items in
+      let back : at + (k - at) ≡ k = omega arith in
+      let zero : at + 0 ≡ at = omega arith in
+      let leads : get_or (take piece_items (drop at out)) 0 0 ≡ get_or out at 0 =
+      get_or-take piece_items (drop at out) 0 0 (omega arith) ∙ get_or-drop at out 0 0
+      ∙ ap (λ j. get_or out j 0) zero in
+      let here = within at k out from (subst (λ m. k < m) room inside) until in
+      let told = pieces n low (subst (λ w. w < refused_mark) (sym leads) unmarked) (k - at) here in
+      ap (item_of journal clock fronts stamps) (sym back) ∙ told
+      ∙ ap (λ v. Ok (pos v)) (part_at at piece_items k out from until)
+
+  -- the items before a piece, and those of the piece
+  pub pieces_done : (n : ℕ) (out : List ℕ) → length stamps ≡ length out →
+      ArePieces journal clock fronts stamps out →
+      (n * piece_items < length stamps → get_or out (n * piece_items) 0 < refused_mark) →
+      ((k : ℕ) → k < length stamps → k < n * piece_items → IsDone out k) →
+      (k : ℕ) → k < length stamps → k < (n + 1) * piece_items → IsDone out k
+  pieces_done n out room pieces unmarked before k inside low = elim (cases_lt k (n * piece_items)) [
+    | inl early ↦ before k inside early
+    | inr late ↦
+        let begun : n * piece_items < length stamps = omega arith in
+        unmarked_done n out room pieces begun (unmarked begun) k inside late (omega arith)
+  ]
+
+  early_out : (xs ys : List ℕ) (k : ℕ) → k < length xs → get_or (xs ++ ys) k 0 ≡ get_or xs k 0
+  early_out xs ys k low = search (rules, places)
+
+  late_out : (xs ys : List ℕ) (k : ℕ) → length xs ≤ k →
+      get_or (xs ++ ys) k 0 ≡ get_or ys (k - length xs) 0
+  late_out xs ys k high = search (rules, places)
+
+  -- an item behind a place, by its number from there on
+  late_item : (m k place : ℕ) →
+      item journal clock place (get_or (drop m fronts) k 0) (get_or (drop m stamps) k 0)
+      ≡ item journal clock place (get_or fronts (m + k) 0) (get_or stamps (m + k) 0)
+  late_item m k place =
+      ap₂ (item journal clock place) (get_or-drop m fronts k 0) (get_or-drop m stamps k 0)
+
+  -- the items before a place, and some behind it
+  late_values : (m n : ℕ) (out xs ys : List ℕ) → length xs ≡ m → xs ≡ take m out →
+      AreValues journal clock fronts stamps m out →
+      AreValues journal clock (drop m fronts) (drop m stamps) n ys →
+      AreValues journal clock fronts stamps (m + n) (xs ++ ys)
+  late_values m n out xs ys long is_front before late k low = elim (cases_lt k m) [
+    | inl early ↦
+        before k early
+        ∙ ap (λ v. Ok (pos v)) (sym (early_out xs ys k (omega arith)
+        ∙ ap (λ zs. get_or zs k 0) is_front ∙ get_or-take m out k 0 early))
+    | inr behind ↦
+        let j = k - m in
+        let back : m + j ≡ k = omega arith in
+        let here : item_of journal clock fronts stamps (m + j) ≡ Ok (pos (get_or ys j 0)) =
+        value_anywhere journal clock j (m + j) (get_or fronts (m + j) 0) (get_or stamps (m + j) 0) _
+        (sym (late_item m j j) ∙ late j (omega arith)) in
+        ap (item_of journal clock fronts stamps) (sym back) ∙ here
+        ∙ ap (λ v. Ok (pos v)) (sym (late_out xs ys k (omega arith)
+        ∙ ap (λ l. get_or ys (k - l) 0) long))
+  ]
+
+  -- the rest of the list is converted
+  pub rest_done : (m : ℕ) (out xs ys old : List ℕ) → m ≤ length stamps → length xs ≡ m →
+      xs ≡ take m out → AreValues journal clock fronts stamps m out →
+      IsWritten journal clock (drop m fronts) (drop m stamps) (length (drop m stamps)) old ys →
+      AreValues journal clock fronts stamps (length stamps) (xs ++ ys)
+  rest_done m out xs ys old inside long is_front before written =
+      let e : m + length (drop m stamps) ≡ length stamps = omega (arith, length-drop m stamps) in
+      subst (λ n. AreValues journal clock fronts stamps n (xs ++ ys)) e
+      (late_values m (length (drop m stamps)) out xs ys long is_front before written.values)
+
+  ok_is : {v : ℤ} (r : Result ℤ TraceError) → r ≡ Ok v → IsOk r
+  ok_is r e = subst IsOk (sym e) refl
+
+  -- the first fault of the rest is that of the list
+  pub rest_refused : (m : ℕ) (out xs ys old : List ℕ) (error : TraceError) → m ≤ length stamps →
+      length xs ≡ m → xs ≡ take m out → AreValues journal clock fronts stamps m out →
+      IsTraced journal clock (drop m fronts) (drop m stamps) old ys (Err error) →
+      IsTracedInPieces journal clock fronts stamps (xs ++ ys) (Err (further_on error m))
+  rest_refused m out xs ys old error inside long is_front before (index, fault, written) =
+      let values = late_values m index out xs ys long is_front before written.values in (
+        m + index,
+        record {
+          within = omega (arith, fault.within, length-drop m stamps);
+          fault = fault_further journal clock index m (get_or fronts (m + index) 0)
+              (get_or stamps (m + index) 0) error (sym (late_item m index index) ∙ fault.fault);
+          before = λ k early. ok_is (item_of journal clock fronts stamps k) (values k early);
+        },
+        values,
+      )

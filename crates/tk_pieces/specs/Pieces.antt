@@ -1,0 +1,54 @@
+-- What a trace is converted to in pieces, side by side.
+use Rattle.std.specs.Prelude.{◌≡◌, ℕ, ◌+◌, ◌-◌, ◌*◌, ◌<◌, ◌^◌, ⊤, pos, List, length, slice_index, Result, Ok, Err}
+use Rattle.std.specs.Fork.{slice_chunk}
+use Rattle.tk_clock.specs.declared.clock_id.ClockId.{ClockId}
+use Rattle.tk_clock.specs.Journal.{Journal}
+use Rattle.tk_keeper.specs.declared.trace_error.TraceError.{TraceError}
+use Rattle.tk_keeper.specs.declared.trace_error.TraceError.TheVariants as errors
+use Rattle.tk_keeper.specs.Trace.{item_of, AreValues, IsFirstFault}
+
+-- a trace that is converted into memory that is there: all its items, or those before the first
+-- fault; what stands there from the fault on isn't told
+abbrev pub IsTracedInPieces : Journal → ClockId → List ℕ → List ℕ → List ℕ →
+    Result ⊤ TraceError → Type 0
+IsTracedInPieces journal clock fronts stamps new (Ok done) =
+    AreValues journal clock fronts stamps (length stamps) new
+IsTracedInPieces journal clock fronts stamps new (Err error) =
+    (index : ℕ) × IsFirstFault journal clock fronts stamps index error
+    × AreValues journal clock fronts stamps index new
+
+-- the items of a piece
+abbrev pub piece_items : ℕ
+piece_items = 65536
+
+-- what the first word of a piece is where an item of it has a fault
+abbrev pub refused_mark : ℕ
+refused_mark = 18446744073709551615
+
+-- a piece that begins at a place of the list: unless it is marked, it holds the value of each item
+abbrev pub IsPiece : Journal → ClockId → List ℕ → List ℕ → ℕ → List ℕ → Type 0
+IsPiece journal clock fronts stamps at piece =
+    slice_index piece 0 < refused_mark → (k : ℕ) → k < length piece →
+    item_of journal clock fronts stamps (at + k) ≡ Ok (pos (slice_index piece k))
+
+-- each piece of the list
+abbrev pub ArePieces : Journal → ClockId → List ℕ → List ℕ → List ℕ → Type 0
+ArePieces journal clock fronts stamps out =
+    (n : ℕ) → n * piece_items < length stamps →
+    IsPiece journal clock fronts stamps (n * piece_items) (slice_chunk out piece_items n)
+
+-- the place that a fault tells
+abbrev pub place_told : TraceError → ℕ
+place_told (errors.Unknown index) = index
+place_told (errors.Folded index) = index
+place_told (errors.Invalid index) = index
+place_told (errors.Range index) = index
+place_told errors.Memory = 0
+
+-- the same fault of an item that stands further on
+abbrev pub further_on : TraceError → ℕ → TraceError
+further_on (errors.Unknown index) by = errors.Unknown (by + index)
+further_on (errors.Folded index) by = errors.Folded (by + index)
+further_on (errors.Invalid index) by = errors.Invalid (by + index)
+further_on (errors.Range index) by = errors.Range (by + index)
+further_on errors.Memory by = errors.Memory
