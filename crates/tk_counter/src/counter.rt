@@ -40,8 +40,8 @@ impl CounterDesc {
 
     /// The counter that these numbers describe, or the first thing that is wrong with them.
     ///
-    /// Bits where a reading has not 8 to 64 bits; Shift where the shift is above 32; Mult where the mult
-    /// is below 256; Adjust where the mult and 11 percent of it don't fit 32 bits.
+    /// Bits where a reading has not 8 to 64 bits; Shift where the shift is above 32; Mult where the
+    /// mult is below 256; Adjust where the mult and 11 percent of it don't fit 32 bits.
     pub fn new(bits: u32, mult: u32, shift: u32) -> Result<CounterDesc, DescError>
         ensures { let counter : Counter = record { bits = bits; mult = mult; shift = shift } in
             MatchResult result
