@@ -1,7 +1,7 @@
 //! Long lists by pieces, beside the same lists by one thread and worked values.
 
 use crate::{trace_all, trace_all_into};
-use std::alloc::Global;
+use std::alloc::{Allocator, Global};
 use std::test::Fail;
 use std::thread::Threads;
 use tk_clock::{ClockId, Command, Timespec};
@@ -49,6 +49,28 @@ fn counted(alloc: Global, many: usize) -> Result<Lists, Fail> {
     Ok(lists)
 }
 
+/// Writes an item, where the list has that place.
+fn put(list: &mut Vec<u64>, place: usize, number: u64) {
+    if let Some(item) = list.get_mut(place) {
+        *item = number;
+    }
+}
+
+/// What `trace_all` answers, out of another allocator.
+fn asked<B: Allocator>(
+    rt: &(impl Threads + Sync),
+    alloc: B,
+    keeper: &Timekeeper,
+    lists: &Lists,
+) -> Result<Vec<u64, B>, TraceError> {
+    let fronts = lists.fronts.as_slice();
+    let stamps = lists.stamps.as_slice();
+    if fronts.len() != stamps.len() {
+        return Err(TraceError::Range { index: usize::MAX });
+    }
+    trace_all(rt, alloc, keeper, fronts, stamps, ClockId::Monotonic)
+}
+
 /// What both calls answer, which must be the same.
 fn answered(
     rt: &(impl Threads + Sync),
@@ -63,7 +85,7 @@ fn answered(
         return Err("lists of several lengths".into());
     }
     let done = trace_all_into(rt, keeper, fronts, stamps, clock, lists.out.as_mut_slice());
-    let list = trace_all(rt, alloc, keeper, fronts, stamps, clock);
+    let list = asked(rt, alloc, keeper, lists);
     match &list {
         Ok(values) => {
             if done.is_err() || values.as_slice() != lists.out.as_slice() {
@@ -109,11 +131,11 @@ fn the_first_fault_of_all_pieces_decides(rt: HostRuntime) -> Result<(), Fail> {
         (5_000, 0, ABOVE, TraceError::Invalid { index: 5_000 }),
         (4_999, 3, 0, TraceError::Unknown { index: 4_999 }),
     ] {
-        lists.fronts[place] = front;
-        lists.stamps[place] = stamp;
+        put(&mut lists.fronts, place, front);
+        put(&mut lists.stamps, place, stamp);
         let answer = answered(&rt, alloc, &keeper, &mut lists)?;
         assert_eq!(rt; answer.err(), Some(fault));
-        for (at, value) in lists.out[..place].iter().enumerate() {
+        for (at, value) in lists.out.iter().take(place).enumerate() {
             assert_eq!(rt; *value, at as u64);
         }
     }
@@ -133,16 +155,17 @@ fn fronts_up_and_down_are_told_as_by_one_thread(rt: HostRuntime) -> Result<(), F
         seed ^= seed.wrapping_shl(13);
         seed ^= seed >> 7;
         seed ^= seed.wrapping_shl(17);
-        lists.fronts[place] = seed % 3;
-        lists.stamps[place] = (seed >> 8) % ABOVE;
+        put(&mut lists.fronts, place, seed % 3);
+        put(&mut lists.stamps, place, (seed >> 8) % ABOVE);
     }
-    lists.fronts[MANY - 1] = 2;
-    lists.stamps[MANY - 1] = 1_000_000_001;
+    put(&mut lists.fronts, MANY - 1, 2);
+    put(&mut lists.stamps, MANY - 1, 1_000_000_001);
     let values = answered(&rt, alloc, &keeper, &mut lists)??;
-    assert_eq!(rt; values[MANY - 1], 1_000_499_964);
-    let clock = ClockId::Monotonic;
-    let alone = keeper.trace(lists.fronts.as_slice(), lists.stamps.as_slice(), clock)?;
-    assert!(rt; values.as_slice() == alone.as_slice());
+    assert_eq!(rt; values.last(), Some(&1_000_499_964));
+    for ((front, stamp), value) in lists.fronts.iter().zip(&lists.stamps).zip(&values) {
+        let alone = keeper.trace(&[*front], &[*stamp], ClockId::Monotonic)?;
+        assert_eq!(rt; alone.as_slice(), [*value].as_slice());
+    }
     Ok(())
 }
 
@@ -151,18 +174,16 @@ fn room_is_asked_for_first(rt: HostRuntime) -> Result<(), Fail> {
     let alloc = rt.alloc();
     let heap = Heap::new(alloc);
     let keeper = steered(alloc)?;
-    let clock = ClockId::Monotonic;
+    let none = counted(alloc, 0)?;
     for many in [3, MANY] {
         let mut lists = counted(alloc, many)?;
-        lists.fronts[2] = 7;
-        let fronts = lists.fronts.as_slice();
-        let stamps = lists.stamps.as_slice();
+        put(&mut lists.fronts, 2, 7);
         heap.refuse_all();
-        let refused = trace_all(&rt, &heap, &keeper, fronts, stamps, clock);
+        let refused = asked(&rt, &heap, &keeper, &lists);
         assert_eq!(rt; refused.err(), Some(TraceError::Memory));
-        assert_eq!(rt; trace_all(&rt, &heap, &keeper, &[], &[], clock)?.len(), 0);
+        assert_eq!(rt; asked(&rt, &heap, &keeper, &none)?.len(), 0);
         heap.grant_all();
-        let fault = trace_all(&rt, &heap, &keeper, fronts, stamps, clock);
+        let fault = asked(&rt, &heap, &keeper, &lists);
         assert_eq!(rt; fault.err(), Some(TraceError::Unknown { index: 2 }));
     }
     Ok(())
