@@ -45,7 +45,8 @@ tells_items journal front base there reads counter since clock index stamp =
     let own = clock_value (at_front front journal) clock stamp in
     let greatest = mask journal.opening.counter in
     let end = limit clock in
-    let known = ap (item_unless index (item_at index own (fault_by greatest stamp end own))) there in
+    let known = ap (item_unless index (item_at index own (fault_by greatest stamp end own))) there
+    in
     let same = ap₂ (λ m v. item_at index v (fault_by m stamp end v)) (ap mask (sym counter))
     (sym (reads clock stamp)) in
     known ∙ same ∙ told_unless index value (fault_by (mask base.counter) stamp end value)

@@ -28,7 +28,8 @@ keep_with_zeros : ask_for (codes "replay" ∷ codes "--keep=007" ∷ []) ≡ Som
 unfolding asked_by clap_on_literals
 keep_with_zeros = refl
 
-greatest : ask_for (codes "replay" ∷ codes "--keep" ∷ codes "524288" ∷ []) ≡ Some (Replay (Some 524288))
+greatest : ask_for (codes "replay" ∷ codes "--keep" ∷ codes "524288" ∷ [])
+    ≡ Some (Replay (Some 524288))
 unfolding asked_by clap_on_literals
 greatest = refl
 
@@ -48,7 +49,8 @@ no_number : ask_for (codes "replay" ∷ codes "--keep" ∷ []) ≡ None
 unfolding asked_by clap_on_literals
 no_number = refl
 
-kept_twice : ask_for (codes "replay" ∷ codes "--keep" ∷ codes "1" ∷ codes "--keep" ∷ codes "1" ∷ []) ≡ None
+kept_twice : ask_for (codes "replay" ∷ codes "--keep" ∷ codes "1" ∷ codes "--keep" ∷ codes "1" ∷ [])
+    ≡ None
 unfolding asked_by clap_on_literals
 kept_twice = refl
 

@@ -26,7 +26,8 @@ use Rattle.tk_replay.specs.Folding.{StandsFor, rule_of}
 use Rattle.tk_replay.specs.Report.{IsLine, IsLookLine, after, event, reply_by, reply_line}
 
 -- a journal that stands for a whole one is like it
-pub IsAlike-stands : (keep : Option ℕ) (journal whole : Journal) → StandsFor keep journal whole → IsAlike journal whole
+pub IsAlike-stands : (keep : Option ℕ) (journal whole : Journal) → StandsFor keep journal whole →
+    IsAlike journal whole
 IsAlike-stands None journal whole same = subst (IsAlike journal) same (IsAlike-self journal)
 IsAlike-stands (Some keep) journal whole alike = alike
 
@@ -35,7 +36,8 @@ StandsFor-self None journal = refl
 StandsFor-self (Some keep) journal = IsAlike-self journal
 
 -- a clock is refused alike
-pub read_fault-alike : (journal whole : Journal) → IsAlike journal whole → (clock : ClockId) (reading : ℕ) →
+pub read_fault-alike : (journal whole : Journal) → IsAlike journal whole →
+    (clock : ClockId) (reading : ℕ) →
     read_fault journal clock reading ≡ read_fault whole clock reading
 read_fault-alike journal whole alike clock reading =
     let told : State → ℤ → Option ReadError = λ s value.
@@ -46,30 +48,42 @@ read_fault-alike journal whole alike clock reading =
     ∙ ap (told (state_of whole)) (clock_value-alike journal whole alike.state clock reading)
 
 -- a reply leaves them alike, its answer is the same, and so is its line
-pub reply-alike : (journal whole : Journal) → IsAlike journal whole → (entry : Entry) (told : Option Refusal) →
-    clock_refusal journal entry ≡ told → IsAlike (reply_if journal entry told).journal (reply_if whole entry told).journal
-reply-alike journal whole alike entry None accepted = IsAlike-followed_by journal whole alike entry accepted
+pub reply-alike : (journal whole : Journal) → IsAlike journal whole →
+    (entry : Entry) (told : Option Refusal) →
+    clock_refusal journal entry ≡ told →
+    IsAlike (reply_if journal entry told).journal (reply_if whole entry told).journal
+reply-alike journal whole alike entry None accepted =
+    IsAlike-followed_by journal whole alike entry accepted
 reply-alike journal whole alike entry (Some refusal) refused = alike
 
-pub answer-alike : (journal whole : Journal) → IsAlike journal whole → (entry : Entry) (told : Option Refusal) →
+pub answer-alike : (journal whole : Journal) → IsAlike journal whole →
+    (entry : Entry) (told : Option Refusal) →
     (reply_if journal entry told).answer ≡ (reply_if whole entry told).answer
 answer-alike journal whole alike entry None = ap (λ n. Ok (n + 1)) alike.count
 answer-alike journal whole alike entry (Some refusal) = refl
 
-line-alike : (journal whole : Journal) → IsAlike journal whole → (entry : Entry) (told : Option Refusal) →
+line-alike : (journal whole : Journal) → IsAlike journal whole →
+    (entry : Entry) (told : Option Refusal) →
     clock_refusal journal entry ≡ told →
-    reply_line entry.reading (reply_if journal entry told) ≡ reply_line entry.reading (reply_if whole entry told)
+    reply_line entry.reading (reply_if journal entry told)
+    ≡ reply_line entry.reading (reply_if whole entry told)
 line-alike journal whole alike entry None accepted =
     let next = IsAlike-followed_by journal whole alike entry accepted in
-    ap (λ n. ok_line (n + 1) (timespec_of (monotonic (followed_by journal entry) entry.reading))) alike.count
+    ap (λ n. ok_line (n + 1) (timespec_of (monotonic (followed_by journal entry) entry.reading)))
+    alike.count
     ∙ ap (λ n. ok_line (accepted_count whole + 1) (timespec_of n))
     (monotonic-alike (followed_by journal entry) (followed_by whole entry) next.state entry.reading)
 line-alike journal whole alike entry (Some refusal) refused = refl
 
-IsLookLine-alike : (journal whole : Journal) → IsAlike journal whole → (clock : ClockId) (reading : ℕ)
-    (told : Option ReadError) (line : List ℕ) → IsLookLine journal clock reading told line → IsLookLine whole clock reading told line
-IsLookLine-alike journal whole alike clock reading None line (time, (nanos, value, split), text) =
-    (time, (nanos, sym (clock_value-alike journal whole alike.state clock reading) ∙ value, split), text)
+IsLookLine-alike : (journal whole : Journal) → IsAlike journal whole →
+    (clock : ClockId) (reading : ℕ)
+    (told : Option ReadError) (line : List ℕ) → IsLookLine journal clock reading told line →
+    IsLookLine whole clock reading told line
+IsLookLine-alike journal whole alike clock reading None line (time, (nanos, value, split), text) = (
+  time,
+  (nanos, sym (clock_value-alike journal whole alike.state clock reading) ∙ value, split),
+  text,
+)
 IsLookLine-alike journal whole alike clock reading (Some error) line text = text
 
 is_line-alike : (journal whole : Journal) → IsAlike journal whole → (row : Row) (line : List ℕ) →
@@ -77,11 +91,13 @@ is_line-alike : (journal whole : Journal) → IsAlike journal whole → (row : R
 is_line-alike journal whole alike (Act reading cmd) line told =
     let entry = event reading cmd in
     told ∙ line-alike journal whole alike entry (clock_refusal journal entry) refl
-    ∙ ap (λ r. reply_line reading (reply_if whole entry r)) (clock_refusal-alike journal whole alike.state entry)
+    ∙ ap (λ r. reply_line reading (reply_if whole entry r))
+    (clock_refusal-alike journal whole alike.state entry)
 is_line-alike journal whole alike (Look reading clock) line told =
     subst (λ (r : Option ReadError). IsLookLine whole clock reading r line)
     (read_fault-alike journal whole alike clock reading)
-    (IsLookLine-alike journal whole alike clock reading (read_fault journal clock reading) line told)
+    (IsLookLine-alike journal whole alike clock reading (read_fault journal clock reading) line
+    told)
 
 after-alike : (journal whole : Journal) → IsAlike journal whole → (row : Row) →
     IsAlike (after clock_refusal journal row) (after clock_refusal whole row)
@@ -95,14 +111,18 @@ after-alike journal whole alike (Look reading clock) = alike
 
 -- the line of a record on a journal is that on the one that it stands for
 pub IsLine-stands : (keep : Option ℕ) (journal whole : Journal) → StandsFor keep journal whole →
-    (row : Row) (line : List ℕ) → IsLine (rule_of keep) journal row line → IsLine (rule_of keep) whole row line
+    (row : Row) (line : List ℕ) → IsLine (rule_of keep) journal row line →
+    IsLine (rule_of keep) whole row line
 IsLine-stands None journal whole same row line told =
     subst (λ (j : Journal). IsLine (rule_of None) j row line) same told
-IsLine-stands (Some keep) journal whole alike row line told = is_line-alike journal whole alike row line told
+IsLine-stands (Some keep) journal whole alike row line told =
+    is_line-alike journal whole alike row line told
 
 -- and so is the journal after it
-pub StandsFor-after : (keep : Option ℕ) (journal whole next : Journal) → StandsFor keep journal whole → (row : Row) →
-    StandsFor keep next (after (rule_of keep) journal row) → StandsFor keep next (after (rule_of keep) whole row)
+pub StandsFor-after : (keep : Option ℕ) (journal whole next : Journal) →
+    StandsFor keep journal whole → (row : Row) →
+    StandsFor keep next (after (rule_of keep) journal row) →
+    StandsFor keep next (after (rule_of keep) whole row)
 StandsFor-after None journal whole next same row told =
     told ∙ ap (λ (j : Journal). after (rule_of None) j row) same
 StandsFor-after (Some keep) journal whole next alike row told =

@@ -39,7 +39,8 @@ IsAlike-folded before after folded = record {
 -- and has room
 pub has_room : (before after : Journal) (folded keep : ℕ) →
     folded ≡ max before.opening.count (accepted_count before - keep) →
-    after.opening.count ≡ folded → IsAlike after before → keep ≤ greatest_keep → accepted_count before < counted_most →
+    after.opening.count ≡ folded → IsAlike after before → keep ≤ greatest_keep →
+    accepted_count before < counted_most →
     is_full after ≡ false
 has_room before after folded keep told same alike small few =
     let listed : length after.entries < listed_most = omega (arith, alike.count) in
@@ -50,7 +51,8 @@ has_room before after folded keep told same alike small few =
 not_full : (journal : Journal) (entry : Entry) → is_full journal ≡ false →
     reply_to journal entry ≡ reply_by clock_refusal journal entry
 not_full journal entry room =
-    ap (λ (b : Bool). reply_if journal entry (if b then Some Full else clock_refusal journal entry)) room
+    ap (λ (b : Bool). reply_if journal entry (if b then Some Full else clock_refusal journal entry))
+    room
 
 -- what is answered where memory isn't wanting is the whole journal's reply
 replied : (whole : Journal) (kept after : Keeper) (entry : Entry) (result : Result ℕ Refusal) →
@@ -59,19 +61,25 @@ replied : (whole : Journal) (kept after : Keeper) (entry : Entry) (result : Resu
     ((reply_by clock_refusal whole entry).answer ≡ result)
     × IsAlike after.journal (reply_by clock_refusal whole entry).journal
 replied whole kept after entry result alike room answered enough =
-    let same : reply_by clock_refusal kept.journal entry ≡ record { answer = result; journal = after.journal } =
+    let same : reply_by clock_refusal kept.journal entry ≡ record {
+      answer = result;
+      journal = after.journal;
+    } =
     sym (not_full kept.journal entry room) ∙ reply-answer kept after entry result answered enough in
     let told = clock_refusal-alike kept.journal whole alike.state entry in
     let P : Option Refusal → Type 0 = λ r.
-    ((reply_if whole entry r).answer ≡ result) × IsAlike after.journal (reply_if whole entry r).journal in
+    ((reply_if whole entry r).answer ≡ result)
+    × IsAlike after.journal (reply_if whole entry r).journal in
     subst P told (
       sym (answer-alike kept.journal whole alike entry (clock_refusal kept.journal entry))
           ∙ ap (λ (r : Reply). r.answer) same,
-      subst (λ (r : Reply). IsAlike r.journal (reply_if whole entry (clock_refusal kept.journal entry)).journal) same
+      subst (λ (r : Reply).
+          IsAlike r.journal (reply_if whole entry (clock_refusal kept.journal entry)).journal) same
           (reply-alike kept.journal whole alike entry (clock_refusal kept.journal entry) refl),
     )
 
-pub IsReplied-folded : (keep : ℕ) (whole : Journal) (kept after : Keeper) (entry : Entry) (result : Result ℕ Refusal) →
+pub IsReplied-folded : (keep : ℕ) (whole : Journal) (kept after : Keeper) (entry : Entry)
+    (result : Result ℕ Refusal) →
     IsAlike kept.journal whole → is_full kept.journal ≡ false → IsAnswer kept entry result after →
     IsReplied (Some keep) (reply_by clock_refusal whole entry) result after.journal
 IsReplied-folded keep whole kept after entry (Ok number) alike room answered =

@@ -12,7 +12,11 @@ appends-more None mid new text written count before piece = tt
 appends-more (Some xs) None new text written count before piece = absurd before
 appends-more (Some xs) (Some ys) None text written count before piece = absurd piece
 appends-more (Some xs) (Some ys) (Some zs) text written count before piece =
-    piece ∙ rw (before, take-add written count text) (append_assoc xs (take written text) (take count (drop written text)))
+    piece ∙ rw (
+      before,
+      take-add written count text,
+    )
+    (append_assoc xs (take written text) (take count (drop written text)))
 
 -- one more piece of an input was read
 pub consumes-more : (old mid new : Option (List ℕ)) (bytes : List ℕ) (filled count : ℕ) →
@@ -22,10 +26,15 @@ consumes-more None mid new bytes filled count before piece = tt
 consumes-more (Some xs) None new bytes filled count before piece = absurd before
 consumes-more (Some xs) (Some ys) None bytes filled count before piece = absurd piece
 consumes-more (Some xs) (Some ys) (Some zs) bytes filled count before piece =
-    before ∙ rw (piece, take-add filled count bytes) (sym (append_assoc (take filled bytes) (take count (drop filled bytes)) zs))
+    before ∙ rw (
+      piece,
+      take-add filled count bytes,
+    )
+    (sym (append_assoc (take filled bytes) (take count (drop filled bytes)) zs))
 
 -- one more piece of an input was read into room whose front was kept
-pub consumes-next : (old mid new : Option (List ℕ)) (before room rest : List ℕ) (filled count len : ℕ) →
+pub consumes-next : (old mid new : Option (List ℕ)) (before room rest : List ℕ)
+    (filled count len : ℕ) →
     length room ≡ len → take filled room ≡ take filled before →
     Consumes old mid (take filled before) → Consumes mid new (take count (drop filled room)) →
     Consumes old new (take (filled + count) (take len (room ++ rest)))
@@ -34,5 +43,7 @@ consumes-next old mid new before room rest filled count len same front first pie
     rw whole (consumes-more old mid new room filled count (rw front first) piece)
 
 -- all that follows a place
-pub take-rest : (text : List ℕ) (place : ℕ) → take (length text - place) (drop place text) ≡ drop place text
-take-rest text place = take_all (length text - place) (drop place text) (simp length-drop (omega arith))
+pub take-rest : (text : List ℕ) (place : ℕ) →
+    take (length text - place) (drop place text) ≡ drop place text
+take-rest text place =
+    take_all (length text - place) (drop place text) (simp length-drop (omega arith))

@@ -24,7 +24,8 @@ use Rattle.tk_clock.proofs.Alike.{clock_value-alike}
 use Rattle.tk_replay.proofs.Alike.{IsAlike-stands, IsLine-stands, StandsFor-after, StandsFor-self}
 
 -- the line of an accepted command, by the time that the journal tells which is kept
-pub reply_line-accepted : (keep : Option ℕ) (reply : Reply) (kept : Journal) (reading number : ℕ) (time : Timespec) →
+pub reply_line-accepted : (keep : Option ℕ) (reply : Reply) (kept : Journal) (reading number : ℕ)
+    (time : Timespec) →
     IsReplied keep reply (Ok number) kept → IsTimeAt kept Monotonic reading time →
     reply_line reading reply ≡ ok_line number time
 reply_line-accepted keep reply kept reading number time replied (nanos, value, split) =
@@ -40,34 +41,48 @@ reply_line-accepted keep reply kept reading number time replied (nanos, value, s
 abbrev pub Rows : Type 0
 Rows = Result (List Row) ScriptError
 
--- a text that becomes the report of all rows when the lines of those to come are added; a fault to come is theirs
-pub record IsBegun (rule : Rule) (start : Start) (all : Rows) (journal : Journal) (to_come : Rows) (text : List ℕ) : Type 0 where
-  pub told : (rows : List Row) (rest : List ℕ) → to_come ≡ Ok rows → IsLines rule journal rows rest →
+-- a text that becomes the report of all rows when the lines of those to come are added; a fault to
+-- come is theirs
+pub record IsBegun (rule : Rule) (start : Start) (all : Rows) (journal : Journal) (to_come : Rows)
+    (text : List ℕ) : Type 0 where
+  pub told : (rows : List Row) (rest : List ℕ) → to_come ≡ Ok rows →
+      IsLines rule journal rows rest →
       IsReportOfRows rule start all (text ++ rest)
   pub fails : (fault : ScriptError) → to_come ≡ Err fault → all ≡ Err fault
 
 -- one more line
-IsBegun-next : (rule : Rule) (start : Start) (all : Rows) (journal : Journal) (row : Row) (to_come later : Rows)
+IsBegun-next : (rule : Rule) (start : Start) (all : Rows) (journal : Journal) (row : Row)
+    (to_come later : Rows)
     (text line : List ℕ) →
-    IsBegun rule start all journal to_come text → to_come ≡ row_and row later → IsLine rule journal row line →
+    IsBegun rule start all journal to_come text → to_come ≡ row_and row later →
+    IsLine rule journal row line →
     IsBegun rule start all (after rule journal row) later (text ++ line)
 IsBegun-next rule start all journal row to_come later text line begun step isLine = record {
   told = λ rows rest e lines.
       let R : List ℕ → Type 0 = λ whole. IsReportOfRows rule start all whole in
       subst R (sym (append_assoc text line rest))
-      (begun.told (row ∷ rows) (line ++ rest) (step ∙ ap (row_and row) e) (line, rest, isLine, lines, refl));
+      (begun.told (row ∷ rows) (line ++ rest) (step ∙ ap (row_and row) e) (
+        line,
+        rest,
+        isLine,
+        lines,
+        refl,
+      ));
   fails = λ fault e. begun.fails fault (step ∙ ap (row_and row) e);
 }
 
 -- no row is to come
-IsBegun-end : (rule : Rule) (start : Start) (all : Rows) (journal : Journal) (to_come : Rows) (text : List ℕ) →
-    IsBegun rule start all journal to_come text → to_come ≡ Ok [] → IsReportOfRows rule start all text
+IsBegun-end : (rule : Rule) (start : Start) (all : Rows) (journal : Journal) (to_come : Rows)
+    (text : List ℕ) →
+    IsBegun rule start all journal to_come text → to_come ≡ Ok [] →
+    IsReportOfRows rule start all text
 IsBegun-end rule start all journal to_come text begun none =
     let R : List ℕ → Type 0 = λ whole. IsReportOfRows rule start all whole in
     subst R (append-nil text) (begun.told [] [] none refl)
 
 -- the same by a journal that stands for one that lists every command
-pub record IsBegunBy (keep : Option ℕ) (start : Start) (all : Rows) (kept : Journal) (to_come : Rows) (text : List ℕ) :
+pub record IsBegunBy (keep : Option ℕ) (start : Start) (all : Rows) (kept : Journal)
+    (to_come : Rows) (text : List ℕ) :
     Type 0 where
   pub whole : Journal
   pub stands : StandsFor keep kept whole
@@ -85,24 +100,32 @@ IsBegunBy-start keep start all = record {
   };
 }
 
-pub IsBegunBy-next : (keep : Option ℕ) (start : Start) (all : Rows) (kept kept' : Journal) (row : Row)
+pub IsBegunBy-next : (keep : Option ℕ) (start : Start) (all : Rows) (kept kept' : Journal)
+    (row : Row)
     (to_come later : Rows) (text line : List ℕ) →
-    IsBegunBy keep start all kept to_come text → to_come ≡ row_and row later → IsLine (rule_of keep) kept row line →
-    StandsFor keep kept' (after (rule_of keep) kept row) → IsBegunBy keep start all kept' later (text ++ line)
-IsBegunBy-next keep start all kept kept' row to_come later text line begun step isLine moved = record {
-  whole = after (rule_of keep) begun.whole row;
-  stands = StandsFor-after keep kept begun.whole kept' begun.stands row moved;
-  begun = IsBegun-next (rule_of keep) start all begun.whole row to_come later text line begun.begun step
-      (IsLine-stands keep kept begun.whole begun.stands row line isLine);
-}
+    IsBegunBy keep start all kept to_come text → to_come ≡ row_and row later →
+    IsLine (rule_of keep) kept row line →
+    StandsFor keep kept' (after (rule_of keep) kept row) →
+    IsBegunBy keep start all kept' later (text ++ line)
+IsBegunBy-next keep start all kept kept' row to_come later text line begun step isLine moved =
+    record {
+      whole = after (rule_of keep) begun.whole row;
+      stands = StandsFor-after keep kept begun.whole kept' begun.stands row moved;
+      begun = IsBegun-next (rule_of keep) start all begun.whole row to_come later text line begun.begun
+          step
+          (IsLine-stands keep kept begun.whole begun.stands row line isLine);
+    }
 
-pub IsBegunBy-end : (keep : Option ℕ) (start : Start) (all : Rows) (kept : Journal) (to_come : Rows) (text : List ℕ) →
-    IsBegunBy keep start all kept to_come text → to_come ≡ Ok [] → IsReportOfRows (rule_of keep) start all text
+pub IsBegunBy-end : (keep : Option ℕ) (start : Start) (all : Rows) (kept : Journal) (to_come : Rows)
+    (text : List ℕ) →
+    IsBegunBy keep start all kept to_come text → to_come ≡ Ok [] →
+    IsReportOfRows (rule_of keep) start all text
 IsBegunBy-end keep start all kept to_come text begun none =
     IsBegun-end (rule_of keep) start all begun.whole to_come text begun.begun none
 
 -- a reading's fault is that of another one which fails where it does
-pub Fails-from : (from to : Rows) (fault : ScriptError) → ((told : ScriptError) → from ≡ Err told → to ≡ Err told) →
+pub Fails-from : (from to : Rows) (fault : ScriptError) →
+    ((told : ScriptError) → from ≡ Err told → to ≡ Err told) →
     Fails fault from → Fails fault to
 Fails-from from to errors.Memory step fails = tt
 Fails-from from to errors.TooLarge step fails = step errors.TooLarge fails
@@ -113,8 +136,10 @@ Fails-from from to (errors.Fields row) step fails = step (errors.Fields row) fai
 Fails-from from to (errors.Number row) step fails = step (errors.Number row) fails
 
 -- a fault of the rows to come is one of all
-pub IsBegunBy-fault : (keep : Option ℕ) (start : Start) (all : Rows) (kept : Journal) (to_come : Rows) (text : List ℕ)
-    (fault : ScriptError) → IsBegunBy keep start all kept to_come text → Fails fault to_come → Fails fault all
+pub IsBegunBy-fault : (keep : Option ℕ) (start : Start) (all : Rows) (kept : Journal)
+    (to_come : Rows) (text : List ℕ)
+    (fault : ScriptError) → IsBegunBy keep start all kept to_come text → Fails fault to_come →
+    Fails fault all
 IsBegunBy-fault keep start all kept to_come text fault begun fails =
     Fails-from to_come all fault begun.begun.fails fails
 
@@ -129,12 +154,17 @@ fails-opened bytes start all (errors.Fields row) opens fails = opens ∙ ap (ope
 fails-opened bytes start all (errors.Number row) opens fails = opens ∙ ap (opened_with start) fails
 
 -- the report of the rows, or their fault, is that of the bytes which tell the opening and them
-pub report-opened : {A : Type 0} (rule : Rule) (bytes : List ℕ) (start : Start) (all : Rows) (text_of : A → List ℕ)
+pub report-opened : {A : Type 0} (rule : Rule) (bytes : List ℕ) (start : Start) (all : Rows)
+    (text_of : A → List ℕ)
     (result : Result A ScriptError) → parse_of bytes ≡ opened_with start all →
-    MatchResult result (λ text. IsReportOfRows rule start all (text_of text)) (λ fault. Fails fault all) →
-    MatchResult result (λ text. IsReportBy rule bytes (text_of text)) (λ fault. Fails fault (parse_of bytes))
-report-opened rule bytes start all text_of (Ok text) opens (parse, told, report) = (parse, opens ∙ told, report)
-report-opened rule bytes start all text_of (Err fault) opens fails = fails-opened bytes start all fault opens fails
+    MatchResult result (λ text. IsReportOfRows rule start all (text_of text))
+    (λ fault. Fails fault all) →
+    MatchResult result (λ text. IsReportBy rule bytes (text_of text))
+    (λ fault. Fails fault (parse_of bytes))
+report-opened rule bytes start all text_of (Ok text) opens (parse, told, report) =
+    (parse, opens ∙ told, report)
+report-opened rule bytes start all text_of (Err fault) opens fails =
+    fails-opened bytes start all fault opens fails
 
 -- a record is one command at most
 counted : (journal : Journal) (entry : Entry) (told : Option Refusal) →
@@ -142,11 +172,18 @@ counted : (journal : Journal) (entry : Entry) (told : Option Refusal) →
 counted journal entry None = omega (arith, length_push journal.entries entry)
 counted journal entry (Some refusal) = omega arith
 
-counted_after : (rule : Rule) (journal : Journal) (row : Row) → accepted_count (after rule journal row) ≤ accepted_count journal + 1
-counted_after rule journal (Act reading cmd) = counted journal (event reading cmd) (rule journal (event reading cmd))
+counted_after : (rule : Rule) (journal : Journal) (row : Row) →
+    accepted_count (after rule journal row) ≤ accepted_count journal + 1
+counted_after rule journal (Act reading cmd) =
+    counted journal (event reading cmd) (rule journal (event reading cmd))
 counted_after rule journal (Look reading clock) = omega arith
 
-pub count_after : (keep : Option ℕ) (kept kept' : Journal) (row : Row) → StandsFor keep kept' (after (rule_of keep) kept row) →
+pub count_after : (keep : Option ℕ) (kept kept' : Journal) (row : Row) →
+    StandsFor keep kept' (after (rule_of keep) kept row) →
     accepted_count kept' ≤ accepted_count kept + 1
 count_after keep kept kept' row moved =
-    omega (arith, counted_after (rule_of keep) kept row, (IsAlike-stands keep kept' (after (rule_of keep) kept row) moved).count)
+    omega (
+      arith,
+      counted_after (rule_of keep) kept row,
+      (IsAlike-stands keep kept' (after (rule_of keep) kept row) moved).count,
+    )

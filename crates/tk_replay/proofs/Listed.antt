@@ -38,12 +38,14 @@ never_full journal entry told =
     (not (is_asleep journal) && is_resume entry.cmd)
     (nat_lt (mask journal.opening.counter) entry.reading || not (is_well_formed entry.cmd))
     (not (is_resume entry.cmd)
-    && nat_lt (half journal.opening.counter) (gap journal.opening.counter (last_reading journal) entry.reading))
+    && nat_lt (half journal.opening.counter)
+    (gap journal.opening.counter (last_reading journal) entry.reading))
     (is_past_limit (λ clock. clock_value (followed_by journal entry) clock entry.reading) entry.cmd)
     (is_bad_setting (λ clock. clock_value journal clock entry.reading) entry.cmd)
     told
 
-full_if : (full : Bool) (told : Option Refusal) → (told ≡ Some Full → ⊥) → (if full then Some Full else told) ≡ Some Full →
+full_if : (full : Bool) (told : Option Refusal) → (told ≡ Some Full → ⊥) →
+    (if full then Some Full else told) ≡ Some Full →
     full ≡ true
 full_if true told never answered = refl
 full_if false told never answered = absurd (never answered)
@@ -54,18 +56,22 @@ room_if true told answer other answered = absurd (other (sym answered))
 room_if false told answer other answered = refl
 
 -- what is answered as full is full
-pub is_full-refused : (journal : Journal) (entry : Entry) → first_refusal journal entry ≡ Some Full → is_full journal ≡ true
+pub is_full-refused : (journal : Journal) (entry : Entry) →
+    first_refusal journal entry ≡ Some Full → is_full journal ≡ true
 is_full-refused journal entry refused =
     full_if (is_full journal) (clock_refusal journal entry) (never_full journal entry) refused
 
 -- and what is answered otherwise has room
 has_room : (journal : Journal) (entry : Entry) (told : Option Refusal) → (told ≡ Some Full → ⊥) →
     first_refusal journal entry ≡ told → is_full journal ≡ false
-has_room journal entry told other answered = room_if (is_full journal) (clock_refusal journal entry) told other answered
+has_room journal entry told other answered =
+    room_if (is_full journal) (clock_refusal journal entry) told other answered
 
-pub is_full-answered : (before after : Keeper) (entry : Entry) (answer : Result ℕ Refusal) → IsAnswer before entry answer after →
+pub is_full-answered : (before after : Keeper) (entry : Entry) (answer : Result ℕ Refusal) →
+    IsAnswer before entry answer after →
     (answer ≡ Err Full → ⊥) → is_full before.journal ≡ false
-is_full-answered before after entry (Ok number) told other = has_room before.journal entry None (λ e. cc e) told.0
+is_full-answered before after entry (Ok number) told other =
+    has_room before.journal entry None (λ e. cc e) told.0
 is_full-answered before after entry (Err Full) told other = absurd (other refl)
 is_full-answered before after entry (Err Asleep) told other =
     has_room before.journal entry (Some Asleep) (λ e. cc e) told.0
@@ -77,19 +83,23 @@ is_full-answered before after entry (Err Behind) told other =
     has_room before.journal entry (Some Behind) (λ e. cc e) told.0
 is_full-answered before after entry (Err Range) told other =
     has_room before.journal entry (Some Range) (λ e. cc e) told.0
-is_full-answered before after entry (Err Memory) told other = has_room before.journal entry None (λ e. cc e) told.0
+is_full-answered before after entry (Err Memory) told other =
+    has_room before.journal entry None (λ e. cc e) told.0
 
 -- an accepted entry is one more
-pub listed-answered : (before after : Keeper) (entry : Entry) (answer : Result ℕ Refusal) → IsAnswer before entry answer after →
+pub listed-answered : (before after : Keeper) (entry : Entry) (answer : Result ℕ Refusal) →
+    IsAnswer before entry answer after →
     length after.journal.entries ≡ listed_after (length before.journal.entries) answer
 listed-answered before after entry (Ok number) told =
     ap (λ (j : Journal). length j.entries) told.1 ∙ length_push before.journal.entries entry
-listed-answered before after entry (Err refusal) told = ap (λ (k : Keeper). length k.journal.entries) told.1
+listed-answered before after entry (Err refusal) told =
+    ap (λ (k : Keeper). length k.journal.entries) told.1
 
 -- a journal with room is not folded first
 pub listed_then-room : (keep : ℕ) (journal : Journal) → is_full journal ≡ false →
     listed_then keep journal ≡ length journal.entries
-listed_then-room keep journal room = ap (λ (b : Bool). if b then keep else length journal.entries) room
+listed_then-room keep journal room =
+    ap (λ (b : Bool). if b then keep else length journal.entries) room
 
 full_lists : (journal : Journal) → is_full journal ≡ true → accepted_count journal < counted_most →
     listed_most ≤ length journal.entries

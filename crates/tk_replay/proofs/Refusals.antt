@@ -19,12 +19,14 @@ use Rattle.tk_replay.specs.Report.{reply_by}
 use Rattle.tk_keeper.specs.Read.{read_fault}
 use Rattle.tk_replay.proofs.Alike.{IsAlike-stands, read_fault-alike}
 
-passed : (test : Bool) (refusal : Refusal) (later : Option Refusal) → (if test then Some refusal else later) ≡ None →
+passed : (test : Bool) (refusal : Refusal) (later : Option Refusal) →
+    (if test then Some refusal else later) ≡ None →
     (test ≡ false) × (later ≡ None)
 passed true refusal later told = cc
 passed false refusal later told = (refl, told)
 
-both_passed : (first later : Option Refusal) → first_of first later ≡ None → (first ≡ None) × (later ≡ None)
+both_passed : (first later : Option Refusal) → first_of first later ≡ None →
+    (first ≡ None) × (later ≡ None)
 both_passed None later told = (refl, told)
 both_passed (Some refusal) later told = cc
 
@@ -50,20 +52,24 @@ read_fault-accepted journal entry accepted =
     let tests = both_passed _ _ accepted in
     let numbers = both_passed _ _ (both_passed _ _ tests.0).1 in
     let above = nat_lt (mask journal.opening.counter) entry.reading in
-    let past = not (int_lt (clock_value (followed_by journal entry) Monotonic entry.reading) (limit Monotonic)) in
+    let past = not (int_lt (clock_value (followed_by journal entry) Monotonic entry.reading)
+    (limit Monotonic)) in
     let not_above : above ≡ false = (neither _ _ (passed _ _ _ numbers.0).0).0 in
     let not_past : past ≡ false = below_limits _ _ (passed _ _ _ tests.1).0 in
     neither_test above past not_above not_past
 
 -- what a rule lets through passes the clocks' tests
-accepted_by : (keep : Option ℕ) (journal : Journal) (entry : Entry) → rule_of keep journal entry ≡ None →
+accepted_by : (keep : Option ℕ) (journal : Journal) (entry : Entry) →
+    rule_of keep journal entry ≡ None →
     clock_refusal journal entry ≡ None
 accepted_by None journal entry told = (passed _ _ _ told).1
 accepted_by (Some keep) journal entry told = told
 
-told_after : (keep : Option ℕ) (journal kept : Journal) (entry : Entry) (number : ℕ) (told : Option Refusal) →
+told_after : (keep : Option ℕ) (journal kept : Journal) (entry : Entry) (number : ℕ)
+    (told : Option Refusal) →
     rule_of keep journal entry ≡ told → (reply_if journal entry told).answer ≡ Ok number →
-    IsAlike kept (reply_if journal entry told).journal → read_fault kept Monotonic entry.reading ≡ None
+    IsAlike kept (reply_if journal entry told).journal →
+    read_fault kept Monotonic entry.reading ≡ None
 told_after keep journal kept entry number None accepted answered alike =
     read_fault-alike kept (followed_by journal entry) alike Monotonic entry.reading
     ∙ read_fault-accepted journal entry (accepted_by keep journal entry accepted)

@@ -18,17 +18,20 @@ use Rattle.tk_script.specs.Lines.{IsWritable}
 use Rattle.tk_replay.specs.Report.{IsTimeAt}
 
 -- seconds and nanoseconds in their ranges come back from their nanoseconds
-timespec_of-parts : (sec nsec : ℕ) → nsec < 10 ^ 9 → timespec_of (sec * 10 ^ 9 + nsec) ≡ record { sec = pos sec; nsec = nsec }
+timespec_of-parts : (sec nsec : ℕ) → nsec < 10 ^ 9 →
+    timespec_of (sec * 10 ^ 9 + nsec) ≡ record { sec = pos sec; nsec = nsec }
 timespec_of-parts sec nsec low =
     let from_parts : ℕ → ℕ → Timespec = λ s n. record { sec = pos s; nsec = n } in
     ap (λ s. from_parts s ((sec * 10 ^ 9 + nsec) % 10 ^ 9)) (div-mul-add sec (10 ^ 9) nsec low)
     ∙ ap (from_parts sec) (mod-mul-add sec (10 ^ 9) nsec low)
 
 is_time_at : (journal : Journal) (clock : ClockId) (reading : ℕ) (sec : ℤ) (nsec : ℕ) →
-    sec *ℤ pos (10 ^ 9) +ℤ pos nsec ≡ clock_value journal clock reading → nsec < 10 ^ 9 → pos 0 ≤ℤ sec →
+    sec *ℤ pos (10 ^ 9) +ℤ pos nsec ≡ clock_value journal clock reading → nsec < 10 ^ 9 →
+    pos 0 ≤ℤ sec →
     IsTimeAt journal clock reading (record { sec = sec; nsec = nsec })
 is_time_at journal clock reading (pos sec) nsec same low start =
-    let sum : pos sec *ℤ pos (10 ^ 9) +ℤ pos nsec ≡ pos (sec * 10 ^ 9 + nsec) = omega (arith, ints) in
+    let sum : pos sec *ℤ pos (10 ^ 9) +ℤ pos nsec ≡ pos (sec * 10 ^ 9 + nsec) = omega (arith, ints)
+    in
     (sec * 10 ^ 9 + nsec, sym same ∙ sum, sym (timespec_of-parts sec nsec low))
 is_time_at journal clock reading (negsuc less) nsec same low start = absurd (omega (arith, ints))
 
@@ -49,12 +52,14 @@ limit_most Boottime = omega (arith, ints)
 limit_most Tai = omega (arith, ints)
 limit_most MonotonicRaw = omega (arith, ints)
 
-below_end : (sec : ℤ) (nsec : ℕ) → (sec *ℤ pos (10 ^ 9) +ℤ pos nsec) <ℤ pos (clock_end * 10 ^ 9) → pos 0 ≤ℤ sec →
+below_end : (sec : ℤ) (nsec : ℕ) → (sec *ℤ pos (10 ^ 9) +ℤ pos nsec) <ℤ pos (clock_end * 10 ^ 9) →
+    pos 0 ≤ℤ sec →
     (unsigned_abs sec < clock_end) × (sec ≡ pos (unsigned_abs sec))
 below_end (pos sec) nsec low start = (omega (arith, ints), refl)
 below_end (negsuc less) nsec low start = absurd (omega (arith, ints))
 
-not_past : (above below : Bool) → (if above then Some Invalid else if not below then Some Range else None) ≡ None →
+not_past : (above below : Bool) →
+    (if above then Some Invalid else if not below then Some Range else None) ≡ None →
     below ≡ true
 not_past true below told = cc
 not_past false true told = refl
@@ -62,7 +67,8 @@ not_past false false told = cc
 
 -- a time that a clock tells can be written
 pub IsWritable-read : (journal : Journal) (clock : ClockId) (reading : ℕ) (time : Timespec) →
-    read_fault journal clock reading ≡ None → IsTimeOf (clock_value journal clock reading) time → IsWritable time
+    read_fault journal clock reading ≡ None → IsTimeOf (clock_value journal clock reading) time →
+    IsWritable time
 IsWritable-read journal clock reading time free told =
     let value = clock_value journal clock reading in
     let low : int_lt value (limit clock) ≡ true = not_past _ _ free in
@@ -78,7 +84,8 @@ IsTimeAt-read journal clock reading time told =
     IsTimeAt-nanoseconds journal clock reading time told.0 told.1 told.2
 
 -- a clock without a fault is told
-pub IsOk-read : (journal : Journal) (clock : ClockId) (reading : ℕ) (result : Result Timespec ReadError) →
+pub IsOk-read : (journal : Journal) (clock : ClockId) (reading : ℕ)
+    (result : Result Timespec ReadError) →
     IsRead journal clock reading result → read_fault journal clock reading ≡ None → IsOk result
 IsOk-read journal clock reading (Ok time) told free = refl
 IsOk-read journal clock reading (Err error) told free = absurd (cc (sym told ∙ free))

@@ -15,7 +15,8 @@ IsReadWithin old new = (bytes : List ℕ) × Consumes old new bytes × (length b
 -- these bytes were read: all that there were, or as many as are read at most
 abbrev pub IsReadToEnd : Option (List ℕ) → Option (List ℕ) → List ℕ → Type 0
 IsReadToEnd old new bytes =
-    Consumes old new bytes × (length bytes ≤ reading_limit) × ((length bytes ≡ reading_limit) ⊎ IsAtEnd new)
+    Consumes old new bytes × (length bytes ≤ reading_limit)
+    × ((length bytes ≡ reading_limit) ⊎ IsAtEnd new)
 
 -- the last read failed, by the relation that tells what each read came to, and left the source as
 -- it is now

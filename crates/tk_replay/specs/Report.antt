@@ -55,7 +55,8 @@ IsLookLine journal clock reading (Some error) line = line ≡ no_line (refusal_o
 
 -- the line of a record after a journal
 abbrev pub IsLine : Rule → Journal → Row → List ℕ → Type 0
-IsLine rule journal (Act reading cmd) line = line ≡ reply_line reading (reply_by rule journal (event reading cmd))
+IsLine rule journal (Act reading cmd) line =
+    line ≡ reply_line reading (reply_by rule journal (event reading cmd))
 IsLine rule journal (Look reading clock) line =
     IsLookLine journal clock reading (read_fault journal clock reading) line
 
@@ -68,7 +69,8 @@ after rule journal (Look reading clock) = journal
 abbrev pub IsLines : Rule → Journal → List Row → List ℕ → Type 0
 IsLines rule journal [] text = text ≡ []
 IsLines rule journal (row ∷ rows) text =
-    (line : List ℕ) × (rest : List ℕ) × IsLine rule journal row line × IsLines rule (after rule journal row) rows rest
+    (line : List ℕ) × (rest : List ℕ) × IsLine rule journal row line
+    × IsLines rule (after rule journal row) rows rest
     × (text ≡ line ++ rest)
 
 -- the report of what a script says
@@ -84,7 +86,8 @@ IsReportOfRows rule start read text =
 
 -- the report of a script's bytes, by a rule
 abbrev pub IsReportBy : Rule → List ℕ → List ℕ → Type 0
-IsReportBy rule bytes text = (parse : Parse) × (parse_of bytes ≡ Ok parse) × IsReportOf rule parse text
+IsReportBy rule bytes text = (parse : Parse) × (parse_of bytes ≡ Ok parse)
+    × IsReportOf rule parse text
 
 -- the report of a script's bytes: a command is refused where the journal is full, too
 abbrev pub IsReport : List ℕ → List ℕ → Type 0

@@ -8,9 +8,11 @@ IsWrittenUpTo old new text written = (written ≤ length text) × Appends old ne
 
 -- the last call left the sink as it is now, by the relations that tell what calls came to: a write
 -- that failed or took nothing, or a flush that failed
-abbrev pub WriteFailed : {S : Type 0} → (S → List ℕ → Option ℕ → S → Type 0) → (S → Bool → S → Type 0) → S → Type 0
+abbrev pub WriteFailed : {S : Type 0} → (S → List ℕ → Option ℕ → S → Type 0) →
+    (S → Bool → S → Type 0) → S → Type 0
 WriteFailed {S} write_gives flush_gives now =
-    (before : S) × (((text : List ℕ) × write_gives before text None now) ⊎ flush_gives before false now)
+    (before : S) × (((text : List ℕ) × write_gives before text None now)
+    ⊎ flush_gives before false now)
 
 -- the last call left the sink as it is now: a flush that went through
 abbrev pub IsFlushed : {S : Type 0} → (S → Bool → S → Type 0) → S → Type 0

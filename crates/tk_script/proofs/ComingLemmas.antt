@@ -25,7 +25,8 @@ rows_and front (Ok later) = Ok (front ++ later)
 rows_and front (Err fault) = Err fault
 
 -- no more records than turns
-records_from-few : (cfg : Config) (n : ℕ) (s : State) (xs : List ℕ) → length (records_from cfg n s xs) ≤ n
+records_from-few : (cfg : Config) (n : ℕ) (s : State) (xs : List ℕ) →
+    length (records_from cfg n s xs) ≤ n
 unfolding records_from
 records_from-few cfg zero s xs = omega arith
 records_from-few cfg (suc n) s xs = by (next_record cfg s [] [] xs) (records_from-few cfg n)
@@ -43,23 +44,27 @@ strip_bom-shorter (a ∷ []) = omega arith
 strip_bom-shorter (a ∷ b ∷ []) = omega arith
 strip_bom-shorter (a ∷ b ∷ c ∷ rest) = by (is_bom a b c)
   where
-    by : (is_mark : Bool) → length (cond is_mark rest (a ∷ b ∷ c ∷ rest)) ≤ length (a ∷ b ∷ c ∷ rest)
+    by : (is_mark : Bool) →
+        length (cond is_mark rest (a ∷ b ∷ c ∷ rest)) ≤ length (a ∷ b ∷ c ∷ rest)
     by true = omega arith
     by false = omega arith
 
 -- a text has no more records than bytes, and one
 records_of-few : (bytes : List ℕ) → length (records_of bytes) ≤ length bytes + 1
 records_of-few bytes =
-    let few = records_from-few default_config (length (strip_bom bytes) + 1) StartRecord (strip_bom bytes) in
+    let few = records_from-few default_config (length (strip_bom bytes) + 1) StartRecord
+    (strip_bom bytes) in
     let shorter = strip_bom-shorter bytes in
     omega arith
 
 -- the records that are left, where the reader has not failed
-left-some : (o : Option (List (List (List ℕ)))) → IsSome o → (left : List (List (List ℕ))) × (o ≡ Some left)
+left-some : (o : Option (List (List (List ℕ)))) → IsSome o →
+    (left : List (List (List ℕ))) × (o ≡ Some left)
 left-some (Some left) h = (left, refl)
 left-some None h = cc h
 
-pub left-known : (reader : RowReader) → IsReady reader → (left : List (List (List ℕ))) × (left_of reader.reader ≡ Some left)
+pub left-known : (reader : RowReader) → IsReady reader →
+    (left : List (List (List ℕ))) × (left_of reader.reader ≡ Some left)
 left-known reader ready = left-some (left_of reader.reader) ready.left
 
 -- by the records that are left
@@ -68,13 +73,15 @@ coming-left : (reader : RowReader) (left : List (List (List ℕ))) → left_of r
 unfolding coming
 coming-left reader left e = rw e refl
 
-records_left-left : (reader : RowReader) (left : List (List (List ℕ))) → left_of reader.reader ≡ Some left
+records_left-left : (reader : RowReader) (left : List (List (List ℕ))) →
+    left_of reader.reader ≡ Some left
     → records_left reader ≡ length left
 unfolding records_left
 records_left-left reader left e = rw e refl
 
 -- behind the opening
-pub ready-open : (reader : RowReader) (bytes : List ℕ) (first : List (List ℕ)) (left : List (List (List ℕ)))
+pub ready-open : (reader : RowReader) (bytes : List ℕ) (first : List (List ℕ))
+    (left : List (List (List ℕ)))
     → IsReading reader.reader → left_of reader.reader ≡ Some left → reader.row ≡ 2
     → records_of bytes ≡ first ∷ left → length bytes ≤ 2 ^ 24 → IsReady reader
 ready-open reader bytes first left reading e two split small =
@@ -83,40 +90,56 @@ ready-open reader bytes first left reading e two split small =
     let count = records_left-left reader left e in
     record { reading = reading; left = rw e refl; count = omega (arith, two) }
 
-pub parse-open : (reader : RowReader) (start : Start) (records left : List (List (List ℕ))) (first : List (List ℕ))
-    → left_of reader.reader ≡ Some left → reader.row ≡ 2 → records ≡ first ∷ left → start_of first ≡ Ok start
+pub parse-open : (reader : RowReader) (start : Start) (records left : List (List (List ℕ)))
+    (first : List (List ℕ))
+    → left_of reader.reader ≡ Some left → reader.row ≡ 2 → records ≡ first ∷ left →
+    start_of first ≡ Ok start
     → parse_records records ≡ opened_with start (coming reader)
 unfolding parse_records
 parse-open reader start records left first e two split told =
     rw (split, told, coming-left reader left e, two) (by (rows_of 2 left))
   where
     by : (rows : Result (List Row) ScriptError)
-        → (rows >>= λ told. Ok (record { counter = start.desc; reading = start.reading; real = start.real; rows = told })) ≡ opened_with start rows
+        → (rows >>= λ told.
+        Ok (record {
+          counter = start.desc;
+          reading = start.reading;
+          real = start.real;
+          rows =
+              told;
+        })) ≡ opened_with start rows
     by (Ok rows) = refl
     by (Err fault) = refl
 
 -- no record is left
-pub coming-none : (reader : RowReader) (left : List (List (List ℕ))) → left_of reader.reader ≡ Some left → left ≡ []
+pub coming-none : (reader : RowReader) (left : List (List (List ℕ))) →
+    left_of reader.reader ≡ Some left → left ≡ []
     → coming reader ≡ Ok []
 unfolding each
 coming-none reader left e none = coming-left reader left e ∙ rw none refl
 
 -- the next record has a fault
-pub coming-fault : (reader : RowReader) (left later : List (List (List ℕ))) (first : List (List ℕ)) (fault : ScriptError)
+pub coming-fault : (reader : RowReader) (left later : List (List (List ℕ))) (first : List (List ℕ))
+    (fault : ScriptError)
     → left_of reader.reader ≡ Some left → left ≡ first ∷ later → row_of reader.row first ≡ Err fault
     → coming reader ≡ Err fault
 unfolding each
-coming-fault reader left later first fault e split told = coming-left reader left e ∙ rw (split, told) refl
+coming-fault reader left later first fault e split told = coming-left reader left e
+    ∙ rw (split, told) refl
 
 -- the next record tells a row
-pub coming-row : (old new : RowReader) (left later : List (List (List ℕ))) (first : List (List ℕ)) (row : Row)
+pub coming-row : (old new : RowReader) (left later : List (List (List ℕ))) (first : List (List ℕ))
+    (row : Row)
     → left_of old.reader ≡ Some left → left ≡ first ∷ later → row_of old.row first ≡ Ok row
-    → left_of new.reader ≡ Some later → new.row ≡ old.row + 1 → coming old ≡ row_and row (coming new)
+    → left_of new.reader ≡ Some later → new.row ≡ old.row + 1 →
+    coming old ≡ row_and row (coming new)
 unfolding each
 coming-row old new left later first row e split told rest next =
-    coming-left old left e ∙ rw (split, told, coming-left new later rest, next) (by (rows_of (old.row + 1) later))
+    coming-left old left e
+    ∙ rw (split, told, coming-left new later rest, next) (by (rows_of (old.row + 1) later))
   where
-    by : (rows : Result (List Row) ScriptError) → (rows >>= λ told. Ok (row ∷ told)) ≡ row_and row rows
+    by : (rows : Result (List Row) ScriptError) →
+        (rows >>= λ told. Ok (row ∷ told)) ≡ row_and row rows
     by (Ok rows) = refl
     by (Err fault) = refl
 
@@ -124,35 +147,45 @@ pub left-row : (old new : RowReader) (left later : List (List (List ℕ))) (firs
     → left_of old.reader ≡ Some left → left ≡ first ∷ later → left_of new.reader ≡ Some later
     → records_left old ≡ records_left new + 1
 left-row old new left later first e split rest =
-    records_left-left old left e ∙ ap length split ∙ rw (records_left-left new later rest) (omega arith)
+    records_left-left old left e ∙ ap length split
+    ∙ rw (records_left-left new later rest) (omega arith)
 
 pub ready-row : (old new : RowReader) (later : List (List (List ℕ)))
-    → IsReady old → records_left old ≡ records_left new + 1 → IsReading new.reader → left_of new.reader ≡ Some later
+    → IsReady old → records_left old ≡ records_left new + 1 → IsReading new.reader →
+    left_of new.reader ≡ Some later
     → new.row ≡ old.row + 1 → IsReady new
 ready-row old new later ready one reading rest next =
     record { reading = reading; left = rw rest refl; count = omega (arith, ready.count, one, next) }
 
 -- with a row that was read behind those before it, the whole is the same
-pub opened-row : (whole : Result Parse ScriptError) (start : Start) (front front' : List Row) (row : Row) (old new : RowReader)
-    → whole ≡ opened_with start (rows_and front (coming old)) → coming old ≡ row_and row (coming new)
+pub opened-row : (whole : Result Parse ScriptError) (start : Start) (front front' : List Row)
+    (row : Row) (old new : RowReader)
+    → whole ≡ opened_with start (rows_and front (coming old)) →
+    coming old ≡ row_and row (coming new)
     → front' ≡ front ++ row ∷ [] → whole ≡ opened_with start (rows_and front' (coming new))
 opened-row whole start front front' row old new told step e = told ∙ rw (step, e) (by (coming new))
   where
     by : (rows : Result (List Row) ScriptError)
-        → opened_with start (rows_and front (row_and row rows)) ≡ opened_with start (rows_and (front ++ row ∷ []) rows)
-    by (Ok rows) = ap (λ (all : List Row). opened_with start (Ok all)) (sym (append_assoc front (row ∷ []) rows))
+        → opened_with start (rows_and front (row_and row rows))
+        ≡ opened_with start (rows_and (front ++ row ∷ []) rows)
+    by (Ok rows) =
+        ap (λ (all : List Row). opened_with start (Ok all))
+        (sym (append_assoc front (row ∷ []) rows))
     by (Err fault) = refl
 
 -- no row is left
-pub opened-end : (whole : Result Parse ScriptError) (start : Start) (front : List Row) (reader : RowReader)
+pub opened-end : (whole : Result Parse ScriptError) (start : Start) (front : List Row)
+    (reader : RowReader)
     → whole ≡ opened_with start (rows_and front (coming reader)) → coming reader ≡ Ok []
     → whole ≡ opened_with start (Ok front)
 opened-end whole start front reader told none =
     told ∙ rw none (ap (λ (all : List Row). opened_with start (Ok all)) (append-nil front))
 
 -- a fault of what is to come is that of the whole
-pub opened-fault : (whole : Result Parse ScriptError) (start : Start) (front : List Row) (reader : RowReader) (fault : ScriptError)
-    → whole ≡ opened_with start (rows_and front (coming reader)) → Fails fault (coming reader) → Fails fault whole
+pub opened-fault : (whole : Result Parse ScriptError) (start : Start) (front : List Row)
+    (reader : RowReader) (fault : ScriptError)
+    → whole ≡ opened_with start (rows_and front (coming reader)) → Fails fault (coming reader) →
+    Fails fault whole
 opened-fault whole start front reader errors.Memory told fails = tt
 opened-fault whole start front reader errors.TooLarge told fails = told ∙ rw fails refl
 opened-fault whole start front reader errors.Empty told fails = told ∙ rw fails refl

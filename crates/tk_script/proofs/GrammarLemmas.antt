@@ -8,7 +8,8 @@ use Rattle.tk_script.specs.declared.script_error.ScriptError.{ScriptError}
 use Rattle.tk_script.specs.declared.script_error.ScriptError.TheVariants as errors
 
 -- an error that is the reading's
-pub fails-from : {Y : Type 0} (e : ScriptError) (read : Result Y ScriptError) → read ≡ Err e → Fails e read
+pub fails-from : {Y : Type 0} (e : ScriptError) (read : Result Y ScriptError) → read ≡ Err e →
+    Fails e read
 fails-from errors.Memory read h = tt
 fails-from errors.TooLarge read h = h
 fails-from errors.Empty read h = h
@@ -20,20 +21,25 @@ fails-from (errors.Number row) read h = h
 -- too many bytes
 pub parse-large : (bytes : List ℕ) → 2 ^ 24 < length bytes → parse_of bytes ≡ Err errors.TooLarge
 unfolding parse_of
-parse-large bytes h = let big : nat_lt (2 ^ 24) (length bytes) ≡ true = grind (arith, common_steps) in rw big refl
+parse-large bytes h = let big : nat_lt (2 ^ 24) (length bytes) ≡ true = grind (arith, common_steps)
+    in rw big refl
 
 -- and no more than there may be
-pub parse-small : (bytes : List ℕ) → length bytes ≤ 2 ^ 24 → parse_of bytes ≡ parse_records (records_of bytes)
+pub parse-small : (bytes : List ℕ) → length bytes ≤ 2 ^ 24 →
+    parse_of bytes ≡ parse_records (records_of bytes)
 unfolding parse_of
-parse-small bytes h = let small : nat_lt (2 ^ 24) (length bytes) ≡ false = grind (arith, common_steps) in rw small refl
+parse-small bytes h = let small : nat_lt (2 ^ 24) (length bytes) ≡ false =
+    grind (arith, common_steps) in rw small refl
 
 -- no record
-pub parse-none : (records : List (List (List ℕ))) → records ≡ [] → parse_records records ≡ Err errors.Empty
+pub parse-none : (records : List (List (List ℕ))) → records ≡ [] →
+    parse_records records ≡ Err errors.Empty
 unfolding parse_records
 parse-none records e = rw e refl
 
 -- a fault of the opening is that of the whole
-pub parse-start_fault : (records later : List (List (List ℕ))) (first : List (List ℕ)) (fault : ScriptError)
+pub parse-start_fault : (records later : List (List (List ℕ))) (first : List (List ℕ))
+    (fault : ScriptError)
     → records ≡ first ∷ later → start_of first ≡ Err fault → parse_records records ≡ Err fault
 unfolding parse_records
 parse-start_fault records later first fault e f = rw (e, f) refl

@@ -10,7 +10,8 @@ use Rattle.tk_script.specs.declared.script_error.ScriptError.TheVariants as erro
 -- both lists grew by one
 pub paired-more : (xs ys xs' ys' : List ℕ) (x y : ℕ)
     → length xs ≡ length ys → xs' ≡ xs ++ x ∷ [] → ys' ≡ ys ++ y ∷ [] → length xs' ≡ length ys'
-paired-more xs ys xs' ys' x y e f g = rw (f, g) (length_push xs x ∙ ap (λ n. n + 1) e ∙ sym (length_push ys y))
+paired-more xs ys xs' ys' x y e f g = rw (f, g) (length_push xs x ∙ ap (λ n. n + 1) e
+    ∙ sym (length_push ys y))
 
 -- one more pair, in two lists
 pub items-more : (pairs : List (ℕ × ℕ)) (fronts stamps fronts' stamps' : List ℕ) (p : ℕ × ℕ)
@@ -20,8 +21,10 @@ pub items-more : (pairs : List (ℕ × ℕ)) (fronts stamps fronts' stamps' : Li
 items-more pairs fronts stamps fronts' stamps' p e f g =
     let left : map (λ (q : ℕ × ℕ). q.0) pairs ≡ fronts = ap (λ (i : Items). i.fronts) e in
     let right : map (λ (q : ℕ × ℕ). q.1) pairs ≡ stamps = ap (λ (i : Items). i.stamps) e in
-    let more : map (λ (q : ℕ × ℕ). q.0) (pairs ++ p ∷ []) ≡ fronts' = map_push _ pairs p ∙ ap (λ (xs : List ℕ). xs ++ p.0 ∷ []) left ∙ sym f in
-    let more' : map (λ (q : ℕ × ℕ). q.1) (pairs ++ p ∷ []) ≡ stamps' = map_push _ pairs p ∙ ap (λ (xs : List ℕ). xs ++ p.1 ∷ []) right ∙ sym g in
+    let more : map (λ (q : ℕ × ℕ). q.0) (pairs ++ p ∷ []) ≡ fronts' = map_push _ pairs p
+    ∙ ap (λ (xs : List ℕ). xs ++ p.0 ∷ []) left ∙ sym f in
+    let more' : map (λ (q : ℕ × ℕ). q.1) (pairs ++ p ∷ []) ≡ stamps' = map_push _ pairs p
+    ∙ ap (λ (xs : List ℕ). xs ++ p.1 ∷ []) right ∙ sym g in
     rw (more, more') refl
 
 -- all records were read
@@ -37,9 +40,12 @@ told-fault records fault e = rw e refl
 -- too many bytes
 pub stamps-large : (bytes : List ℕ) → 2 ^ 24 < length bytes → stamps_of bytes ≡ Err errors.TooLarge
 unfolding stamps_of
-stamps-large bytes h = let big : nat_lt (2 ^ 24) (length bytes) ≡ true = grind (arith, common_steps) in rw big refl
+stamps-large bytes h = let big : nat_lt (2 ^ 24) (length bytes) ≡ true = grind (arith, common_steps)
+    in rw big refl
 
 -- and no more than there may be
-pub stamps-small : (bytes : List ℕ) → length bytes ≤ 2 ^ 24 → stamps_of bytes ≡ told 1 (records_of bytes)
+pub stamps-small : (bytes : List ℕ) → length bytes ≤ 2 ^ 24 →
+    stamps_of bytes ≡ told 1 (records_of bytes)
 unfolding stamps_of
-stamps-small bytes h = let small : nat_lt (2 ^ 24) (length bytes) ≡ false = grind (arith, common_steps) in rw small refl
+stamps-small bytes h = let small : nat_lt (2 ^ 24) (length bytes) ≡ false =
+    grind (arith, common_steps) in rw small refl

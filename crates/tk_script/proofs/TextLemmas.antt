@@ -7,7 +7,8 @@ use Rattle.tk_script.specs.Utc.{two_digits, four_digits, nine_digits, time_part}
 
 IsAscii-two_digits : (n : ℕ) → n < 100 → IsAscii (two_digits n)
 IsAscii-two_digits n h =
-    IsAscii-cons (48 + n / 10) ((48 + n % 10) ∷ []) (omega arith) (IsAscii-cons (48 + n % 10) [] (omega arith) IsAscii-nil)
+    IsAscii-cons (48 + n / 10) ((48 + n % 10)
+    ∷ []) (omega arith) (IsAscii-cons (48 + n % 10) [] (omega arith) IsAscii-nil)
 
 IsAscii-four_digits : (n : ℕ) → n < 10000 → IsAscii (four_digits n)
 IsAscii-four_digits n h =
@@ -18,28 +19,37 @@ IsAscii-nine_digits : (n : ℕ) → n < 1000000000 → IsAscii (nine_digits n)
 IsAscii-nine_digits n h =
     let high = IsAscii-four_digits (n / 10000 % 10000) (omega arith) in
     let low = IsAscii-four_digits (n % 10000) (omega arith) in
-    IsAscii-append ((48 + n / 100000000) ∷ four_digits (n / 10000 % 10000)) (four_digits (n % 10000))
+    IsAscii-append ((48 + n / 100000000) ∷ four_digits (n / 10000 % 10000))
+    (four_digits (n % 10000))
     (IsAscii-cons (48 + n / 100000000) (four_digits (n / 10000 % 10000)) (omega arith) high) low
 
 -- a byte, two digits, and the rest
-IsAscii-part : (b n : ℕ) (rest : List ℕ) → b < 128 → n < 100 → IsAscii rest → IsAscii (b ∷ two_digits n ++ rest)
+IsAscii-part : (b n : ℕ) (rest : List ℕ) → b < 128 → n < 100 → IsAscii rest →
+    IsAscii (b ∷ two_digits n ++ rest)
 IsAscii-part b n rest h k a =
-    IsAscii-cons b (two_digits n ++ rest) h (IsAscii-append (two_digits n) rest (IsAscii-two_digits n k) a)
+    IsAscii-cons b (two_digits n ++ rest) h
+    (IsAscii-append (two_digits n) rest (IsAscii-two_digits n k) a)
 
 -- the time of a day, which is therefore UTF-8
-pub IsUtf8-time_part : (second nsec : ℕ) → second < 86400 → nsec < 1000000000 → IsUtf8 (time_part second nsec)
+pub IsUtf8-time_part : (second nsec : ℕ) → second < 86400 → nsec < 1000000000 →
+    IsUtf8 (time_part second nsec)
 IsUtf8-time_part second nsec h k =
     let last = IsAscii-cons 90 [] (omega arith) IsAscii-nil in
     let fraction = IsAscii-cons 46 (nine_digits nsec ++ codes "Z") (omega arith)
     (IsAscii-append (nine_digits nsec) (codes "Z") (IsAscii-nine_digits nsec k) last) in
-    let seconds = IsAscii-part 58 (second % 60) (codes "." ++ nine_digits nsec ++ codes "Z") (omega arith) (omega arith) fraction in
-    let minutes = IsAscii-part 58 (second / 60 % 60) (codes ":" ++ two_digits (second % 60) ++ codes "." ++ nine_digits nsec ++ codes "Z")
+    let seconds = IsAscii-part 58 (second % 60) (codes "." ++ nine_digits nsec ++ codes "Z")
+    (omega arith) (omega arith) fraction in
+    let minutes = IsAscii-part 58 (second / 60 % 60)
+    (codes ":" ++ two_digits (second % 60) ++ codes "." ++ nine_digits nsec ++ codes "Z")
     (omega arith) (omega arith) seconds in
     IsUtf8-from_ascii (time_part second nsec)
-    (IsAscii-part 84 (second / 3600) (codes ":" ++ two_digits (second / 60 % 60) ++ codes ":" ++ two_digits (second % 60) ++ codes "." ++ nine_digits nsec ++ codes "Z")
+    (IsAscii-part 84 (second / 3600)
+    (codes ":" ++ two_digits (second / 60 % 60) ++ codes ":" ++ two_digits
+    (second % 60) ++ codes "." ++ nine_digits nsec ++ codes "Z")
     (omega arith) (omega arith) minutes)
 
 -- a test whose failure is ruled out gives a value
-pub IsOk-from_match : {T E : Type 0} (r : Result T E) (P : T → Type 0) (Q : E → Type 0) → ((e : E) → Q e → ⊥) → MatchResult r P Q → IsOk r
+pub IsOk-from_match : {T E : Type 0} (r : Result T E) (P : T → Type 0) (Q : E → Type 0) →
+    ((e : E) → Q e → ⊥) → MatchResult r P Q → IsOk r
 IsOk-from_match (Ok x) P Q n m = search rules
 IsOk-from_match (Err e) P Q n m = absurd (n e m)

@@ -31,7 +31,8 @@ row_and row (Err fault) = Err fault
 abbrev pub Steps : Option Row → RowReader → RowReader → Type 0
 Steps None old new = coming old ≡ Ok []
 Steps (Some row) old new =
-    IsReady new × (records_left old ≡ records_left new + 1) × (coming old ≡ row_and row (coming new))
+    IsReady new × (records_left old ≡ records_left new + 1)
+    × (coming old ≡ row_and row (coming new))
 
 -- a script that is opened so, with the rows of a reading, or its fault
 abbrev pub opened_with : Start → Result (List Row) ScriptError → Result Parse ScriptError

@@ -12,7 +12,8 @@ use Rattle.tk_script.specs.declared.script_error.ScriptError.TheVariants as erro
 
 -- go on with what was read, or stop at its fault
 infixl 10 ◌>>=◌
-abbrev pub ◌>>=◌ : {A B : Type 0} → Result A ScriptError → (A → Result B ScriptError) → Result B ScriptError
+abbrev pub ◌>>=◌ : {A B : Type 0} → Result A ScriptError → (A → Result B ScriptError) →
+    Result B ScriptError
 (Ok x) >>= f = f x
 (Err e) >>= f = Err e
 

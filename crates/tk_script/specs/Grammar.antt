@@ -28,7 +28,8 @@ parse_records (first ∷ later) =
 
 -- what the bytes of a script say, of which there are at most 16,777,216
 unfoldable pub parse_of : List ℕ → Result Parse ScriptError
-parse_of bytes = if nat_lt (2 ^ 24) (length bytes) then Err errors.TooLarge else parse_records (records_of bytes)
+parse_of bytes =
+    if nat_lt (2 ^ 24) (length bytes) then Err errors.TooLarge else parse_records (records_of bytes)
 
 -- the error is that of the reading, but for want of memory, which may take the place of any answer
 abbrev pub Fails : {Y : Type 0} → ScriptError → Result Y ScriptError → Type 0

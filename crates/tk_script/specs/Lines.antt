@@ -12,7 +12,8 @@ use Rattle.tk_clock.specs.Limits.{clock_end}
 -- a time that can be written: 0 to 9,223,372,035 seconds, and fewer than 10^9 nanoseconds
 abbrev pub IsWritable : Timespec → Type 0
 IsWritable time =
-    (unsigned_abs time.sec < clock_end) × (time.sec ≡ pos (unsigned_abs time.sec)) × (time.nsec < 1000000000)
+    (unsigned_abs time.sec < clock_end) × (time.sec ≡ pos (unsigned_abs time.sec))
+    × (time.nsec < 1000000000)
 
 -- seconds, a dot, and nanoseconds in nine digits
 abbrev pub time_text : Timespec → List ℕ
@@ -21,7 +22,8 @@ time_text time = decimal (unsigned_abs time.sec) ++ codes "." ++ nine_digits tim
 -- the opening: `open,BITS,MULT,SHIFT`
 abbrev pub open_line : Counter → List ℕ
 open_line counter =
-    codes "open," ++ decimal counter.bits ++ codes "," ++ decimal counter.mult ++ codes "," ++ decimal counter.shift
+    codes "open," ++ decimal counter.bits ++ codes "," ++ decimal counter.mult
+    ++ codes "," ++ decimal counter.shift
     ++ codes "\n"
 
 -- an accepted command: `ok,NUMBER,TIME`

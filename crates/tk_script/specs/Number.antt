@@ -11,7 +11,8 @@ is_numeral field = not (length field == 0) && list_all is_ascii_digit field
 -- the number that a field spells, if it is at most this
 abbrev pub number_up_to : ℕ → List ℕ → Option ℕ
 number_up_to most field =
-    if is_numeral field && nat_le (digits_value 10 field) most then Some (digits_value 10 field) else None
+    if is_numeral field && nat_le (digits_value 10 field) most
+    then Some (digits_value 10 field) else None
 
 -- the number of 64 bits that a field spells
 abbrev pub number_of : List ℕ → Option ℕ
@@ -24,5 +25,6 @@ number32_of field = number_up_to (2 ^ 32 - 1) field
 -- the signed number of 64 bits that a field spells, with one `-` in front if it is negative
 abbrev pub signed_of : List ℕ → Option ℤ
 signed_of field =
-    if slice_index field 0 == 45 then option_map (λ n. neg_ℤ (pos n)) (number_up_to (2 ^ 63) (drop 1 field))
+    if slice_index field 0 == 45
+    then option_map (λ n. neg_ℤ (pos n)) (number_up_to (2 ^ 63) (drop 1 field))
     else option_map pos (number_up_to (2 ^ 63 - 1) field)

@@ -22,14 +22,16 @@ scaled_counter counter = if is_none (first_fault counter) then Some counter else
 -- the counter of so many bits at so many hz, for gaps of up to maxsec seconds, if there is one
 abbrev pub timed_counter : ℕ → ℕ → ℕ → Option Counter
 timed_counter bits hz maxsec =
-    if is_none (frequency.frequency_fault bits hz maxsec) then frequency.from_frequency bits hz maxsec else None
+    if is_none (frequency.frequency_fault bits hz maxsec)
+    then frequency.from_frequency bits hz maxsec else None
 
 -- the counter of so many bits that two numbers tell: its mult and shift, or its frequency and the
 -- longest gap
 abbrev pub counter_of : Telling → ℕ → ℕ → ℕ → Result Counter ScriptError
 counter_of tellings.Scale bits mult shift =
     ok_or (scaled_counter (record { bits = bits; mult = mult; shift = shift })) (errors.Opening 1)
-counter_of tellings.Frequency bits hz maxsec = ok_or (timed_counter bits hz maxsec) (errors.Opening 1)
+counter_of tellings.Frequency bits hz maxsec =
+    ok_or (timed_counter bits hz maxsec) (errors.Opening 1)
 
 -- clocks with this counter, opened at a reading and a real time, if they can be
 abbrev pub started : Counter → ℕ → Timespec → Result Start ScriptError

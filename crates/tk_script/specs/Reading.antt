@@ -30,9 +30,12 @@ IsWantOfMemory (kinds.Deserialize place error) = ⊥
 
 -- the records that are left, where the reader has not failed
 abbrev pub left_of : SliceReader → Option (List (List (List ℕ)))
-left_of reader = option_map (records_after (reader_state reader)) (source_of (λ bytes. Some bytes.now) reader)
+left_of reader =
+    option_map (records_after (reader_state reader)) (source_of (λ bytes. Some bytes.now) reader)
 
 -- a read found a record with these fields and left the others, or there was none
-abbrev pub Takes : Bool → List (List ℕ) → List (List (List ℕ)) → Option (List (List (List ℕ))) → Type 0
-Takes true fields records left = (rest : List (List (List ℕ))) × (records ≡ fields ∷ rest) × (left ≡ Some rest)
+abbrev pub Takes : Bool → List (List ℕ) → List (List (List ℕ)) → Option (List (List (List ℕ))) →
+    Type 0
+Takes true fields records left = (rest : List (List (List ℕ))) × (records ≡ fields ∷ rest)
+    × (left ≡ Some rest)
 Takes false fields records left = records ≡ []

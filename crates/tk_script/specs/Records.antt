@@ -15,7 +15,8 @@ abbrev pub records_of : List ℕ → List (List (List ℕ))
 records_of bytes = records_after StartRecord (strip_bom bytes)
 
 -- what each of these records tells, the first of which is the record `row`, or the first fault
-unfoldable pub each : {A : Type 0} → (ℕ → List (List ℕ) → Result A ScriptError) → ℕ → List (List (List ℕ))
+unfoldable pub each : {A : Type 0} → (ℕ → List (List ℕ) → Result A ScriptError) → ℕ →
+    List (List (List ℕ))
     → Result (List A) ScriptError
 each tell row [] = Ok []
 each tell row (fields ∷ later) =

@@ -48,7 +48,8 @@ abbrev pub plain : Command → Result ℕ ScriptError → Result Row ScriptError
 plain command told = told >>= λ reading. Ok (Act reading command)
 
 -- a command with an operand
-abbrev pub with_operand : {A : Type 0} → (A → Command) → Result (ℕ × A) ScriptError → Result Row ScriptError
+abbrev pub with_operand : {A : Type 0} → (A → Command) → Result (ℕ × A) ScriptError →
+    Result Row ScriptError
 with_operand command told = told >>= λ p. Ok (Act p.0 (command p.1))
 
 -- a read of a clock

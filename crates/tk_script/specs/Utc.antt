@@ -18,7 +18,8 @@ nine_digits n = (48 + n / 100000000) ∷ four_digits (n / 10000 % 10000) ++ four
 -- `Thh:mm:ss.nnnnnnnnnZ` for a second of a day, and nanoseconds
 abbrev pub time_part : ℕ → ℕ → List ℕ
 time_part second nsec =
-    codes "T" ++ two_digits (second / 3600) ++ codes ":" ++ two_digits (second / 60 % 60) ++ codes ":"
+    codes "T" ++ two_digits (second / 3600) ++ codes ":" ++ two_digits
+    (second / 60 % 60) ++ codes ":"
     ++ two_digits (second % 60) ++ codes "." ++ nine_digits nsec ++ codes "Z"
 
 -- `YYYY-MM-DD`, the date of that day of the calendar, counted from 1970-01-01

@@ -13,11 +13,12 @@ use std::alloc::Allocator;
 use tk_clock::{Clock, Command, Entry, Refusal};
 
 impl<A: Allocator + Copy> Timekeeper<A> {
-    /// Does a command to the clocks and enters it in the journal; the entry's number, counted from 1.
+    /// Does a command to the clocks and enters it in the journal; the entry's number, counted from
+    /// 1.
     ///
-    /// `who` is the number of the caller, which the entry keeps. Full where the journal has no room, then
-    /// as `Clock::apply` refuses it, then Memory where the room for the entry was refused. A refused
-    /// command changes nothing. It takes no memory while `spare` is above 0.
+    /// `who` is the number of the caller, which the entry keeps. Full where the journal has no
+    /// room, then as `Clock::apply` refuses it, then Memory where the room for the entry was
+    /// refused. A refused command changes nothing. It takes no memory while `spare` is above 0.
     pub fn apply(&mut self, who: u32, reading: u64, cmd: Command) -> Result<u64, Refusal>
         ensures answer { let entry : Entry = record { who = who; reading = reading; cmd = cmd } in
             MatchResult result

@@ -50,7 +50,8 @@ impl<A: Allocator + Copy> Timekeeper<A> {
         self.replayed(clock, from, place)
     }
 
-    /// The clocks at a place, from those at an earlier one: the entries between them are applied again.
+    /// The clocks at a place, from those at an earlier one: the entries between them are applied
+    /// again.
     fn replayed(&self, mut clock: Clock, from: usize, place: usize) -> Clock
         requires state { clock ≡ state_of (prefix from self.now.journal) }
         requires before { from ≤ place }

@@ -12,6 +12,7 @@ returns-in-None-clause-asked c =
 
 pub returns-in-Some-clause-asked : goal.returns-in-Some-clause-asked
 returns-in-Some-clause-asked c =
-    let told : c.map.result ≡ option_map (λ keep. Replay (Some keep)) c.keep_in.result = search rules in
+    let told : c.map.result ≡ option_map (λ keep. Replay (Some keep)) c.keep_in.result =
+    search rules in
     told ∙ ap (option_map (λ keep. Replay (Some keep))) c.keep_in.ensures
     ∙ ap replay_by (c.in-Some.ensures ∙ first_value-rows (found_of c.args.found.now) (codes "keep"))

@@ -9,7 +9,8 @@ use Rattle.tk_program.proofs.running.run_by_words_of.Goals as goal
 
 -- words that can't be taken are refused, or memory was
 ended : {Untouched : Type 0} (error : WordsError) → Untouched →
-    ((ending_at error ≡ endings.Fault faults.Memory) × Untouched) ⊎ ((ending_at error ≡ endings.Words) × Untouched)
+    ((ending_at error ≡ endings.Fault faults.Memory) × Untouched)
+    ⊎ ((ending_at error ≡ endings.Words) × Untouched)
 ended errors.Refused untouched = inr (refl, untouched)
 ended errors.Memory untouched = inl (refl, untouched)
 

@@ -25,9 +25,12 @@ returns-in-Err-Full g c =
     let alike = IsAlike-folded before.journal folded.journal c.fold.ensures.same in
     let room = has_room before.journal folded.journal c.fold.result keep c.fold.ensures.answer
     c.fold.ensures.folded alike c.requires.keep few in
-    let listed = listed_then-folded before.journal folded.journal c.fold.result keep c.fold.ensures.answer
+    let listed = listed_then-folded before.journal folded.journal c.fold.result keep
+    c.fold.ensures.answer
     c.fold.ensures.folded alike c.requires.keep few (rw same at full) in
-    let P : Keeper → Type 0 = λ k. IsReplied (Some keep) (reply_by clock_refusal k.journal entry) answer after.journal in
+    let P : Keeper →
+    Type 0 = λ k. IsReplied (Some keep) (reply_by clock_refusal k.journal entry) answer
+    after.journal in
     let L : Keeper → Type 0 = λ k.
     length after.journal.entries ≡ listed_after (listed_then keep k.journal) answer in
     record {

@@ -13,23 +13,30 @@ use Rattle.tk_replay.proofs.reporting.add_reply.Goals as goal
 pub unwrap-time-requires : goal.unwrap-time-requires
 unwrap-time-requires g c =
     let entry = event c.args.reading c.args.cmd in
-    let free = read_fault-replied c.args.keep c.args.keeper.now.journal c.apply.new.keeper.journal entry c.in-Ok.number
+    let free = read_fault-replied c.args.keep c.args.keeper.now.journal c.apply.new.keeper.journal
+    entry c.in-Ok.number
     c.in-Ok.ensures.replied in
     IsOk-read c.apply.new.keeper.journal Monotonic c.args.reading c.get.result c.get.ensures free
 
 pub returns-in-Ok-clause-line : goal.returns-in-Ok-clause-line
 returns-in-Ok-clause-line g c =
-    let reply = reply_by (rule_of c.args.keep) c.args.keeper.now.journal (event c.args.reading c.args.cmd) in
+    let reply = reply_by (rule_of c.args.keep) c.args.keeper.now.journal
+    (event c.args.reading c.args.cmd) in
     let number = c.in-Ok.number in
     let time = c.unwrap-time.result in
     let told : IsTimeAt (c.apply.new.keeper.journal) Monotonic c.args.reading time =
-    IsTimeAt-read c.apply.new.keeper.journal Monotonic c.args.reading time (rw c.unwrap-time.ensures at c.get.ensures).1 in
+    IsTimeAt-read c.apply.new.keeper.journal Monotonic c.args.reading time
+    (rw c.unwrap-time.ensures at c.get.ensures).1 in
     let line : reply_line c.args.reading reply ≡ ok_line number time =
-    reply_line-accepted c.args.keep reply c.apply.new.keeper.journal c.args.reading number time c.in-Ok.ensures.replied told in
-    let R : List ℕ → Type 0 = λ text. OnOk c.line_ok.result (c.line_ok.new.out.items ≡ c.args.text.now.items ++ text) in
+    reply_line-accepted c.args.keep reply c.apply.new.keeper.journal c.args.reading number time
+    c.in-Ok.ensures.replied told in
+    let R : List ℕ →
+    Type 0 = λ text. OnOk c.line_ok.result (c.line_ok.new.out.items
+    ≡ c.args.text.now.items ++ text) in
     subst R (sym line) c.line_ok.ensures.ok
 
 pub line_ok-requires : goal.line_ok-requires
 line_ok-requires g c =
     let told = rw c.unwrap-time.ensures at c.get.ensures in
-    IsWritable-read c.apply.new.keeper.journal Monotonic c.args.reading c.unwrap-time.result told.0 told.1
+    IsWritable-read c.apply.new.keeper.journal Monotonic c.args.reading c.unwrap-time.result told.0
+    told.1

@@ -4,11 +4,13 @@ use Rattle.tk_script.specs.Coming.{IsReady, coming, records_left}
 use Rattle.tk_replay.proofs.Lines.{IsBegunBy}
 use Rattle.tk_replay.proofs.reporting.report_rows.Given as goal
 
--- the lines so far, and then those of the rows to come, are the report, and each record is one command at most
+-- the lines so far, and then those of the rows to come, are the report, and each record is one
+-- command at most
 abbrev pub invariant-rows : goal.invariant-rows
 invariant-rows g l = record {
   ready : IsReady l.rows;
-  begun : IsBegunBy l.keep l.fn.start (coming l.fn.rows) l.keeper.journal (coming l.rows) l.text.items;
+  begun : IsBegunBy l.keep l.fn.start (coming l.fn.rows) l.keeper.journal
+      (coming l.rows) l.text.items;
   count : accepted_count l.keeper.journal + records_left l.rows ≤ 2 ^ 32;
 }
 

@@ -9,5 +9,6 @@ writes-preserved g c =
     let piece = simp take-rest at c.in-Some.ensures.bytes in
     record {
       within = omega (arith, bound);
-      out = appends-more _ _ _ c.args.text.now c.writes.written c.in-Some.count c.writes.invariant.out piece;
+      out = appends-more _ _ _ c.args.text.now c.writes.written c.in-Some.count
+          c.writes.invariant.out piece;
     }

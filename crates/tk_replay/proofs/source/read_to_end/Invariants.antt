@@ -7,7 +7,8 @@ abbrev pub invariant-reads : goal.invariant-reads
 invariant-reads g l = record {
   within : l.filled ≤ vec_len l.bytes;
   most : vec_len l.bytes ≤ 2 ^ 24 + 1;
-  read : Consumes (g.S.Read.remaining l.fn.source) (g.S.Read.remaining l.source) (take l.filled l.bytes.items);
+  read : Consumes (g.S.Read.remaining l.fn.source) (g.S.Read.remaining l.source)
+      (take l.filled l.bytes.items);
 }
 
 abbrev pub decreases-reads : goal.decreases-reads

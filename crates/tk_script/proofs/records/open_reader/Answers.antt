@@ -3,7 +3,8 @@ use Rattle.tk_script.proofs.ReadingLemmas.{left-all}
 use Rattle.tk_script.proofs.records.open_reader.Goals as goal
 
 pub returns-clause-left : goal.returns-clause-left
-returns-clause-left c = let fr = c.from_reader.ensures in left-all c.from_reader.result c.args.bytes.now fr.source fr.state
+returns-clause-left c = let fr = c.from_reader.ensures
+    in left-all c.from_reader.result c.args.bytes.now fr.source fr.state
 
 pub returns-clause-reading : goal.returns-clause-reading
 returns-clause-reading c =

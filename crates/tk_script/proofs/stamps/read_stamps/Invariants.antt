@@ -7,7 +7,9 @@ use Rattle.tk_script.proofs.stamps.read_stamps.Given as goal
 
 -- the items so far are those of some pairs, and what is left tells the others
 abbrev pub invariant-loop-row : goal.invariant-loop-row
-invariant-loop-row l = IsReading l.reader × (length l.stamps.fronts.items ≡ length l.stamps.stamps.items)
+invariant-loop-row l = IsReading l.reader
+    × (length l.stamps.fronts.items ≡ length l.stamps.stamps.items)
     × ((rs : List (List (List ℕ))) → left_of l.fn.reader ≡ Some rs
-    → (rest : List (List (List ℕ))) × (pairs : List (ℕ × ℕ)) × (left_of l.reader ≡ Some rest) × (items_of pairs ≡ items l.stamps)
+    → (rest : List (List (List ℕ))) × (pairs : List (ℕ × ℕ)) × (left_of l.reader ≡ Some rest)
+    × (items_of pairs ≡ items l.stamps)
     × (each stamp_of 1 rs ≡ (each stamp_of l.row rest >>= λ more. Ok (pairs ++ more))))

@@ -8,6 +8,11 @@ returns g c =
 
 pub returns-2 : goal.returns-2
 returns-2 g c = record {
-  ok = (c.date_of_day.result, c.date_of_day.ensures, c.as_str-2.ensures.value ∙ c.in_ok-self-inside.ensures.ok);
+  ok = (
+    c.date_of_day.result,
+    c.date_of_day.ensures,
+    c.as_str-2.ensures.value
+        ∙ c.in_ok-self-inside.ensures.ok,
+  );
   memory = tt;
 }

@@ -4,8 +4,10 @@ use Rattle.tk_script.specs.Utc.{IsDateText, IsUtcText, time_part}
 use Rattle.tk_script.proofs.calendar.Calendar.line_at_utc.Goals as goal
 
 -- the text of a date, and that of a time of day, in one
-joined : (sec nsec seconds day second : ℕ) (date bytes time : List ℕ) → IsDateText day date → bytes ≡ date
-    → time ≡ time_part second nsec → seconds ≡ sec → day ≡ seconds / 86400 → second ≡ seconds % 86400
+joined : (sec nsec seconds day second : ℕ) (date bytes time : List ℕ) → IsDateText day date →
+    bytes ≡ date
+    → time ≡ time_part second nsec → seconds ≡ sec → day ≡ seconds / 86400 →
+    second ≡ seconds % 86400
     → IsUtcText sec nsec (bytes ++ time)
 joined sec nsec seconds day second date bytes time told same part n e f =
     (told.0, told.1 ∙ ap pos (rw n at e), rw (same, told.2, part, f, n) refl)
@@ -15,6 +17,8 @@ returns-clause-ok g c =
     let n : c.unsigned_abs-seconds.result ≡ unsigned_abs c.args.time.sec = search rules in
     let text = joined (unsigned_abs c.args.time.sec) c.args.time.nsec c.unsigned_abs-seconds.result
     c.day_and_second-day.result.0 c.day_and_second-day.result.1
-    c.in_ok-date.date.now c.as_bytes.result.now c.time_of_day-time_of_day.result c.in_ok-date.ensures.ok c.as_bytes.ensures.value
-    c.time_of_day-time_of_day.ensures n c.day_and_second-day.ensures.day c.day_and_second-day.ensures.second in
+    c.in_ok-date.date.now c.as_bytes.result.now c.time_of_day-time_of_day.result
+    c.in_ok-date.ensures.ok c.as_bytes.ensures.value
+    c.time_of_day-time_of_day.ensures n c.day_and_second-day.ensures.day
+    c.day_and_second-day.ensures.second in
     on_ok_weaker c.line_at_with.result (λ e. (_, e, (_, text, refl))) c.line_at_with.ensures.ok

@@ -17,8 +17,10 @@ pub returns-in_err-row : goal.returns-in_err-row
 returns-in_err-row c =
     let left = left-known c.args.self.now c.requires in
     let some = rw c.if-not-branch.false at (c.in_ok-next_fields.ensures.takes left.0 left.1) in
-    let fault = coming-fault c.args.self.now left.0 some.0 (fields_of c.next_fields.new.fields) c.in_err-row.field-0.0 left.1 some.1 (sym c.read_row.ensures ∙ c.in_err-row.was) in
-    let exit = err_from_is_err_and c.from_residual-in_err-row.result c.from_residual-in_err-row.ensures.1 in
+    let fault = coming-fault c.args.self.now left.0 some.0 (fields_of c.next_fields.new.fields)
+    c.in_err-row.field-0.0 left.1 some.1 (sym c.read_row.ensures ∙ c.in_err-row.was) in
+    let exit = err_from_is_err_and c.from_residual-in_err-row.result
+    c.from_residual-in_err-row.ensures.1 in
     rw exit.1 (fails-from exit.0 (coming c.args.self.now) (fault ∙ ap Err (sym exit.2)))
 
 pub returns : goal.returns
@@ -26,10 +28,17 @@ returns c =
     let old = c.args.self.now in
     let left = left-known old c.requires in
     let some = rw c.if-not-branch.false at (c.in_ok-next_fields.ensures.takes left.0 left.1) in
-    let new : RowReader = record { reader = c.next_fields.new.reader; fields = c.next_fields.new.fields; row = old.row + 1 } in
+    let new : RowReader =
+    record {
+      reader = c.next_fields.new.reader;
+      fields = c.next_fields.new.fields;
+      row = old.row + 1;
+    } in
     let first = fields_of c.next_fields.new.fields in
     let one = left-row old new left.0 some.0 first left.1 some.1 some.2 in (
-      ready-row old new some.0 c.requires one (c.in_ok-next_fields.ensures.reading c.if-not-branch.false) some.2 refl,
+      ready-row old new some.0 c.requires one
+          (c.in_ok-next_fields.ensures.reading c.if-not-branch.false) some.2 refl,
       one,
-      coming-row old new left.0 some.0 first c.in_ok-row.row left.1 some.1 (sym c.read_row.ensures ∙ c.in_ok-row.was) some.2 refl,
+      coming-row old new left.0 some.0 first c.in_ok-row.row left.1 some.1 (sym c.read_row.ensures
+          ∙ c.in_ok-row.was) some.2 refl,
     )

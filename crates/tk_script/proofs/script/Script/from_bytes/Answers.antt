@@ -8,6 +8,7 @@ rows-preserved c =
     let step = rw c.in-Some.is at c.in_ok-row.ensures in
     let more : c.push.new.self.items ≡ c.rows.rows.items ++ c.in-Some.row ∷ [] = search rules in (
       step.0,
-      opened-row (parse_of c.args.bytes.now) c.in_ok-start.start c.rows.rows.items c.push.new.self.items c.in-Some.row
+      opened-row (parse_of c.args.bytes.now) c.in_ok-start.start c.rows.rows.items
+          c.push.new.self.items c.in-Some.row
           c.rows.reader c.next_row.new.self c.rows.invariant.1 step.2 more,
     )

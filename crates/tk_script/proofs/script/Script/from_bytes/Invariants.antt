@@ -7,7 +7,8 @@ use Rattle.tk_script.proofs.script.Script.from_bytes.Given as goal
 -- the rows so far, and then those that are still to be read, are the script's
 abbrev pub invariant-rows : goal.invariant-rows
 invariant-rows l =
-    IsReady l.reader × (parse_of l.fn.bytes ≡ opened_with l.start (rows_and l.rows.items (coming l.reader)))
+    IsReady l.reader
+    × (parse_of l.fn.bytes ≡ opened_with l.start (rows_and l.rows.items (coming l.reader)))
 
 abbrev pub decreases-rows : goal.decreases-rows
 decreases-rows l = records_left l.reader
