@@ -19,7 +19,8 @@ use Rattle.tk_keeper.proofs.Stretches.{part_at}
 use Rattle.tk_pieces.specs.Pieces.{ArePieces, IsPiece, IsTracedInPieces, further_on, place_told, piece_items, refused_mark}
 
 -- a value doesn't hang on the place of its item
-same_value : (index place : ℕ) (value v : ℤ) (stamp : Option ReadError) (front : Option FrontError) →
+same_value : (index place : ℕ) (value v : ℤ) (stamp : Option ReadError)
+    (front : Option FrontError) →
     item_unless index (item_at index value stamp) front ≡ Ok v →
     item_unless place (item_at place value stamp) front ≡ Ok v
 same_value index place value v None None e = e
