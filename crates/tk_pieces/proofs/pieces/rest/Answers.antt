@@ -1,4 +1,4 @@
-use Rattle.std.proofs.Common.{◌≡◌, ◌++◌, List, ℕ, take, drop, length, Err, sym, subst, ap, ◌∙◌, rules}
+use Rattle.std.proofs.Common.{◌++◌, drop, length, Err, sym, subst, rules}
 use Rattle.tk_keeper.specs.Trace.{IsWritten, IsTraced}
 use Rattle.tk_pieces.specs.Pieces.{IsTracedInPieces}
 use Rattle.tk_pieces.proofs.Parts.{rest_done, rest_refused}
