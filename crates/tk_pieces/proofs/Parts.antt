@@ -2,7 +2,7 @@
 use Rattle.std.proofs.Common.{◌≡◌, ℕ, ◌+◌, ◌-◌, ◌*◌, ◌<◌, ◌≤◌, List, length, get_or, take, drop, ◌++◌, length-take, Some, None, Ok, Err, Result, refl, sym, ap, ap₂, ◌∙◌, subst, arith, rules, inl, inr}
 use Rattle.std.specs.Prelude.{ℤ, pos, IsOk, Option}
 use Rattle.std.proofs.lemmas.Bool.{cases_lt}
-use Rattle.std.proofs.lemmas.List.{get_or-take, get_or-drop, length-take-le, length-drop, places}
+use Rattle.std.proofs.lemmas.List.{get_or-take, get_or-drop, length-drop, places}
 use Rattle.tk_clock.specs.declared.clock_id.ClockId.{ClockId}
 use Rattle.tk_clock.specs.declared.refusal.ReadError.{ReadError}
 use Rattle.tk_clock.specs.declared.refusal.ReadError.TheVariants.{Invalid, Range}
@@ -14,9 +14,9 @@ use Rattle.tk_keeper.specs.declared.trace_error.TraceError.{TraceError}
 use Rattle.tk_keeper.specs.Item.{item, item_at, item_unless}
 use Rattle.tk_keeper.specs.Past.{at_front, front_refusal}
 use Rattle.tk_keeper.specs.Read.{read_fault}
-use Rattle.tk_keeper.specs.Trace.{item_of, AreValues, IsWritten, IsFirstFault, IsTraced}
+use Rattle.tk_keeper.specs.Trace.{item_of, AreValues, IsWritten, IsTraced}
 use Rattle.tk_keeper.proofs.Stretches.{part_at}
-use Rattle.tk_pieces.specs.Pieces.{ArePieces, IsPiece, IsTracedInPieces, further_on, place_told, piece_items, refused_mark}
+use Rattle.tk_pieces.specs.Pieces.{ArePieces, IsTracedInPieces, further_on, piece_items, refused_mark}
 
 -- a value doesn't hang on the place of its item
 same_value : (index place : ℕ) (value v : ℤ) (stamp : Option ReadError)

@@ -1,4 +1,4 @@
-use Rattle.std.proofs.Common.{◌≡◌, ◌<◌, ◌*◌, length, get_or, sym, ap, ◌∙◌, subst, rules}
+use Rattle.std.proofs.Common.{◌<◌, ◌*◌, length, get_or, sym, ap, ◌∙◌, subst, rules}
 use Rattle.tk_pieces.specs.Pieces.{ArePieces, piece_items, refused_mark}
 use Rattle.tk_pieces.proofs.Parts.{pieces_done}
 use Rattle.tk_pieces.proofs.pieces.first_fault.Goals.{else-at-stamps-via-then-at-stamps+else-out-at-ge-REFUSED, else-at-stamps-via-else-at-stamps}

@@ -1,4 +1,4 @@
-use Rattle.std.proofs.Common.{◌≡◌, ◌++◌, List, ℕ, take, drop, length, Err, sym, subst, ap, ◌∙◌, rules}
+use Rattle.std.proofs.Common.{◌++◌, drop, length, Err, sym, subst, rules}
 use Rattle.tk_keeper.specs.Trace.{IsWritten, IsTraced}
 use Rattle.tk_pieces.specs.Pieces.{IsTracedInPieces}
 use Rattle.tk_pieces.proofs.Parts.{rest_done, rest_refused}
@@ -27,9 +27,8 @@ returns-in-Err g c =
     let before = c.split_at_mut-late_out.result.1.now in
     let fronts = subst (λ fs. IsTraced journal c.args.clock fs c.split_at-2.result.1.now before late
     (Err c.in-Err.error)) c.split_at.ensures.back c.in-Err.ensures in
-    let stamps = subst
-    (λ ss. IsTraced journal c.args.clock (drop m c.args.fronts.now) ss before late
-    (Err c.in-Err.error)) c.split_at-2.ensures.back fronts in
+    let stamps = subst (λ ss. IsTraced journal c.args.clock (drop m c.args.fronts.now) ss before
+    late (Err c.in-Err.error)) c.split_at-2.ensures.back fronts in
     subst (λ error. IsTracedInPieces journal c.args.clock c.args.fronts.now c.args.stamps.now
     (early ++ late) (Err error)) (sym c.moved.ensures)
     (rest_refused journal c.args.clock c.args.fronts.now c.args.stamps.now m c.args.out.now

@@ -1,0 +1,43 @@
+-- What is known once all callers are back.
+use Rattle.std.proofs.Common.{◌≡◌, ◌≤◌, List, All, length, sym, ◌∙◌, arith}
+use mathlib.Core.List.{IsPrefix}
+use Rattle.atomic_table.specs.Seated.{TableId}
+use Rattle.tk_clock.specs.Snapshot.{Snapshot}
+use Rattle.tk_clock.specs.Journal.{Journal}
+use Rattle.tk_page.specs.History.{Begins}
+use Rattle.tk_latch.specs.Latch.{LatchId}
+use Rattle.tk_shared.specs.Callers.{Known, made_by}
+use Rattle.tk_shared.specs.Closing.{accepted_by, AreDifferent, IsPartOf, IsClosed}
+use Rattle.tk_shared.specs.History.{AreSnapshots}
+use Rattle.tk_shared.specs.Locked.{Held, IsHeld}
+use Rattle.tk_shared.proofs.Counts.{all_counted, made_by-prefix}
+use Rattle.tk_shared.proofs.Kept.{kept_count}
+use Rattle.tk_shared.proofs.Snapshots.{snapshots_prefix}
+
+-- a caller's part, told by page and latch
+pub part_of : (history : Journal) (publications : List Snapshot) (caller : Known) →
+    AreSnapshots history publications → Begins caller.seen history →
+    IsPrefix caller.learnt.publications publications →
+    caller.accepted ≤ made_by caller.id caller.seen.entries → IsPartOf history caller
+part_of history publications caller are begins learnt own = record {
+  begins = begins;
+  learnt = snapshots_prefix history caller.learnt.publications publications are learnt;
+  own = let more = made_by-prefix caller.id caller.seen.entries history.entries begins.1 in
+      omega (arith, own, more);
+}
+
+pub closed : (page : TableId) (latch : LatchId) (held : Held) (callers : List Known) →
+    IsHeld page latch held → AreDifferent callers →
+    All (IsPartOf held.shown.journal) callers → held.total ≡ accepted_by callers →
+    IsClosed held.kept callers
+closed page latch held callers is different parts total =
+    let history = held.shown.journal in
+    let all : length history.entries ≡ accepted_by callers = sym is.counted ∙ total in
+    record {
+      history = history;
+      whole = is.whole;
+      kept = is.kept;
+      parts = parts;
+      own = all_counted history callers different parts all;
+      counted = kept_count history held.kept is.whole is.kept ∙ all;
+    }

@@ -1,0 +1,87 @@
+-- What a command tells its caller.
+use Rattle.std.proofs.Common.{◌≡◌, ℕ, ◌+◌, [], ◌∷◌, length, refl, ◌∙◌, arith, bit_and, sym}
+use Rattle.std.specs.Prelude.{None}
+use Rattle.std.proofs.lemmas.List.{length_push}
+use Rattle.std.proofs.lemmas.Nat.{and_le_r}
+use mathlib.Core.List.{IsPrefix}
+use Rattle.atomic_table.specs.Seated.{TableId}
+use Rattle.tk_clock.specs.declared.command.Command.{Command}
+use Rattle.tk_clock.specs.declared.refusal.Refusal.{Refusal}
+use Rattle.tk_clock.specs.Journal.{followed_by, accepted_count}
+use Rattle.tk_clock.specs.Refusal.{first_refusal, IsRefusal}
+use Rattle.tk_clock.specs.Snapshot.{snapshot_of}
+use Rattle.tk_clock.proofs.Monotone.{agrees, never_falls}
+use Rattle.tk_page.specs.History.{Begins}
+use Rattle.tk_latch.specs.Latch.{LatchId, told_reader}
+use Rattle.tk_shared.specs.Callers.{Known, IsAccepted, IsRefused, entry_of}
+use Rattle.tk_shared.specs.Locked.{Held, IsHeld}
+use Rattle.tk_shared.proofs.Held.{with_entry, held_accepted}
+use Rattle.tk_shared.proofs.Kept.{kept_count, kept_monotonic}
+use Rattle.tk_shared.proofs.Prefixes.{prefix_trans, prefix_length}
+use Rattle.tk_shared.proofs.Refused.{refused_after}
+
+module _ (page : TableId) (latch : LatchId) (held : Held) (is : IsHeld page latch held) (old : Known)
+    (answer : ℕ) (cmd : Command) (begins : Begins old.seen held.shown.journal) where
+  abbrev pub reading : ℕ
+  reading = bit_and answer held.mask
+
+  -- the caller has seen the history, after which its command was refused
+  pub refused : (refusal : Refusal) → IsRefusal held.kept (entry_of old reading cmd) refusal →
+      IsRefused old (record old { seen = held.shown.journal }) cmd refusal
+  refused refusal told = record {
+    reading = reading;
+    masked = let most = is.masked in let low = and_le_r answer held.mask in omega (arith, most, low);
+    extends = begins;
+    whole = is.whole;
+    reason = refused_after held.shown.journal held.kept (entry_of old reading cmd) refusal is.whole
+        is.kept told;
+    counted = refl;
+    learnt = refl;
+  }
+
+  -- what the caller knows, where its command was accepted
+  abbrev pub told : Known
+  told =
+      let now = with_entry held (entry_of old reading cmd) in
+      record {
+        id = old.id;
+        accepted = old.accepted + 1;
+        seen = now.shown.journal;
+        learnt = told_reader now.latched;
+      }
+
+  pub accepted : (number : ℕ) → IsPrefix old.learnt.publications held.latched.publications →
+      first_refusal held.kept (entry_of old reading cmd) ≡ None →
+      number ≡ accepted_count (followed_by held.kept (entry_of old reading cmd)) →
+      IsAccepted old told cmd number
+  accepted number learnt none counted =
+      let history = held.shown.journal in
+      let entry = entry_of old reading cmd in
+      let now = held_accepted page latch held entry is none in
+      let longer = length_push history.entries entry in
+      let count = kept_count (followed_by history entry) (followed_by held.kept entry) now.whole
+      now.kept in
+      let many : number ≡ length (followed_by history entry).entries = counted ∙ count in
+      let shorter = prefix_length old.seen.entries history.entries begins.1 in
+      let fewer = prefix_length old.learnt.publications held.latched.publications learnt in
+      let latest = is.latest in
+      let next = snapshot_of (followed_by history entry) in
+      record {
+        before = history;
+        reading = reading;
+        extends = begins;
+        last = refl;
+        whole = now.whole;
+        counted = refl;
+        agrees = sym (kept_monotonic history held.kept is.whole is.kept reading)
+            ∙ agrees held.kept entry none
+            ∙ kept_monotonic (followed_by history entry) (followed_by held.kept entry) now.whole
+            now.kept reading;
+        rises = never_falls (followed_by history entry);
+        number = many;
+        newer = omega (arith, many, longer, shorter);
+        beyond = omega (arith, many, longer, fewer, latest);
+        mark = let all = length_push held.latched.publications next in
+            omega (arith, all, latest, many, longer);
+        learnt = prefix_trans _ _ _ learnt (next ∷ [], refl);
+      }

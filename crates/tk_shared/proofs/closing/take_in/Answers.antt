@@ -1,0 +1,19 @@
+use Rattle.std.proofs.Common.{subst}
+use Rattle.tk_shared.specs.Callers.{Known}
+use Rattle.tk_shared.specs.Closing.{IsPartOf}
+use Rattle.tk_shared.proofs.Ends.{part_of}
+use Rattle.tk_shared.proofs.closing.take_in.Goals as goal
+
+pub returns-clause-seen : goal.returns-clause-seen
+returns-clause-seen g c =
+    let caller = c.caller.inside in
+    let history = c.args.publisher.now.journal in
+    let known : Known = record {
+      id = caller.id;
+      accepted = caller.accepted;
+      seen = caller.viewer.journal;
+      learnt = caller.reader;
+    } in
+    subst (IsPartOf history) c.caller.view_is
+    (part_of history c.args.writer.now.publications known c.requires.snapshots c.tell.ensures.begins
+    c.tell-2.ensures.extends c.caller.invariant.4)

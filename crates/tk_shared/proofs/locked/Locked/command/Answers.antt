@@ -1,0 +1,137 @@
+use Rattle.std.proofs.Common.{◌+◌, ◌++◌, ◌∷◌, [], sym, ap, ◌∙◌, subst, bit_and}
+use Rattle.tk_clock.specs.declared.command.Entry.{Entry}
+use Rattle.tk_clock.specs.Journal.{Journal, followed_by, accepted_count}
+use Rattle.tk_clock.specs.Snapshot.{Snapshot, snapshot_of}
+use Rattle.tk_page.specs.History.{History}
+use Rattle.tk_latch.specs.Latch.{Learnt, Published, told_reader}
+use Rattle.tk_shared.specs.Callers.{Known, IsAccepted, IsRefused}
+use Rattle.tk_shared.specs.Locked.{Guarded, Held, IsHeld}
+use Rattle.tk_keeper.specs.Keeper.{Keeper}
+use Rattle.tk_shared.proofs.Held.{held_accepted}
+use Rattle.tk_shared.proofs.Kept.{kept_snapshot}
+use Rattle.tk_shared.proofs.Told.{refused, accepted}
+use Rattle.tk_shared.proofs.locked.Locked.command.Goals as goal
+
+pub returns-in-Err-clause-answer : goal.returns-in-Err-clause-answer
+returns-in-Err-clause-answer g c =
+    let is = c.self.invariant.0 in
+    let caller = c.caller.inside in
+    let old : Known = record {
+      id = caller.id;
+      accepted = caller.accepted;
+      seen = caller.viewer.journal;
+      learnt = caller.reader;
+    } in
+    let held : Held = record {
+      kept = c.self.inside.keeper.journal;
+      shown = c.self.inside.publisher;
+      latched = c.self.inside.writer;
+      mask = c.self.inside.mask;
+      total = c.self.inside.book.total;
+    } in
+    let told = refused g.L.Named.page g.L.Named.latch held is old c.read.result c.args.cmd
+    c.tell.ensures.begins c.in-Err.refusal c.in-Err.ensures.answer.0 in
+    let new : Journal → Known = λ seen. record old { seen = seen } in
+    let seen = ap (λ (h : History). h.journal) c.tell.ensures.viewer in
+    let history = ap (λ (h : History). h.journal) c.tell.ensures.publisher in
+    let guarded : Journal × Journal → Guarded = λ p. record { history = p.0; journal = p.1 } in (
+      subst (λ (k : Known). IsRefused k (new c.tell.new.viewer.journal) c.args.cmd c.in-Err.refusal)
+          c.caller.view_is
+          (subst (λ (j : Journal). IsRefused old (new j) c.args.cmd c.in-Err.refusal) (sym seen) told),
+      ap guarded (λ i. (history i, ap (λ (k : Keeper). k.journal) c.in-Err.ensures.answer.1 i))
+          ∙ c.self.view_is,
+    )
+
+pub publish-requires-clause-snapshot : goal.publish-requires-clause-snapshot
+publish-requires-clause-snapshot g c =
+    let entry : Entry = record {
+      who = c.caller.inside.id;
+      reading = bit_and c.read.result c.self.inside.mask;
+      cmd = c.args.cmd;
+    } in
+    let now = held_accepted g.L.Named.page g.L.Named.latch _ entry c.self.invariant.0
+    c.in-Ok.ensures.answer.0 in
+    c.snapshot-snapshot.ensures.value
+    ∙ ap snapshot_of c.in-Ok.ensures.answer.1
+    ∙ kept_snapshot _ _ now.whole now.kept
+    ∙ ap (λ (h : History). snapshot_of (followed_by h.journal entry)) (sym c.tell.ensures.publisher)
+
+pub invariant_of-self-2 : goal.invariant_of-self-2
+invariant_of-self-2 g c =
+    let entry : Entry = record {
+      who = c.caller.inside.id;
+      reading = bit_and c.read.result c.self.inside.mask;
+      cmd = c.args.cmd;
+    } in
+    let now = held_accepted g.L.Named.page g.L.Named.latch _ entry c.self.invariant.0
+    c.in-Ok.ensures.answer.0 in
+    let longer : History → History = λ h. record h { journal = followed_by h.journal entry } in
+    let shown = c.tell-3.ensures.publisher ∙ c.publish.ensures ∙ ap longer c.tell.ensures.publisher in
+    let snapshot = c.snapshot-snapshot.ensures.value ∙ ap snapshot_of c.in-Ok.ensures.answer.1
+    ∙ kept_snapshot _ _ now.whole now.kept in
+    let pushed : Published × Snapshot → Published =
+    λ p. record p.0 { publications = p.0.publications ++ p.1 ∷ [] } in
+    let latched = c.tell-4.ensures.writer ∙ c.publish_in_turn.ensures
+    ∙ ap pushed (λ i. (c.tell-2.ensures.writer i, snapshot i)) in (
+      subst (IsHeld g.L.Named.page g.L.Named.latch)
+          (λ i. record {
+            kept = sym c.in-Ok.ensures.answer.1 i;
+            shown = sym shown i;
+            latched = sym latched i;
+            mask = c.self.inside.mask;
+            total = sym c.add.ensures.total i;
+          })
+          now,
+      c.self.invariant.1,
+      c.self.invariant.2,
+    )
+
+pub returns-clause-answer : goal.returns-clause-answer
+returns-clause-answer g c =
+    let is = c.self.invariant.0 in
+    let caller = c.caller.inside in
+    let old : Known = record {
+      id = caller.id;
+      accepted = caller.accepted;
+      seen = caller.viewer.journal;
+      learnt = caller.reader;
+    } in
+    let entry : Entry = record {
+      who = caller.id;
+      reading = bit_and c.read.result c.self.inside.mask;
+      cmd = c.args.cmd;
+    } in
+    let held : Held = record {
+      kept = c.self.inside.keeper.journal;
+      shown = c.self.inside.publisher;
+      latched = c.self.inside.writer;
+      mask = c.self.inside.mask;
+      total = c.self.inside.book.total;
+    } in
+    let answer = c.in-Ok.ensures.answer in
+    let now = held_accepted g.L.Named.page g.L.Named.latch held entry is answer.0 in
+    let told = accepted g.L.Named.page g.L.Named.latch held is old c.read.result c.args.cmd
+    c.tell.ensures.begins c.in-Ok.number c.tell-2.ensures.extends answer.0
+    (answer.2 ∙ ap accepted_count answer.1) in
+    let longer : History → History = λ h. record h { journal = followed_by h.journal entry } in
+    let seen = ap (λ (h : History). h.journal)
+    (c.tell-3.ensures.viewer ∙ c.publish.ensures ∙ ap longer c.tell.ensures.publisher) in
+    let snapshot = c.snapshot-snapshot.ensures.value ∙ ap snapshot_of answer.1
+    ∙ kept_snapshot _ _ now.whole now.kept in
+    let pushed : Published × Snapshot → Published =
+    λ p. record p.0 { publications = p.0.publications ++ p.1 ∷ [] } in
+    let learnt = c.tell-4.ensures.reader
+    ∙ ap told_reader (c.publish_in_turn.ensures
+    ∙ ap pushed (λ i. (c.tell-2.ensures.writer i, snapshot i))) in
+    let new : Journal × Learnt → Known = λ p. record {
+      id = caller.id;
+      accepted = caller.accepted + 1;
+      seen = p.0;
+      learnt = p.1;
+    } in
+    subst
+    (λ (k : Known).
+    IsAccepted k (new (c.tell-3.new.viewer.journal, c.tell-4.new.reader)) c.args.cmd c.in-Ok.number)
+    c.caller.view_is
+    (subst (λ (p : Journal × Learnt). IsAccepted old (new p) c.args.cmd c.in-Ok.number)
+    (λ i. (sym seen i, sym learnt i)) told)

@@ -1,0 +1,89 @@
+-- What a caller knows, and what a command tells it.
+use Rattle.std.specs.Prelude.{◌≡◌, ℕ, zero, suc, ◌+◌, ◌<◌, ◌≤◌, ◌==◌, List, [], ◌∷◌, ◌++◌, length, count_by, Some, None}
+use mathlib.Core.List.{IsPrefix}
+use Rattle.tk_counter.specs.Counter.{mask}
+use Rattle.tk_clock.specs.declared.command.Command.{Command}
+use Rattle.tk_clock.specs.declared.command.Entry.{Entry}
+use Rattle.tk_clock.specs.declared.refusal.Refusal.{Refusal}
+use Rattle.tk_clock.specs.declared.refusal.Refusal.TheVariants.{Full, Memory}
+use Rattle.tk_clock.specs.Journal.{Journal, followed_by}
+use Rattle.tk_clock.specs.Legal.{IsWhole}
+use Rattle.tk_clock.specs.Life.{NeverFalls}
+use Rattle.tk_clock.specs.Limits.{listed_most}
+use Rattle.tk_clock.specs.Monotonic.{monotonic}
+use Rattle.tk_clock.specs.Refusal.{clock_refusal}
+use Rattle.tk_clock.specs.Snapshot.{snapshot_of}
+use Rattle.tk_page.specs.History.{Begins}
+use Rattle.tk_latch.specs.Latch.{LatchId, Learnt, mark_of, opened_reader}
+
+-- a caller: its number, how many of its commands were accepted, the history as far as it has seen
+-- it, and what it has learnt from the latch
+pub record Known : Type 0 where
+  pub id : ℕ
+  pub accepted : ℕ
+  pub seen : Journal
+  pub learnt : Learnt
+
+-- how many of these entries a caller made
+abbrev pub made_by : ℕ → List Entry → ℕ
+made_by id entries = count_by (λ entry. entry.who == id) entries
+
+-- a command of a caller at a reading, as an entry
+abbrev pub entry_of : Known → ℕ → Command → Entry
+entry_of caller reading cmd = record { who = caller.id; reading = reading; cmd = cmd }
+
+-- no call changes the number of a caller, or the opening of what it has seen
+abbrev pub IsSameCaller : Known → Known → Type 0
+IsSameCaller old new = (new.id ≡ old.id) × (new.seen.opening ≡ old.seen.opening)
+
+-- a caller whose command was accepted under this number: the history that it has seen now is that
+-- of before with this one entry more
+pub record IsAccepted (old new : Known) (cmd : Command) (answer : ℕ) : Type 0 where
+  pub before : Journal
+  pub reading : ℕ
+  pub extends : Begins old.seen before
+  pub last : new.seen ≡ followed_by before (entry_of old reading cmd)
+  pub whole : IsWhole new.seen
+  pub counted : new.accepted ≡ old.accepted + 1
+  -- MONOTONIC at the reading is the same before and after, and no shorter history, read in its
+  -- life, tells more than this one does at any reading
+  pub agrees : monotonic before reading ≡ monotonic new.seen reading
+  pub rises : NeverFalls new.seen
+  -- the number is how many entries there are, more than it knew of from page or latch
+  pub number : answer ≡ length new.seen.entries
+  pub newer : length old.seen.entries < answer
+  pub beyond : mark_of old.learnt.publications < answer
+  pub mark : mark_of new.learnt.publications ≡ answer
+  pub learnt : IsPrefix old.learnt.publications new.learnt.publications
+
+-- why an entry is refused after a whole history: Full where that has more entries than a journal
+-- lists or counts, Memory only where nothing else is wrong
+abbrev pub IsRefusalAfter : Journal → Entry → Refusal → Type 0
+IsRefusalAfter history entry Full = listed_most ≤ length history.entries
+IsRefusalAfter history entry Memory = clock_refusal history entry ≡ None
+IsRefusalAfter history entry refusal = clock_refusal history entry ≡ Some refusal
+
+-- a caller whose command was refused, after the history that it has seen now
+pub record IsRefused (old new : Known) (cmd : Command) (refusal : Refusal) : Type 0 where
+  pub reading : ℕ
+  pub masked : reading ≤ mask new.seen.opening.counter
+  pub extends : Begins old.seen new.seen
+  pub whole : IsWhole new.seen
+  pub reason : IsRefusalAfter new.seen (entry_of old reading cmd) refusal
+  pub counted : new.accepted ≡ old.accepted
+  pub learnt : new.learnt ≡ old.learnt
+
+-- a caller of a keeper that was just opened
+abbrev pub newcomer : LatchId → Journal → ℕ → Known
+newcomer latch opened id = record {
+  id = id;
+  accepted = 0;
+  seen = opened;
+  learnt = opened_reader latch (snapshot_of opened);
+}
+
+-- so many of them, with the numbers 0, 1, and so on
+abbrev pub newcomers : LatchId → Journal → ℕ → List Known
+newcomers latch opened zero = []
+newcomers latch opened (suc count) =
+    newcomers latch opened count ++ newcomer latch opened count ∷ []

@@ -1,0 +1,42 @@
+-- What closing tells, once all callers are back.
+use Rattle.std.specs.Prelude.{◌≡◌, ◌≢◌, ℕ, ◌≤◌, List, [], ◌∷◌, All, sum_by}
+use Rattle.tk_clock.specs.Journal.{Journal, accepted_count}
+use Rattle.tk_clock.specs.Legal.{IsWhole}
+use Rattle.tk_page.specs.History.{Begins}
+use Rattle.tk_shared.specs.Callers.{Known, made_by}
+use Rattle.tk_shared.specs.History.{IsKeptOf, AreSnapshots}
+
+-- how many commands of these callers were accepted together
+abbrev pub accepted_by : List Known → ℕ
+accepted_by callers = sum_by (λ caller. caller.accepted) callers
+
+-- none of these callers has this number
+abbrev pub IsApart : ℕ → List Known → Type 0
+IsApart id [] = Unit {0}
+IsApart id (caller ∷ callers) = (caller.id ≢ id) × IsApart id callers
+
+-- the callers have different numbers
+abbrev pub AreDifferent : List Known → Type 0
+AreDifferent [] = Unit {0}
+AreDifferent (caller ∷ callers) = IsApart caller.id callers × AreDifferent callers
+
+-- a caller's part in a whole history: what it has seen begins it, each publication that it has
+-- learnt of is the snapshot of the first entries of it, and at least so many are its own as were
+-- accepted
+pub record IsPartOf (history : Journal) (caller : Known) : Type 0 where
+  pub begins : Begins caller.seen history
+  pub learnt : AreSnapshots history caller.learnt.publications
+  pub own : caller.accepted ≤ made_by caller.id history.entries
+
+-- just as many entries are a caller's as were accepted
+abbrev pub IsCounted : Journal → Known → Type 0
+IsCounted history caller = made_by caller.id history.entries ≡ caller.accepted
+
+-- the journal that a closed keeper holds, and its callers
+pub record IsClosed (journal : Journal) (callers : List Known) : Type 0 where
+  pub history : Journal
+  pub whole : IsWhole history
+  pub kept : IsKeptOf history journal
+  pub parts : All (IsPartOf history) callers
+  pub own : All (IsCounted history) callers
+  pub counted : accepted_count journal ≡ accepted_by callers

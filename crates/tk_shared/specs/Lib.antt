@@ -1,0 +1,5 @@
+pub mod History
+pub mod Callers
+pub mod Locked
+pub mod Closing
+pub mod Opening

@@ -1,0 +1,38 @@
+-- What is true whenever the lock is free.
+use Rattle.std.specs.Prelude.{◌≡◌, ℕ, ◌+◌, length}
+use Rattle.atomic_table.specs.Seated.{TableId}
+use Rattle.tk_counter.specs.Counter.{mask as greatest_reading}
+use Rattle.tk_clock.specs.Journal.{Journal}
+use Rattle.tk_clock.specs.Legal.{IsWhole}
+use Rattle.tk_page.specs.History.{History}
+use Rattle.tk_latch.specs.Latch.{LatchId, Published}
+use Rattle.tk_shared.specs.History.{IsKeptOf, AreSnapshots}
+
+-- the value behind the lock, as contracts see it: the history, which is every command that was
+-- accepted, and the keeper's journal, into whose opening the first of them may be folded
+pub record Guarded : Type 0 where
+  pub history : Journal
+  pub journal : Journal
+
+-- all that lies under the lock: the journal of the keeper, what was published on the page and on the
+-- latch, the greatest reading of the counter, and how many commands the book counts
+pub record Held : Type 0 where
+  pub kept : Journal
+  pub shown : History
+  pub latched : Published
+  pub mask : ℕ
+  pub total : ℕ
+
+-- the history that was published on the page is whole; the keeper's journal is what it keeps of
+-- that; on the latch, publication k is the snapshot of its first k entries; and the book counts
+-- each entry once
+pub record IsHeld (named_page : TableId) (named_latch : LatchId) (held : Held) : Type 0 where
+  pub page : held.shown.page ≡ named_page
+  pub latch : held.latched.latch ≡ named_latch
+  pub counter : named_latch.counter ≡ held.shown.journal.opening.counter
+  pub whole : IsWhole held.shown.journal
+  pub kept : IsKeptOf held.shown.journal held.kept
+  pub snapshots : AreSnapshots held.shown.journal held.latched.publications
+  pub latest : length held.latched.publications ≡ length held.shown.journal.entries + 1
+  pub masked : held.mask ≡ greatest_reading held.shown.journal.opening.counter
+  pub counted : held.total ≡ length held.shown.journal.entries

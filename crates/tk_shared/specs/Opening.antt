@@ -1,0 +1,73 @@
+-- How a shared keeper is opened.
+use Rattle.std.specs.Prelude.{◌≡◌, ℕ, ◌≤◌, List, [], replicate, not, nat_lt, ◌||◌, Option, Some, None, if◌then◌else◌}
+use Rattle.atomic_table.specs.Seated.{TableId}
+use Rattle.tk_counter.specs.Counter.{Counter, mask}
+use Rattle.tk_clock.specs.declared.timespec.Timespec.{Timespec}
+use Rattle.tk_clock.specs.Journal.{Journal, opened}
+use Rattle.tk_clock.specs.Legal.{IsWhole}
+use Rattle.tk_clock.specs.Limits.{is_settable}
+use Rattle.tk_clock.specs.Snapshot.{snapshot_of}
+use Rattle.tk_page.specs.History.{History}
+use Rattle.tk_latch.specs.Latch.{LatchId, Published, Learnt, opened_writer, opened_reader}
+use Rattle.tk_shared.specs.declared.fault.OpenError.{OpenError}
+use Rattle.tk_shared.specs.declared.fault.OpenError.TheVariants.{Count, Invalid, Memory}
+
+-- what is ready to be opened: the page, the latch, the ledger's name, the number of callers, and the
+-- journal without entries
+pub record Start : Type 0 where
+  pub page : TableId
+  pub latch : LatchId
+  pub ledger : ℕ
+  pub callers : ℕ
+  pub journal : Journal
+
+-- a type's names are those of what was prepared; each caller has one part of the ledger
+abbrev pub IsNamed : Start → TableId → LatchId → ℕ → ℕ → ℕ → Type 0
+IsNamed start page latch ledger parts callers =
+    (start.page ≡ page) × (start.latch ≡ latch) × (start.ledger ≡ ledger)
+    × (start.callers ≡ parts) × (start.callers ≡ callers)
+
+-- the name of no page, and of no latch
+abbrev pub no_page : TableId
+no_page =
+    record { words = 0; slots = 0; views_name = 0; atom = 0; block = 0; offset = 0; slot_names = [] }
+
+abbrev pub no_latch : LatchId
+no_latch = record { table = no_page; counter = record { bits = 0; mult = 0; shift = 0 } }
+
+-- the most callers of a keeper
+abbrev pub most_callers : ℕ
+most_callers = 64
+
+-- why a keeper can't be opened, want of memory apart: too few callers or too many, then a time
+-- that REALTIME may not be set to
+abbrev pub opening_fault : ℕ → Timespec → Option OpenError
+opening_fault callers real =
+    if nat_lt callers 1 || nat_lt most_callers callers then Some Count
+    else if not (is_settable real) then Some Invalid
+    else None
+
+-- is this the fault? Memory is told only where nothing else is wrong
+abbrev pub IsOpenFault : ℕ → Timespec → OpenError → Type 0
+IsOpenFault callers real Memory = opening_fault callers real ≡ None
+IsOpenFault callers real error = opening_fault callers real ≡ Some error
+
+-- the clocks as they were opened, at some reading that the counter may have
+pub record IsOpened (counter : Counter) (real : Timespec) (journal : Journal) : Type 0 where
+  pub reading : ℕ
+  pub masked : reading ≤ mask counter
+  pub opened : journal ≡ opened counter reading real
+  pub whole : IsWhole journal
+
+-- a page and a latch that show the journal without entries, and a reader for each caller
+pub record IsReady (start : Start) (publisher viewer : History) (writer : Published)
+    (readers : List Learnt) : Type 0 where
+  pub published : publisher ≡ record { page = start.page; journal = start.journal }
+  pub seen : viewer ≡ record { page = start.page; journal = start.journal }
+  pub latched : writer ≡ opened_writer start.latch (snapshot_of start.journal)
+  pub learnt : readers
+      ≡ replicate start.callers (opened_reader start.latch (snapshot_of start.journal))
+  pub counter : start.latch.counter ≡ start.journal.opening.counter
+  pub whole : IsWhole start.journal
+  pub empty : start.journal.entries ≡ []
+  pub few : start.callers ≤ most_callers

@@ -1,0 +1,131 @@
+//! Taking a shared keeper apart, once all callers are back.
+ghost use Rattle.std.specs.Prelude.{◌≡◌, ◌+◌, ◌<◌, ◌≤◌, All, MatchResult, length, vec_len};
+ghost use Rattle.tk_shared.specs.Closing.{AreDifferent, IsClosed, IsPartOf, accepted_by};
+ghost use Rattle.tk_shared.specs.History.{AreSnapshots};
+
+use crate::caller::Caller;
+use crate::counter::Counter;
+use crate::locked::Locked;
+use crate::named::Named;
+use crate::shared_keeper::SharedKeeper;
+use std::sync::Wait;
+use std::sync::ledger::Share;
+use tk_keeper::Timekeeper;
+use tk_latch::{Latch, LatchWriter};
+use tk_page::{Page, Publisher};
+
+/// What a shared keeper was made of.
+#[derive(Drop)]
+pub struct Closed<C: Counter> {
+    /// Its journal has every accepted command.
+    pub keeper: Timekeeper,
+    pub counter: C,
+}
+
+/// A keeper that stays open, since callers are missing, and those that were handed in.
+#[derive(Drop)]
+pub struct Missing<L: Named, C: Counter> {
+    pub keeper: SharedKeeper<L, C>,
+    pub callers: Vec<Caller<L>>,
+}
+
+impl<L: Named, C: Counter> SharedKeeper<L, C> {
+    /// Takes the keeper apart, where all its callers are handed in.
+    ///
+    /// Missing where there are fewer. It hands everything back, as usable as before.
+    pub fn close<R: Wait>(self, rt: &R, callers: Vec<Caller<L>>) -> Result<Closed<C>, Missing<L, C>>
+        requires parts { L.callers ≡ L.parts }
+        requires different { AreDifferent callers.items }
+        ensures { MatchResult result
+            (λ closed. (self ≤ vec_len callers) × IsClosed closed.keeper.journal callers.items)
+            (λ missing. (vec_len callers < self) × (missing.keeper ≡ self)
+            × (missing.callers.items ≡ callers.items)) }
+    {
+        if callers.len() < self.callers {
+            return Err(Missing {
+                keeper: self,
+                callers,
+            });
+        }
+        let SharedKeeper {
+            page,
+            latch,
+            locked,
+            callers: _,
+        } = self;
+        let Locked {
+            keeper,
+            mut publisher,
+            mut writer,
+            counter,
+            mask: _,
+            mut book,
+            rest: mut all,
+        } = locked.into_inner();
+        take_all(
+            rt,
+            &page,
+            &mut publisher,
+            &latch,
+            &mut writer,
+            &mut all,
+            callers,
+        );
+        book.audit(&mut all);
+        Ok(Closed { keeper, counter })
+    }
+}
+
+/// Tells each caller all that was published, and joins its part of the ledger to the others.
+fn take_all<L: Named, R: Wait>(
+    rt: &R,
+    page: &Page,
+    publisher: &mut Publisher,
+    latch: &Latch,
+    writer: &mut LatchWriter,
+    all: &mut Share<L>,
+    callers: Vec<Caller<L>>,
+)
+    requires page { (page.now ≡ L.page) × (publisher.old.page ≡ L.page) }
+    requires latch { (latch.now ≡ L.latch) × (writer.old.latch ≡ L.latch) }
+    requires snapshots { AreSnapshots publisher.old.journal writer.old.publications }
+    requires within { all.old.parts ≤ L.parts }
+    ensures parts { all.new.parts ≡ all.old.parts + length callers.items }
+    ensures within { all.new.parts ≤ L.parts }
+    ensures amount { all.new.amount ≡ all.old.amount + accepted_by callers.items }
+    ensures seen { All (IsPartOf publisher.old.journal) callers.items }
+{
+    for caller in callers {
+        take_in(rt, page, publisher, latch, writer, all, caller);
+    }
+}
+
+/// Tells a caller all that was published, and joins its part of the ledger to the others.
+fn take_in<L: Named, R: Wait>(
+    rt: &R,
+    page: &Page,
+    publisher: &mut Publisher,
+    latch: &Latch,
+    writer: &mut LatchWriter,
+    all: &mut Share<L>,
+    caller: Caller<L>,
+)
+    requires page { (page.now ≡ L.page) × (publisher.old.page ≡ L.page) }
+    requires latch { (latch.now ≡ L.latch) × (writer.old.latch ≡ L.latch) }
+    requires snapshots { AreSnapshots publisher.old.journal writer.old.publications }
+    ensures same { (publisher.new ≡ publisher.old) × (writer.new ≡ writer.old) }
+    ensures parts { (all.new.parts ≡ all.old.parts + 1) × (all.new.parts ≤ L.parts) }
+    ensures amount { all.new.amount ≡ all.old.amount + caller.accepted }
+    ensures seen { IsPartOf publisher.old.journal caller }
+{
+    let Caller {
+        mut viewer,
+        mut reader,
+        share,
+        id: _,
+        accepted: _,
+    } = caller;
+    page.tell(rt, publisher, &mut viewer);
+    latch.tell(writer, &mut reader);
+    all.merge(share);
+}

@@ -1,0 +1,126 @@
+//! What lies under the lock, and each command to it.
+ghost use Rattle.std.specs.Prelude.{◌≡◌, ◌+◌, ◌-◌, ◌<◌, max, ◌++◌, ◌∷◌, [], length, MatchResult};
+ghost use mathlib.Core.List.{IsPrefix};
+ghost use Rattle.tk_clock.specs.Folding.{folded_by};
+ghost use Rattle.tk_clock.specs.Journal.{followed_by, accepted_count};
+ghost use Rattle.tk_clock.specs.Limits.{counted_most};
+ghost use Rattle.tk_clock.specs.Snapshot.{snapshot_of};
+ghost use Rattle.tk_page.specs.History.{Begins};
+ghost use Rattle.tk_latch.specs.Latch.{told_reader};
+ghost use Rattle.tk_shared.specs.Callers.{IsAccepted, IsRefused, IsSameCaller};
+
+use crate::caller::Caller;
+use crate::counter::Counter;
+use crate::named::Named;
+use std::marker::Model;
+use std::sync::Wait;
+use std::sync::ledger::{Book, Share};
+use tk_clock::{Command, Entry, Refusal, Snapshot};
+use tk_keeper::Timekeeper;
+use tk_latch::{Latch, LatchWriter};
+use tk_page::{Page, Publisher};
+
+/// What lies under the lock.
+///
+/// Contracts see it as the history, all accepted commands, and as the journal of the keeper.
+#[derive(Drop)]
+pub struct Locked<L: Named, C: Counter> {
+    pub(crate) keeper: Timekeeper,
+    /// Shows each accepted command on the page beside the lock.
+    pub(crate) publisher: Publisher,
+    /// And on the latch beside it.
+    pub(crate) writer: LatchWriter,
+    pub(crate) counter: C,
+    /// The greatest reading of the counter.
+    pub(crate) mask: u64,
+    /// Counts the accepted commands.
+    pub(crate) book: Book<L>,
+    /// No part of the ledger: the callers' shares are joined to it in the end.
+    pub(crate) rest: Share<L>,
+}
+
+impl<L: Named, C: Counter> Model for Locked<L, C> {
+    ghost use Rattle.std.specs.Prelude.{◌≡◌};
+    ghost use Rattle.tk_shared.specs.Locked.{Guarded, IsHeld};
+
+    ghost Value = { Guarded };
+
+    ghost view = { λ c. record { history = c.publisher.journal; journal = c.keeper.journal } };
+
+    ghost invariant = { λ c.
+        IsHeld L.page L.latch (record {
+          kept = c.keeper.journal;
+          shown = c.publisher;
+          latched = c.writer;
+          mask = c.mask;
+          total = c.book.total;
+        })
+        × (c.rest.parts ≡ 0) × (c.rest.amount ≡ 0) };
+}
+
+impl<L: Named, C: Counter> Locked<L, C> {
+    /// Does a caller's command at the counter's reading, and publishes it.
+    ///
+    /// The counter is read once. A refused command publishes nothing.
+    pub(crate) fn command<R: Wait>(
+        &mut self,
+        rt: &R,
+        page: &Page,
+        latch: &Latch,
+        caller: &mut Caller<L>,
+        cmd: Command,
+    ) -> Result<u64, Refusal>
+        requires page { page.now ≡ L.page }
+        requires latch { latch.now ≡ L.latch }
+        ensures answer { MatchResult result
+            (λ number. IsAccepted caller.old caller.new cmd number)
+            (λ refusal. IsRefused caller.old caller.new cmd refusal × (self.new ≡ self.old)) }
+        ensures seen { caller.new.seen ≡ self.new.history }
+        ensures folded { self.new.journal.opening ≡ self.old.journal.opening }
+        ensures same { IsSameCaller caller.old caller.new }
+    {
+        page.tell(rt, &mut self.publisher, &mut caller.viewer);
+        let reading = self.counter.read() & self.mask;
+        let who = caller.id;
+        let number = match self.keeper.apply(who, reading, cmd) {
+            Ok(number) => number,
+            Err(refusal) => return Err(refusal),
+        };
+        latch.tell(&mut self.writer, &mut caller.reader);
+        let entry = Entry { who, reading, cmd };
+        let snapshot = self.keeper.snapshot();
+        self.publisher.publish(rt, page, entry, snapshot);
+        publish_in_turn(latch, &mut self.writer, snapshot);
+        self.book.add(&mut caller.share, 1);
+        page.tell(rt, &mut self.publisher, &mut caller.viewer);
+        latch.tell(&mut self.writer, &mut caller.reader);
+        caller.accepted += 1;
+        Ok(number)
+    }
+
+    /// Folds the oldest entries of the keeper's journal, so that at most `keep` are listed; how
+    /// many are folded then. It publishes nothing.
+    pub(crate) fn fold(&mut self, keep: u64) -> u64
+        ensures answer { let before = self.old.journal in
+            result ≡ max before.opening.count (accepted_count before - keep) }
+        ensures journal { let before = self.old.journal in
+            self.new.journal ≡ folded_by (result - before.opening.count) before }
+        ensures history { self.new.history ≡ self.old.history }
+    {
+        self.keeper.fold(keep)
+    }
+}
+
+/// Publishes the next snapshot on the latch, which has room for as many as a journal counts.
+fn publish_in_turn(latch: &Latch, writer: &mut LatchWriter, snapshot: Snapshot)
+    requires latch { writer.old.latch ≡ latch.now }
+    requires counter { snapshot.base.counter ≡ latch.now.counter }
+    requires number { snapshot.front ≡ length writer.old.publications }
+    requires room { length writer.old.publications < counted_most + 1 }
+    ensures { writer.new
+        ≡ record writer.old { publications = writer.old.publications ++ snapshot ∷ [] } }
+{
+    let Ok(()) = writer.publish(latch, snapshot) else {
+        return;
+    };
+}

@@ -1,0 +1,164 @@
+//! What a shared keeper needs, made before any type names it.
+ghost use Rattle.std.specs.Prelude.{◌≡◌, ◌≤◌, [], length, MatchResult, IfOk, None};
+ghost use Rattle.tk_clock.specs.Legal.{IsWhole};
+ghost use Rattle.tk_shared.specs.Opening.{IsOpened, IsOpenFault, IsReady, opening_fault, most_callers};
+
+use crate::counter::Counter;
+use crate::fault::{OpenError, OpenFault};
+use std::alloc::{AllocError, Global};
+use std::marker::Model;
+use std::sync::Wait;
+use std::sync::ledger::Blank;
+use tk_clock::Timespec;
+use tk_counter::CounterDesc;
+use tk_keeper::Timekeeper;
+use tk_latch::{Latch, LatchReader, LatchWriter};
+use tk_page::{Page, Publisher, Viewer};
+
+/// The most callers of a keeper.
+const CALLERS_LIMIT: usize = 64;
+
+/// A keeper whose clocks were just opened, with its page and its latch.
+#[derive(Drop)]
+pub(crate) struct Parts {
+    pub(crate) page: Page,
+    pub(crate) publisher: Publisher,
+    pub(crate) viewer: Viewer,
+    pub(crate) latch: Latch,
+    pub(crate) writer: LatchWriter,
+    /// One for each caller.
+    pub(crate) readers: Vec<LatchReader>,
+    pub(crate) keeper: Timekeeper,
+}
+
+/// All that `SharedKeeper::open` needs.
+///
+/// Contracts see it as what names it, and the journal without entries.
+#[derive(Drop)]
+pub struct Prepared<C: Counter> {
+    pub(crate) parts: Parts,
+    pub(crate) counter: C,
+    /// The greatest reading of the counter.
+    pub(crate) mask: u64,
+    pub(crate) blank: Blank,
+}
+
+impl<C: Counter> Model for Prepared<C> {
+    ghost use Rattle.std.specs.Prelude.{◌≡◌, length};
+    ghost use Rattle.tk_counter.specs.Counter.{mask as greatest_reading};
+    ghost use Rattle.tk_shared.specs.Opening.{Start, IsReady};
+
+    ghost Value = { Start };
+
+    ghost view = { λ p. record {
+      page = p.parts.page;
+      latch = p.parts.latch;
+      ledger = p.blank.name;
+      callers = length p.parts.readers.items;
+      journal = p.parts.keeper.journal;
+    } };
+
+    ghost invariant = { λ p.
+        IsReady (record {
+          page = p.parts.page;
+          latch = p.parts.latch;
+          ledger = p.blank.name;
+          callers = length p.parts.readers.items;
+          journal = p.parts.keeper.journal;
+        }) p.parts.publisher p.parts.viewer p.parts.writer p.parts.readers.items
+        × (p.mask ≡ greatest_reading p.parts.keeper.journal.opening.counter)
+        × (p.blank.parts ≡ length p.parts.readers.items) };
+}
+
+/// Makes a keeper of this counter for so many callers, and reads the counter once. Its clocks are
+/// opened there: MONOTONIC is 0 and REALTIME `real`.
+///
+/// It makes room for so many commands, or for as many as a journal lists. Count where fewer callers
+/// than 1 or more than 64 are asked for, Invalid where REALTIME may not be set to `real`, then
+/// Memory. A fault hands the counter back.
+pub fn prepare<C: Counter, R: Wait>(
+    alloc: Global,
+    rt: &R,
+    desc: CounterDesc,
+    real: Timespec,
+    counter: C,
+    callers: usize,
+    room: usize,
+) -> Result<Prepared<C>, OpenFault<C>>
+    ensures { MatchResult result
+        (λ prepared. (opening_fault callers real ≡ None) × (prepared.callers ≡ callers)
+        × IsOpened desc real prepared.journal)
+        (λ fault. IsOpenFault callers real fault.error) }
+{
+    if callers < 1 || callers > CALLERS_LIMIT {
+        return Err(OpenFault {
+            error: OpenError::Count,
+            counter,
+        });
+    }
+    let mut counter = counter;
+    let mask = desc.mask();
+    let reading = counter.read() & mask;
+    let Ok(keeper) = Timekeeper::open(alloc, desc, reading, real) else {
+        return Err(OpenFault {
+            error: OpenError::Invalid,
+            counter,
+        });
+    };
+    let Ok(parts) = assemble(alloc, rt, keeper, callers, room) else {
+        return Err(OpenFault {
+            error: OpenError::Memory,
+            counter,
+        });
+    };
+    let blank = Blank::new(callers as u64);
+    Ok(Prepared {
+        parts,
+        counter,
+        mask,
+        blank,
+    })
+}
+
+/// A page and a latch for a keeper whose clocks were just opened, which gets room for so many
+/// commands.
+fn assemble<R: Wait>(
+    alloc: Global,
+    rt: &R,
+    keeper: Timekeeper,
+    callers: usize,
+    room: usize,
+) -> Result<Parts, AllocError>
+    requires callers { (1 ≤ callers) × (callers ≤ most_callers) }
+    requires whole { IsWhole keeper.journal }
+    requires empty { keeper.journal.entries ≡ [] }
+    ensures { IfOk result (λ parts. (parts.keeper.journal ≡ keeper.journal)
+        × IsReady (record {
+          page = parts.page;
+          latch = parts.latch;
+          ledger = 0;
+          callers = callers;
+          journal = keeper.journal;
+        }) parts.publisher parts.viewer parts.writer parts.readers.items) }
+{
+    let mut keeper = keeper;
+    if keeper.reserve(room).is_err() {
+        return Err(AllocError);
+    }
+    let snapshot = keeper.snapshot();
+    let Ok((page, publisher, viewer)) = Page::open(rt, alloc, snapshot) else {
+        return Err(AllocError);
+    };
+    let Ok((latch, writer, readers)) = Latch::open(alloc, snapshot, callers) else {
+        return Err(AllocError);
+    };
+    Ok(Parts {
+        page,
+        publisher,
+        viewer,
+        latch,
+        writer,
+        readers,
+        keeper,
+    })
+}

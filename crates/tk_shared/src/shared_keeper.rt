@@ -1,0 +1,197 @@
+//! The lock, the page and the latch, and the calls on them.
+ghost use Rattle.std.specs.Prelude.{◌≡◌, ◌≤◌, length, replicate, IfOk, MatchResult};
+ghost use mathlib.Core.List.{IsPrefix};
+ghost use Rattle.tk_clock.specs.Snapshot.{snapshot_of};
+ghost use Rattle.tk_keeper.specs.Keeper.{ReadsAs};
+ghost use Rattle.tk_page.specs.History.{Begins};
+ghost use Rattle.tk_latch.specs.Latch.{IsRead, IsMoved, opened_reader};
+ghost use Rattle.tk_shared.specs.Callers.{IsAccepted, IsRefused, IsSameCaller, newcomers};
+ghost use Rattle.tk_shared.specs.Opening.{IsNamed, most_callers};
+
+use crate::caller::Caller;
+use crate::counter::Counter;
+use crate::fault::{OpenError, OpenFault};
+use crate::locked::Locked;
+use crate::named::Named;
+use crate::prepared::{Parts, Prepared};
+use std::alloc::{AllocError, Global};
+use std::marker::Model;
+use std::sync::ledger::Share;
+use std::sync::{Mutex, Wait};
+use tk_clock::{Command, Refusal, Snapshot};
+use tk_latch::{Latch, LatchReader, Moved};
+use tk_page::{Page, Viewer};
+
+/// A timekeeper that callers in many threads share.
+///
+/// Commands take its lock; reads don't. Contracts see it as the number of its callers.
+#[derive(Drop)]
+pub struct SharedKeeper<L: Named, C: Counter> {
+    pub(crate) page: Page,
+    pub(crate) latch: Latch,
+    pub(crate) locked: Mutex<Locked<L, C>>,
+    pub(crate) callers: usize,
+}
+
+impl<L: Named, C: Counter> Model for SharedKeeper<L, C> {
+    ghost use Rattle.std.specs.Prelude.{◌≡◌, ℕ};
+
+    ghost Value = { ℕ };
+
+    ghost view = { λ k. k.callers };
+
+    ghost invariant = { λ k.
+        (k.page ≡ L.page) × (k.latch ≡ L.latch) × (k.callers ≡ L.callers) };
+}
+
+impl<L: Named, C: Counter> SharedKeeper<L, C> {
+    /// Opens what was prepared, with the callers 0, 1, and so on, as many as were asked for.
+    ///
+    /// Only Memory, which hands the counter back. The type `L` has to name what was prepared.
+    pub fn open(
+        alloc: Global,
+        prepared: Prepared<C>,
+    ) -> Result<(SharedKeeper<L, C>, Vec<Caller<L>>), OpenFault<C>>
+        requires named { IsNamed prepared L.page L.latch L.name L.parts L.callers }
+        ensures { MatchResult result
+            (λ opened. (opened.0 ≡ prepared.callers)
+            × (opened.1.items ≡ newcomers prepared.latch prepared.journal prepared.callers))
+            (λ fault. fault.error ≡ OpenError.Memory) }
+    {
+        let Prepared {
+            parts,
+            counter,
+            mask,
+            blank,
+        } = prepared;
+        let Parts {
+            page,
+            publisher,
+            viewer,
+            latch,
+            writer,
+            readers,
+            keeper,
+        } = parts;
+        let callers = readers.len();
+        let (book, mut rest) = blank.open::<L>();
+        let Ok(made) = make_callers(alloc, &page, viewer, readers, &mut rest) else {
+            return Err(OpenFault {
+                error: OpenError::Memory,
+                counter,
+            });
+        };
+        let locked = Locked {
+            keeper,
+            publisher,
+            writer,
+            counter,
+            mask,
+            book,
+            rest,
+        };
+        let shared = SharedKeeper {
+            page,
+            latch,
+            locked: Mutex::new(locked),
+            callers,
+        };
+        Ok((shared, made))
+    }
+
+    /// Does a caller's command at the counter's reading, enters it in the journal under the caller's
+    /// number and publishes it; the number of the entry. All that is done under the lock.
+    ///
+    /// It is refused as `Timekeeper::apply` refuses it. A refused command changes nothing, but that
+    /// the caller may have learnt of more entries; and the counter was read.
+    pub fn command<R: Wait>(
+        &self,
+        rt: &R,
+        caller: &mut Caller<L>,
+        cmd: Command,
+    ) -> Result<u64, Refusal>
+        ensures answer { MatchResult result
+            (λ number. IsAccepted caller.old caller.new cmd number)
+            (λ refusal. IsRefused caller.old caller.new cmd refusal) }
+        ensures same { IsSameCaller caller.old caller.new }
+    {
+        self.locked
+            .lock(rt)
+            .command(rt, &self.page, &self.latch, caller, cmd)
+    }
+
+    /// The snapshot of the history so far, at least as far as this caller has seen it.
+    ///
+    /// It doesn't take the lock. Where a publication comes between, it waits for the words of the
+    /// page.
+    pub fn read<R: Wait>(&self, rt: &R, caller: &mut Caller<L>) -> Snapshot
+        ensures extends { Begins caller.old.seen caller.new.seen }
+        ensures answer { result ≡ snapshot_of caller.new.seen }
+        ensures clocks { ReadsAs caller.new.seen result.base }
+        ensures same { (caller.new.id ≡ caller.old.id)
+            × (caller.new.accepted ≡ caller.old.accepted)
+            × (caller.new.learnt ≡ caller.old.learnt) }
+    {
+        caller.viewer.read(rt, &self.page)
+    }
+
+    /// The latest publication, whole, and no earlier than this caller knows of; or Moved, where a
+    /// publication came between.
+    ///
+    /// It waits for nobody and takes no memory. What the caller has seen by commands and by `read`
+    /// stays as it was.
+    pub fn fast_read(&self, caller: &mut Caller<L>) -> Result<Snapshot, Moved>
+        ensures extends { IsPrefix caller.old.learnt.publications caller.new.learnt.publications }
+        ensures answer { MatchResult result
+            (λ snapshot. IsRead caller.old.learnt caller.new.learnt snapshot)
+            (λ moved. IsMoved caller.old.learnt caller.new.learnt moved.first moved.last) }
+        ensures same { (caller.new.id ≡ caller.old.id)
+            × (caller.new.accepted ≡ caller.old.accepted)
+            × (caller.new.seen ≡ caller.old.seen) }
+    {
+        caller.reader.try_read(&self.latch)
+    }
+
+    /// Folds the oldest entries of the journal under the lock, so that at most `keep` are listed;
+    /// how many are folded then.
+    ///
+    /// It publishes nothing, and nothing that a reader is told changes.
+    pub fn fold<R: Wait>(&self, rt: &R, keep: u64) -> u64 {
+        self.locked.lock(rt).fold(keep)
+    }
+}
+
+/// The callers 0, 1, and so on: one for each reader, with a part of the ledger each.
+fn make_callers<L: Named>(
+    alloc: Global,
+    page: &Page,
+    viewer: Viewer,
+    readers: Vec<LatchReader>,
+    shares: &mut Share<L>,
+) -> Result<Vec<Caller<L>>, AllocError>
+    requires page { (viewer.page ≡ page.now) × (viewer.page ≡ L.page) }
+    requires readers { readers.items
+        ≡ replicate (length readers.items) (opened_reader L.latch (snapshot_of viewer.journal)) }
+    requires few { length readers.items ≤ most_callers }
+    requires shares { (shares.old.parts ≡ length readers.items) × (shares.old.amount ≡ 0) }
+    ensures callers { IfOk result (λ callers.
+        callers.items ≡ newcomers L.latch viewer.journal (length readers.items)) }
+    ensures shares { IfOk result (λ _. (shares.new.parts ≡ 0) × (shares.new.amount ≡ 0)) }
+{
+    let mut viewer = viewer;
+    let mut callers = Vec::with_capacity(alloc, readers.len())?;
+    let mut id = 0;
+    for reader in readers {
+        let (mine, others) = viewer.split(page);
+        viewer = others;
+        callers.push_reserved(Caller {
+            viewer: mine,
+            reader,
+            share: shares.split_off(1, 0),
+            id,
+            accepted: 0,
+        });
+        id += 1;
+    }
+    Ok(callers)
+}
