@@ -1,11 +1,18 @@
 #!/usr/bin/env python3
-"""Runs random scripts through the program and through the definitions, and stops at the first report that differs.
+"""Runs random scripts and stamps through the program and through the definitions, and stops at the first output that
+differs.
 
     tools/compare.py PROGRAM [SCRIPTS [SEED]]
+
+Each script is replayed. Another, mostly without a fault, is traced with stamps of its own, and races: alone, where the
+definitions have one answer, and as three actors, whose sums must agree. Each fifth time `many` makes the reports of the
+last five of these.
 """
+import os
 import random
 import subprocess
 import sys
+import tempfile
 
 import model
 
@@ -83,25 +90,146 @@ def spoil(rng, lines):
         line.append(rng.choice(["", 1]))
 
 
-def wanted(text):
+def journal_of(text):
+    """The journal that a script leaves, or None where it has a fault."""
     try:
-        return 0, "".join(line + "\n" for line in model.report(text)), ""
+        journal, rows = model.parsed(text)
+    except model.Fault:
+        return None
+    for word, (at, *fields) in rows:
+        if word != "get":
+            journal, _ = model.done(journal, word, at, fields, False)
+    return journal
+
+
+def sound(rng):
+    """A script, mostly one without a fault, and the journal that it leaves."""
+    for _ in range(20):
+        text = script(rng)
+        journal = journal_of(text)
+        if journal:
+            break
+    return text, journal
+
+
+def stamp(rng, journal, front, is_wild):
+    """A stamp near the command before it, or near the one behind it, or anywhere."""
+    bits, pick = journal.counter.bits, rng.random()
+    if is_wild and pick < 0.1:
+        return rng.choice(EDGES)
+    if is_wild and pick < 0.3:
+        return rng.randrange(2**bits)
+    near = journal.reading(min(front + rng.randrange(2), len(journal.entries)))
+    return (near + rng.randrange(-2, 1 << rng.randrange(1, bits))) % 2**bits
+
+
+def stamps(rng, journal):
+    """The bytes of a stamp file for a journal, some with a fault."""
+    last, is_wild = len(journal.entries), rng.random() < 0.2
+    fronts = [rng.randrange(last + 1) for _ in range(rng.randrange(60))]
+    if rng.random() < 0.5:
+        fronts.sort()
+    lines = [[front, stamp(rng, journal, front, is_wild)] for front in fronts]
+    if lines and rng.random() < 0.1:
+        rng.choice(lines)[0] = rng.choice([last + 1, 2**63, 2**64 - 1])
+    if lines and rng.random() < 0.05:
+        spoil(rng, lines)
+    ending = rng.choice(["\n", "\n", "\r\n", "\r"])
+    return "".join(",".join(map(str, line)) + ending for line in lines).encode()
+
+
+def wanted(make, *given):
+    """The status, the output and the fault that the definitions have."""
+    try:
+        told = make(*given)
     except model.Fault as fault:
-        return 1, "", f"tkcore: script: {fault}\n"
+        return 1, "", f"tkcore: {fault}\n"
+    status, lines = told if isinstance(told, tuple) else (0, told)
+    return status, "".join(line + "\n" for line in lines), ""
+
+
+def ran(program, words, given=b""):
+    done = subprocess.run([program] + words, input=given, capture_output=True, check=False)
+    return done.returncode, done.stdout.decode(), done.stderr.decode()
+
+
+def file_of(folder, name, text):
+    path = os.path.join(folder, name)
+    with open(path, "wb") as file:
+        file.write(text)
+    return path
+
+
+def report_of(text):
+    return model.named("script", model.report, text)
+
+
+class Comparison:
+    """The program, a folder for its files, the random numbers, and how often each kind was compared."""
+
+    def __init__(self, program, folder, seed):
+        self.program, self.folder, self.seed = program, folder, seed
+        self.rng = random.Random(seed)
+        self.counts = {}
+
+    def check(self, kind, told, right, *texts):
+        if told != right:
+            shown = "\n---\n".join(text.decode() for text in texts)
+            print(f"{kind} of seed {self.seed} differs:\n{shown}\nprogram: {told}\nmodel: {right}")
+            sys.exit(1)
+        self.counts[kind] = self.counts.get(kind, 0) + 1
+
+    def replay(self, text):
+        self.check("replay", ran(self.program, [], text), wanted(report_of, text), text)
+
+    def trace(self, text, journal):
+        marks = stamps(self.rng, journal) if journal else b"0,0\n"
+        clock = self.rng.choice(model.CLOCKS)
+        names = [file_of(self.folder, "script", text), file_of(self.folder, "stamps", marks)]
+        told = ran(self.program, ["trace", clock] + names)
+        self.check("trace", told, wanted(model.trace, clock, text, marks), clock.encode(), text, marks)
+
+    def many(self, texts):
+        names = [file_of(self.folder, f"script{i}", text) for i, text in enumerate(texts)]
+        workers = self.rng.choice([1, 2, 3, 4, 64])
+        told = ran(self.program, ["many", str(workers)] + names)
+        self.check("many", told, wanted(model.many, texts), *texts)
+
+    def race(self, text):
+        """One actor exactly, and then the same script as three actors, whose sums must agree."""
+        name = file_of(self.folder, "racer", text)
+        step = self.rng.choice([0, 1, 1_000, 2**31, self.rng.randrange(2**64)])
+        told = ran(self.program, ["race", str(step), name])
+        self.check("race", told, wanted(model.race, step, text), str(step).encode(), text)
+        if told[0] == 0:
+            self.race_together(step, name, text, sum(map(int, told[1].split("\n")[1].split(",")[2:])))
+
+    def race_together(self, step, name, text, orders):
+        status, lines, fault = ran(self.program, ["race", str(step)] + [name] * 3)
+        (_, entries), *actors = [line.split(",") for line in lines.split()]
+        counted = [int(accepted) + int(refused) for _, _, accepted, refused in actors]
+        accepted = sum(int(actor[2]) for actor in actors)
+        ids = [actor[1] for actor in actors]
+        self.check("sums of a race", (status, fault, ids, counted, accepted),
+                   (0, "", ["0", "1", "2"], [orders] * 3, int(entries)), text)
 
 
 def main():
-    program, count = sys.argv[1], int(sys.argv[2]) if len(sys.argv) > 2 else 1_000
+    program, count = os.path.abspath(sys.argv[1]), int(sys.argv[2]) if len(sys.argv) > 2 else 1_000
     seed = int(sys.argv[3]) if len(sys.argv) > 3 else random.randrange(2**32)
-    rng = random.Random(seed)
-    for number in range(count):
-        text = script(rng)
-        ran = subprocess.run([program], input=text, capture_output=True, check=False)
-        told = ran.returncode, ran.stdout.decode(), ran.stderr.decode()
-        if told != wanted(text):
-            print(f"script {number} of seed {seed} differs:\n{text.decode()}\nprogram: {told}\nmodel: {wanted(text)}")
-            sys.exit(1)
-    print(f"{count} scripts of seed {seed}: each report is as the definitions have it")
+    with tempfile.TemporaryDirectory() as folder:
+        both, last = Comparison(program, folder, seed), []
+        for number in range(count):
+            text = script(both.rng)
+            both.replay(text)
+            text, journal = sound(both.rng)
+            both.trace(text, journal)
+            both.race(text)
+            last = last[-4:] + [text]
+            if number % 5 == 4:
+                both.many(last)
+    done = ", ".join(f"{number} of {kind}" for kind, number in both.counts.items())
+    print(f"seed {seed}: each output is as the definitions have it ({done})")
 
 
 if __name__ == "__main__":

@@ -1,10 +1,15 @@
 #!/usr/bin/env python3
-"""The report of a script by the definitions alone: sums over the whole journal, in whole numbers without bounds.
+"""What the program writes, by the definitions alone: sums over the whole journal, in whole numbers without bounds.
 
-It shares no code and no method with the program, which keeps a running state. The examples' reports were made by it and
-read by hand, and `tools/compare.py` runs random scripts through both.
+It shares no code and no method with the program, which keeps a running state. The examples' outputs were made by it and
+read by hand, and `tools/compare.py` runs random scripts and stamps through both.
 
     tools/model.py < script
+    tools/model.py trace CLOCK SCRIPT STAMPS
+    tools/model.py many WORKERS FILE..
+    tools/model.py race STEP FILE
+
+A race is modelled for one actor, whose commands come in one order only.
 """
 import csv
 import datetime
@@ -21,7 +26,15 @@ CLOCKS = ["realtime", "monotonic", "boottime", "tai", "realtime_coarse", "monoto
 
 
 class Fault(Exception):
-    """A script's first fault, as the program tells it."""
+    """The first fault, as the program tells it."""
+
+
+def named(name, read, *given):
+    """What `read` gives, or its fault behind the name of what it reads."""
+    try:
+        return read(*given)
+    except Fault as fault:
+        raise Fault(f"{name}: {fault}") from None
 
 
 @dataclass(frozen=True)
@@ -253,38 +266,134 @@ def look(journal, reading, clock):
     return f"{line},{utc_text(value)}" if clock.startswith("realtime") else line
 
 
-def report(text, is_bounded=False):
-    """The lines of a script's report. `is_bounded`: the journal is folded in time, so it is never full."""
+def records_of(text):
+    """The records of a file's bytes, as the csv module has them."""
     if len(text) > 2**24:
         raise Fault("larger than 16777216 bytes")
-    records = [r for r in csv.reader(io.StringIO(text.decode(), newline="")) if r]
+    return [r for r in csv.reader(io.StringIO(text.decode(), newline="")) if r]
+
+
+def parsed(text):
+    """What a script says: its journal as it is opened, and the rows behind the opening."""
+    records = records_of(text)
     if not records:
         raise Fault("no record")
-    rows = [read_record(row, record) for row, record in enumerate(records[:1], 1)]
-    journal = opened(*rows[0])
-    rows = [read_record(row, record) for row, record in enumerate(records[1:], 2)]
+    journal = opened(*read_record(1, records[0]))
+    return journal, [read_record(row, record) for row, record in enumerate(records[1:], 2)]
+
+
+def done(journal, word, reading, fields, is_bounded):
+    """What a command comes to: the journal after it, and its line."""
+    refusal = first_refusal(journal, word, reading, fields, is_bounded)
+    if refusal:
+        return journal, f"no,{refusal}"
+    after = journal.followed_by((word, reading, value_of(word, fields)))
+    return after, f"ok,{len(after.entries)},{time_text(after.monotonic(reading))}"
+
+
+def report(text, is_bounded=False):
+    """The lines of a script's report. `is_bounded`: the journal is folded in time, so it is never full."""
+    journal, rows = parsed(text)
     counter = journal.counter
     lines = [f"open,{counter.bits},{counter.mult},{counter.shift}"]
     for word, (reading, *fields) in rows:
         if word == "get":
             lines.append(look(journal, reading, *fields))
             continue
-        refusal = first_refusal(journal, word, reading, fields, is_bounded)
-        if refusal:
-            lines.append(f"no,{refusal}")
-            continue
-        journal = journal.followed_by((word, reading, value_of(word, fields)))
-        lines.append(f"ok,{len(journal.entries)},{time_text(journal.monotonic(reading))}")
+        journal, line = done(journal, word, reading, fields, is_bounded)
+        lines.append(line)
     return lines
+
+
+def items_of(text):
+    """The fronts and the stamps of a stamp file."""
+    items = []
+    for row, record in enumerate(records_of(text), 1):
+        if len(record) != 2:
+            raise Fault(f"record {row}: wrong number of fields")
+        try:
+            items.append(tuple(number(field, U64) for field in record))
+        except ValueError:
+            raise Fault(f"record {row}: not a number in range") from None
+    return items
+
+
+def converted(journal, clock, index, front, stamp):
+    """The value of an item: the clock's, as the journal was when so many commands were accepted."""
+    if front > len(journal.entries):
+        raise Fault(f"item {index}: unknown front")
+    if stamp >= 2**journal.counter.bits:
+        raise Fault(f"item {index}: stamp above the mask")
+    value = journal.prefix(front).value(clock, stamp)
+    if value >= limit(clock):
+        raise Fault(f"item {index}: value out of range")
+    return value
+
+
+def trace(clock, script, stamps):
+    """The lines of a trace: the value of each item in nanoseconds."""
+    journal, rows = named("script", parsed, script)
+    items = named("stamps", items_of, stamps)
+    for word, (reading, *fields) in rows:
+        if word != "get":
+            journal, _ = done(journal, word, reading, fields, False)
+    return [str(converted(journal, clock, index, *item)) for index, item in enumerate(items)]
+
+
+def many(scripts):
+    """The status of so many scripts, and their lines."""
+    status, lines = 0, []
+    for index, script in enumerate(scripts):
+        lines.append(f"file,{index}")
+        try:
+            lines += report(script)
+        except Fault as fault:
+            status = 1
+            lines.append(f"fault,{fault}")
+    return status, lines
+
+
+def race(step, script):
+    """The lines of a race of one actor. Its counter is read at the opening and then once in each command."""
+    journal, rows = named("file 0", parsed, script)
+    start, reads, answers = journal.opened_at, 0, []
+    for word, (_, *fields) in rows:
+        if word != "get":
+            reads += 1
+            reading = (start + reads * step) % 2**64 % 2**journal.counter.bits
+            journal, line = done(journal, word, reading, fields, False)
+            answers.append(line)
+    accepted = sum(line.startswith("ok") for line in answers)
+    return [f"entries,{len(journal.entries)}", f"actor,0,{accepted},{len(answers) - accepted}"]
+
+
+def bytes_of(name):
+    with open(name, "rb") as file:
+        return file.read()
+
+
+def answer(words):
+    """The status and the lines of what these words ask for."""
+    if not words:
+        return 0, named("script", report, sys.stdin.buffer.read())
+    task, first, *names = words
+    files = [bytes_of(name) for name in names]
+    if task == "trace":
+        return 0, trace(first, *files)
+    if task == "many":
+        return many(files)
+    return 0, race(int(first), *files)
 
 
 def main():
     try:
-        for line in report(sys.stdin.buffer.read()):
-            print(line)
+        status, lines = answer(sys.argv[1:])
     except Fault as fault:
-        print(f"tkcore: script: {fault}", file=sys.stderr)
+        print(f"tkcore: {fault}", file=sys.stderr)
         sys.exit(1)
+    for line in lines:
+        print(line)
+    sys.exit(status)
 
 
 if __name__ == "__main__":

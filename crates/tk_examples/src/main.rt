@@ -1,15 +1,17 @@
-//! Makes the report of each example, and tells whether it is the one that stands beside its script.
+//! Makes the output of each example, and tells whether it is the one that stands beside it.
 //!
-//! Standard input has the examples' names, a line each. An example is a script `NAME.csv` beside
-//! `NAME.report`, or beside `NAME.fault` where the program refuses it. Status 0: each is as
-//! expected. Status 1: one isn't, or can't be read.
+//! Standard input has the examples, a line each. A line `NAME` is a script `NAME.csv` beside
+//! `NAME.report`. A line `CLOCK NAME` is a trace of that clock: a script `NAME.csv` and stamps
+//! `NAME.stamps` beside `NAME.trace`. Either has `NAME.fault` in its output's place where the program
+//! refuses it. Status 0: each is as expected. Status 1: one isn't, or can't be read.
 #![tactic(auto)]
 
 use std::alloc::{AllocError, Global};
 use std::process::ExitCode;
 use std::{fs, io};
-use tk_replay::{Fault, report, report_bounded};
-use tk_script::ScriptError;
+use tk_clock::ClockId;
+use tk_replay::{Fault, report, report_bounded, trace};
+use tk_script::{ScriptError, clock_word};
 
 /// What an example came to.
 #[derive(Clone, Copy, PartialEq, Eq)]
@@ -29,11 +31,11 @@ fn main(rt: HostRuntime) -> ExitCode {
 fn check_all(rt: &HostRuntime) -> io::Result<Verdict> {
     let mut all = Verdict::AsExpected;
     for line in rt.lines(rt.alloc()) {
-        let name = line?;
-        match check(rt, name.as_str())? {
-            Verdict::AsExpected => println!(rt; "{name}: as expected")?,
+        let example = line?;
+        match check(rt, example.as_str())? {
+            Verdict::AsExpected => println!(rt; "{example}: as expected")?,
             Verdict::Differs => {
-                println!(rt; "{name}: differs")?;
+                println!(rt; "{example}: differs")?;
                 all = Verdict::Differs;
             }
         }
@@ -41,21 +43,57 @@ fn check_all(rt: &HostRuntime) -> io::Result<Verdict> {
     Ok(all)
 }
 
+/// Checks the script that a line names, or the trace.
+fn check(rt: &HostRuntime, example: &str) -> io::Result<Verdict> {
+    match example.split_once(' ') {
+        None => check_report(rt, example),
+        Some((word, name)) => match clock_word(word.as_bytes()) {
+            Some(clock) => check_trace(rt, clock, name),
+            None => Ok(Verdict::Differs),
+        },
+    }
+}
+
 /// Compares the report of an example with the one beside it. No example fills a journal, so folding
 /// changes nothing.
-fn check(rt: &HostRuntime, name: &str) -> io::Result<Verdict> {
+fn check_report(rt: &HostRuntime, name: &str) -> io::Result<Verdict> {
     let alloc = rt.alloc();
     let script = fs::read(rt, format!(in alloc; "{name}.csv")?)?;
-    let expected = match fs::read(rt, format!(in alloc; "{name}.report")?) {
-        Ok(text) => text,
-        Err(_) => fs::read(rt, format!(in alloc; "{name}.fault")?)?,
-    };
+    let expected = expected_of(rt, name, "report")?;
     let told = text_of(alloc, report(alloc, script.as_slice()))?;
     let folded = text_of(alloc, report_bounded(alloc, script.as_slice(), 1))?;
-    if told.as_slice() == expected.as_slice() && folded.as_slice() == expected.as_slice() {
-        Ok(Verdict::AsExpected)
+    Ok(verdict(
+        told.as_slice() == expected.as_slice() && folded.as_slice() == expected.as_slice(),
+    ))
+}
+
+/// Compares the trace of an example with the one beside it.
+fn check_trace(rt: &HostRuntime, clock: ClockId, name: &str) -> io::Result<Verdict> {
+    let alloc = rt.alloc();
+    let mut script = fs::open(rt, format!(in alloc; "{name}.csv")?)?;
+    let mut stamps = fs::open(rt, format!(in alloc; "{name}.stamps")?)?;
+    let expected = expected_of(rt, name, "trace")?;
+    let mut told = Vec::new(alloc);
+    if let Err(fault) = trace(alloc, &mut script, &mut stamps, clock, &mut told) {
+        told = fault_text(alloc, fault)?;
+    }
+    Ok(verdict(told.as_slice() == expected.as_slice()))
+}
+
+fn verdict(is_as_expected: bool) -> Verdict {
+    if is_as_expected {
+        Verdict::AsExpected
     } else {
-        Ok(Verdict::Differs)
+        Verdict::Differs
+    }
+}
+
+/// The output that stands beside an example, or its fault.
+fn expected_of(rt: &HostRuntime, name: &str, ending: &str) -> io::Result<Vec<u8>> {
+    let alloc = rt.alloc();
+    match fs::read(rt, format!(in alloc; "{name}.{ending}")?) {
+        Ok(text) => Ok(text),
+        Err(_) => fs::read(rt, format!(in alloc; "{name}.fault")?),
     }
 }
 
@@ -63,9 +101,11 @@ fn check(rt: &HostRuntime, name: &str) -> io::Result<Verdict> {
 fn text_of(alloc: Global, outcome: Result<Vec<u8>, ScriptError>) -> Result<Vec<u8>, AllocError> {
     match outcome {
         Ok(text) => Ok(text),
-        Err(error) => {
-            let fault = Fault::from(error);
-            Ok(format!(in alloc; "tkcore: {fault}\n")?.into_bytes())
-        }
+        Err(error) => fault_text(alloc, Fault::from(error)),
     }
+}
+
+/// A fault as the program tells it.
+fn fault_text(alloc: Global, fault: Fault) -> Result<Vec<u8>, AllocError> {
+    Ok(format!(in alloc; "tkcore: {fault}\n")?.into_bytes())
 }

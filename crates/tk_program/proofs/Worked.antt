@@ -3,12 +3,12 @@ use Rattle.std.proofs.Common.{◌≡◌, List, [], ◌∷◌, codes, refl}
 use Rattle.std.specs.Prelude.{Option, Some, None}
 use Rattle.clap.specs.Words.{Text}
 use Rattle.clap.proofs.OnLiterals.{clap_on_literals}
-use Rattle.tk_program.specs.declared.request.Request.{Request}
-use Rattle.tk_program.specs.declared.request.Request.TheVariants.{Replay}
+use Rattle.tk_clock.specs.declared.clock_id.ClockId.TheVariants.{MonotonicRaw, Tai}
+use Rattle.tk_program.specs.Request.{Task, Replay, Trace, Many, Race}
 use Rattle.tk_program.specs.CommandLine.{asked_by}
 
 -- what the words behind the program's own ask for
-abbrev ask_for : List Text → Option Request
+abbrev ask_for : List Text → Option Task
 unfolding asked_by
 ask_for words = asked_by (codes "tkcore" ∷ words)
 
@@ -69,3 +69,69 @@ help = refl
 another_word : ask_for (codes "help" ∷ []) ≡ None
 unfolding asked_by clap_on_literals
 another_word = refl
+
+trace : ask_for (codes "trace" ∷ codes "tai" ∷ codes "a" ∷ codes "b" ∷ [])
+    ≡ Some (Trace Tai (codes "a") (codes "b"))
+unfolding asked_by clap_on_literals
+trace = refl
+
+trace_by_the_counter : ask_for (codes "trace" ∷ codes "monotonic_raw" ∷ codes "a" ∷ codes "a" ∷ [])
+    ≡ Some (Trace MonotonicRaw (codes "a") (codes "a"))
+unfolding asked_by clap_on_literals
+trace_by_the_counter = refl
+
+trace_of_dashes :
+    ask_for (codes "trace" ∷ codes "tai" ∷ codes "--" ∷ codes "-a" ∷ codes "--b" ∷ [])
+    ≡ Some (Trace Tai (codes "-a") (codes "--b"))
+unfolding asked_by clap_on_literals
+trace_of_dashes = refl
+
+no_clock : ask_for (codes "trace" ∷ codes "time" ∷ codes "a" ∷ codes "b" ∷ []) ≡ None
+unfolding asked_by clap_on_literals
+no_clock = refl
+
+no_stamps : ask_for (codes "trace" ∷ codes "tai" ∷ codes "a" ∷ []) ≡ None
+unfolding asked_by clap_on_literals
+no_stamps = refl
+
+a_third_file : ask_for (codes "trace" ∷ codes "tai" ∷ codes "a" ∷ codes "b" ∷ codes "c" ∷ []) ≡ None
+unfolding asked_by clap_on_literals
+a_third_file = refl
+
+many : ask_for (codes "many" ∷ codes "4" ∷ codes "a" ∷ codes "b" ∷ codes "a" ∷ [])
+    ≡ Some (Many 4 (codes "a" ∷ codes "b" ∷ codes "a" ∷ []))
+unfolding asked_by clap_on_literals
+many = refl
+
+most_workers : ask_for (codes "many" ∷ codes "064" ∷ codes "a" ∷ []) ≡ Some (Many 64 (codes "a" ∷ []))
+unfolding asked_by clap_on_literals
+most_workers = refl
+
+too_many_workers : ask_for (codes "many" ∷ codes "65" ∷ codes "a" ∷ []) ≡ None
+unfolding asked_by clap_on_literals
+too_many_workers = refl
+
+no_worker : ask_for (codes "many" ∷ codes "0" ∷ codes "a" ∷ []) ≡ None
+unfolding asked_by clap_on_literals
+no_worker = refl
+
+many_of_no_file : ask_for (codes "many" ∷ codes "1" ∷ []) ≡ None
+unfolding asked_by clap_on_literals
+many_of_no_file = refl
+
+race : ask_for (codes "race" ∷ codes "18446744073709551615" ∷ codes "a" ∷ codes "b" ∷ [])
+    ≡ Some (Race 18446744073709551615 (codes "a" ∷ codes "b" ∷ []))
+unfolding asked_by clap_on_literals
+race = refl
+
+still_race : ask_for (codes "race" ∷ codes "0" ∷ codes "a" ∷ []) ≡ Some (Race 0 (codes "a" ∷ []))
+unfolding asked_by clap_on_literals
+still_race = refl
+
+too_great_a_step : ask_for (codes "race" ∷ codes "18446744073709551616" ∷ codes "a" ∷ []) ≡ None
+unfolding asked_by clap_on_literals
+too_great_a_step = refl
+
+race_of_no_file : ask_for (codes "race" ∷ codes "1" ∷ []) ≡ None
+unfolding asked_by clap_on_literals
+race_of_no_file = refl

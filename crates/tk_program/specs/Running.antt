@@ -7,11 +7,9 @@ use Rattle.tk_replay.specs.Reading.{ReadFailed}
 use Rattle.tk_replay.specs.Replay.{IsReplayed}
 use Rattle.tk_program.specs.declared.ending.Ending.{Ending}
 use Rattle.tk_program.specs.declared.ending.Ending.TheVariants as endings
-use Rattle.tk_program.specs.declared.request.Request.{Request}
-use Rattle.tk_program.specs.declared.request.Request.TheVariants as requests
 use Rattle.tk_program.specs.CommandLine.{asked_of}
 use Rattle.tk_program.specs.Ending.{ending_of}
-use Rattle.tk_program.specs.Request.{told_by}
+use Rattle.tk_program.specs.Request.{Task, Replay, Trace, Many, Race, told_by}
 
 -- of a reader and of a writer: what is known of their bytes, what their calls came to, and each
 -- before and after
@@ -30,9 +28,12 @@ module _ {R W : Type 0} (remaining : R → Option (List ℕ)) (read_gives : R �
       (ReadFailed read_gives reader') contents write_gives flush_gives writer writer' result
 
   -- what was asked for ended so; refused words touch nothing
-  abbrev pub Ends : Option Request → Ending → Type 0
+  abbrev pub Ends : Option Task → Ending → Type 0
   Ends None ending = (ending ≡ endings.Words) × IsUntouched
-  Ends (Some (requests.Replay keep)) ending = EndsReplay keep ending
+  Ends (Some (Replay keep)) ending = EndsReplay keep ending
+  Ends (Some (Trace clock script stamps)) ending = (ending ≡ endings.Words) × IsUntouched
+  Ends (Some (Many workers files)) ending = (ending ≡ endings.Words) × IsUntouched
+  Ends (Some (Race step files)) ending = (ending ≡ endings.Words) × IsUntouched
 
   -- words ended so: as what they ask for, or memory was refused before that was known
   abbrev pub IsRun : Option (List Text) → Ending → Type 0

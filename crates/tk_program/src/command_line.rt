@@ -1,10 +1,10 @@
 //! The words on the command line.
-ghost use Rattle.std.specs.Prelude.{◌≡◌, ◌≢◌, [], false, map, codes, string_bytes, IfErr, IfOk, IfSome};
-ghost use Rattle.clap.specs.Words.{app_of, fault_of, first_of, found_of, kind_of, rows_of, rule_of, subcommand_of, subcommand_rows_of};
+ghost use Rattle.std.specs.Prelude.{◌≡◌, ◌≢◌, Some, None, [], false, map, codes, string_bytes, IfErr, IfOk, IfSome, option_map};
+ghost use Rattle.clap.specs.Words.{all_of, app_of, fault_of, first_of, found_of, kind_of, rows_of, rule_of, subcommand_of, subcommand_rows_of};
 ghost use Rattle.clap.specs.declared.builder.command.Command.TheViews.{out-Command};
-ghost use Rattle.tk_program.specs.CommandLine.{IsAsked, bare_words, keep_rule, program_words, replay_words, request_of};
+ghost use Rattle.tk_program.specs.CommandLine.{Asks, IsAsked, bare_words, files_rule, files_words, keep_rule, one_script_words, program_words, replay_words, task_by, task_found, trace_words, word_rule};
 ghost use Rattle.tk_program.specs.Ending.{error_of};
-ghost use Rattle.tk_program.specs.Request.{IsAllowed, keep_of, replay_by};
+ghost use Rattle.tk_program.specs.Request.{IsAllowed, keep_of, many_by, race_by, replay_by, task_of, trace_by, workers_of};
 ghost use Rattle.tk_program.specs.declared.command_line.WordsError.TheVariants.{Memory};
 
 use crate::request::Request;
@@ -12,7 +12,7 @@ use clap::error::ErrorKind;
 use clap::{Arg, ArgAction, ArgMatches, Command};
 use std::alloc::{AllocError, Global};
 use std::io;
-use tk_script::number;
+use tk_script::{clock_word, number};
 
 /// Why words ask for nothing.
 #[derive(Clone, Copy, Debug, PartialEq, Eq)]
@@ -25,12 +25,12 @@ pub enum WordsError {
 
 /// What the words ask for, the first of which is the program's own.
 #[tactic(auto, unfolding(crate::specs::CommandLine::asked_by))]
-pub fn asked(alloc: Global, words: &[String]) -> Result<Request, WordsError>
-    ensures asked { IsAsked (map string_bytes words.now) result }
+pub fn asked<'a>(alloc: Global, words: &'a [String]) -> Result<Request<'a>, WordsError>
+    ensures asked { IsAsked (map string_bytes words.entry.now) result }
     ensures allowed { IfOk result IsAllowed }
 {
     let matches = parsed(alloc, words)?;
-    request_in(&matches).ok_or(WordsError::Refused)
+    request_in(alloc, &matches)
 }
 
 /// What the program finds in the words.
@@ -47,30 +47,59 @@ fn parsed<'a>(alloc: Global, words: &'a [String]) -> Result<ArgMatches<'a>, Word
 }
 
 /// What is asked for by what was found.
-fn request_in(matches: &ArgMatches<'_>) -> Option<Request>
-    ensures asked { result ≡ request_of (subcommand_rows_of matches.now) }
-    ensures allowed { IfSome result IsAllowed }
+fn request_in<'a>(alloc: Global, matches: &ArgMatches<'a>) -> Result<Request<'a>, WordsError>
+    ensures asked { Asks (task_found (subcommand_rows_of matches.now)) result }
+    ensures allowed { IfOk result IsAllowed }
 {
     match matches.subcommand() {
-        None => Some(Request::Replay { keep: None }),
-        Some((name, found)) => {
-            if name == "replay" {
-                replay_in(found)
-            } else {
-                None
-            }
-        }
+        None => Ok(Request::Replay { keep: None }),
+        Some((name, found)) => request_by(alloc, name, found),
+    }
+}
+
+/// What a subcommand asks for, by what was found behind it.
+fn request_by<'a>(
+    alloc: Global,
+    name: &str,
+    found: &ArgMatches<'a>,
+) -> Result<Request<'a>, WordsError>
+    ensures asked { Asks (task_by name.now (rows_of (found_of found.now))) result }
+    ensures allowed { IfOk result IsAllowed }
+{
+    if name == "replay" {
+        replay_in(found).ok_or(WordsError::Refused)
+    } else if name == "trace" {
+        trace_in(found).ok_or(WordsError::Refused)
+    } else if name == "many" {
+        many_in(alloc, found)
+    } else if name == "race" {
+        race_in(alloc, found)
+    } else {
+        Err(WordsError::Refused)
     }
 }
 
 /// How a script is to be replayed.
-fn replay_in(found: &ArgMatches<'_>) -> Option<Request>
-    ensures asked { result ≡ replay_by (first_of (codes "keep") (rows_of (found_of found.now))) }
+fn replay_in<'a>(found: &ArgMatches<'a>) -> Option<Request<'a>>
+    ensures asked { option_map task_of result
+        ≡ replay_by (first_of (codes "keep") (rows_of (found_of found.now))) }
     ensures allowed { IfSome result IsAllowed }
 {
-    match found.get_str("keep") {
-        None => Some(Request::Replay { keep: None }),
-        Some(text) => keep_in(text).map(|keep| Request::Replay { keep: Some(keep) }),
+    let keep = found.get_str("keep");
+    replay_asked(keep)
+}
+
+/// The replay that the text of `--keep` asks for, if there is one.
+fn replay_asked<'a>(keep: Option<&str>) -> Option<Request<'a>>
+    ensures asked { option_map task_of result ≡ replay_by (option_map (λ t. t.now) keep.entry) }
+    ensures allowed { IfSome result IsAllowed }
+{
+    let Some(text) = keep else {
+        return Some(Request::Replay { keep: None });
+    };
+    match keep_in(text) {
+        Some(keep) => Some(Request::Replay { keep: Some(keep) }),
+        None => None,
     }
 }
 
@@ -81,11 +110,133 @@ fn keep_in(text: &str) -> Option<u64>
     number(text.as_bytes()).filter(|keep| (1..=524_288).contains(keep))
 }
 
+/// Which stamps are to be converted, and how.
+fn trace_in<'a>(found: &ArgMatches<'a>) -> Option<Request<'a>>
+    ensures asked { option_map task_of result
+        ≡ trace_by (first_of (codes "CLOCK") (rows_of (found_of found.now)))
+        (first_of (codes "SCRIPT") (rows_of (found_of found.now)))
+        (first_of (codes "STAMPS") (rows_of (found_of found.now))) }
+    ensures allowed { IfSome result IsAllowed }
+{
+    let clock = found.get_str("CLOCK");
+    let script = found.get_str("SCRIPT");
+    let stamps = found.get_str("STAMPS");
+    trace_asked(clock, script, stamps)
+}
+
+/// The trace that three texts ask for, where they are there.
+fn trace_asked<'a>(
+    clock: Option<&'a str>,
+    script: Option<&'a str>,
+    stamps: Option<&'a str>,
+) -> Option<Request<'a>>
+    ensures asked { option_map task_of result
+        ≡ trace_by (option_map (λ t. t.now) clock.entry) (option_map (λ t. t.now) script.entry)
+        (option_map (λ t. t.now) stamps.entry) }
+    ensures allowed { IfSome result IsAllowed }
+{
+    let (Some(word), Some(script), Some(stamps)) = (clock, script, stamps) else {
+        return None;
+    };
+    match clock_word(word.as_bytes()) {
+        Some(clock) => Some(Request::Trace {
+            clock,
+            script,
+            stamps,
+        }),
+        None => None,
+    }
+}
+
+/// How many threads are to make the reports of which files.
+fn many_in<'a>(alloc: Global, found: &ArgMatches<'a>) -> Result<Request<'a>, WordsError>
+    ensures asked { Asks (many_by (first_of (codes "WORKERS") (rows_of (found_of found.now)))
+        (all_of (codes "FILE") (rows_of (found_of found.now)))) result }
+    ensures allowed { IfOk result IsAllowed }
+{
+    let workers = found.get_str("WORKERS");
+    let files = found.get_strs("FILE");
+    many_asked(alloc, workers, files)
+}
+
+/// The reports that the texts of WORKERS and of FILE.. ask for, where they are there.
+fn many_asked<'a>(
+    alloc: Global,
+    workers: Option<&str>,
+    files: Option<&[&'a str]>,
+) -> Result<Request<'a>, WordsError>
+    ensures asked { Asks (many_by (option_map (λ t. t.now) workers.entry)
+        (option_map (λ names. map (λ t. t.now) names.now) files.entry)) result }
+    ensures allowed { IfOk result IsAllowed }
+{
+    let (Some(text), Some(names)) = (workers, files) else {
+        return Err(WordsError::Refused);
+    };
+    match workers_in(text) {
+        Some(workers) => {
+            let files = Vec::from_slice(alloc, names)?;
+            Ok(Request::Many { workers, files })
+        }
+        None => Err(WordsError::Refused),
+    }
+}
+
+/// How many threads a text says: a number as in scripts, from 1 to 64.
+fn workers_in(text: &str) -> Option<u64>
+    ensures { result ≡ workers_of text.now }
+{
+    number(text.as_bytes()).filter(|workers| (1..=64).contains(workers))
+}
+
+/// Which files race, by which steps of the counter.
+fn race_in<'a>(alloc: Global, found: &ArgMatches<'a>) -> Result<Request<'a>, WordsError>
+    ensures asked { Asks (race_by (first_of (codes "STEP") (rows_of (found_of found.now)))
+        (all_of (codes "FILE") (rows_of (found_of found.now)))) result }
+    ensures allowed { IfOk result IsAllowed }
+{
+    let step = found.get_str("STEP");
+    let files = found.get_strs("FILE");
+    race_asked(alloc, step, files)
+}
+
+/// The race that the texts of STEP and of FILE.. ask for, where they are there.
+fn race_asked<'a>(
+    alloc: Global,
+    step: Option<&str>,
+    files: Option<&[&'a str]>,
+) -> Result<Request<'a>, WordsError>
+    ensures asked { Asks (race_by (option_map (λ t. t.now) step.entry)
+        (option_map (λ names. map (λ t. t.now) names.now) files.entry)) result }
+    ensures allowed { IfOk result IsAllowed }
+{
+    let (Some(text), Some(names)) = (step, files) else {
+        return Err(WordsError::Refused);
+    };
+    match number(text.as_bytes()) {
+        Some(step) => {
+            let files = Vec::from_slice(alloc, names)?;
+            Ok(Request::Race { step, files })
+        }
+        None => Err(WordsError::Refused),
+    }
+}
+
 /// The program's words.
 fn program<'a>(alloc: Global) -> Result<Command<'a>, AllocError>
     ensures { IfOk result (λ command. app_of command ≡ program_words) }
 {
-    bare_program(alloc).subcommand(replay_command(alloc)?)
+    one_script_program(alloc)?
+        .subcommand(files_command(alloc, "many", "WORKERS")?)?
+        .subcommand(files_command(alloc, "race", "STEP")?)
+}
+
+/// The program's words that are about one script.
+fn one_script_program<'a>(alloc: Global) -> Result<Command<'a>, AllocError>
+    ensures { IfOk result (λ command. app_of command ≡ one_script_words) }
+{
+    bare_program(alloc)
+        .subcommand(replay_command(alloc)?)?
+        .subcommand(trace_command(alloc)?)
 }
 
 /// The program's words without its subcommands. No word asks for help.
@@ -111,6 +262,50 @@ fn keep_argument<'a>(alloc: Global) -> Arg<'a>
     ensures local { result.global ≡ false }
 {
     Arg::new(alloc, "keep").long("keep").action(ArgAction::Set)
+}
+
+/// `trace CLOCK SCRIPT STAMPS`
+fn trace_command<'a>(alloc: Global) -> Result<Command<'a>, AllocError>
+    ensures words { IfOk result (λ command. app_of command ≡ trace_words) }
+    ensures local { IfOk result (λ command. (out-Command command).has_globals ≡ false) }
+{
+    Command::new(alloc, "trace")
+        .arg(word_argument(alloc, "CLOCK"))?
+        .arg(word_argument(alloc, "SCRIPT"))?
+        .arg(word_argument(alloc, "STAMPS"))
+}
+
+/// `NAME NUMBER FILE..`
+fn files_command<'a>(
+    alloc: Global,
+    name: &'a str,
+    number: &'a str,
+) -> Result<Command<'a>, AllocError>
+    ensures words { IfOk result (λ command.
+        app_of command ≡ files_words name.entry.now number.entry.now) }
+    ensures local { IfOk result (λ command. (out-Command command).has_globals ≡ false) }
+{
+    Command::new(alloc, name)
+        .arg(word_argument(alloc, number))?
+        .arg(files_argument(alloc))
+}
+
+/// A word that must be there.
+fn word_argument<'a>(alloc: Global, name: &'a str) -> Arg<'a>
+    ensures rule { rule_of result ≡ word_rule name.entry.now }
+    ensures local { result.global ≡ false }
+{
+    Arg::new(alloc, name).required(true).action(ArgAction::Set)
+}
+
+/// `FILE..`, one word or more.
+fn files_argument<'a>(alloc: Global) -> Arg<'a>
+    ensures rule { rule_of result ≡ files_rule }
+    ensures local { result.global ≡ false }
+{
+    Arg::new(alloc, "FILE")
+        .required(true)
+        .action(ArgAction::Append)
 }
 
 impl From<AllocError> for WordsError {

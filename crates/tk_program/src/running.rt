@@ -28,6 +28,7 @@ pub fn run<R: Source, W: Sink>(
 {
     match asked(alloc, words) {
         Ok(Request::Replay { keep }) => replaying::answer(alloc, reader, writer, keep),
+        Ok(_) => Ending::Words,
         Err(error) => Ending::from(error),
     }
 }
