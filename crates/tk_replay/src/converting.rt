@@ -1,7 +1,10 @@
 //! The text of a trace: the value of each stamp in a line.
 ghost use Rattle.std.specs.Prelude.{◌≡◌, ◌⊎◌, flat_map, length, IfOk, MatchResult};
 ghost use Rattle.tk_keeper.specs.declared.trace_error.TraceError.{TraceError};
+ghost use Rattle.tk_replay.specs.Fault.{fault_of_stamps};
 ghost use Rattle.tk_replay.specs.Trace.{IsItemsFault, IsItemsText, IsTrace, IsTraceFault, value_line};
+ghost use Rattle.tk_script.specs.declared.script_error.ScriptError.{ScriptError};
+ghost use Rattle.tk_script.specs.Grammar.{Fails};
 ghost use Rattle.tk_script.specs.Stamps as spec;
 
 use crate::fault::Fault;
@@ -26,8 +29,22 @@ pub(crate) fn trace_of(
         (λ fault. (fault ≡ Fault.Memory) ⊎ IsTraceFault clock script.now stamps.now fault) }
 {
     let keeper = keeper_of(alloc, script)?;
-    let items = Stamps::from_bytes(alloc, stamps).map_err(Fault::of_stamps)?;
+    let items = items_of(alloc, stamps)?;
     convert(alloc, &keeper, &items, clock)
+}
+
+/// The items of a stamp file's bytes.
+fn items_of(alloc: Global, stamps: &[u8]) -> Result<Stamps, Fault>
+    ensures gives { MatchResult result
+        (λ items. spec.stamps_of stamps.now ≡ Ok (spec.items items))
+        (λ fault. (error : ScriptError) × (fault ≡ fault_of_stamps error)
+        × Fails error (spec.stamps_of stamps.now)) }
+    ensures paired { IfOk result (λ items. length items.fronts.items ≡ length items.stamps.items) }
+{
+    match Stamps::from_bytes(alloc, stamps) {
+        Ok(items) => Ok(items),
+        Err(error) => Err(Fault::of_stamps(error)),
+    }
 }
 
 /// The lines of items, or the fault of the first one that has any.

@@ -37,5 +37,8 @@ pub fn trace<R: Source, S: Source, W: Sink>(
     let script = read_to_end(alloc, script)?;
     let stamps = read_to_end(alloc, stamps)?;
     let text = trace_of(alloc, script.as_slice(), stamps.as_slice(), clock)?;
-    write_whole(writer, text.as_slice()).map_err(|written| Fault::Write { written })
+    match write_whole(writer, text.as_slice()) {
+        Ok(()) => Ok(()),
+        Err(written) => Err(Fault::Write { written }),
+    }
 }
