@@ -7,3 +7,4 @@ pub mod Folded
 pub mod Listed
 pub mod Journals
 pub mod Traces
+mod Worked
