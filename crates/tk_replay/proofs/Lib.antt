@@ -5,3 +5,6 @@ pub mod Lines
 pub mod Alike
 pub mod Folded
 pub mod Listed
+pub mod Journals
+pub mod Traces
+mod Worked

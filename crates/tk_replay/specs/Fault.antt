@@ -1,7 +1,9 @@
--- What a fault is called, and which fault an error of a script is.
+-- What a fault is called, and which fault an error of a script, a stamp file or an item is.
 use Rattle.std.specs.Prelude.{ℕ, List, Option, Some, None, codes}
 use Rattle.tk_script.specs.declared.script_error.ScriptError.{ScriptError}
 use Rattle.tk_script.specs.declared.script_error.ScriptError.TheVariants as errors
+use Rattle.tk_keeper.specs.declared.trace_error.TraceError.{TraceError}
+use Rattle.tk_keeper.specs.declared.trace_error.TraceError.TheVariants as items
 use Rattle.tk_keeper.specs.TraceError.{trace_text}
 use Rattle.tk_replay.specs.declared.fault.Fault.{Fault}
 use Rattle.tk_replay.specs.declared.fault.Fault.TheVariants as faults
@@ -24,3 +26,21 @@ fault_of (errors.Opening row) = faults.Script (errors.Opening row)
 fault_of (errors.Word row) = faults.Script (errors.Word row)
 fault_of (errors.Fields row) = faults.Script (errors.Fields row)
 fault_of (errors.Number row) = faults.Script (errors.Number row)
+
+-- which fault an error of a stamp file is; want of memory again is a fault of its own
+abbrev pub fault_of_stamps : ScriptError → Fault
+fault_of_stamps errors.Memory = faults.Memory
+fault_of_stamps errors.TooLarge = faults.Stamps errors.TooLarge
+fault_of_stamps errors.Empty = faults.Stamps errors.Empty
+fault_of_stamps (errors.Opening row) = faults.Stamps (errors.Opening row)
+fault_of_stamps (errors.Word row) = faults.Stamps (errors.Word row)
+fault_of_stamps (errors.Fields row) = faults.Stamps (errors.Fields row)
+fault_of_stamps (errors.Number row) = faults.Stamps (errors.Number row)
+
+-- and which one an error of an item is
+abbrev pub fault_of_trace : TraceError → Fault
+fault_of_trace items.Memory = faults.Memory
+fault_of_trace (items.Unknown index) = faults.Trace (items.Unknown index)
+fault_of_trace (items.Folded index) = faults.Trace (items.Folded index)
+fault_of_trace (items.Invalid index) = faults.Trace (items.Invalid index)
+fault_of_trace (items.Range index) = faults.Trace (items.Range index)

@@ -4,3 +4,4 @@ pub mod Writing
 pub mod Report
 pub mod Folding
 pub mod Replay
+pub mod Trace

@@ -1,5 +1,5 @@
 ghost use Rattle.std.specs.Prelude.{◌≡◌};
-ghost use Rattle.tk_replay.specs.Fault.{fault_of, fault_text};
+ghost use Rattle.tk_replay.specs.Fault.{fault_of, fault_of_stamps, fault_of_trace, fault_text};
 ghost use Rattle.tk_replay.specs.declared.fault.Fault.TheVariants.{Memory};
 
 use std::alloc::AllocError;
@@ -8,7 +8,7 @@ use std::fmt;
 use tk_keeper::TraceError;
 use tk_script::ScriptError;
 
-/// Why a replay stopped. In every fault but `Write` nothing was written.
+/// Why a replay or a trace stopped. In every fault but `Write` nothing was written.
 #[derive(Clone, Copy, Debug, PartialEq, Eq)]
 pub enum Fault {
     /// A read answered an error.
@@ -23,9 +23,21 @@ pub enum Fault {
     Memory,
     /// A write or the flush answered an error, or a write took nothing.
     Write {
-        /// How many bytes of the report, from its beginning, had gone out.
+        /// How many bytes of the report or of the trace, from its beginning, had gone out.
         written: u64,
     },
+}
+
+impl Fault {
+    /// The fault of a stamp file.
+    pub(crate) fn of_stamps(error: ScriptError) -> Fault
+        ensures { result ≡ fault_of_stamps error }
+    {
+        match error {
+            ScriptError::Memory => Fault::Memory,
+            error => Fault::Stamps(error),
+        }
+    }
 }
 
 impl fmt::Display for Fault {
@@ -52,6 +64,17 @@ impl From<ScriptError> for Fault {
         match error {
             ScriptError::Memory => Fault::Memory,
             error => Fault::Script(error),
+        }
+    }
+}
+
+impl From<TraceError> for Fault {
+    ghost from_gives = { λ error fault. fault ≡ fault_of_trace error };
+
+    fn from(error: TraceError) -> Fault {
+        match error {
+            TraceError::Memory => Fault::Memory,
+            error => Fault::Trace(error),
         }
     }
 }
