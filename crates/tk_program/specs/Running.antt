@@ -1,37 +1,73 @@
 -- What the program did, by its words.
 use Rattle.std.specs.Prelude.{◌≡◌, ◌⊎◌, ℕ, List, Option, Some, None, Bool, Result}
 use Rattle.clap.specs.Words.{Text}
+use Rattle.tk_clock.specs.declared.clock_id.ClockId.{ClockId}
 use Rattle.tk_replay.specs.declared.fault.Fault.{Fault}
 use Rattle.tk_replay.specs.declared.fault.Fault.TheVariants as faults
 use Rattle.tk_replay.specs.Reading.{ReadFailed}
 use Rattle.tk_replay.specs.Replay.{IsReplayed}
+use Rattle.tk_replay.specs.Trace.{EitherFailed, IsTraceDone}
 use Rattle.tk_program.specs.declared.ending.Ending.{Ending}
 use Rattle.tk_program.specs.declared.ending.Ending.TheVariants as endings
 use Rattle.tk_program.specs.CommandLine.{asked_of}
 use Rattle.tk_program.specs.Ending.{ending_of}
 use Rattle.tk_program.specs.Request.{Task, Replay, Trace, Many, Race, told_by}
 
--- of a reader and of a writer: what is known of their bytes, what their calls came to, and each
--- before and after
-module _ {R W : Type 0} (remaining : R → Option (List ℕ)) (read_gives : R → Option ℕ → R → Type 0)
-    (contents : W → Option (List ℕ)) (write_gives : W → List ℕ → Option ℕ → W → Type 0)
-    (flush_gives : W → Bool → W → Type 0) (reader reader' : R) (writer writer' : W) where
-  -- neither was touched
-  abbrev pub IsUntouched : Type 0
-  IsUntouched = (reader' ≡ reader) × (writer' ≡ writer)
-
-  -- a replay ended so
-  abbrev pub EndsReplay : Option ℕ → Ending → Type 0
-  EndsReplay keep ending =
+-- of a writer, before and after: what is known of its bytes, and what its calls came to
+module _ {W : Type 0} (contents : W → Option (List ℕ))
+    (write_gives : W → List ℕ → Option ℕ → W → Type 0) (flush_gives : W → Bool → W → Type 0)
+    (writer writer' : W) where
+  -- a replay ended so, of a reader in the same way
+  abbrev pub EndsReplay : {R : Type 0} → (R → Option (List ℕ)) → (R → Option ℕ → R → Type 0) →
+      R → R → Option ℕ → Ending → Type 0
+  EndsReplay remaining read_gives reader reader' keep ending =
       (result : Result Unit Fault) × (ending ≡ ending_of result)
       × IsReplayed (told_by keep) (remaining reader) (remaining reader')
       (ReadFailed read_gives reader') contents write_gives flush_gives writer writer' result
 
+  -- a trace of two open files ended so, which it left as they are then
+  abbrev pub EndsTraceOf : {F : Type 0} → (F → Option (List ℕ)) → (F → Option ℕ → F → Type 0) →
+      ClockId → F → F → F → F → Ending → Type 0
+  EndsTraceOf remaining read_gives clock script script' stamps stamps' ending =
+      (result : Result Unit Fault) × (ending ≡ ending_of result)
+      × IsTraceDone clock (remaining script) (remaining script')
+      (remaining stamps) (remaining stamps')
+      (EitherFailed (remaining script) (remaining script') (ReadFailed read_gives script')
+      (stamps' ≡ stamps) (ReadFailed read_gives stamps'))
+      contents write_gives flush_gives writer writer' result
+
+  -- a trace of the files of two names ended so: one of them can't be opened, and nothing is
+  -- written; or both are open, and it ended as a trace of them does
+  abbrev pub EndsTrace : {D F : Type 0} → (D → List ℕ → Option F → Type 0) →
+      (F → Option (List ℕ)) → (F → Option ℕ → F → Type 0) →
+      D → ClockId → List ℕ → List ℕ → Ending → Type 0
+  EndsTrace {F = F} open_gives remaining read_gives folder clock script stamps ending =
+      ((open_gives folder script None ⊎ open_gives folder stamps None)
+      × (ending ≡ endings.Fault faults.Read) × (writer' ≡ writer))
+      ⊎ ((first : F) × (first' : F) × (later : F) × (later' : F)
+      × open_gives folder script (Some first) × open_gives folder stamps (Some later)
+      × EndsTraceOf remaining read_gives clock first first' later later' ending)
+
+-- of a writer, of a reader, and of a folder and its files: what is known of their bytes, what their
+-- calls came to, and each before and after
+module _ {R W D F : Type 0} (remaining : R → Option (List ℕ)) (read_gives : R → Option ℕ → R → Type 0)
+    (contents : W → Option (List ℕ)) (write_gives : W → List ℕ → Option ℕ → W → Type 0)
+    (flush_gives : W → Bool → W → Type 0) (open_gives : D → List ℕ → Option F → Type 0)
+    (file_remaining : F → Option (List ℕ)) (file_gives : F → Option ℕ → F → Type 0)
+    (folder : D) (reader reader' : R) (writer writer' : W) where
+  -- neither reader nor writer was touched
+  abbrev pub IsUntouched : Type 0
+  IsUntouched = (reader' ≡ reader) × (writer' ≡ writer)
+
   -- what was asked for ended so; refused words touch nothing
   abbrev pub Ends : Option Task → Ending → Type 0
   Ends None ending = (ending ≡ endings.Words) × IsUntouched
-  Ends (Some (Replay keep)) ending = EndsReplay keep ending
-  Ends (Some (Trace clock script stamps)) ending = (ending ≡ endings.Words) × IsUntouched
+  Ends (Some (Replay keep)) ending =
+      EndsReplay contents write_gives flush_gives writer writer'
+      remaining read_gives reader reader' keep ending
+  Ends (Some (Trace clock script stamps)) ending = (reader' ≡ reader)
+      × EndsTrace contents write_gives flush_gives writer writer'
+      open_gives file_remaining file_gives folder clock script stamps ending
   Ends (Some (Many workers files)) ending = (ending ≡ endings.Words) × IsUntouched
   Ends (Some (Race step files)) ending = (ending ≡ endings.Words) × IsUntouched
 

@@ -29,8 +29,10 @@ pub fn asked<'a>(alloc: Global, words: &'a [String]) -> Result<Request<'a>, Word
     ensures asked { IsAsked (map string_bytes words.entry.now) result }
     ensures allowed { IfOk result IsAllowed }
 {
-    let matches = parsed(alloc, words)?;
-    request_in(alloc, &matches)
+    match parsed(alloc, words) {
+        Ok(matches) => request_in(alloc, &matches),
+        Err(error) => Err(error),
+    }
 }
 
 /// What the program finds in the words.

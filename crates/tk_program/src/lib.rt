@@ -4,7 +4,8 @@
 //! | Item | What it is |
 //! |---|---|
 //! | `run_and_tell` | the program: it takes the process's words, and gives the code to exit with |
-//! | `run` | does what words ask for, from any reader to any writer |
+//! | `run` | does what words ask for, from any reader and any folder to any writer |
+//! | `Folder` | where files are opened by their names: the host's |
 //! | `asked`, `Request` | what words ask for |
 //! | `WordsError` | why words ask for nothing |
 //! | `Ending` | how the program ends: its status and what it tells |
@@ -14,13 +15,16 @@
 
 mod command_line;
 mod ending;
+mod folder;
 mod replaying;
 mod request;
 mod running;
 #[cfg(test)]
 mod tests;
+mod tracing;
 
 pub use command_line::{WordsError, asked};
 pub use ending::Ending;
+pub use folder::Folder;
 pub use request::Request;
 pub use running::{run, run_and_tell};

@@ -14,9 +14,9 @@ pub(crate) fn answer<R: Source, W: Sink>(
     keep: Option<u64>,
 ) -> Ending
     requires { IsKeep keep }
-    ensures { EndsReplay R.Read.remaining R.Source.read_gives
-        W.Write.contents W.Sink.write_gives W.Sink.flush_gives
-        reader.old reader.new writer.old writer.new keep result }
+    ensures { EndsReplay W.Write.contents W.Sink.write_gives W.Sink.flush_gives
+        writer.old writer.new
+        R.Read.remaining R.Source.read_gives reader.old reader.new keep result }
 {
     match keep {
         None => Ending::from(replay(alloc, reader, writer)),

@@ -1,13 +1,16 @@
 ghost use Rattle.std.specs.Prelude.{◌≡◌, ℕ, List, Option, Some, map, string_bytes};
 ghost use Rattle.std.specs.Process.{exit_status};
 ghost use Rattle.tk_program.specs.Ending.{status_of};
-ghost use Rattle.tk_program.specs.Running.{IsRun};
+ghost use Rattle.tk_program.specs.Request.{IsAllowed, task_of};
+ghost use Rattle.tk_program.specs.Running.{Ends, IsRun};
 ghost use Rattle.tk_program.specs.declared.ending.Ending.{Ending};
 
 use crate::command_line::{WordsError, asked};
 use crate::ending::Ending;
+use crate::folder::Folder;
 use crate::replaying;
 use crate::request::Request;
+use crate::tracing;
 use std::alloc::Global;
 use std::env;
 use std::io::Write;
@@ -16,28 +19,57 @@ use std::rt::Env;
 use tk_replay::{Sink, Source};
 
 /// Does what the words ask for, the first of which is the program's own; how it ended.
-pub fn run<R: Source, W: Sink>(
+pub fn run<D: Folder, R: Source, W: Sink>(
     alloc: Global,
     words: &[String],
+    folder: &D,
     reader: &mut R,
     writer: &mut W,
 ) -> Ending
     ensures { IsRun R.Read.remaining R.Source.read_gives
         W.Write.contents W.Sink.write_gives W.Sink.flush_gives
-        reader.old reader.new writer.old writer.new (Some (map string_bytes words.now)) result }
+        D.Folder.open_gives D.File.Read.remaining D.File.Source.read_gives
+        folder.now reader.old reader.new writer.old writer.new
+        (Some (map string_bytes words.now)) result }
 {
     match asked(alloc, words) {
-        Ok(Request::Replay { keep }) => replaying::answer(alloc, reader, writer, keep),
-        Ok(_) => Ending::Words,
+        Ok(request) => answer(alloc, &request, folder, reader, writer),
         Err(error) => Ending::from(error),
+    }
+}
+
+/// Does what is asked for; how it ended.
+fn answer<D: Folder, R: Source, W: Sink>(
+    alloc: Global,
+    request: &Request<'_>,
+    folder: &D,
+    reader: &mut R,
+    writer: &mut W,
+) -> Ending
+    requires { IsAllowed request.now }
+    ensures { Ends R.Read.remaining R.Source.read_gives
+        W.Write.contents W.Sink.write_gives W.Sink.flush_gives
+        D.Folder.open_gives D.File.Read.remaining D.File.Source.read_gives
+        folder.now reader.old reader.new writer.old writer.new
+        (Some (task_of request.now)) result }
+{
+    match request {
+        Request::Replay { keep } => replaying::answer(alloc, reader, writer, *keep),
+        Request::Trace {
+            clock,
+            script,
+            stamps,
+        } => tracing::answer(alloc, folder, writer, *clock, script, stamps),
+        Request::Many { .. } => Ending::Words,
+        Request::Race { .. } => Ending::Words,
     }
 }
 
 /// Does what the process's words ask for, and tells how it ended, with the code to exit with.
 ///
 /// What can't be told is left out.
-pub fn run_and_tell<R: Source, W: Sink, T: Write>(
-    rt: &(impl Env + AllocGlobal),
+pub fn run_and_tell<E: Env + AllocGlobal + Folder, R: Source, W: Sink, T: Write>(
+    rt: &E,
     reader: &mut R,
     writer: &mut W,
     told: &mut T,
@@ -45,7 +77,8 @@ pub fn run_and_tell<R: Source, W: Sink, T: Write>(
     ensures { (words : Option (List (List ℕ))) × (ending : Ending)
         × IsRun R.Read.remaining R.Source.read_gives
         W.Write.contents W.Sink.write_gives W.Sink.flush_gives
-        reader.old reader.new writer.old writer.new words ending
+        E.Folder.open_gives E.File.Read.remaining E.File.Source.read_gives
+        rt.now reader.old reader.new writer.old writer.new words ending
         × (exit_status result ≡ status_of ending) }
 {
     let ending = run_by_words_of(rt, reader, writer);
@@ -54,17 +87,18 @@ pub fn run_and_tell<R: Source, W: Sink, T: Write>(
 }
 
 /// Does what the process's words ask for; how it ended.
-fn run_by_words_of<R: Source, W: Sink>(
-    rt: &(impl Env + AllocGlobal),
+fn run_by_words_of<E: Env + AllocGlobal + Folder, R: Source, W: Sink>(
+    rt: &E,
     reader: &mut R,
     writer: &mut W,
 ) -> Ending
     ensures { (words : Option (List (List ℕ))) × IsRun R.Read.remaining R.Source.read_gives
         W.Write.contents W.Sink.write_gives W.Sink.flush_gives
-        reader.old reader.new writer.old writer.new words result }
+        E.Folder.open_gives E.File.Read.remaining E.File.Source.read_gives
+        rt.now reader.old reader.new writer.old writer.new words result }
 {
     match words_of(rt) {
-        Ok(words) => run(rt.alloc(), words.as_slice(), reader, writer),
+        Ok(words) => run(rt.alloc(), words.as_slice(), rt, reader, writer),
         Err(error) => Ending::from(error),
     }
 }

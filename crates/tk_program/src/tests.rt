@@ -1,11 +1,14 @@
 //! What no clause says: that the definitions take the words that are meant, and the texts of the
 //! faults.
 
-use crate::{Ending, Request, WordsError, asked, run};
+mod traces;
+
+use crate::{Ending, Folder, Request, WordsError, asked, run};
 use std::alloc::{AllocError, Global};
 use std::io::{Error, ErrorKind};
 use std::process::Abort;
 use std::test::Fail;
+use tk_clock::ClockId;
 use tk_replay::Fault;
 use tk_script::ScriptError;
 
@@ -23,7 +26,7 @@ fn assert_words(
     rt: &impl Abort,
     alloc: Global,
     words: &[&str],
-    wanted: Result<Request, WordsError>,
+    wanted: Result<Request<'_>, WordsError>,
 ) -> Result<(), AllocError> {
     let given = line(alloc, words)?;
     let found = asked(alloc, given.as_slice());
@@ -62,16 +65,67 @@ fn takes_its_words(rt: HostRuntime) -> Result<(), Fail> {
 }
 
 #[test]
+fn takes_the_words_of_traces(rt: HostRuntime) -> Result<(), Fail> {
+    let clocks: [(&str, ClockId); 7] = [
+        ("realtime", ClockId::Realtime),
+        ("monotonic", ClockId::Monotonic),
+        ("boottime", ClockId::Boottime),
+        ("tai", ClockId::Tai),
+        ("realtime_coarse", ClockId::RealtimeCoarse),
+        ("monotonic_coarse", ClockId::MonotonicCoarse),
+        ("monotonic_raw", ClockId::MonotonicRaw),
+    ];
+    for (word, clock) in clocks {
+        let wanted = Request::Trace {
+            clock,
+            script: "a",
+            stamps: "b/c d",
+        };
+        let words = ["tkcore", "trace", word, "a", "b/c d"];
+        assert_words(&rt, rt.alloc(), &words, Ok(wanted))?;
+    }
+    Ok(())
+}
+
+#[test]
+fn takes_the_words_of_many_scripts(rt: HostRuntime) -> Result<(), Fail> {
+    let numbers: [(&str, u64); 3] = [("1", 1), ("007", 7), ("64", 64)];
+    let names: [&str; 3] = ["b", "a", "b"];
+    for (word, workers) in numbers {
+        let files = Vec::from_slice(rt.alloc(), names.as_slice())?;
+        let words = ["tkcore", "many", word, "b", "a", "b"];
+        assert_words(&rt, rt.alloc(), &words, Ok(Request::Many { workers, files }))?;
+    }
+    Ok(())
+}
+
+#[test]
+fn takes_the_words_of_races(rt: HostRuntime) -> Result<(), Fail> {
+    let numbers: [(&str, u64); 3] = [("0", 0), ("01000", 1_000), ("18446744073709551615", u64::MAX)];
+    let names: [&str; 2] = ["a", "-b"];
+    for (word, step) in numbers {
+        let files = Vec::from_slice(rt.alloc(), names.as_slice())?;
+        let words = ["tkcore", "race", word, "--", "a", "-b"];
+        assert_words(&rt, rt.alloc(), &words, Ok(Request::Race { step, files }))?;
+    }
+    Ok(())
+}
+
+#[test]
 fn takes_its_words_when_memory_is_there(rt: HostRuntime) -> Result<(), Fail> {
-    let given = line(rt.alloc(), &["tkcore", "replay", "--keep", "1"])?;
-    let found = asked(rt.alloc(), given.as_slice());
+    let bounded = line(rt.alloc(), &["tkcore", "replay", "--keep", "1"])?;
+    let found = asked(rt.alloc(), bounded.as_slice());
     assert_eq!(rt; found, Ok(Request::Replay { keep: Some(1) }));
+    let many = line(rt.alloc(), &["tkcore", "many", "2", "a"])?;
+    let files = Vec::from_slice(rt.alloc(), ["a"].as_slice())?;
+    let found = asked(rt.alloc(), many.as_slice());
+    assert_eq!(rt; found, Ok(Request::Many { workers: 2, files }));
     Ok(())
 }
 
 #[test]
 fn refuses_other_words(rt: HostRuntime) -> Result<(), Fail> {
-    let refused: [&[&str]; 21] = [
+    let refused: [&[&str]; 46] = [
         &["tkcore", "replay", "--keep", "0"],
         &["tkcore", "replay", "--keep", "524289"],
         &["tkcore", "replay", "--keep", "18446744073709551617"],
@@ -92,7 +146,32 @@ fn refuses_other_words(rt: HostRuntime) -> Result<(), Fail> {
         &["tkcore", "-h"],
         &["tkcore", "help"],
         &["tkcore", "--version"],
+        &["tkcore", "trace"],
+        &["tkcore", "trace", "tai"],
+        &["tkcore", "trace", "tai", "a"],
+        &["tkcore", "trace", "tai", "a", "b", "c"],
+        &["tkcore", "trace", "TAI", "a", "b"],
+        &["tkcore", "trace", "utc", "a", "b"],
+        &["tkcore", "trace", "", "a", "b"],
+        &["tkcore", "trace", "tai", "a", "-b"],
+        &["tkcore", "trace", "--help"],
+        &["tkcore", "trace", "tai", "a", "b", "--keep", "1"],
         &["tkcore", "many"],
+        &["tkcore", "many", "1"],
+        &["tkcore", "many", "0", "a"],
+        &["tkcore", "many", "65", "a"],
+        &["tkcore", "many", "+1", "a"],
+        &["tkcore", "many", "18446744073709551617", "a"],
+        &["tkcore", "many", "a", "1"],
+        &["tkcore", "many", "1", "a", "-b"],
+        &["tkcore", "race"],
+        &["tkcore", "race", "1"],
+        &["tkcore", "race", "18446744073709551616", "a"],
+        &["tkcore", "race", "-1", "a"],
+        &["tkcore", "race", "x", "a"],
+        &["tkcore", "race", "1", "--help"],
+        &["tkcore", "help", "race"],
+        &["tkcore", "replay", "trace"],
     ];
     for words in refused {
         assert_words(&rt, rt.alloc(), words, Err(WordsError::Refused))?;
@@ -109,12 +188,17 @@ fn refuses_words_that_could_not_be_taken(rt: HostRuntime) {
 }
 
 /// What a run by these words tells of how it ended.
-fn told(alloc: Global, words: &[&str], script: &[u8]) -> Result<Vec<u8>, Fail> {
+fn told<D: Folder>(
+    alloc: Global,
+    words: &[&str],
+    folder: &D,
+    script: &[u8],
+) -> Result<Vec<u8>, Fail> {
     let given = line(alloc, words)?;
     let mut reader = script;
     let mut writer = Vec::new(alloc);
     let mut told = Vec::new(alloc);
-    let ending = run(alloc, given.as_slice(), &mut reader, &mut writer);
+    let ending = run(alloc, given.as_slice(), folder, &mut reader, &mut writer);
     ending.tell(&mut told)?;
     Ok(told)
 }
@@ -142,7 +226,7 @@ fn tells_the_fault_of_a_script(rt: HostRuntime) -> Result<(), Fail> {
         (b"open,32,16777216,24,0,1700000000,0\n", b""),
     ];
     for (script, text) in faults {
-        assert_eq!(rt; told(rt.alloc(), &["tkcore"], script)?.as_slice(), text);
+        assert_eq!(rt; told(rt.alloc(), &["tkcore"], &rt, script)?.as_slice(), text);
     }
     Ok(())
 }
@@ -153,7 +237,7 @@ fn refused_words_leave_the_script_and_the_report(rt: HostRuntime) -> Result<(), 
     let script: &[u8] = b"open,32,16777216,24,0,1700000000,0\n";
     let mut reader = script;
     let mut writer = b"-".to_vec(rt.alloc())?;
-    let ending = run(rt.alloc(), given.as_slice(), &mut reader, &mut writer);
+    let ending = run(rt.alloc(), given.as_slice(), &rt, &mut reader, &mut writer);
     assert_eq!(rt; ending, Ending::Words);
     assert_eq!(rt; reader, script);
     assert_eq!(rt; writer.as_slice(), b"-".as_slice());

@@ -1,0 +1,34 @@
+//! The subcommand `trace`.
+ghost use Rattle.tk_program.specs.Running.{EndsTrace};
+
+use crate::ending::Ending;
+use crate::folder::Folder;
+use std::alloc::Global;
+use tk_clock::ClockId;
+use tk_replay::{Fault, Sink, trace};
+
+/// Converts the stamps of one file by the script in another, to the writer.
+///
+/// Both are opened before either is read. The two may be one file: it is then opened twice.
+pub(crate) fn answer<D: Folder, W: Sink>(
+    alloc: Global,
+    folder: &D,
+    writer: &mut W,
+    clock: ClockId,
+    script: &str,
+    stamps: &str,
+) -> Ending
+    ensures { EndsTrace W.Write.contents W.Sink.write_gives W.Sink.flush_gives
+        writer.old writer.new
+        D.Folder.open_gives D.File.Read.remaining D.File.Source.read_gives folder.now
+        clock script.now stamps.now result }
+{
+    let Some(mut script) = folder.open_once(script) else {
+        return Ending::Fault(Fault::Read);
+    };
+    let Some(mut stamps) = folder.open_once(stamps) else {
+        return Ending::Fault(Fault::Read);
+    };
+    let outcome = trace(alloc, &mut script, &mut stamps, clock, writer);
+    Ending::from(outcome)
+}
