@@ -1,9 +1,10 @@
-//! The program `tkcore`: reads a script from standard input and writes its report to standard output.
+//! The program `tkcore`: makes reports and traces of scripts, on standard output.
 //!
 //! | Words | What it does |
 //! |---|---|
 //! | none, or `replay` | the report of the script on standard input |
 //! | `replay --keep N` | the same with no limit to the commands, by a bounded journal |
+//! | `trace CLOCK SCRIPT STAMPS` | a clock at each stamp of a file, in ns, by the script in another |
 //!
 //! Status 0: done. Status 1: a fault, told on standard error. Status 2: other words, refused.
 #![tactic(auto)]

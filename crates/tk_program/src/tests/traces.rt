@@ -17,6 +17,7 @@ const STAMPS: &[u8] = b"0,1000000000\n1,1000000000\n2,1000000001\n";
 const TRACE: &[u8] = b"1000000000\n1000499963\n1000499964\n";
 
 /// Files in memory, by their names.
+#[derive(Drop)]
 struct Shelf<'a> {
     files: &'a [(&'a str, &'a [u8])],
 }
@@ -91,7 +92,7 @@ fn tells_the_fault_of_a_trace(rt: HostRuntime) -> Result<(), Fail> {
         ),
         (
             b"open,64,4194304,0,0,0,0\n",
-            b"0,0\n0,225563049317\n0,9223372036854775807\n",
+            b"0,0\n0,225563049316\n0,9223372036854775807\n",
             Fault::Trace(TraceError::Range { index: 2 }),
         ),
     ];
