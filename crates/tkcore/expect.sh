@@ -1,0 +1,31 @@
+#!/usr/bin/env bash
+# What the scripts beside it begin with: the built program, a folder for files, and how a case is
+# told. Each case has 20 seconds and 800 MB of address space. A script prints a line for each case,
+# and ends with status 1 at the first that differs.
+set -u
+cd "$(dirname "$0")" || exit 1
+export program=$PWD/out/tkcore row=$PWD/stdin opening='open,32,16777216,24,0,1700000000,0'
+work=$(mktemp -d)
+export work
+trap 'rm -rf "$work"' EXIT
+
+# NAME STATUS FAULT LINES LAST COMMAND: with this status the program tells the fault, or nothing, on
+# standard error, and on standard output so many lines, of which this is the last
+expect() {
+    local told=${3:+tkcore: $3} got
+    (ulimit -v 800000 && exec timeout 20 bash -c "$6") >"$work/out" 2>"$work/err"
+    got="$? '$(cat "$work/err")' $(wc -l <"$work/out") '$(tail -n 1 "$work/out")'"
+    if [ "$got" != "$2 '$told' $4 '$5'" ]; then
+        printf 'differs: %s\n  wanted: %s\n  got:    %s\n' "$1" "$2 '$told' $4 '$5'" "$got"
+        exit 1
+    fi
+    echo "as it should be: $1"
+}
+
+# NAME FAULT COMMAND: a fault, and nothing on standard output
+stops() { expect "$1" 1 "$2" 0 '' "$3"; }
+
+# BYTE COUNT: so many of it
+bytes() { head -c "$2" /dev/zero | tr '\0' "$1"; }
+
+words='words refused'
