@@ -5,3 +5,4 @@ pub mod Lines
 pub mod Alike
 pub mod Folded
 pub mod Listed
+pub mod Outcomes

@@ -4,3 +4,5 @@ pub mod Writing
 pub mod Report
 pub mod Folding
 pub mod Replay
+pub mod Many
+pub mod ManyError

@@ -6,6 +6,8 @@
 //! | `report_bounded` | the same with no limit to the commands, by a bounded journal |
 //! | `replay` | reads a script to its end and writes its report |
 //! | `replay_bounded` | the same by `report_bounded` |
+//! | `replay_all` | the reports of many scripts, by several threads |
+//! | `ManyError` | why there are no reports of many scripts |
 //! | `read_to_end` | the bytes of any reader, up to one more than a script may have |
 //! | `Fault` | why `replay` stopped, and how much of the report had gone out by then |
 //! | `Source`, `Sink` | where the script comes from and where the report goes: any reader and writer |
@@ -15,14 +17,19 @@
 
 mod applying;
 mod fault;
+mod many;
+mod many_error;
 mod replaying;
 mod reporting;
 mod sink;
 mod source;
 #[cfg(test)]
 mod tests;
+mod worklist;
 
 pub use fault::Fault;
+pub use many::replay_all;
+pub use many_error::ManyError;
 pub use replaying::{replay, replay_bounded};
 pub use reporting::{report, report_bounded};
 pub use sink::Sink;
