@@ -7,6 +7,7 @@
 //! | `run` | does what words ask for, from any reader to any writer |
 //! | `asked`, `Request` | what words ask for |
 //! | `WordsError` | why words ask for nothing |
+//! | `many_text` | the reports of many scripts in one text |
 //! | `Ending` | how the program ends: its status and what it tells |
 //!
 //! Each subcommand has an arm of `Request` and a module of its own.
@@ -15,6 +16,7 @@
 mod command_line;
 mod ending;
 mod replaying;
+mod reports_text;
 mod request;
 mod running;
 #[cfg(test)]
@@ -22,5 +24,6 @@ mod tests;
 
 pub use command_line::{WordsError, asked};
 pub use ending::Ending;
+pub use reports_text::many_text;
 pub use request::Request;
 pub use running::{run, run_and_tell};

@@ -123,40 +123,51 @@ fn reports_stand_in_the_order_of_their_scripts(rt: HostRuntime) -> Result<(), Fa
 /// Counts the calls for each of 40 pieces, and notes those out of order.
 #[derive(Drop)]
 struct Counts {
-    before: [AtomicU64; 40],
-    after: [AtomicU64; 40],
+    before: Vec<AtomicU64>,
+    after: Vec<AtomicU64>,
     wrong: AtomicU64,
 }
 
 impl Counts {
-    fn new() -> Counts {
-        Counts {
-            before: [const { AtomicU64::new(0) }; 40],
-            after: [const { AtomicU64::new(0) }; 40],
+    fn new(alloc: Global) -> Result<Counts, AllocError> {
+        let mut before = Vec::new(alloc);
+        let mut after = Vec::new(alloc);
+        for _ in 0..40 {
+            before.push(AtomicU64::new(0))?;
+            after.push(AtomicU64::new(0))?;
+        }
+        Ok(Counts {
+            before,
+            after,
             wrong: AtomicU64::new(0),
+        })
+    }
+
+    /// Counts a call where the piece's counts so far are these, and else notes that it is wrong.
+    fn count(&self, calls: &[AtomicU64], piece: usize, before: u64) {
+        if Counts::has(self.before.as_slice(), piece, before)
+            && Counts::has(self.after.as_slice(), piece, 0)
+            && piece < calls.len()
+        {
+            calls[piece].fetch_add(1, Ordering::SeqCst);
+        } else {
+            self.wrong.store(1, Ordering::SeqCst);
         }
     }
 
-    /// Counts a call, which is wrong where the counts so far aren't these.
-    fn count(&self, piece: usize, calls: &[AtomicU64; 40], before: u64) {
-        if piece >= 40
-            || self.before[piece].load(Ordering::SeqCst) != before
-            || self.after[piece].load(Ordering::SeqCst) != 0
-        {
-            self.wrong.store(1, Ordering::SeqCst);
-            return;
-        }
-        calls[piece].fetch_add(1, Ordering::SeqCst);
+    /// Whether so many calls for the piece were counted.
+    fn has(calls: &[AtomicU64], piece: usize, count: u64) -> bool {
+        piece < calls.len() && calls[piece].load(Ordering::SeqCst) == count
     }
 }
 
 impl Gate for Counts {
     fn before(&self, piece: usize) {
-        self.count(piece, &self.before, 0);
+        self.count(self.before.as_slice(), piece, 0);
     }
 
     fn after(&self, piece: usize) {
-        self.count(piece, &self.after, 1);
+        self.count(self.after.as_slice(), piece, 1);
     }
 }
 
@@ -165,8 +176,8 @@ fn assert_told_once(rt: &impl Abort, gate: &Counts, count: usize) {
     assert_eq!(rt; gate.wrong.load(Ordering::SeqCst), 0);
     for piece in 0..40usize {
         let times = u64::from(piece < count);
-        assert_eq!(rt; gate.before[piece].load(Ordering::SeqCst), times);
-        assert_eq!(rt; gate.after[piece].load(Ordering::SeqCst), times);
+        assert!(rt; Counts::has(gate.before.as_slice(), piece, times));
+        assert!(rt; Counts::has(gate.after.as_slice(), piece, times));
     }
 }
 
@@ -175,7 +186,7 @@ fn the_gate_is_told_of_each_piece_once(rt: HostRuntime) -> Result<(), Fail> {
     let alloc = rt.alloc();
     for (count, workers) in [(0, 4), (1, 4), (3, 64), (40, 1), (40, 4)] {
         let scripts = uneven(alloc, count)?;
-        let gate = Counts::new();
+        let gate = Counts::new(alloc)?;
         replay_all(&rt, alloc, scripts.as_slice(), workers, &gate)?;
         assert_told_once(&rt, &gate, count);
     }
@@ -191,7 +202,7 @@ struct Crowd {
 
 impl Gate for Crowd {
     fn before(&self, _piece: usize) {
-        let now = self.now.fetch_add(1, Ordering::SeqCst) + 1;
+        let now = self.now.fetch_add(1, Ordering::SeqCst).saturating_add(1);
         self.most.fetch_max(now, Ordering::SeqCst);
     }
 
