@@ -62,7 +62,7 @@ fn check_report(rt: &HostRuntime, name: &str) -> io::Result<Verdict> {
     let expected = expected_of(rt, name, "report")?;
     let told = text_of(alloc, report(alloc, script.as_slice()))?;
     let folded = text_of(alloc, report_bounded(alloc, script.as_slice(), 1))?;
-    Ok(verdict(
+    Ok(verdict_if(
         told.as_slice() == expected.as_slice() && folded.as_slice() == expected.as_slice(),
     ))
 }
@@ -77,10 +77,10 @@ fn check_trace(rt: &HostRuntime, clock: ClockId, name: &str) -> io::Result<Verdi
     if let Err(fault) = trace(alloc, &mut script, &mut stamps, clock, &mut told) {
         told = fault_text(alloc, fault)?;
     }
-    Ok(verdict(told.as_slice() == expected.as_slice()))
+    Ok(verdict_if(told.as_slice() == expected.as_slice()))
 }
 
-fn verdict(is_as_expected: bool) -> Verdict {
+fn verdict_if(is_as_expected: bool) -> Verdict {
     if is_as_expected {
         Verdict::AsExpected
     } else {

@@ -2,3 +2,4 @@ pub mod Request
 pub mod CommandLine
 pub mod Ending
 pub mod Running
+pub mod ManyText

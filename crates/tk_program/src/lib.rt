@@ -8,6 +8,7 @@
 //! | `Folder` | where files are opened by their names: the host's |
 //! | `asked`, `Request` | what words ask for |
 //! | `WordsError` | why words ask for nothing |
+//! | `many_text` | the reports of many scripts in one text |
 //! | `Ending` | how the program ends: its status and what it tells |
 //!
 //! Each subcommand has an arm of `Request` and a module of its own.
@@ -17,6 +18,7 @@ mod command_line;
 mod ending;
 mod folder;
 mod replaying;
+mod reports_text;
 mod request;
 mod running;
 #[cfg(test)]
@@ -26,5 +28,6 @@ mod tracing;
 pub use command_line::{WordsError, asked};
 pub use ending::Ending;
 pub use folder::Folder;
+pub use reports_text::many_text;
 pub use request::Request;
 pub use running::{run, run_and_tell};

@@ -8,3 +8,4 @@ pub mod Listed
 pub mod Journals
 pub mod Traces
 mod Worked
+pub mod Outcomes

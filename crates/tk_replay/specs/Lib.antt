@@ -5,3 +5,5 @@ pub mod Report
 pub mod Folding
 pub mod Replay
 pub mod Trace
+pub mod Many
+pub mod ManyError

@@ -8,6 +8,8 @@
 //! | `replay` | reads a script to its end and writes its report |
 //! | `replay_bounded` | the same by `report_bounded` |
 //! | `trace` | reads a script and a stamp file, and writes a clock at each stamp |
+//! | `replay_all` | the reports of many scripts, by several threads |
+//! | `ManyError` | why there are no reports of many scripts |
 //! | `read_to_end` | the bytes of any reader, up to one more than a script may have |
 //! | `Fault` | why `replay` or `trace` stopped, and how much of the text had gone out by then |
 //! | `Source`, `Sink` | where bytes come from and where the text goes: any reader and writer |
@@ -19,6 +21,8 @@ mod applying;
 mod converting;
 mod fault;
 mod journaling;
+mod many;
+mod many_error;
 mod replaying;
 mod reporting;
 mod sink;
@@ -26,8 +30,11 @@ mod source;
 #[cfg(test)]
 mod tests;
 mod tracing;
+mod worklist;
 
 pub use fault::Fault;
+pub use many::replay_all;
+pub use many_error::ManyError;
 pub use replaying::{replay, replay_bounded};
 pub use reporting::{report, report_bounded};
 pub use sink::Sink;

@@ -4,6 +4,7 @@
 mod fakes;
 mod files;
 mod full;
+mod many;
 mod memory;
 mod reports;
 mod scenarios;

@@ -1,0 +1,79 @@
+//! The text of many scripts' reports.
+ghost use Rattle.std.specs.Prelude.{◌≡◌, ◌++◌, OnOk, MatchResult};
+ghost use Rattle.tk_program.specs.ManyText.{fault_line, heading, outcome_text, text_from};
+
+use std::alloc::{AllocError, Global};
+use std::io;
+use std::io::Write;
+use tk_replay::Fault;
+use tk_script::ScriptError;
+
+/// More bytes than a heading and a fault's line take.
+const LINES: usize = 100;
+
+/// The reports of scripts, each under the line `file,INDEX` that counts from 0, or `fault,TEXT` in a
+/// line where a script has a fault.
+///
+/// Only `Fault::Memory`. The room of the whole text is asked for first.
+pub fn many_text(alloc: Global, outcomes: &[Result<Vec<u8>, ScriptError>]) -> Result<Vec<u8>, Fault>
+    ensures { MatchResult result
+        (λ text. text.items ≡ text_from 0 outcomes.now)
+        (λ fault. fault ≡ Fault.Memory) }
+{
+    let mut text = Vec::with_capacity(alloc, room_for(outcomes))?;
+    for (index, outcome) in outcomes.iter().enumerate() {
+        add_heading(&mut text, index)?;
+        add_outcome(&mut text, outcome)?;
+    }
+    Ok(text)
+}
+
+/// At least as many bytes as the text takes, where so many can be counted.
+fn room_for(outcomes: &[Result<Vec<u8>, ScriptError>]) -> usize {
+    let mut room = 0usize;
+    for outcome in outcomes {
+        let report = match outcome {
+            Ok(report) => report.len(),
+            Err(_) => 0,
+        };
+        room = room.saturating_add(LINES).saturating_add(report);
+    }
+    room
+}
+
+/// Adds the line above a script's report.
+fn add_heading(text: &mut Vec<u8>, index: usize) -> Result<(), AllocError>
+    ensures { OnOk result (text.new.items ≡ text.old.items ++ heading index) }
+{
+    writeln!(text, "file,{index}").map_err(|_| AllocError)
+}
+
+/// Adds a script's report, or a line with its fault.
+fn add_outcome(
+    text: &mut Vec<u8>,
+    outcome: &Result<Vec<u8>, ScriptError>,
+) -> Result<(), AllocError>
+    ensures { OnOk result (text.new.items ≡ text.old.items ++ outcome_text outcome.now) }
+{
+    match outcome {
+        Ok(report) => text.extend_from_slice(report.as_slice()),
+        Err(error) => add_fault(text, *error).map_err(|_| AllocError),
+    }
+}
+
+/// Adds a line with a script's fault, in the words that `ScriptError` prints.
+fn add_fault(text: &mut Vec<u8>, error: ScriptError) -> io::Result<()>
+    ensures { OnOk result (text.new.items ≡ text.old.items ++ fault_line error) }
+{
+    match error {
+        ScriptError::TooLarge => writeln!(text, "fault,larger than 16777216 bytes"),
+        ScriptError::Empty => writeln!(text, "fault,no record"),
+        ScriptError::Opening { row } => writeln!(text, "fault,record {row}: not a valid opening"),
+        ScriptError::Word { row } => writeln!(text, "fault,record {row}: unknown word"),
+        ScriptError::Fields { row } => {
+            writeln!(text, "fault,record {row}: wrong number of fields")
+        }
+        ScriptError::Number { row } => writeln!(text, "fault,record {row}: not a number in range"),
+        ScriptError::Memory => writeln!(text, "fault,out of memory"),
+    }
+}

@@ -1,0 +1,144 @@
+//! What the workers share: the scripts that nobody has taken yet, and the outcomes so far.
+ghost use Rattle.std.specs.Prelude.{◌≡◌, ◌+◌, ◌<◌, ◌≤◌, length, set, IfOk, IfNone, IfSome, Ok, Err, get_or};
+ghost use Rattle.tk_replay.specs.Many.{AreOutcomes, IsOutcome};
+
+use std::alloc::{AllocError, Global};
+use std::marker::{Brand, Model, PhantomData};
+use tk_script::ScriptError;
+
+/// What a script came to.
+pub(crate) type Outcome = Result<Vec<u8>, ScriptError>;
+
+/// Names the scripts that workers share. It has no function, and no value of it is made.
+///
+/// What lies behind a lock is known by its type alone: so the type names the scripts.
+pub(crate) trait NamesScripts {
+    ghost use Rattle.std.specs.Prelude.{ℕ, List};
+    ghost use Rattle.std.specs.Global.{Vec};
+
+    ghost scripts: { List (Vec ℕ) };
+}
+
+impl NamesScripts for Brand {
+    ghost use Rattle.std.specs.Prelude.{[]};
+
+    ghost scripts = { [] };
+}
+
+/// A script that one worker has taken.
+///
+/// It is made when the script is handed out, and used up when the outcome is handed in. It can't be
+/// copied or dropped.
+pub(crate) struct Job<S: NamesScripts> {
+    piece: usize,
+    of: PhantomData<S>,
+}
+
+impl<S: NamesScripts> Model for Job<S> {
+    ghost use Rattle.std.specs.Prelude.{ℕ, ◌<◌, length};
+
+    ghost Value = { ℕ };
+
+    ghost view = { λ j. j.piece };
+
+    ghost invariant = { λ j. j.piece < length S.scripts };
+}
+
+impl<S: NamesScripts> Job<S> {
+    /// The script's number, from 0.
+    pub(crate) fn piece(&self) -> usize
+        ensures value { result ≡ self.now }
+        ensures within { result < length S.scripts }
+    {
+        self.piece
+    }
+}
+
+/// The scripts that nobody has taken yet, and an outcome for each script.
+#[derive(Drop)]
+pub(crate) struct Worklist<S: NamesScripts> {
+    taken: usize,
+    /// Want of memory stands for each script whose outcome hasn't been handed in.
+    outcomes: Vec<Outcome>,
+    of: PhantomData<S>,
+}
+
+impl<S: NamesScripts> Model for Worklist<S> {
+    ghost use Rattle.std.specs.Prelude.{◌≤◌, length};
+    ghost use Rattle.tk_replay.specs.Many.{Shared, AreOutcomes};
+
+    ghost Value = { Shared };
+
+    ghost view = { λ w. record { taken = w.taken; outcomes = w.outcomes.items } };
+
+    ghost invariant = { λ w.
+        (w.taken ≤ length w.outcomes.items) × AreOutcomes S.scripts w.outcomes.items };
+}
+
+impl<S: NamesScripts> Worklist<S> {
+    /// All scripts, none of which is taken. It asks for the room of all outcomes.
+    pub(crate) fn new(alloc: Global, count: usize) -> Result<Worklist<S>, AllocError>
+        requires { count ≡ length S.scripts }
+        ensures { IfOk result (λ w. w.taken ≡ 0) }
+    {
+        let mut outcomes = Vec::with_capacity(alloc, count)?;
+        for _ in 0..count {
+            outcomes.push_reserved(Err(ScriptError::Memory));
+        }
+        Ok(Worklist {
+            taken: 0,
+            outcomes,
+            of: PhantomData,
+        })
+    }
+
+    /// Hands out the next script, until all are taken.
+    pub(crate) fn take(&mut self) -> Option<Job<S>>
+        ensures some { IfSome result (λ job. (job ≡ self.old.taken)
+            × (self.new.taken ≡ self.old.taken + 1)) }
+        ensures none { IfNone result ((self.old.taken ≡ length S.scripts)
+            × (self.new.taken ≡ self.old.taken)) }
+        ensures outcomes { self.new.outcomes ≡ self.old.outcomes }
+    {
+        if self.taken == self.outcomes.len() {
+            return None;
+        }
+        let piece = self.taken;
+        self.taken += 1;
+        Some(Job {
+            piece,
+            of: PhantomData,
+        })
+    }
+
+    /// Takes in the outcome of a script.
+    pub(crate) fn hand_in(&mut self, job: Job<S>, script: &Vec<u8>, outcome: Outcome)
+        requires script { script.now ≡ get_or S.scripts job script.now }
+        requires outcome { IsOutcome script.now outcome }
+        ensures outcomes { self.new.outcomes ≡ set self.old.outcomes job outcome }
+        ensures taken { self.new.taken ≡ self.old.taken }
+    {
+        let Job { piece, of: _ } = job;
+        self.outcomes[piece] = outcome;
+    }
+
+    /// Hands out no more scripts.
+    pub(crate) fn close(&mut self)
+        ensures { self.new.outcomes ≡ self.old.outcomes }
+    {
+        self.taken = self.outcomes.len();
+    }
+
+    /// The outcomes, in the scripts' order.
+    pub(crate) fn into_outcomes(self) -> Vec<Outcome>
+        ensures value { result.items ≡ self.outcomes }
+        ensures each { AreOutcomes S.scripts result.items }
+    {
+        let Worklist {
+            taken: _,
+            outcomes,
+            of: _,
+        } = self;
+        outcomes
+    }
+}
