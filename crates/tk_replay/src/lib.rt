@@ -32,4 +32,5 @@ pub use replaying::{replay, replay_bounded};
 pub use reporting::{report, report_bounded};
 pub use sink::Sink;
 pub use source::{Source, read_to_end};
+pub use tk_pieces::{trace_all, trace_all_into};
 pub use tracing::trace;
