@@ -11,6 +11,7 @@
 //! | `replay_all` | the reports of many scripts, by several threads |
 //! | `ManyError` | why there are no reports of many scripts |
 //! | `read_to_end` | the bytes of any reader, up to one more than a script may have |
+//! | `write_whole` | writes a text and flushes |
 //! | `Fault` | why `replay` or `trace` stopped, and how much of the text had gone out by then |
 //! | `Source`, `Sink` | where bytes come from and where the text goes: any reader and writer |
 //!
@@ -37,6 +38,7 @@ pub use many::replay_all;
 pub use many_error::ManyError;
 pub use replaying::{replay, replay_bounded};
 pub use reporting::{report, report_bounded};
-pub use sink::Sink;
+pub use sink::{Sink, write_whole};
 pub use source::{Source, read_to_end};
+pub use tk_pieces::{trace_all, trace_all_into};
 pub use tracing::trace;

@@ -50,7 +50,7 @@ impl<W: Write> Sink for W {
 
 /// Writes the whole text and flushes. At `Err` so many bytes of it, from its beginning, had gone
 /// out.
-pub(crate) fn write_whole<S: Sink>(sink: &mut S, text: &[u8]) -> Result<(), u64>
+pub fn write_whole<S: Sink>(sink: &mut S, text: &[u8]) -> Result<(), u64>
     ensures ok { OnOk result
         (Appends (S.Write.contents sink.old) (S.Write.contents sink.new) text.now) }
     ensures flushed { OnOk result (IsFlushed S.Sink.flush_gives sink.new) }

@@ -9,6 +9,7 @@ mod memory;
 mod reports;
 mod scenarios;
 mod streams;
+mod traces;
 
 /// Opens a counter of one nanosecond a cycle, and brings the clocks forward by half of the
 /// counter's range.

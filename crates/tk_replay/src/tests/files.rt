@@ -1,9 +1,11 @@
 //! Std's own readers and writers, by the impls that each of them has.
 
+use super::traces::{STAMPS, STEERED, TRACE};
 use super::{REPORT, SCRIPT};
-use crate::{Fault, Sink, Source, replay};
+use crate::{Fault, Sink, Source, replay, trace};
 use std::fs::{self, File};
 use std::test::Fail;
+use tk_clock::ClockId;
 
 #[test]
 fn a_slice_gives_its_bytes_and_then_none(rt: HostRuntime) {
@@ -36,6 +38,29 @@ fn replays_a_file_into_a_file(rt: HostRuntime) -> Result<(), Fail> {
     assert_eq!(rt; told.as_slice(), REPORT);
     fs::remove_file(&rt, "tk_replay_script")?;
     fs::remove_file(&rt, "tk_replay_report")?;
+    Ok(())
+}
+
+#[test]
+fn traces_two_files_into_a_third(rt: HostRuntime) -> Result<(), Fail> {
+    fs::write(&rt, "tk_replay_steered", STEERED)?;
+    fs::write(&rt, "tk_replay_stamps", STAMPS)?;
+    let mut script = File::open(&rt, "tk_replay_steered")?;
+    let mut stamps = File::open(&rt, "tk_replay_stamps")?;
+    let mut text = File::create(&rt, "tk_replay_trace")?;
+    let outcome = trace(
+        rt.alloc(),
+        &mut script,
+        &mut stamps,
+        ClockId::Monotonic,
+        &mut text,
+    );
+    assert_eq!(rt; outcome, Ok(()));
+    let told = fs::read(&rt, "tk_replay_trace")?;
+    assert_eq!(rt; told.as_slice(), TRACE);
+    for name in ["tk_replay_steered", "tk_replay_stamps", "tk_replay_trace"] {
+        fs::remove_file(&rt, name)?;
+    }
     Ok(())
 }
 

@@ -10,9 +10,9 @@ returns-in_err-text g c =
     let exit = err_from_is_err_and c.from_residual-in_err-text.result
     c.from_residual-in_err-text.ensures.1 in
     let first : IsReadToEnd (g.R.Read.remaining c.args.script.now)
-        (g.R.Read.remaining c.read_to_end.new.source) c.as_slice.result.now = search rules in
+    (g.R.Read.remaining c.read_to_end.new.source) c.as_slice.result.now = search rules in
     let later : IsReadToEnd (g.S.Read.remaining c.args.stamps.now)
-        (g.S.Read.remaining c.read_to_end-2.new.source) c.as_slice-2.result.now = search rules in
+    (g.S.Read.remaining c.read_to_end-2.new.source) c.as_slice-2.result.now = search rules in
     record {
       script_within = c.in_ok-script.ensures.within;
       stamps_within = c.in_ok-stamps.ensures.within;
@@ -26,17 +26,17 @@ returns-in-Ok g c =
     let script = c.as_slice.result.now in
     let stamps = c.as_slice-2.result.now in
     let first : IsReadToEnd (g.R.Read.remaining c.args.script.now)
-        (g.R.Read.remaining c.read_to_end.new.source) script = search rules in
+    (g.R.Read.remaining c.read_to_end.new.source) script = search rules in
     let later : IsReadToEnd (g.S.Read.remaining c.args.stamps.now)
-        (g.S.Read.remaining c.read_to_end-2.new.source) stamps = search rules in
+    (g.S.Read.remaining c.read_to_end-2.new.source) stamps = search rules in
     let told : IsTrace c.args.clock script stamps c.as_slice-3.result.now =
     rw c.as_slice-3.ensures.value c.in_ok-text.ensures in
     record {
       script_within = c.in_ok-script.ensures.within;
       stamps_within = c.in_ok-stamps.ensures.within;
       came_to = (
-          (c.as_slice-3.result.now, (script, stamps, first, later, told), c.in-Ok.ensures.ok),
-          c.in-Ok.ensures.flushed,
+        (c.as_slice-3.result.now, (script, stamps, first, later, told), c.in-Ok.ensures.ok),
+        c.in-Ok.ensures.flushed,
       );
     }
 
@@ -45,16 +45,16 @@ returns g c =
     let script = c.as_slice.result.now in
     let stamps = c.as_slice-2.result.now in
     let first : IsReadToEnd (g.R.Read.remaining c.args.script.now)
-        (g.R.Read.remaining c.read_to_end.new.source) script = search rules in
+    (g.R.Read.remaining c.read_to_end.new.source) script = search rules in
     let later : IsReadToEnd (g.S.Read.remaining c.args.stamps.now)
-        (g.S.Read.remaining c.read_to_end-2.new.source) stamps = search rules in
+    (g.S.Read.remaining c.read_to_end-2.new.source) stamps = search rules in
     let told : IsTrace c.args.clock script stamps c.as_slice-3.result.now =
     rw c.as_slice-3.ensures.value c.in_ok-text.ensures in
     record {
       script_within = c.in_ok-script.ensures.within;
       stamps_within = c.in_ok-stamps.ensures.within;
       came_to = (
-          (c.as_slice-3.result.now, (script, stamps, first, later, told), c.in-Err.ensures.err),
-          c.in-Err.ensures.failed,
+        (c.as_slice-3.result.now, (script, stamps, first, later, told), c.in-Err.ensures.err),
+        c.in-Err.ensures.failed,
       );
     }
