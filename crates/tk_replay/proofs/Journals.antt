@@ -1,14 +1,14 @@
 -- The journal that rows leave, taken row by row.
-use Rattle.std.proofs.Common.{◌≡◌, ◌∙◌, ◌+◌, ◌≤◌, ℕ, List, [], refl, sym, ap, subst}
-use Rattle.std.specs.Prelude.{Option, None, Result, Ok, Err}
-use Rattle.tk_clock.specs.Journal.{Journal, accepted_count, opened}
+use Rattle.std.proofs.Common.{◌≡◌, List, refl, ap}
+use Rattle.std.specs.Prelude.{Result, Ok, Err}
+use Rattle.tk_clock.specs.Journal.{Journal, opened}
 use Rattle.tk_clock.specs.Refusal.{first_refusal}
 use Rattle.tk_script.specs.declared.opening.Start.{Start}
 use Rattle.tk_script.specs.declared.row.Row.{Row}
 use Rattle.tk_script.specs.declared.script_error.ScriptError.{ScriptError}
 use Rattle.tk_script.specs.declared.script_error.ScriptError.TheVariants as errors
 use Rattle.tk_script.specs.Coming.{opened_with, row_and}
-use Rattle.tk_script.specs.Grammar.{Fails, Gives, Parse}
+use Rattle.tk_script.specs.Grammar.{Fails, Parse}
 use Rattle.tk_replay.specs.Report.{after}
 use Rattle.tk_replay.specs.Trace.{journal_after, journal_of}
 

@@ -1,6 +1,6 @@
 -- What a trace of two inputs comes to, case by case.
-use Rattle.std.proofs.Common.{◌≡◌, ◌∙◌, ℕ, List, refl, sym, ap, subst, inl, inr}
-use Rattle.std.specs.Prelude.{◌⊎◌, Option, Bool, Result, Ok, Err, IsOk, MatchResult}
+use Rattle.std.proofs.Common.{◌≡◌, ℕ, List, refl, sym, subst, inl, inr}
+use Rattle.std.specs.Prelude.{◌⊎◌, Option, Result, Ok, Err, IsOk, MatchResult}
 use Rattle.tk_clock.specs.declared.clock_id.ClockId.{ClockId}
 use Rattle.tk_clock.specs.Journal.{Journal}
 use Rattle.tk_keeper.specs.declared.trace_error.TraceError.{TraceError}

@@ -1,9 +1,9 @@
 -- A worked trace, computed over the definitions alone: two settings of the frequency, a refused
 -- command and a read of a clock between them, and stamps before, between and after.
-use Rattle.std.proofs.Common.{◌≡◌, ℕ, ◌<◌, List, [], ◌∷◌, codes, get_or, refl, arith, below_more}
+use Rattle.std.proofs.Common.{◌≡◌, ℕ, List, [], ◌∷◌, codes, get_or, refl, arith, below_more}
 use borrow.Author.Count.{below_none}
 use Rattle.std.specs.Fmt.{digits}
-use Rattle.std.specs.Prelude.{pos, neg_ℤ, Ok, Err, IsOk}
+use Rattle.std.specs.Prelude.{pos, neg_ℤ, Ok, IsOk}
 use Rattle.tk_counter.specs.Counter.{Counter}
 use Rattle.tk_clock.specs.declared.timespec.Timespec.{Timespec}
 use Rattle.tk_clock.specs.declared.command.Command.TheVariants.{Freq, Update}

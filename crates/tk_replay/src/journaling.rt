@@ -1,5 +1,5 @@
 //! The clocks as the commands of a script leave them.
-ghost use Rattle.std.specs.Prelude.{◌≡◌, ◌-◌, ◌<◌, ◌^◌, IfErr, None, OnOk};
+ghost use Rattle.std.specs.Prelude.{◌≡◌, ◌<◌, IfErr, None, OnOk};
 ghost use Rattle.tk_clock.specs.Journal.{accepted_count, opened};
 ghost use Rattle.tk_clock.specs.Limits.{counted_most};
 ghost use Rattle.tk_clock.specs.Refusal.{first_refusal, opening_refusal};

@@ -1,9 +1,8 @@
-use Rattle.std.proofs.Common.{◌≡◌, ◌∙◌, Ok, [], ap, arith, rules, subst, sym}
+use Rattle.std.proofs.Common.{◌≡◌, ◌∙◌, Ok, [], ap, arith, rules, sym}
 use Rattle.std.specs.Prelude.{None}
 use Rattle.std.proofs.lemmas.Result.{err_from_is_err_and}
 use Rattle.tk_clock.specs.Journal.{Journal, opened}
 use Rattle.tk_script.specs.Coming.{coming}
-use Rattle.tk_script.specs.Grammar.{Fails}
 use Rattle.tk_replay.specs.Trace.{journal_after}
 use Rattle.tk_replay.proofs.Journals.{Fails-journal_after, journal_after-row}
 use Rattle.tk_replay.proofs.Lines.{count_after}
