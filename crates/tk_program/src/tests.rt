@@ -1,6 +1,8 @@
 //! What no clause says: that the definitions take the words that are meant, and the texts of the
 //! faults.
 
+mod many_text;
+
 use crate::{Ending, Request, WordsError, asked, run};
 use std::alloc::{AllocError, Global};
 use std::io::{Error, ErrorKind};
