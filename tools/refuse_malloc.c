@@ -1,5 +1,6 @@
 /* A library that refuses one request for memory of the program which it is loaded into: the one whose number, counted from
  * 1, stands in the variable REFUSE. tools/refuse_each.sh builds it and loads it by LD_PRELOAD. */
+#include <errno.h>
 #include <stddef.h>
 #include <stdlib.h>
 
@@ -18,7 +19,11 @@ static int is_refused(void) {
     if (granted < 0) {
         return 0;
     }
-    return granted-- == 0;
+    if (granted-- > 0) {
+        return 0;
+    }
+    errno = ENOMEM;
+    return 1;
 }
 
 void *malloc(size_t size) {

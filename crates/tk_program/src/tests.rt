@@ -1,6 +1,7 @@
 //! What no clause says: that the definitions take the words that are meant, and the texts of the
 //! faults.
 
+mod many_text;
 mod traces;
 
 use crate::{Ending, Folder, Request, WordsError, asked, run};
