@@ -101,8 +101,8 @@ next_actor f xs actors more actions index actor all rest others many callers ste
     let got : actions ≡ get_or xs (length actors) actions =
     read ∙ ap (λ i. get_or xs i actions) here in (
       ap (λ l. map (λ (a : Actor). a.caller) l ++ others) is
-      ∙ ap (λ l. l ++ others) (map-append (λ (a : Actor). a.caller) actors (actor ∷ []))
-      ∙ append_assoc known (actor.caller ∷ []) others ∙ whole,
+          ∙ ap (λ l. l ++ others) (map-append (λ (a : Actor). a.caller) actors (actor ∷ []))
+          ∙ append_assoc known (actor.caller ∷ []) others ∙ whole,
       ready_next f xs actors more actions actor (omega (arith, total, sum, same, many)) are
           (empty, subst (λ b. length (f b) ≤ actor.room) got room) is,
     )

@@ -27,7 +27,7 @@ from_push latch start k zero = ap (λ (j : ℕ). newcomer latch start j ∷ []) 
 from_push latch start k (suc n) =
     ap (λ l. newcomer latch start k ∷ l) (from_push latch start (k + 1) n)
     ∙ ap (λ (j : ℕ). newcomer latch start k
-        ∷ (newcomers_from latch start (k + 1) n ++ newcomer latch start j ∷ [])) (omega arith)
+    ∷ (newcomers_from latch start (k + 1) n ++ newcomer latch start j ∷ [])) (omega arith)
 
 from_all : (latch : LatchId) (start : Journal) (n : ℕ) →
     newcomers latch start n ≡ newcomers_from latch start 0 n

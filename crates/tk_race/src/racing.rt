@@ -43,7 +43,7 @@ pub fn race<G: Gate + Sync, R: Threads + Wait + Sync>(
     ensures { MatchResult result
         (λ report. (race_error (length actors.now) desc reading real ≡ None)
         × IsRaced desc real (map (λ a. a.items) actors.now) report.keeper.journal
-            (map (λ r. r.items) report.replies.items))
+        (map (λ r. r.items) report.replies.items))
         (λ error. IsRaceError (length actors.now) desc reading real error) }
 {
     if actors.is_empty() || actors.len() > ACTORS_LIMIT {
@@ -87,7 +87,7 @@ fn raced<L: Named + Send + Sync, G: Gate + Sync, R: Threads + Wait + Sync>(
     requires some { 0 < length actions.now }
     ensures { MatchResult result
         (λ report. IsOutcome prepared.journal (map (λ a. a.items) actions.now)
-            report.keeper.journal (map (λ r. r.items) report.replies.items))
+        report.keeper.journal (map (λ r. r.items) report.replies.items))
         IsLate }
 {
     let Ok((keeper, callers)) = SharedKeeper::<L, Ticker>::open(alloc, prepared) else {

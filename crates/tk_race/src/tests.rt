@@ -5,7 +5,7 @@ mod memory;
 mod replies;
 
 use crate::{Action, RaceReply};
-use std::alloc::Global;
+use std::alloc::{AllocError, Global};
 use std::test::Fail;
 use tk_clock::{Command, Timespec};
 use tk_counter::CounterDesc;
@@ -30,7 +30,7 @@ fn alike(
     actors: usize,
     action: Action,
     actions: usize,
-) -> Result<Vec<Vec<Action>>, Fail> {
+) -> Result<Vec<Vec<Action>>, AllocError> {
     let mut all = Vec::new(alloc);
     for _ in 0..actors {
         all.push(vec![in alloc; action; actions]?)?;

@@ -68,10 +68,22 @@ fn actors_act_at_once(rt: HostRuntime) -> Result<(), Fail> {
         late: Flag::new(),
         ended: AtomicU64::new(0),
     };
-    let report = race(&rt, rt.alloc(), desc, 0, OPENED_TIME, 1_000, actors.as_slice(), &gate)
-        .ok()
-        .ok_or("a report")?;
-    assert_eq!(&rt; (report.keeper.len(), gate.ended.load(Ordering::SeqCst)), (6, 2));
+    let report = race(
+        &rt,
+        rt.alloc(),
+        desc,
+        0,
+        OPENED_TIME,
+        1_000,
+        actors.as_slice(),
+        &gate,
+    )
+    .ok()
+    .ok_or("a report")?;
+    assert_eq!(&rt;
+        (report.keeper.len(), gate.ended.load(Ordering::SeqCst)),
+        (6, 2)
+    );
     assert!(&rt; !gate.late.0.load(Ordering::SeqCst));
     for replies in report.replies.as_slice() {
         assert!(&rt; rise(0, replies.as_slice()));
@@ -114,9 +126,18 @@ fn a_gate_is_told_round_all_actions_of_an_actor(rt: HostRuntime) -> Result<(), F
         second: Flag::new(),
         late: Flag::new(),
     };
-    let report = race(&rt, rt.alloc(), desc, 0, OPENED_TIME, 1, actors.as_slice(), &gate)
-        .ok()
-        .ok_or("a report")?;
+    let report = race(
+        &rt,
+        rt.alloc(),
+        desc,
+        0,
+        OPENED_TIME,
+        1,
+        actors.as_slice(),
+        &gate,
+    )
+    .ok()
+    .ok_or("a report")?;
     assert!(&rt; !gate.late.0.load(Ordering::SeqCst));
     // all entries of actor 0 come before all of actor 1
     let mut number = 0u64;
@@ -161,9 +182,18 @@ fn an_actor_reads_what_another_did_before_it_began(rt: HostRuntime) -> Result<()
         done: Flag::new(),
         late: Flag::new(),
     };
-    let report = race(&rt, rt.alloc(), desc, 0, OPENED_TIME, 1, actors.as_slice(), &gate)
-        .ok()
-        .ok_or("a report")?;
+    let report = race(
+        &rt,
+        rt.alloc(),
+        desc,
+        0,
+        OPENED_TIME,
+        1,
+        actors.as_slice(),
+        &gate,
+    )
+    .ok()
+    .ok_or("a report")?;
     assert!(&rt; !gate.late.0.load(Ordering::SeqCst));
     let replies = report.replies.first().ok_or("replies")?;
     let expected = [RaceReply::Glanced(4), RaceReply::Saw(4)];

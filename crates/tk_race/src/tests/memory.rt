@@ -28,9 +28,21 @@ fn refused_requests_are_told_before_any_actor_begins(rt: HostRuntime) -> Result<
         return Ok(());
     };
     let gate = Begun(AtomicU64::new(0));
-    match race(&rt, rt.alloc(), desc, 0, OPENED_TIME, 1, actors.as_slice(), &gate) {
+    match race(
+        &rt,
+        rt.alloc(),
+        desc,
+        0,
+        OPENED_TIME,
+        1,
+        actors.as_slice(),
+        &gate,
+    ) {
         Ok(report) => {
-            assert_eq!(&rt; (report.keeper.len(), gate.0.load(Ordering::SeqCst)), (1_800, 3));
+            assert_eq!(&rt;
+                (report.keeper.len(), gate.0.load(Ordering::SeqCst)),
+                (1_800, 3)
+            );
             for replies in report.replies.as_slice() {
                 let refused = RaceReply::Refused(Refusal::Memory);
                 assert!(&rt; !replies.as_slice().contains(&refused));
@@ -38,7 +50,10 @@ fn refused_requests_are_told_before_any_actor_begins(rt: HostRuntime) -> Result<
         }
         Err(RaceError::Threads) => assert!(&rt; gate.0.load(Ordering::SeqCst) < 3),
         Err(error) => {
-            assert_eq!(&rt; (error, gate.0.load(Ordering::SeqCst)), (RaceError::Memory, 0));
+            assert_eq!(&rt;
+                (error, gate.0.load(Ordering::SeqCst)),
+                (RaceError::Memory, 0)
+            );
         }
     }
     Ok(())

@@ -12,9 +12,18 @@ use tk_gate::NoGate;
 fn two_actors_of_three_updates_make_six_entries(rt: HostRuntime) -> Result<(), Fail> {
     let desc = nanosecond_counter()?;
     let actors = alike(rt.alloc(), 2, UPDATE, 3)?;
-    let report = race(&rt, rt.alloc(), desc, 0, OPENED_TIME, 1_000, actors.as_slice(), &NoGate)
-        .ok()
-        .ok_or("a report")?;
+    let report = race(
+        &rt,
+        rt.alloc(),
+        desc,
+        0,
+        OPENED_TIME,
+        1_000,
+        actors.as_slice(),
+        &NoGate,
+    )
+    .ok()
+    .ok_or("a report")?;
     assert_eq!(&rt; (report.keeper.len(), report.replies.len()), (6, 2));
     for replies in report.replies.as_slice() {
         assert!(&rt; replies.len() == 3 && rise(0, replies.as_slice()));
@@ -22,7 +31,10 @@ fn two_actors_of_three_updates_make_six_entries(rt: HostRuntime) -> Result<(), F
     // each reading is the counter's next one, whoever gave the command
     for number in 1..=6u64 {
         let entry = report.keeper.entry(number).ok_or("an entry")?;
-        assert_eq!(&rt; (entry.reading, entry.cmd), (1_000 * number, Command::Update));
+        assert_eq!(&rt;
+            (entry.reading, entry.cmd),
+            (1_000 * number, Command::Update)
+        );
     }
     Ok(())
 }
@@ -42,9 +54,18 @@ fn one_actor_is_answered_as_on_one_thread(rt: HostRuntime) -> Result<(), Fail> {
         Action::Glance,
     ]?;
     let actors = vec![in rt.alloc(); actions]?;
-    let report = race(&rt, rt.alloc(), desc, 5, OPENED_TIME, 10, actors.as_slice(), &NoGate)
-        .ok()
-        .ok_or("a report")?;
+    let report = race(
+        &rt,
+        rt.alloc(),
+        desc,
+        5,
+        OPENED_TIME,
+        10,
+        actors.as_slice(),
+        &NoGate,
+    )
+    .ok()
+    .ok_or("a report")?;
     let expected = [
         RaceReply::Done(1),
         RaceReply::Glanced(1),
@@ -74,7 +95,17 @@ fn error_of<R: Abort + std::thread::Threads + std::sync::Wait + Sync>(
     real: Timespec,
 ) -> Result<Option<RaceError>, Fail> {
     let actors = alike(alloc, actors, UPDATE, 0)?;
-    Ok(race(rt, alloc, desc, reading, real, 1, actors.as_slice(), &NoGate).err())
+    Ok(race(
+        rt,
+        alloc,
+        desc,
+        reading,
+        real,
+        1,
+        actors.as_slice(),
+        &NoGate,
+    )
+    .err())
 }
 
 #[test]
@@ -87,7 +118,10 @@ fn one_to_64_actors_race(rt: HostRuntime) -> Result<(), Fail> {
         (64, None),
         (65, Some(RaceError::Count)),
     ] {
-        assert_eq!(&rt; error_of(&rt, rt.alloc(), actors, desc, 0, OPENED_TIME)?, error);
+        assert_eq!(&rt;
+            error_of(&rt, rt.alloc(), actors, desc, 0, OPENED_TIME)?,
+            error
+        );
     }
     Ok(())
 }
@@ -106,7 +140,10 @@ fn count_comes_before_invalid(rt: HostRuntime) -> Result<(), Fail> {
         (0, 4_294_967_296, late, Some(RaceError::Count)),
         (65, 4_294_967_296, late, Some(RaceError::Count)),
     ] {
-        assert_eq!(&rt; error_of(&rt, rt.alloc(), actors, desc, reading, real)?, error);
+        assert_eq!(&rt;
+            error_of(&rt, rt.alloc(), actors, desc, reading, real)?,
+            error
+        );
     }
     Ok(())
 }

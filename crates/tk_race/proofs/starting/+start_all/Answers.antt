@@ -49,7 +49,7 @@ returns-clause-acted g t c =
     let new = c.join.result in
     let promised = c.in_ok-handle.ensures in
     let acted : HasActed c.unwrap-actor.result.caller new.caller c.in-Some.last.now.items
-        new.replies =
+    new.replies =
     subst (λ (t : Known × List Action). HasActed t.0 new.caller t.1 new.replies)
     (λ i. (promised.0 i, ap (λ a. a.items) promised.1 i)) c.join.ensures in
     acted_last (map (λ a. a.items) c.args.actions.now) (map (λ a. a.items) c.in-Some.others.now)
