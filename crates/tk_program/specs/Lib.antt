@@ -2,3 +2,5 @@ pub mod Request
 pub mod CommandLine
 pub mod Ending
 pub mod Running
+pub mod Openings
+pub mod RaceText

@@ -14,6 +14,8 @@
 
 mod command_line;
 mod ending;
+mod openings;
+mod race_lines;
 mod replaying;
 mod request;
 mod running;
@@ -22,5 +24,7 @@ mod tests;
 
 pub use command_line::{WordsError, asked};
 pub use ending::Ending;
+pub use openings::same_opening;
+pub use race_lines::race_text;
 pub use request::Request;
 pub use running::{run, run_and_tell};
