@@ -17,6 +17,8 @@
 mod command_line;
 mod ending;
 mod folder;
+mod openings;
+mod race_lines;
 mod replaying;
 mod reports_text;
 mod request;
@@ -29,5 +31,7 @@ pub use command_line::{WordsError, asked};
 pub use ending::Ending;
 pub use folder::Folder;
 pub use reports_text::many_text;
+pub use openings::same_opening;
+pub use race_lines::race_text;
 pub use request::Request;
 pub use running::{run, run_and_tell};

@@ -1,0 +1,61 @@
+ghost use Rattle.std.specs.Prelude.{◌≡◌, ◌≤◌, map, length, IfOk, MatchResult, string_bytes};
+ghost use Rattle.tk_clock.specs.Journal.{accepted_count};
+ghost use Rattle.tk_race.specs.Replies.{done_in};
+ghost use Rattle.tk_program.specs.RaceText.{actor_line, refused_in, race_lines};
+
+#[cfg(test)]
+mod tests;
+
+use std::alloc::{AllocError, Global};
+use tk_race::{RaceReply, RaceReport};
+use tk_replay::Fault;
+
+/// What a race has come to, in lines: `entries,NUMBER` for the journal, then for each actor
+/// `actor,ID,ACCEPTED,REFUSED`, which count its orders.
+///
+/// Only Memory.
+pub fn race_text(alloc: Global, report: &RaceReport) -> Result<Vec<u8>, Fault>
+    ensures { MatchResult result
+        (λ text. text.items ≡ race_lines (accepted_count report.now.keeper.journal)
+        (map (λ r. r.items) report.now.replies.items))
+        (λ fault. fault ≡ Fault.Memory) }
+{
+    let entries = report.keeper.len();
+    let mut text = format!(in alloc; "entries,{entries}\n")?.into_bytes();
+    for (id, replies) in report.replies.as_slice().iter().enumerate() {
+        let line = line_of(alloc, id, replies.as_slice())?;
+        text.extend_from_slice(line.as_bytes())?;
+    }
+    Ok(text)
+}
+
+/// The line of an actor.
+fn line_of(alloc: Global, id: usize, replies: &[RaceReply]) -> Result<String, AllocError>
+    ensures { IfOk result (λ line. string_bytes line ≡ actor_line id replies.now) }
+{
+    let Counts { accepted, refused } = count_orders(replies);
+    format!(in alloc; "actor,{id},{accepted},{refused}\n")
+}
+
+/// How many orders of an actor were accepted, and how many refused.
+#[derive(Clone, Copy)]
+struct Counts {
+    accepted: usize,
+    refused: usize,
+}
+
+fn count_orders(replies: &[RaceReply]) -> Counts
+    ensures accepted { result.accepted ≡ done_in replies.now }
+    ensures refused { result.refused ≡ refused_in replies.now }
+{
+    let mut accepted = 0usize;
+    let mut refused = 0usize;
+    for reply in replies {
+        match reply {
+            RaceReply::Done(_) => accepted += 1,
+            RaceReply::Refused(_) => refused += 1,
+            RaceReply::Saw(_) | RaceReply::Glanced(_) | RaceReply::Moved => {}
+        }
+    }
+    Counts { accepted, refused }
+}

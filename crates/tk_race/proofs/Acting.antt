@@ -1,0 +1,102 @@
+-- An actor's actions, one after the other.
+use Rattle.std.proofs.Common.{◌≡◌, ℕ, ◌+◌, ◌<◌, ◌≤◌, List, [], ◌∷◌, ◌++◌, length, get_or, take, refl, sym, ap, ◌∙◌, subst, arith}
+use Rattle.std.proofs.lemmas.List.{take_more}
+use Rattle.std.proofs.lemmas.List.Sums.{sum_by_push}
+use Rattle.tk_clock.specs.Journal.{Journal}
+use Rattle.tk_shared.specs.Callers.{Known}
+use Rattle.tk_shared.proofs.Prefixes.{prefix_self, prefix_trans}
+use Rattle.tk_shared.proofs.Snapshots.{snapshots_prefix}
+use Rattle.tk_race.specs.declared.action.Action.{Action}
+use Rattle.tk_race.specs.declared.action.RaceReply.{RaceReply}
+use Rattle.tk_race.specs.Actor.{IsAnswer, IsHistoryOf, IsLater, HasActed, Knows, last_front, last_mark}
+use Rattle.tk_race.specs.Replies.{AreReplies, IsReply, front_after, mark_after, done_by}
+use Rattle.tk_race.proofs.Answering.{begins_self, begins_trans}
+
+-- a history of what a caller knows is one of what it knew before
+history_before : (now next : Known) (done : ℕ) (history : Journal) → IsLater now next done →
+    IsHistoryOf next history → IsHistoryOf now history
+history_before now next done history later is = record {
+  whole = is.whole;
+  begins = begins_trans now.seen next.seen history later.seen is.begins;
+  learnt = snapshots_prefix history now.learnt.publications next.learnt.publications is.learnt
+      later.learnt;
+}
+
+later_twice : (start now next : Known) (one other both : ℕ) → IsLater start now one →
+    IsLater now next other → both ≡ one + other → IsLater start next both
+later_twice start now next one other both p q sum = record {
+  id = q.id ∙ p.id;
+  seen = begins_trans start.seen now.seen next.seen p.seen q.seen;
+  learnt = prefix_trans start.learnt.publications now.learnt.publications next.learnt.publications
+      p.learnt q.learnt;
+  counted = (let first = p.counted in let rest = q.counted in omega (arith, first, rest, sum));
+}
+
+-- one more right reply
+replies_push : (history : Journal) (id front mark : ℕ) (actions : List Action)
+    (replies : List RaceReply) (action : Action) (reply : RaceReply) →
+    AreReplies history id front mark actions replies →
+    IsReply history id (last_front front replies) (last_mark mark replies) action reply →
+    AreReplies history id front mark (actions ++ action ∷ []) (replies ++ reply ∷ [])
+replies_push history id front mark [] [] action reply are last = (last, tt)
+replies_push history id front mark [] (r ∷ rs) action reply are last = absurd are
+replies_push history id front mark (a ∷ acts) [] action reply are last = absurd are
+replies_push history id front mark (a ∷ acts) (r ∷ rs) action reply are last = (
+  are.0,
+  replies_push history id (front_after front r) (mark_after mark r) acts rs action reply are.1 last,
+)
+
+last_front-push : (front : ℕ) (replies : List RaceReply) (reply : RaceReply) →
+    last_front front (replies ++ reply ∷ []) ≡ front_after (last_front front replies) reply
+last_front-push front [] reply = refl
+last_front-push front (r ∷ rs) reply = last_front-push (front_after front r) rs reply
+
+last_mark-push : (mark : ℕ) (replies : List RaceReply) (reply : RaceReply) →
+    last_mark mark (replies ++ reply ∷ []) ≡ mark_after (last_mark mark replies) reply
+last_mark-push mark [] reply = refl
+last_mark-push mark (r ∷ rs) reply = last_mark-push (mark_after mark r) rs reply
+
+-- an actor that has done nothing
+pub acted_none : (start : Known) → HasActed start start [] []
+acted_none start = record {
+  later = record {
+    id = refl;
+    seen = begins_self start.seen;
+    learnt = prefix_self start.learnt.publications;
+    counted = omega arith;
+  };
+  right = λ history is. (tt, (omega arith, omega arith));
+}
+
+-- one more action
+acted_push : (start now next : Known) (actions : List Action) (replies : List RaceReply)
+    (action : Action) (reply : RaceReply) → HasActed start now actions replies →
+    IsAnswer now next action reply →
+    HasActed start next (actions ++ action ∷ []) (replies ++ reply ∷ [])
+acted_push start now next actions replies action reply acted answer = record {
+  later = later_twice start now next _ (done_by reply) _ acted.later answer.later
+      (sum_by_push done_by replies reply);
+  right = λ history is.
+      (let was =
+      acted.right history (history_before now next (done_by reply) history answer.later is) in
+      let front = last_front 0 replies in
+      let mark = last_mark 0 replies in
+      let told = answer.right history is front mark was.1 in
+      let last = subst (λ (id : ℕ). IsReply history id front mark action reply) acted.later.id
+      told.0 in (
+        replies_push history start.id 0 0 actions replies action reply was.0 last,
+        subst (λ (t : ℕ × ℕ). Knows next t.0 t.1)
+            (λ i. (sym (last_front-push 0 replies reply) i, sym (last_mark-push 0 replies reply) i))
+            told.1,
+      ));
+}
+
+-- in a loop over the actions
+pub acted_next : (start now next : Known) (actions : List Action) (i : ℕ)
+    (replies more : List RaceReply) (reply : RaceReply) (d : Action) → i < length actions →
+    HasActed start now (take i actions) replies → IsAnswer now next (get_or actions i d) reply →
+    more ≡ replies ++ reply ∷ [] → HasActed start next (take (i + 1) actions) more
+acted_next start now next actions i replies more reply d below acted answer is =
+    subst (λ (t : List Action × List RaceReply). HasActed start next t.0 t.1)
+    (λ j. (sym (take_more actions i d below) j, sym is j))
+    (acted_push start now next (take i actions) replies (get_or actions i d) reply acted answer)

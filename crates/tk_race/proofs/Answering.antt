@@ -1,0 +1,214 @@
+-- One action's reply, by every history that is still possible.
+use Rattle.std.proofs.Common.{◌≡◌, ℕ, ◌+◌, ◌-◌, ◌<◌, ◌≤◌, true, Bool, List, [], ◌∷◌, ◌++◌, length, take, refl, sym, ap, ◌∙◌, subst, arith, append_assoc, length-append}
+use Rattle.std.specs.Prelude.{Some, None, slice_get, nat_lt, if◌then◌else◌}
+use Rattle.std.proofs.lemmas.Bool.{lt-ltb}
+use Rattle.std.proofs.lemmas.List.{take-append-le, take_all}
+use mathlib.Core.List.{IsPrefix}
+use Rattle.tk_counter.specs.Counter.{mask}
+use Rattle.tk_clock.specs.declared.command.Command.{Command}
+use Rattle.tk_clock.specs.declared.command.Entry.{Entry}
+use Rattle.tk_clock.specs.declared.refusal.Refusal.{Refusal}
+use Rattle.tk_clock.specs.Journal.{Opening, Journal, prefix}
+use Rattle.tk_clock.specs.Snapshot.{Snapshot, snapshot_of}
+use Rattle.tk_keeper.specs.Keeper.{entry_at}
+use Rattle.tk_page.specs.History.{Begins}
+use Rattle.tk_latch.specs.Latch.{Learnt, IsRead, mark_of}
+use Rattle.tk_shared.specs.Callers.{Known, IsAccepted, IsRefused, IsSameCaller, IsRefusalAfter, entry_of}
+use Rattle.tk_shared.proofs.Kept.{whole_count}
+use Rattle.tk_shared.proofs.Prefixes.{prefix_self, prefix_trans, prefix_length}
+use Rattle.tk_race.specs.declared.action.Action.TheVariants.{Order, Look, Glance}
+use Rattle.tk_race.specs.declared.action.RaceReply.TheVariants.{Done, Refused, Saw, Glanced, Moved}
+use Rattle.tk_race.specs.Actor.{IsAnswer}
+
+-- beginnings of journals
+pub begins_self : (journal : Journal) → Begins journal journal
+begins_self journal = (refl, prefix_self journal.entries)
+
+pub begins_trans : (a b d : Journal) → Begins a b → Begins b d → Begins a d
+begins_trans a b d p q = (q.0 ∙ p.0, prefix_trans a.entries b.entries d.entries p.1 q.1)
+
+pub begins_length : (a b : Journal) → Begins a b → length a.entries ≤ length b.entries
+begins_length a b p = prefix_length a.entries b.entries p.1
+
+-- a beginning is the first entries, as many as it has
+begins_prefix : (before history : Journal) → Begins before history →
+    before ≡ prefix (length before.entries) history
+begins_prefix before history begins =
+    let n = length before.entries in
+    let entries : before.entries ≡ take n history.entries =
+    sym (take_all n before.entries (omega arith))
+    ∙ sym (take-append-le n before.entries begins.1.0 (omega arith))
+    ∙ ap (take n) begins.1.1 in
+    λ i. record { opening = sym begins.0 i; entries = entries i }
+
+get_at : (before rest : List Entry) (entry : Entry) →
+    slice_get (before ++ entry ∷ rest) (length before) ≡ Some entry
+get_at [] rest entry = refl
+get_at (first ∷ before) rest entry = get_at before rest entry
+
+-- the entry behind some others has the next number
+numbered : (count number : ℕ) (entries before rest : List Entry) (entry : Entry) → count ≡ 0 →
+    number ≡ length before + 1 → before ++ entry ∷ rest ≡ entries →
+    (if nat_lt count number then slice_get entries (number - count - 1) else None) ≡ Some entry
+numbered count number entries before rest entry none next is =
+    let later : nat_lt count number ≡ true = lt-ltb count number (omega (arith, none, next)) in
+    let place : number - count - 1 ≡ length before = omega (arith, none, next) in
+    ap (λ (b : Bool). if b then slice_get entries (number - count - 1) else None) later
+    ∙ ap (slice_get entries) place
+    ∙ ap (λ (l : List Entry). slice_get l (length before)) (sym is)
+    ∙ get_at before rest entry
+
+-- an order that was accepted
+pub done : (old new : Known) (cmd : Command) (number : ℕ) → IsAccepted old new cmd number →
+    IsSameCaller old new → IsAnswer old new (Order cmd) (Done number)
+done old new cmd number told same =
+    let before = told.before.entries in
+    let entry = entry_of old told.reading cmd in
+    let last = ap (λ (j : Journal). j.entries) told.last in
+    let count = told.number in
+    let newer = told.newer in
+    let beyond = told.beyond in
+    let mark = told.mark in
+    let longer = ap length last ∙ length-append before (entry ∷ []) in
+    record {
+      later = record {
+        id = same.0;
+        seen = (
+          same.1,
+          prefix_trans old.seen.entries before new.seen.entries told.extends.1
+              (entry ∷ [], sym last),
+        );
+        learnt = told.learnt;
+        counted = told.counted;
+      };
+      right = λ history is front least known.
+          (let low = known.0 in
+          let high = known.1 in
+          let rest = is.begins.1.0 in
+          let all : before ++ entry ∷ rest ≡ history.entries =
+          sym (append_assoc before (entry ∷ []) rest)
+          ∙ ap (λ (l : List Entry). l ++ rest) (sym last) ∙ is.begins.1.1 in (
+            (
+              omega (arith, low, newer),
+              omega (arith, high, beyond),
+              (
+                told.reading,
+                numbered history.opening.count number history.entries before rest entry
+                    (whole_count history is.whole) (omega (arith, count, longer)) all,
+              ),
+            ),
+            (omega (arith, count), omega (arith, mark)),
+          ));
+    }
+
+-- an order that was refused
+pub refused : (old new : Known) (cmd : Command) (refusal : Refusal) →
+    IsRefused old new cmd refusal → IsSameCaller old new →
+    IsAnswer old new (Order cmd) (Refused refusal)
+refused old new cmd refusal told same =
+    let more = begins_length old.seen new.seen told.extends in
+    let counted = told.counted in
+    record {
+      later = record {
+        id = same.0;
+        seen = told.extends;
+        learnt = subst (λ (l : Learnt). IsPrefix old.learnt.publications l.publications)
+            (sym told.learnt) (prefix_self old.learnt.publications);
+        counted = omega (arith, counted);
+      };
+      right = λ history is front mark known.
+          (let low = known.0 in
+          let high = known.1 in
+          let learnt = ap (λ (l : Learnt). mark_of l.publications) told.learnt in (
+            record {
+              front = length new.seen.entries;
+              reading = told.reading;
+              least = omega (arith, low, more);
+              within = begins_length new.seen history is.begins;
+              masked = subst (λ (o : Opening). told.reading ≤ mask o.counter) (sym is.begins.0)
+                  told.masked;
+              reason = subst
+                  (λ (j : Journal). IsRefusalAfter j (entry_of old told.reading cmd) refusal)
+                  (begins_prefix new.seen history is.begins) told.reason;
+            },
+            (omega (arith, low, more), omega (arith, high, learnt)),
+          ));
+    }
+
+-- a look
+pub saw : (old new : Known) (snapshot : Snapshot) → Begins old.seen new.seen →
+    snapshot ≡ snapshot_of new.seen →
+    (new.id ≡ old.id) × (new.accepted ≡ old.accepted) × (new.learnt ≡ old.learnt) →
+    IsAnswer old new Look (Saw snapshot.front)
+saw old new snapshot extends is_of same =
+    let more = begins_length old.seen new.seen extends in
+    let counted = same.1 in
+    let told = ap (λ (s : Snapshot). s.front) is_of in
+    record {
+      later = record {
+        id = same.0;
+        seen = extends;
+        learnt = subst (λ (l : Learnt). IsPrefix old.learnt.publications l.publications)
+            (sym same.2) (prefix_self old.learnt.publications);
+        counted = omega (arith, counted);
+      };
+      right = λ history is front least known.
+          (let low = known.0 in
+          let high = known.1 in
+          let learnt = ap (λ (l : Learnt). mark_of l.publications) same.2 in
+          let within = begins_length new.seen history is.begins in
+          let none : new.seen.opening.count ≡ 0 =
+          sym (ap (λ (o : Opening). o.count) is.begins.0) ∙ whole_count history is.whole in (
+            (omega (arith, low, more, told, none), omega (arith, told, none, within)),
+            (omega (arith, told, none), omega (arith, high, learnt)),
+          ));
+    }
+
+-- a glance that a publication came between
+pub moved : (old new : Known) →
+    IsPrefix old.learnt.publications new.learnt.publications →
+    (new.id ≡ old.id) × (new.accepted ≡ old.accepted) × (new.seen ≡ old.seen) →
+    IsAnswer old new Glance Moved
+moved old new learnt same =
+    let more = prefix_length old.learnt.publications new.learnt.publications learnt in
+    let counted = same.1 in
+    record {
+      later = record {
+        id = same.0;
+        seen = subst (Begins old.seen) (sym same.2) (begins_self old.seen);
+        learnt = learnt;
+        counted = omega (arith, counted);
+      };
+      right = λ history is front least known.
+          (let low = known.0 in
+          let high = known.1 in
+          let seen = ap (λ (j : Journal). length j.entries) same.2 in
+          (tt, (omega (arith, low, seen), omega (arith, high, more))));
+    }
+
+-- a glance
+pub glanced : (old new : Known) (snapshot : Snapshot) →
+    IsPrefix old.learnt.publications new.learnt.publications →
+    IsRead old.learnt new.learnt snapshot →
+    (new.id ≡ old.id) × (new.accepted ≡ old.accepted) × (new.seen ≡ old.seen) →
+    IsAnswer old new Glance (Glanced snapshot.front)
+glanced old new snapshot learnt read same =
+    let counted = same.1 in
+    let latest = read.mark in
+    let newer = read.newer in
+    record {
+      later = record {
+        id = same.0;
+        seen = subst (Begins old.seen) (sym same.2) (begins_self old.seen);
+        learnt = learnt;
+        counted = omega (arith, counted);
+      };
+      right = λ history is front least known.
+          (let low = known.0 in
+          let high = known.1 in
+          let seen = ap (λ (j : Journal). length j.entries) same.2 in
+          let within = is.learnt.within in (
+            (omega (arith, high, newer), omega (arith, latest, within)),
+            (omega (arith, low, seen), omega (arith, latest)),
+          ));
+    }

@@ -1,0 +1,50 @@
+-- Why a race isn't run.
+use Rattle.std.proofs.Common.{◌≡◌, ℕ, ◌≤◌, Bool, true, false, List, length, refl, arith}
+use Rattle.std.specs.Prelude.{Option, Some, None, Result, Ok, Err, MatchResult, not, nat_lt, ◌||◌, if◌then◌else◌}
+use Rattle.std.proofs.lemmas.Bool.{le-ltb}
+use Rattle.tk_counter.specs.Counter.{Counter, mask}
+use Rattle.tk_clock.specs.declared.timespec.Timespec.{Timespec}
+use Rattle.tk_clock.specs.Limits.{is_settable}
+use Rattle.tk_shared.specs.declared.fault.OpenError.{OpenError}
+use Rattle.tk_shared.specs.declared.fault.OpenError.TheVariants as faults
+use Rattle.tk_shared.specs.Opening.{opening_fault, most_callers}
+use Rattle.tk_race.specs.declared.race_error.RaceError.{RaceError}
+use Rattle.tk_race.specs.declared.race_error.RaceError.TheVariants.{Count, Invalid, Memory, Threads}
+use Rattle.tk_race.specs.RaceError.{IsLate, IsRaceError, race_error}
+
+split : (few many good above : Bool) →
+    (if few || many then Some faults.Count
+    else if not good then Some faults.Invalid else None) ≡ None → above ≡ false →
+    (if few || many then Some Count
+    else if above || not good then Some Invalid else None) ≡ None
+split true many good above told low = absurd (cc told)
+split false true good above told low = absurd (cc told)
+split false false false above told low = absurd (cc told)
+split false false true true told low = absurd (cc low)
+split false false true false told low = refl
+
+-- a keeper that could be prepared, and a reading that the counter may have
+pub nothing_wrong : (actors : ℕ) (counter : Counter) (reading : ℕ) (real : Timespec) →
+    opening_fault actors real ≡ None → reading ≤ mask counter →
+    race_error actors counter reading real ≡ None
+nothing_wrong actors counter reading real none low =
+    split (nat_lt actors 1) (nat_lt most_callers actors) (is_settable real)
+    (nat_lt (mask counter) reading) none (le-ltb (mask counter) reading low)
+
+-- then only what comes late may be told
+late : (actors : ℕ) (counter : Counter) (reading : ℕ) (real : Timespec) (error : RaceError) →
+    race_error actors counter reading real ≡ None → IsLate error →
+    IsRaceError actors counter reading real error
+late actors counter reading real Count none is = absurd is
+late actors counter reading real Invalid none is = absurd is
+late actors counter reading real Memory none is = none
+late actors counter reading real Threads none is = none
+
+pub answered : {T : Type 0} (actors : ℕ) (counter : Counter) (reading : ℕ) (real : Timespec)
+    (P Q : T → Type 0) (result : Result T RaceError) →
+    race_error actors counter reading real ≡ None → ((report : T) → P report → Q report) →
+    MatchResult result P IsLate →
+    MatchResult result Q (λ error. IsRaceError actors counter reading real error)
+answered actors counter reading real P Q (Ok report) none more told = more report told
+answered actors counter reading real P Q (Err error) none more told =
+    late actors counter reading real error none told

@@ -1,0 +1,5 @@
+pub mod Answering
+pub mod Acting
+pub mod Actors
+pub mod Outcome
+pub mod Errors

@@ -1,0 +1,12 @@
+use Rattle.tk_race.proofs.racing.race.Given as goal
+
+-- the names are those of what was prepared
+abbrev pub ghosts-raced-L-Named : goal.ghosts-raced-L-Named
+ghosts-raced-L-Named g a = record {
+  page = a.prepared.page;
+  latch = a.prepared.latch;
+  callers = a.prepared.callers;
+}
+
+abbrev pub ghosts-raced-L-Ledger : goal.ghosts-raced-L-Ledger
+ghosts-raced-L-Ledger g a = record { name = a.prepared.ledger; parts = a.prepared.callers }

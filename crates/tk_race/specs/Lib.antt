@@ -1,0 +1,4 @@
+pub mod Replies
+pub mod Race
+pub mod RaceError
+pub mod Actor

@@ -1,0 +1,37 @@
+-- What a race has come to.
+use Rattle.std.specs.Prelude.{◌≡◌, ℕ, ◌+◌, List, [], ◌∷◌, sum_by}
+use Rattle.tk_counter.specs.Counter.{Counter}
+use Rattle.tk_clock.specs.declared.timespec.Timespec.{Timespec}
+use Rattle.tk_clock.specs.Journal.{Journal, accepted_count}
+use Rattle.tk_clock.specs.Legal.{IsWhole}
+use Rattle.tk_page.specs.History.{Begins}
+use Rattle.tk_shared.specs.Opening.{IsOpened}
+use Rattle.tk_shared.specs.History.{IsKeptOf}
+use Rattle.tk_race.specs.declared.action.Action.{Action}
+use Rattle.tk_race.specs.declared.action.RaceReply.{RaceReply}
+use Rattle.tk_race.specs.Replies.{IsActed, done_in}
+
+-- one list of replies for each actor, the actors being numbered on from this id
+abbrev pub HaveAll : Journal → ℕ → List (List Action) → List (List RaceReply) → Type 0
+HaveAll history id [] [] = Unit {0}
+HaveAll history id (actions ∷ others) (replies ∷ more) =
+    IsActed history id actions replies × HaveAll history (id + 1) others more
+HaveAll history id _ _ = ⊥
+
+-- what a race has come to from an opened journal on: a whole history that begins with it, of which
+-- the keeper's journal is what it keeps. Each actor has its part in it, and there are as many
+-- entries as orders that were done
+pub record IsOutcome (start : Journal) (actors : List (List Action)) (journal : Journal)
+    (replies : List (List RaceReply)) : Type 0 where
+  pub history : Journal
+  pub begins : Begins start history
+  pub whole : IsWhole history
+  pub kept : IsKeptOf history journal
+  pub each : HaveAll history 0 actors replies
+  pub counted : accepted_count journal ≡ sum_by done_in replies
+
+-- a race on clocks that were opened over this counter, at some reading of it, with this REALTIME
+abbrev pub IsRaced : Counter → Timespec → List (List Action) → Journal → List (List RaceReply) →
+    Type 0
+IsRaced counter real actors journal replies =
+    (start : Journal) × IsOpened counter real start × IsOutcome start actors journal replies

@@ -1,0 +1,79 @@
+-- What an actor's replies say of the history, which is every command that was accepted.
+use Rattle.std.specs.Prelude.{◌≡◌, ℕ, ◌+◌, ◌<◌, ◌≤◌, List, [], ◌∷◌, length, sum_by, Some}
+use Rattle.tk_counter.specs.Counter.{mask}
+use Rattle.tk_clock.specs.declared.command.Command.{Command}
+use Rattle.tk_clock.specs.declared.command.Entry.{Entry}
+use Rattle.tk_clock.specs.declared.refusal.Refusal.{Refusal}
+use Rattle.tk_clock.specs.Journal.{Journal, prefix}
+use Rattle.tk_keeper.specs.Keeper.{entry_at}
+use Rattle.tk_shared.specs.Callers.{IsRefusalAfter, made_by}
+use Rattle.tk_race.specs.declared.action.Action.{Action}
+use Rattle.tk_race.specs.declared.action.Action.TheVariants.{Order, Look, Glance}
+use Rattle.tk_race.specs.declared.action.RaceReply.{RaceReply}
+use Rattle.tk_race.specs.declared.action.RaceReply.TheVariants.{Done, Refused, Saw, Glanced, Moved}
+
+-- a command of an actor at a reading, as an entry
+abbrev pub order_of : ℕ → ℕ → Command → Entry
+order_of id reading cmd = record { who = id; reading = reading; cmd = cmd }
+
+-- the entry of this number is the actor's command, at some reading
+abbrev pub HasEntry : Journal → ℕ → ℕ → Command → Type 0
+HasEntry history number id cmd =
+    (reading : ℕ) × (entry_at history number ≡ Some (order_of id reading cmd))
+
+-- at some reading of the counter the command is refused so after some first entries of the history,
+-- no fewer than the actor knew of
+pub record IsRefusedIn (history : Journal) (id known : ℕ) (cmd : Command) (refusal : Refusal)
+    : Type 0 where
+  pub front : ℕ
+  pub reading : ℕ
+  pub least : known ≤ front
+  pub within : front ≤ length history.entries
+  pub masked : reading ≤ mask history.opening.counter
+  pub reason : IsRefusalAfter (prefix front history) (order_of id reading cmd) refusal
+
+-- a right reply to an action, where the actor's replies so far tell of this front and this mark
+module _ (history : Journal) (id front mark : ℕ) where
+  abbrev pub IsReply : Action → RaceReply → Type 0
+  IsReply (Order cmd) (Done number) =
+      (front < number) × (mark < number) × HasEntry history number id cmd
+  IsReply (Order cmd) (Refused refusal) = IsRefusedIn history id front cmd refusal
+  IsReply Look (Saw read) = (front ≤ read) × (read ≤ length history.entries)
+  IsReply Glance (Glanced read) = (mark ≤ read) × (read ≤ length history.entries)
+  IsReply Glance Moved = Unit {0}
+  IsReply _ _ = ⊥
+
+-- the front is the number that the last order done or the last look has told, which none of those
+-- before it exceeds
+abbrev pub front_after : ℕ → RaceReply → ℕ
+front_after front (Done number) = number
+front_after front (Saw read) = read
+front_after front _ = front
+
+-- the mark is the number that the last order done or the last glance has told, in the same way
+abbrev pub mark_after : ℕ → RaceReply → ℕ
+mark_after mark (Done number) = number
+mark_after mark (Glanced read) = read
+mark_after mark _ = mark
+
+-- one reply to each action, in order, and each is right
+abbrev pub AreReplies : Journal → ℕ → ℕ → ℕ → List Action → List RaceReply → Type 0
+AreReplies history id front mark [] [] = Unit {0}
+AreReplies history id front mark (action ∷ actions) (reply ∷ replies) =
+    IsReply history id front mark action reply
+    × AreReplies history id (front_after front reply) (mark_after mark reply) actions replies
+AreReplies history id front mark _ _ = ⊥
+
+-- how many orders were done, by these replies
+abbrev pub done_by : RaceReply → ℕ
+done_by (Done number) = 1
+done_by _ = 0
+
+abbrev pub done_in : List RaceReply → ℕ
+done_in replies = sum_by done_by replies
+
+-- an actor's part: its replies are right, and it has as many entries as orders that were done
+pub record IsActed (history : Journal) (id : ℕ) (actions : List Action) (replies : List RaceReply)
+    : Type 0 where
+  pub right : AreReplies history id 0 0 actions replies
+  pub own : made_by id history.entries ≡ done_in replies

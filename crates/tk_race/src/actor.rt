@@ -1,0 +1,75 @@
+//! An actor, and what it does in its thread.
+ghost use Rattle.std.specs.Prelude.{◌≡◌, ◌≤◌, [], length};
+ghost use Rattle.tk_race.specs.Actor.{IsAnswer, HasActed, IsReady};
+
+use crate::action::{Action, RaceReply};
+use std::marker::Model;
+use std::sync::Wait;
+use tk_gate::Gate;
+use tk_shared::{Caller, Named, SharedKeeper, Ticker};
+
+/// An actor: its caller, and the replies that it has so far.
+#[derive(Drop)]
+pub(crate) struct Actor<L: Named> {
+    pub(crate) caller: Caller<L>,
+    pub(crate) replies: Vec<RaceReply>,
+}
+
+impl<L: Named> Model for Actor<L> {
+    ghost use Rattle.std.specs.Prelude.{vec_capacity};
+    ghost use Rattle.tk_race.specs.Actor.{Actor};
+
+    ghost Value = { Actor };
+
+    ghost view = { λ a. record {
+      caller = a.caller;
+      replies = a.replies.items;
+      room = vec_capacity a.replies;
+    } };
+}
+
+/// Does an action.
+fn answer<L: Named, R: Wait>(
+    rt: &R,
+    keeper: &SharedKeeper<L, Ticker>,
+    caller: &mut Caller<L>,
+    action: Action,
+) -> RaceReply
+    ensures { IsAnswer caller.old caller.new action result }
+{
+    match action {
+        Action::Order(cmd) => match keeper.command(rt, caller, cmd) {
+            Ok(number) => RaceReply::Done(number),
+            Err(refusal) => RaceReply::Refused(refusal),
+        },
+        Action::Look => RaceReply::Saw(keeper.read(rt, caller).front()),
+        Action::Glance => match keeper.fast_read(caller) {
+            Ok(snapshot) => RaceReply::Glanced(snapshot.front()),
+            Err(_) => RaceReply::Moved,
+        },
+    }
+}
+
+/// Does all actions of an actor, in order, and tells the gate of it as a piece.
+pub(crate) fn act<L: Named, G: Gate, R: Wait>(
+    rt: &R,
+    keeper: &SharedKeeper<L, Ticker>,
+    gate: &G,
+    piece: usize,
+    actions: &[Action],
+    actor: Actor<L>,
+) -> Actor<L>
+    requires ready { IsReady actions.now actor }
+    ensures { HasActed actor.caller result.caller actions.now result.replies }
+{
+    gate.before(piece);
+    let Actor {
+        mut caller,
+        mut replies,
+    } = actor;
+    for action in actions {
+        replies.push_reserved(answer(rt, keeper, &mut caller, *action));
+    }
+    gate.after(piece);
+    Actor { caller, replies }
+}

@@ -1,0 +1,29 @@
+//! Races: actors in threads of their own, on one shared keeper.
+//!
+//! | Item | What it is |
+//! |---|---|
+//! | `race` | lets each actor do its actions in a thread of its own |
+//! | `Action` | what an actor does: it gives a command, or reads the clocks in one of two ways |
+//! | `RaceReply` | what it is answered |
+//! | `RaceReport` | the keeper in the end, and all replies |
+//! | `RaceError` | why a race isn't run |
+//!
+//! Actors are numbered from 0, and that is also the number of their caller and of their piece: a
+//! `Gate` of `tk_gate` is told when an actor begins and when it is done. Commands, readings and
+//! times are those of `tk_clock`.
+#![tactic(auto)]
+
+mod action;
+mod actor;
+mod race_error;
+mod racing;
+mod report;
+mod starting;
+
+pub use action::{Action, RaceReply};
+pub use race_error::RaceError;
+pub use racing::race;
+pub use report::RaceReport;
+
+#[cfg(test)]
+mod tests;

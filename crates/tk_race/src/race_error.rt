@@ -1,0 +1,56 @@
+ghost use Rattle.std.specs.Prelude.{◌≡◌, Some};
+ghost use Rattle.tk_race.specs.RaceError.{error_of, error_text};
+ghost use Rattle.tk_race.specs.declared.race_error.RaceError.TheVariants.{Memory};
+
+use std::alloc::AllocError;
+use std::error::Error;
+use std::fmt;
+use tk_shared::OpenError;
+
+/// Why a race isn't run. Where more than one holds, the first in this order is told.
+#[derive(Clone, Copy, Debug, PartialEq, Eq)]
+pub enum RaceError {
+    /// There are fewer actors than 1 or more than 64.
+    Count,
+    /// The clocks can't be opened at this reading, or at this time.
+    Invalid,
+    /// Memory was refused, before any thread was started.
+    Memory,
+    /// A thread couldn't be started. Those that were have ended.
+    Threads,
+}
+
+impl fmt::Display for RaceError {
+    ghost output = { λ error. Some (error_text error) };
+
+    fn fmt<W: fmt::Write>(&self, f: &mut fmt::Formatter<W>) -> fmt::Result {
+        f.write_str(match self {
+            RaceError::Count => "count out of range",
+            RaceError::Invalid => "invalid opening",
+            RaceError::Memory => "out of memory",
+            RaceError::Threads => "cannot start a thread",
+        })
+    }
+}
+
+impl Error for RaceError {}
+
+impl From<AllocError> for RaceError {
+    ghost from_gives = { λ _ error. error ≡ Memory };
+
+    fn from(_: AllocError) -> RaceError {
+        RaceError::Memory
+    }
+}
+
+impl From<OpenError> for RaceError {
+    ghost from_gives = { λ fault error. error ≡ error_of fault };
+
+    fn from(fault: OpenError) -> RaceError {
+        match fault {
+            OpenError::Count => RaceError::Count,
+            OpenError::Invalid => RaceError::Invalid,
+            OpenError::Memory => RaceError::Memory,
+        }
+    }
+}

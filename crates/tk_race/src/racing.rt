@@ -1,0 +1,145 @@
+ghost use Rattle.std.specs.Prelude.{◌≡◌, ◌<◌, ◌≤◌, length, map, IfOk, MatchResult, None, vec_len, vec_capacity};
+ghost use Rattle.tk_shared.specs.Opening.{IsNamed};
+ghost use Rattle.tk_race.specs.Race.{IsRaced, IsOutcome};
+ghost use Rattle.tk_race.specs.RaceError.{IsRaceError, IsLate, race_error};
+ghost use Rattle.tk_race.specs.Actor.{AreReady};
+
+use crate::action::{Action, RaceReply};
+use crate::actor::Actor;
+use crate::race_error::RaceError;
+use crate::report::RaceReport;
+use crate::starting::act_at_once;
+use std::alloc::{AllocError, Global};
+use std::marker::Brand;
+use std::sync::Wait;
+use std::thread::Threads;
+use tk_clock::Timespec;
+use tk_counter::CounterDesc;
+use tk_gate::Gate;
+use tk_shared::{Caller, Named, Prepared, SharedKeeper, Ticker, prepare};
+
+/// The most actors of a race: as many callers as a keeper has.
+const ACTORS_LIMIT: usize = 64;
+
+/// Lets each actor do its actions in a thread of its own, all on one keeper, whose counter is read
+/// at opening as `reading` and in each order a `step` of cycles later, modulo 2^64.
+///
+/// The replies are those of `SharedKeeper`'s `command`, `read` and `fast_read`. The gate is told of
+/// each actor as a piece: `before` comes ahead of its first action, `after` behind its last.
+///
+/// In this order: Count where there are fewer actors than 1 or more than 64; Invalid where the
+/// reading is above the mask, or REALTIME may not be set to `real`; Memory, which comes before any
+/// thread is started; Threads where one can't be started, and then those that were have ended.
+pub fn race<G: Gate + Sync, R: Threads + Wait + Sync>(
+    rt: &R,
+    alloc: Global,
+    desc: CounterDesc,
+    reading: u64,
+    real: Timespec,
+    step: u64,
+    actors: &[Vec<Action>],
+    gate: &G,
+) -> Result<RaceReport, RaceError>
+    ensures { MatchResult result
+        (λ report. (race_error (length actors.now) desc reading real ≡ None)
+        × IsRaced desc real (map (λ a. a.items) actors.now) report.keeper.journal
+        (map (λ r. r.items) report.replies.items))
+        (λ error. IsRaceError (length actors.now) desc reading real error) }
+{
+    if actors.is_empty() || actors.len() > ACTORS_LIMIT {
+        return Err(RaceError::Count);
+    }
+    if reading > desc.mask() {
+        return Err(RaceError::Invalid);
+    }
+    let counter = Ticker::new(reading, step);
+    match prepare(alloc, rt, desc, real, counter, actors.len(), orders(actors)) {
+        Ok(prepared) => raced::<Brand, G, R>(rt, alloc, prepared, actors, gate),
+        Err(fault) => Err(fault.error.into()),
+    }
+}
+
+/// How many orders there are.
+fn orders(actors: &[Vec<Action>]) -> usize {
+    let mut count = 0usize;
+    for actions in actors {
+        for action in actions {
+            if let Action::Order(_) = action {
+                count = count.saturating_add(1);
+            }
+        }
+    }
+    count
+}
+
+/// Opens the keeper, lets all actors act, and closes it.
+///
+/// All room is asked for before the first thread is started.
+fn raced<L: Named + Send + Sync, G: Gate + Sync, R: Threads + Wait + Sync>(
+    rt: &R,
+    alloc: Global,
+    prepared: Prepared<Ticker>,
+    actions: &[Vec<Action>],
+    gate: &G,
+) -> Result<RaceReport, RaceError>
+    requires named { IsNamed prepared L.page L.latch L.name L.parts L.callers }
+    requires callers { prepared.callers ≡ length actions.now }
+    requires some { 0 < length actions.now }
+    ensures { MatchResult result
+        (λ report. IsOutcome prepared.journal (map (λ a. a.items) actions.now)
+        report.keeper.journal (map (λ r. r.items) report.replies.items))
+        IsLate }
+{
+    let Ok((keeper, callers)) = SharedKeeper::<L, Ticker>::open(alloc, prepared) else {
+        return Err(RaceError::Memory);
+    };
+    let mut back = Vec::with_capacity(alloc, actions.len())?;
+    let mut replies = Vec::with_capacity(alloc, actions.len())?;
+    let actors = ready(alloc, actions, callers)?;
+    let acted = act_at_once(rt, &keeper, gate, actions, actors)?;
+    part(acted, &mut back, &mut replies);
+    let Ok(closed) = keeper.close(rt, back) else {
+        unreachable!()
+    };
+    Ok(RaceReport {
+        keeper: closed.keeper,
+        replies,
+    })
+}
+
+/// An actor for each caller, with room for its replies.
+fn ready<L: Named>(
+    alloc: Global,
+    actions: &[Vec<Action>],
+    callers: Vec<Caller<L>>,
+) -> Result<Vec<Actor<L>>, AllocError>
+    requires callers { vec_len callers ≡ length actions.now }
+    ensures callers { IfOk result (λ actors. map (λ a. a.caller) actors.items ≡ callers.items) }
+    ensures ready { IfOk result (λ actors.
+        AreReady (map (λ a. a.items) actions.now) actors.items) }
+{
+    let mut actors = Vec::with_capacity(alloc, actions.len())?;
+    for caller in callers {
+        let replies = Vec::with_capacity(alloc, actions[actors.len()].len())?;
+        actors.push_reserved(Actor { caller, replies });
+    }
+    Ok(actors)
+}
+
+/// Puts the callers of these actors, and their replies, into vectors that have the room.
+fn part<L: Named>(
+    actors: Vec<Actor<L>>,
+    callers: &mut Vec<Caller<L>>,
+    replies: &mut Vec<Vec<RaceReply>>,
+)
+    requires empty { (vec_len callers.old ≡ 0) × (vec_len replies.old ≡ 0) }
+    requires room { (vec_len actors ≤ vec_capacity callers.old)
+        × (vec_len actors ≤ vec_capacity replies.old) }
+    ensures callers { callers.new.items ≡ map (λ a. a.caller) actors.items }
+    ensures replies { map (λ r. r.items) replies.new.items ≡ map (λ a. a.replies) actors.items }
+{
+    for actor in actors {
+        callers.push_reserved(actor.caller);
+        replies.push_reserved(actor.replies);
+    }
+}

@@ -1,0 +1,110 @@
+//! Each actor in a thread of its own.
+ghost use Rattle.std.specs.Prelude.{◌≡◌, length, map, IfOk, vec_len, vec_capacity, MatchResult};
+ghost use Rattle.tk_race.specs.Actor.{HasActed, IsReady, HaveActed, AreReady};
+
+use crate::action::Action;
+use crate::actor::{Actor, act};
+use crate::race_error::RaceError;
+use std::snapshot::Snapshot;
+use std::sync::Wait;
+use std::thread;
+use std::thread::{Promise, PromisedHandle, Scope, Threads};
+use tk_gate::Gate;
+use tk_shared::{Caller, Named, SharedKeeper, Ticker};
+
+/// What an actor's thread promises: it has done these actions, from this caller on.
+#[derive(Drop)]
+struct Acts<L: Named> {
+    caller: Snapshot<Caller<L>>,
+    actions: Snapshot<Vec<Action>>,
+}
+
+impl<L: Named> Promise<Actor<L>> for Acts<L> {
+    ghost use Rattle.tk_race.specs.Actor.{HasActed};
+
+    ghost kept_by = { λ p actor.
+        HasActed p.caller.value actor.caller p.actions.value.items actor.replies };
+}
+
+/// Starts an actor's thread; Threads where it can't be started.
+fn start<'s, 'e, L: Named + Send + Sync + 'e, G: Gate + Sync, R: Threads + Wait + Sync>(
+    scope: &'s Scope<'s, &'e ()>,
+    rt: &'e R,
+    keeper: &'e SharedKeeper<L, Ticker>,
+    gate: &'e G,
+    piece: usize,
+    actions: &'e Vec<Action>,
+    actor: Actor<L>,
+) -> Result<PromisedHandle<Actor<L>, Acts<L>>, RaceError>
+    requires ready { IsReady actions.now.items actor }
+    ensures { MatchResult result
+        (λ handle. (handle.promise.caller.value ≡ actor.caller)
+        × (handle.promise.actions.value ≡ actions.now))
+        (λ error. error ≡ RaceError.Threads) }
+{
+    let promise = Acts {
+        caller: Snapshot::of(&actor.caller),
+        actions: Snapshot::of(actions),
+    };
+    let work = move || -> Actor<L>
+        requires { IsReady actions.now.items actor }
+        ensures { HasActed actor.caller result.caller actions.entry.now.items result.replies }
+    { act(rt, keeper, gate, piece, actions.as_slice(), actor) };
+    match scope.spawn_with(promise, work) {
+        Ok(handle) => Ok(handle),
+        Err(_) => Err(RaceError::Threads),
+    }
+}
+
+/// Starts a thread for each actor, the last one first, and joins them all. It takes no memory of
+/// its own: the actors that come back stand where they stood.
+fn start_all<'s, 'e, L: Named + Send + Sync + 'e, G: Gate + Sync, R: Threads + Wait + Sync>(
+    scope: &'s Scope<'s, &'e ()>,
+    rt: &'e R,
+    keeper: &'e SharedKeeper<L, Ticker>,
+    gate: &'e G,
+    actions: &'e [Vec<Action>],
+    mut actors: Vec<Actor<L>>,
+) -> Result<Vec<Actor<L>>, RaceError>
+    requires ready { AreReady (map (λ a. a.items) actions.now) actors.items }
+    ensures acted { MatchResult result
+        (λ back. HaveActed (map (λ a. a.items) actions.now) actors.items back.items)
+        (λ error. error ≡ RaceError.Threads) }
+    ensures room { IfOk result (λ back. vec_capacity back ≡ vec_capacity actors) }
+{
+    let Some((last, others)) = actions.split_last() else {
+        return Ok(actors);
+    };
+    let actor = actors.pop().unwrap();
+    let handle = start(scope, rt, keeper, gate, others.len(), last, actor)?;
+    let mut back = start_all(scope, rt, keeper, gate, others, actors)?;
+    back.push_reserved(handle.join(rt));
+    Ok(back)
+}
+
+/// Lets all actors act at once, each in a thread of its own, until all are done.
+///
+/// Threads where one couldn't be started: then too those that were started have ended.
+pub(crate) fn act_at_once<L: Named + Send + Sync, G: Gate + Sync, R: Threads + Wait + Sync>(
+    rt: &R,
+    keeper: &SharedKeeper<L, Ticker>,
+    gate: &G,
+    actions: &[Vec<Action>],
+    actors: Vec<Actor<L>>,
+) -> Result<Vec<Actor<L>>, RaceError>
+    requires ready { AreReady (map (λ a. a.items) actions.now) actors.items }
+    ensures { MatchResult result
+        (λ back. HaveActed (map (λ a. a.items) actions.now) actors.items back.items)
+        (λ error. error ≡ RaceError.Threads) }
+{
+    thread::scope(
+        thread::scope_env(),
+        rt,
+        move |scope| -> Result<Vec<Actor<L>>, RaceError>
+            requires { AreReady (map (λ a. a.items) actions.now) actors.items }
+            ensures { MatchResult result
+                (λ back. HaveActed (map (λ a. a.items) actions.entry.now) actors.items back.items)
+                (λ error. error ≡ RaceError.Threads) }
+        { start_all(scope, rt, keeper, gate, actions, actors) },
+    )
+}
