@@ -3,7 +3,9 @@ ghost use Rattle.std.specs.Prelude.{◌≡◌};
 ghost use Rattle.tk_shared.specs.Opening.{IsNamed};
 
 use super::{OPENED_TIME, commanded, nanosecond_counter, read_by};
-use crate::{Caller, Counter, Named, OpenError, OpenFault, Prepared, SharedKeeper, Ticker, prepare};
+use crate::{
+    Caller, Counter, Named, OpenError, OpenFault, Prepared, SharedKeeper, Ticker, prepare,
+};
 use std::alloc::Global;
 use std::marker::Brand;
 use std::process::Abort;
