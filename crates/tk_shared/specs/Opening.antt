@@ -12,14 +12,15 @@ use Rattle.tk_latch.specs.Latch.{LatchId, Published, Learnt, opened_writer, open
 use Rattle.tk_shared.specs.declared.fault.OpenError.{OpenError}
 use Rattle.tk_shared.specs.declared.fault.OpenError.TheVariants.{Count, Invalid, Memory}
 
--- what is ready to be opened: the page, the latch, the ledger's name, the number of callers, and the
--- journal without entries
+-- what is ready to be opened: the page, the latch, the ledger's name, the number of callers, the
+-- journal without entries, and how many commands it has room for
 pub record Start : Type 0 where
   pub page : TableId
   pub latch : LatchId
   pub ledger : ℕ
   pub callers : ℕ
   pub journal : Journal
+  pub spare : ℕ
 
 -- a type's names are those of what was prepared; each caller has one part of the ledger
 abbrev pub IsNamed : Start → TableId → LatchId → ℕ → ℕ → ℕ → Type 0

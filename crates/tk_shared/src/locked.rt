@@ -17,8 +17,8 @@ use std::sync::Wait;
 use std::sync::ledger::{Book, Share};
 use tk_clock::{Command, Entry, Refusal, Snapshot};
 use tk_keeper::Timekeeper;
-use tk_latch::{Latch, LatchWriter};
-use tk_page::{Page, Publisher};
+use tk_latch::{Latch, LatchReader, LatchWriter};
+use tk_page::{Page, Publisher, Viewer};
 
 /// What lies under the lock.
 ///
@@ -89,11 +89,16 @@ impl<L: Named, C: Counter> Locked<L, C> {
         latch.tell(&mut self.writer, &mut caller.reader);
         let entry = Entry { who, reading, cmd };
         let snapshot = self.keeper.snapshot();
-        self.publisher.publish(rt, page, entry, snapshot);
-        publish_in_turn(latch, &mut self.writer, snapshot);
+        show_on_page(
+            rt,
+            page,
+            &mut self.publisher,
+            &mut caller.viewer,
+            entry,
+            snapshot,
+        );
+        show_on_latch(latch, &mut self.writer, &mut caller.reader, snapshot);
         self.book.add(&mut caller.share, 1);
-        page.tell(rt, &mut self.publisher, &mut caller.viewer);
-        latch.tell(&mut self.writer, &mut caller.reader);
         caller.accepted += 1;
         Ok(number)
     }
@@ -111,16 +116,43 @@ impl<L: Named, C: Counter> Locked<L, C> {
     }
 }
 
-/// Publishes the next snapshot on the latch, which has room for as many as a journal counts.
-fn publish_in_turn(latch: &Latch, writer: &mut LatchWriter, snapshot: Snapshot)
-    requires latch { writer.old.latch ≡ latch.now }
+/// Publishes an entry on the page, and tells its caller so.
+fn show_on_page<R: Wait>(
+    rt: &R,
+    page: &Page,
+    publisher: &mut Publisher,
+    viewer: &mut Viewer,
+    entry: Entry,
+    snapshot: Snapshot,
+)
+    requires page { (publisher.old.page ≡ page.now) × (viewer.old.page ≡ page.now) }
+    requires snapshot { snapshot ≡ snapshot_of (followed_by publisher.old.journal entry) }
+    ensures publisher { publisher.new
+        ≡ record publisher.old { journal = followed_by publisher.old.journal entry } }
+    ensures viewer { viewer.new ≡ publisher.new }
+{
+    publisher.publish(rt, page, entry, snapshot);
+    page.tell(rt, publisher, viewer);
+}
+
+/// Publishes the next snapshot on the latch, which has room for as many as a journal counts, and
+/// tells its caller so.
+fn show_on_latch(
+    latch: &Latch,
+    writer: &mut LatchWriter,
+    reader: &mut LatchReader,
+    snapshot: Snapshot,
+)
+    requires latch { (writer.old.latch ≡ latch.now) × (reader.old.latch ≡ latch.now) }
     requires counter { snapshot.base.counter ≡ latch.now.counter }
     requires number { snapshot.front ≡ length writer.old.publications }
     requires room { length writer.old.publications < counted_most + 1 }
-    ensures { writer.new
+    ensures writer { writer.new
         ≡ record writer.old { publications = writer.old.publications ++ snapshot ∷ [] } }
+    ensures reader { reader.new ≡ told_reader writer.new }
 {
     let Ok(()) = writer.publish(latch, snapshot) else {
         return;
     };
+    latch.tell(writer, reader);
 }

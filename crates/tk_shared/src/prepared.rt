@@ -1,6 +1,7 @@
 //! What a shared keeper needs, made before any type names it.
-ghost use Rattle.std.specs.Prelude.{◌≡◌, ◌≤◌, [], length, MatchResult, IfOk, None};
+ghost use Rattle.std.specs.Prelude.{◌≡◌, ◌≤◌, [], length, min, MatchResult, IfOk, None};
 ghost use Rattle.tk_clock.specs.Legal.{IsWhole};
+ghost use Rattle.tk_clock.specs.Limits.{listed_most};
 ghost use Rattle.tk_shared.specs.Opening.{IsOpened, IsOpenFault, IsReady, opening_fault, most_callers};
 
 use crate::counter::Counter;
@@ -56,6 +57,7 @@ impl<C: Counter> Model for Prepared<C> {
       ledger = p.blank.name;
       callers = length p.parts.readers.items;
       journal = p.parts.keeper.journal;
+      spare = p.parts.keeper.spare;
     } };
 
     ghost invariant = { λ p.
@@ -65,6 +67,7 @@ impl<C: Counter> Model for Prepared<C> {
           ledger = p.blank.name;
           callers = length p.parts.readers.items;
           journal = p.parts.keeper.journal;
+          spare = p.parts.keeper.spare;
         }) p.parts.publisher p.parts.viewer p.parts.writer p.parts.readers.items
         × (p.mask ≡ greatest_reading p.parts.keeper.journal.opening.counter)
         × (p.blank.parts ≡ length p.parts.readers.items) };
@@ -87,7 +90,7 @@ pub fn prepare<C: Counter, R: Wait>(
 ) -> Result<Prepared<C>, OpenFault<C>>
     ensures { MatchResult result
         (λ prepared. (opening_fault callers real ≡ None) × (prepared.callers ≡ callers)
-        × IsOpened desc real prepared.journal)
+        × IsOpened desc real prepared.journal × (min room listed_most ≤ prepared.spare))
         (λ fault. IsOpenFault callers real fault.error) }
 {
     if callers < 1 || callers > CALLERS_LIMIT {
@@ -133,12 +136,14 @@ fn assemble<R: Wait>(
     requires whole { IsWhole keeper.journal }
     requires empty { keeper.journal.entries ≡ [] }
     ensures { IfOk result (λ parts. (parts.keeper.journal ≡ keeper.journal)
+        × (min room listed_most ≤ parts.keeper.spare)
         × IsReady (record {
           page = parts.page;
           latch = parts.latch;
           ledger = 0;
           callers = callers;
           journal = keeper.journal;
+          spare = parts.keeper.spare;
         }) parts.publisher parts.viewer parts.writer parts.readers.items) }
 {
     let mut keeper = keeper;

@@ -42,8 +42,8 @@ returns-in-Err-clause-answer g c =
           ∙ c.self.view_is,
     )
 
-pub publish-requires-clause-snapshot : goal.publish-requires-clause-snapshot
-publish-requires-clause-snapshot g c =
+pub show_on_page-requires-clause-snapshot : goal.show_on_page-requires-clause-snapshot
+show_on_page-requires-clause-snapshot g c =
     let entry : Entry = record {
       who = c.caller.inside.id;
       reading = bit_and c.read.result c.self.inside.mask;
@@ -66,12 +66,12 @@ invariant_of-self-2 g c =
     let now = held_accepted g.L.Named.page g.L.Named.latch _ entry c.self.invariant.0
     c.in-Ok.ensures.answer.0 in
     let longer : History → History = λ h. record h { journal = followed_by h.journal entry } in
-    let shown = c.tell-3.ensures.publisher ∙ c.publish.ensures ∙ ap longer c.tell.ensures.publisher in
+    let shown = c.show_on_page.ensures.publisher ∙ ap longer c.tell.ensures.publisher in
     let snapshot = c.snapshot-snapshot.ensures.value ∙ ap snapshot_of c.in-Ok.ensures.answer.1
     ∙ kept_snapshot _ _ now.whole now.kept in
     let pushed : Published × Snapshot → Published =
     λ p. record p.0 { publications = p.0.publications ++ p.1 ∷ [] } in
-    let latched = c.tell-4.ensures.writer ∙ c.publish_in_turn.ensures
+    let latched = c.show_on_latch.ensures.writer
     ∙ ap pushed (λ i. (c.tell-2.ensures.writer i, snapshot i)) in (
       subst (IsHeld g.L.Named.page g.L.Named.latch)
           (λ i. record {
@@ -115,13 +115,14 @@ returns-clause-answer g c =
     (answer.2 ∙ ap accepted_count answer.1) in
     let longer : History → History = λ h. record h { journal = followed_by h.journal entry } in
     let seen = ap (λ (h : History). h.journal)
-    (c.tell-3.ensures.viewer ∙ c.publish.ensures ∙ ap longer c.tell.ensures.publisher) in
+    (c.show_on_page.ensures.viewer ∙ c.show_on_page.ensures.publisher
+    ∙ ap longer c.tell.ensures.publisher) in
     let snapshot = c.snapshot-snapshot.ensures.value ∙ ap snapshot_of answer.1
     ∙ kept_snapshot _ _ now.whole now.kept in
     let pushed : Published × Snapshot → Published =
     λ p. record p.0 { publications = p.0.publications ++ p.1 ∷ [] } in
-    let learnt = c.tell-4.ensures.reader
-    ∙ ap told_reader (c.publish_in_turn.ensures
+    let learnt = c.show_on_latch.ensures.reader
+    ∙ ap told_reader (c.show_on_latch.ensures.writer
     ∙ ap pushed (λ i. (c.tell-2.ensures.writer i, snapshot i))) in
     let new : Journal × Learnt → Known = λ p. record {
       id = caller.id;
@@ -131,7 +132,7 @@ returns-clause-answer g c =
     } in
     subst
     (λ (k : Known).
-    IsAccepted k (new (c.tell-3.new.viewer.journal, c.tell-4.new.reader)) c.args.cmd c.in-Ok.number)
+    IsAccepted k (new (c.show_on_page.new.viewer.journal, c.show_on_latch.new.reader)) c.args.cmd c.in-Ok.number)
     c.caller.view_is
     (subst (λ (p : Journal × Learnt). IsAccepted old (new p) c.args.cmd c.in-Ok.number)
     (λ i. (sym seen i, sym learnt i)) told)
