@@ -14,6 +14,7 @@ const LONGEST_NANOS: u64 = 9_223_372_036 * NANOS_PER_SECOND;
 const HALF_WORD: u64 = 1 << 32;
 
 /// An amount of time: whole seconds, and what is left of them in units of `2^-shift` ns.
+#[repr(C)]
 #[derive(Clone, Copy, Debug, PartialEq, Eq)]
 pub(crate) struct Amount {
     pub sec: u64,
@@ -48,6 +49,16 @@ impl Amount {
             sec: self.sec + seconds,
             frac,
         })
+    }
+
+    /// The amount in units of `2^-shift` ns.
+    pub fn units(self, desc: &CounterDesc) -> u128
+        requires rest { self.frac < second desc.now }
+        requires few { self.sec ≤ raw_end }
+        ensures value { result ≡ units_of desc.now self }
+        ensures low { result < 2 ^ 93 }
+    {
+        u128::from(self.sec) * u128::from(desc.second()) + u128::from(self.frac)
     }
 
     /// The amount in whole nanoseconds.

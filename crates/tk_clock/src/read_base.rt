@@ -1,16 +1,17 @@
-ghost use Rattle.std.specs.Prelude.{◌≡◌, ℕ, ◌+◌, ◌*◌, ◌/◌, ◌^◌, ◌<◌, ◌≤◌, MatchOption, MatchResult, Some, None, pos, ◌≤ℤ◌, ◌+ℤ◌, ◌*ℤ◌, ◌<ℤ◌, not, nat_lt, int_lt, true, false};
+ghost use Rattle.std.specs.Prelude.{◌≡◌, ℕ, ◌+◌, ◌*◌, ◌/◌, ◌^◌, ◌<◌, ◌≤◌, MatchOption, MatchResult, Some, None, pos, ◌≤ℤ◌, ◌+ℤ◌, ◌*ℤ◌, ◌<ℤ◌, not, nat_lt, int_lt, true, false, IsTrue, ◌↔◌};
 
 mod changes;
 
 use crate::amount::{Amount, NANOS_PER_SECOND};
 use crate::clock_id::ClockId;
-use crate::limits::limit;
+use crate::limits::{SHORTEST_TICK, SLOWEST_FREQUENCY, limit};
 use crate::refusal::ReadError;
 use crate::timespec::{Timespec, timespec_of};
 use std::marker::Model;
 use tk_counter::CounterDesc;
 
 /// What reading the clocks takes, as the kernel's `struct tk_read_base`.
+#[repr(C)]
 #[derive(Clone, Copy, Debug)]
 pub(crate) struct ReadBase {
     /// The counter.
@@ -143,6 +144,15 @@ impl ReadBase {
         ensures below { result.sec < raw_end }
     {
         self.raw
+    }
+
+    /// Is MONOTONIC_RAW no further ahead of MONOTONIC than the slowest rate brings it?
+    pub fn is_rated(&self) -> bool
+        ensures { IsTrue result ↔ IsRated self.now }
+    {
+        let slowest = self.desc.mult_at(SLOWEST_FREQUENCY, SHORTEST_TICK);
+        self.raw.units(&self.desc) * u128::from(slowest)
+            <= self.monotonic.units(&self.desc) * u128::from(self.desc.mult())
     }
 
     /// The base and a front as ten words.
