@@ -51,7 +51,8 @@ static void commands(struct tk_clock *clock, const struct tk_counter *counter)
 	MEET(TK_OK, tk_clock_apply(clock, 7, TK_CMD_RESUME, 5, 0));
 }
 
-/* MONOTONIC may come to its end, and the count to the greatest. */
+/* MONOTONIC may come to its end, and the count to the greatest. The multiplier
+ * is that of the frequency and the tick. */
 static void ends(struct tk_clock *clock, const struct tk_counter *counter)
 {
 	uint64_t words[TK_WORDS];
@@ -65,6 +66,10 @@ static void ends(struct tk_clock *clock, const struct tk_counter *counter)
 	MEET(TK_FULL, tk_clock_apply(&full, words[1], TK_CMD_UPDATE, 0, 0));
 	MEET(TK_BAD_WORDS, tk_clock_from_words(&full, counter, words,
 					       frequency, 11001));
+	words[2]++;
+	MEET(TK_BAD_WORDS, tk_clock_from_words(&full, counter, words,
+					       frequency, tick));
+	words[2]--;
 	words[4] = words[9] = 946079999;
 	MEET(TK_OK, tk_clock_from_words(clock, counter, words, frequency,
 					tick));
