@@ -33,7 +33,9 @@ pub extern "C" fn tk_snapshot_get(
     };
     match snapshot.get(named, reading) {
         Ok(time) => {
-            *out = time;
+            // one word each, as the read has left them
+            out.sec = time.sec;
+            out.nsec = time.nsec;
             Code::Done.number()
         }
         Err(refusal) => Code::from(refusal).number(),

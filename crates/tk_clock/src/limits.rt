@@ -37,6 +37,7 @@ pub(crate) const USUAL_TICK: i64 = 10_000;
 pub(crate) const TAI_OFFSET_MOST: i64 = 100_000;
 
 /// The nanoseconds at which a clock ends.
+#[inline(always)]
 pub(crate) fn limit(clock: ClockId) -> u64
     ensures value { pos result ≡ limit clock }
     ensures most { result ≤ clock_end * 10 ^ 9 }

@@ -195,6 +195,7 @@ impl ReadBase {
     }
 
     /// A clock at a reading, in ns. None where it is beyond every limit.
+    #[inline(always)]
     fn value(&self, clock: ClockId, reading: u64) -> Option<u64>
         ensures { MatchOption result
             (limit clock ≤ℤ base_value self.now clock reading)
@@ -214,7 +215,29 @@ impl ReadBase {
     }
 
     /// A clock's time at a reading, or the first thing that is wrong.
+    ///
+    /// Each clock gets the steps for itself, so that which one it is is tested once.
     pub fn get(&self, clock: ClockId, reading: u64) -> Result<Timespec, ReadError>
+        ensures { MatchResult result
+            (λ time. (read_refusal self.now clock reading ≡ None)
+            × (nanoseconds time ≡ base_value self.now clock reading) × (time.nsec < 10 ^ 9)
+            × (pos 0 ≤ℤ time.sec))
+            (λ refusal. read_refusal self.now clock reading ≡ Some refusal) }
+    {
+        match clock {
+            ClockId::Realtime => self.time_of(ClockId::Realtime, reading),
+            ClockId::Monotonic => self.time_of(ClockId::Monotonic, reading),
+            ClockId::Boottime => self.time_of(ClockId::Boottime, reading),
+            ClockId::Tai => self.time_of(ClockId::Tai, reading),
+            ClockId::RealtimeCoarse => self.time_of(ClockId::RealtimeCoarse, reading),
+            ClockId::MonotonicCoarse => self.time_of(ClockId::MonotonicCoarse, reading),
+            ClockId::MonotonicRaw => self.time_of(ClockId::MonotonicRaw, reading),
+        }
+    }
+
+    /// As `get`, where the compiler knows the clock.
+    #[inline(always)]
+    fn time_of(&self, clock: ClockId, reading: u64) -> Result<Timespec, ReadError>
         ensures { MatchResult result
             (λ time. (read_refusal self.now clock reading ≡ None)
             × (nanoseconds time ≡ base_value self.now clock reading) × (time.nsec < 10 ^ 9)
