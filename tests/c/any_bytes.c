@@ -28,9 +28,12 @@ enum {
 };
 
 static const uint32_t CLOCKS[] = {
-	TK_CLOCK_REALTIME,	    TK_CLOCK_MONOTONIC,
-	TK_CLOCK_MONOTONIC_RAW,	    TK_CLOCK_REALTIME_COARSE,
-	TK_CLOCK_MONOTONIC_COARSE,  TK_CLOCK_BOOTTIME,
+	TK_CLOCK_REALTIME,
+	TK_CLOCK_MONOTONIC,
+	TK_CLOCK_MONOTONIC_RAW,
+	TK_CLOCK_REALTIME_COARSE,
+	TK_CLOCK_MONOTONIC_COARSE,
+	TK_CLOCK_BOOTTIME,
 	TK_CLOCK_TAI,
 };
 
@@ -138,17 +141,17 @@ static void *place(struct room room, size_t size)
 }
 
 static struct {
-	struct room counter, clock, snapshot, other, words, time, frequency,
-		tick, stamps, out, done;
+	struct room counter, clock, snapshot, other;
+	struct room words, time, frequency, tick;
+	struct room stamps, out, done;
 } rooms;
 
 static void make_rooms(void)
 {
 	struct room *all[] = {
-		&rooms.counter,	  &rooms.clock, &rooms.snapshot,
-		&rooms.other,	  &rooms.words, &rooms.time,
-		&rooms.frequency, &rooms.tick,	&rooms.stamps,
-		&rooms.out,	  &rooms.done,
+		&rooms.counter, &rooms.clock, &rooms.snapshot, &rooms.other,
+		&rooms.words, &rooms.time, &rooms.frequency, &rooms.tick,
+		&rooms.stamps, &rooms.out, &rooms.done,
 	};
 
 	page_size = (size_t)sysconf(_SC_PAGESIZE);
