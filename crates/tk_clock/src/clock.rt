@@ -1,6 +1,7 @@
 ghost use Rattle.std.specs.Prelude.{◌≡◌, ◌≤◌, MatchResult, Some, None};
 
 mod effects;
+mod parts;
 mod settings;
 
 use crate::amount::Amount;
@@ -17,6 +18,7 @@ use tk_counter::CounterDesc;
 ///
 /// It knows no time of its own: each command hands in the counter's reading. Commands need no
 /// allocation.
+#[repr(C)]
 #[derive(Clone, Copy, Debug)]
 pub struct Clock {
     base: ReadBase,

@@ -22,10 +22,13 @@ const CLOCK_SEC_LIMIT: i64 = 9_223_372_036;
 const SETTABLE_SEC_LIMIT: i64 = 8_277_292_036;
 
 /// The shortest tick that may be set, in microseconds.
-const SHORTEST_TICK: i64 = 9_000;
+pub(crate) const SHORTEST_TICK: i64 = 9_000;
 
 /// The longest tick that may be set, in microseconds.
-const LONGEST_TICK: i64 = 11_000;
+pub(crate) const LONGEST_TICK: i64 = 11_000;
+
+/// The lowest frequency that is followed, in `2^-16` ppm: 500 ppm back (`MAXFREQ_SCALED`).
+pub(crate) const SLOWEST_FREQUENCY: i64 = -32_768_000;
 
 /// The usual tick, in microseconds: a hundredth of a second (`USER_TICK_USEC`).
 pub(crate) const USUAL_TICK: i64 = 10_000;
@@ -34,6 +37,7 @@ pub(crate) const USUAL_TICK: i64 = 10_000;
 pub(crate) const TAI_OFFSET_MOST: i64 = 100_000;
 
 /// The nanoseconds at which a clock ends.
+#[inline(always)]
 pub(crate) fn limit(clock: ClockId) -> u64
     ensures value { pos result ≡ limit clock }
     ensures most { result ≤ clock_end * 10 ^ 9 }

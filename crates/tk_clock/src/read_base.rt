@@ -1,16 +1,17 @@
-ghost use Rattle.std.specs.Prelude.{◌≡◌, ℕ, ◌+◌, ◌*◌, ◌/◌, ◌^◌, ◌<◌, ◌≤◌, MatchOption, MatchResult, Some, None, pos, ◌≤ℤ◌, ◌+ℤ◌, ◌*ℤ◌, ◌<ℤ◌, not, nat_lt, int_lt, true, false};
+ghost use Rattle.std.specs.Prelude.{◌≡◌, ℕ, ◌+◌, ◌*◌, ◌/◌, ◌^◌, ◌<◌, ◌≤◌, MatchOption, MatchResult, Some, None, pos, ◌≤ℤ◌, ◌+ℤ◌, ◌*ℤ◌, ◌<ℤ◌, not, nat_lt, int_lt, true, false, IsTrue, ◌↔◌};
 
 mod changes;
 
 use crate::amount::{Amount, NANOS_PER_SECOND};
 use crate::clock_id::ClockId;
-use crate::limits::limit;
+use crate::limits::{SHORTEST_TICK, SLOWEST_FREQUENCY, limit};
 use crate::refusal::ReadError;
 use crate::timespec::{Timespec, timespec_of};
 use std::marker::Model;
 use tk_counter::CounterDesc;
 
 /// What reading the clocks takes, as the kernel's `struct tk_read_base`.
+#[repr(C)]
 #[derive(Clone, Copy, Debug)]
 pub(crate) struct ReadBase {
     /// The counter.
@@ -145,6 +146,15 @@ impl ReadBase {
         self.raw
     }
 
+    /// Is MONOTONIC_RAW no further ahead of MONOTONIC than the slowest rate brings it?
+    pub fn is_rated(&self) -> bool
+        ensures { IsTrue result ↔ IsRated self.now }
+    {
+        let slowest = self.desc.mult_at(SLOWEST_FREQUENCY, SHORTEST_TICK);
+        self.raw.units(&self.desc) * u128::from(slowest)
+            <= self.monotonic.units(&self.desc) * u128::from(self.desc.mult())
+    }
+
     /// The base and a front as ten words.
     pub fn words(&self, front: u64) -> [u64; 10]
         ensures value { result ≡ words_of (record { front = front; base = self.now }) }
@@ -185,6 +195,7 @@ impl ReadBase {
     }
 
     /// A clock at a reading, in ns. None where it is beyond every limit.
+    #[inline(always)]
     fn value(&self, clock: ClockId, reading: u64) -> Option<u64>
         ensures { MatchOption result
             (limit clock ≤ℤ base_value self.now clock reading)
@@ -204,7 +215,29 @@ impl ReadBase {
     }
 
     /// A clock's time at a reading, or the first thing that is wrong.
+    ///
+    /// Each clock gets the steps for itself, so that which one it is is tested once.
     pub fn get(&self, clock: ClockId, reading: u64) -> Result<Timespec, ReadError>
+        ensures { MatchResult result
+            (λ time. (read_refusal self.now clock reading ≡ None)
+            × (nanoseconds time ≡ base_value self.now clock reading) × (time.nsec < 10 ^ 9)
+            × (pos 0 ≤ℤ time.sec))
+            (λ refusal. read_refusal self.now clock reading ≡ Some refusal) }
+    {
+        match clock {
+            ClockId::Realtime => self.time_of(ClockId::Realtime, reading),
+            ClockId::Monotonic => self.time_of(ClockId::Monotonic, reading),
+            ClockId::Boottime => self.time_of(ClockId::Boottime, reading),
+            ClockId::Tai => self.time_of(ClockId::Tai, reading),
+            ClockId::RealtimeCoarse => self.time_of(ClockId::RealtimeCoarse, reading),
+            ClockId::MonotonicCoarse => self.time_of(ClockId::MonotonicCoarse, reading),
+            ClockId::MonotonicRaw => self.time_of(ClockId::MonotonicRaw, reading),
+        }
+    }
+
+    /// As `get`, where the compiler knows the clock.
+    #[inline(always)]
+    fn time_of(&self, clock: ClockId, reading: u64) -> Result<Timespec, ReadError>
         ensures { MatchResult result
             (λ time. (read_refusal self.now clock reading ≡ None)
             × (nanoseconds time ≡ base_value self.now clock reading) × (time.nsec < 10 ^ 9)

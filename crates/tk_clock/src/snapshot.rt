@@ -15,6 +15,7 @@ use tk_counter::CounterDesc;
 ///
 /// It may be used until the reading of the next accepted command. With a later reading it may give
 /// more than a later snapshot does, as in the kernel.
+#[repr(C)]
 #[derive(Clone, Copy, Debug)]
 pub struct Snapshot {
     pub(crate) front: u64,

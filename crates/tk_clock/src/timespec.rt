@@ -7,6 +7,7 @@ use crate::amount::NANOS_PER_SECOND;
 /// A time or an amount of time: `sec * 10^9 + nsec` nanoseconds.
 ///
 /// As the kernel's `struct timespec64`: `sec` may be negative, and `nsec` counts upwards from it.
+#[repr(C)]
 #[derive(Clone, Copy, Debug, PartialEq, Eq)]
 pub struct Timespec {
     /// Seconds.

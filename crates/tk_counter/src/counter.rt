@@ -13,6 +13,7 @@ use std::marker::Model;
 ///
 /// It is the kernel's `struct clocksource` without its name and its hooks
 /// (include/linux/clocksource.h).
+#[repr(C)]
 #[derive(Clone, Copy, Debug, PartialEq, Eq)]
 pub struct CounterDesc {
     bits: u32,

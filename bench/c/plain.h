@@ -1,0 +1,35 @@
+/* The same clocks in plain C, as one writes them by hand: what the calls of the library are
+ * measured against. They are handed good numbers only, and test no more than a reading. */
+#ifndef PLAIN_H
+#define PLAIN_H
+
+#include <stddef.h>
+#include <stdint.h>
+
+struct plain_clock {
+	uint64_t last, mask;
+	uint32_t mult, raw_mult, shift;
+	uint64_t frac, sec; /* MONOTONIC: below a second in 2^-shift ns, and whole seconds */
+	uint64_t raw_frac, raw_sec;
+	uint64_t front;
+};
+
+struct plain_time {
+	int64_t sec;
+	uint32_t nsec;
+};
+
+enum plain_code { PLAIN_OK, PLAIN_INVALID, PLAIN_BEHIND };
+
+enum plain_code plain_get(struct plain_time *out, const struct plain_clock *clock,
+			  uint64_t reading);
+enum plain_code plain_update(struct plain_clock *clock, uint64_t reading);
+
+/* Stops at the first stamp above the mask, and returns its place. */
+size_t plain_convert(uint64_t *out, const struct plain_clock *clock, const uint64_t *stamps,
+		     size_t count);
+/* Tests no stamp at all, and has products of 64 bits (timecounter_cyc2time). */
+void plain_loop(uint64_t *out, const struct plain_clock *clock, const uint64_t *stamps,
+		size_t count);
+
+#endif

@@ -1,0 +1,29 @@
+use Rattle.std.proofs.Common.{◌≡◌, inl, inr, refl, w64}
+use Rattle.std.proofs.lemmas.Int.{to_z-of_z}
+use Rattle.tk_c.proofs.words.tk_clock_from_words.Goals as goal
+
+pub returns-in_default-from_snapshot : goal.returns-in_default-from_snapshot
+returns-in_default-from_snapshot c =
+    let refused = rw (
+      to_z-of_z w64 c.args.frequency c.ranges.frequency,
+      to_z-of_z w64 c.args.tick c.ranges.tick,
+    )
+    at c.in_default-from_snapshot.ensures in
+    rw (← c.in-Some.ensures.value) (inr record {
+      not_running = refused;
+      unchanged = refl;
+      refused = c.number-in_default-from_snapshot.ensures;
+    })
+
+pub returns : goal.returns
+returns c =
+    let told = rw (
+      to_z-of_z w64 c.args.frequency c.ranges.frequency,
+      to_z-of_z w64 c.args.tick c.ranges.tick,
+    )
+    at c.in-Some-from_snapshot.ensures in
+    rw (← c.in-Some.ensures.value) (inl record {
+      running = told.0;
+      written = rw (told.1, c.front.ensures) at c.from.ensures;
+      done = c.number-2.ensures;
+    })

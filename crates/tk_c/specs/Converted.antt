@@ -1,0 +1,31 @@
+-- What a list of stamps is converted to, as C is told it.
+use Rattle.std.specs.Prelude.{◌≡◌, ℕ, ⊤, List, length, Result, Ok, Err}
+use Rattle.tk_clock.specs.declared.clock_id.ClockId.{ClockId}
+use Rattle.tk_clock.specs.State.{ReadBase}
+use Rattle.tk_lanes.specs.Batch.{IsBatch}
+use Rattle.tk_lanes.specs.declared.batch_error.BatchError.{BatchError}
+use Rattle.tk_lanes.specs.declared.batch_error.BatchError.TheVariants as errors
+use Rattle.tk_c.specs.Codes.{number_of}
+use Rattle.tk_c.specs.declared.code.Code.{Code}
+use Rattle.tk_c.specs.declared.code.Code.TheVariants.{Done, Invalid, Range}
+
+-- the code of an answer
+abbrev pub code_of_answer : Result ⊤ BatchError → Code
+code_of_answer (Ok done) = Done
+code_of_answer (Err (errors.Invalid index)) = Invalid
+code_of_answer (Err (errors.Range index)) = Range
+
+-- how many of so many stamps are converted: all, or those before the first that is refused
+abbrev pub converted_of : ℕ → Result ⊤ BatchError → ℕ
+converted_of count (Ok done) = count
+converted_of count (Err (errors.Invalid index)) = index
+converted_of count (Err (errors.Range index)) = index
+
+-- the stamps have this answer, which the code and the number of converted ones tell; what is
+-- converted is written, and all else is as it was
+pub record IsConverted (base : ReadBase) (clock : ClockId) (stamps old new : List ℕ)
+    (converted code : ℕ) : Type 0 where
+  pub answer : Result ⊤ BatchError
+  pub batch : IsBatch base clock stamps old new answer
+  pub count : converted ≡ converted_of (length stamps) answer
+  pub told : code ≡ number_of (code_of_answer answer)

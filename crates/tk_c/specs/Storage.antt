@@ -1,0 +1,49 @@
+-- What is written where C wants a value: the value's own fields.
+use Rattle.std.specs.Prelude.{ℕ, ◌/◌, ◌%◌, unsigned_abs, if◌then◌else◌}
+use Rattle.tk_counter.specs.Counter.{Counter, second}
+use Rattle.tk_clock.specs.Snapshot.{Snapshot}
+use Rattle.tk_clock.specs.State.{ReadBase, State}
+use Rattle.tk_c.specs.declared.storage.CounterStorage.{CounterStorage}
+use Rattle.tk_c.specs.declared.storage.BaseStorage.{BaseStorage}
+use Rattle.tk_c.specs.declared.storage.SnapshotStorage.{SnapshotStorage}
+use Rattle.tk_c.specs.declared.storage.ClockStorage.{ClockStorage}
+
+-- a counter
+abbrev pub counter_storage : Counter → CounterStorage
+counter_storage counter = record {
+  bits = counter.bits;
+  mult = counter.mult;
+  shift = counter.shift;
+}
+
+-- what reading the clocks takes; amounts as seconds, and units of 2^-shift nanoseconds
+abbrev pub base_storage : ReadBase → BaseStorage
+base_storage base = record {
+  counter = counter_storage base.counter;
+  last = base.last;
+  mult = base.mult;
+  sec = base.amount / second base.counter;
+  frac = base.amount % second base.counter;
+  raw_sec = base.raw_amount / second base.counter;
+  raw_frac = base.raw_amount % second base.counter;
+  real_offset = unsigned_abs base.real_offset;
+  boot_offset = unsigned_abs base.boot_offset;
+  tai = unsigned_abs base.tai;
+  asleep = if base.asleep then 1 else 0;
+}
+
+-- a snapshot
+abbrev pub snapshot_storage : Snapshot → SnapshotStorage
+snapshot_storage snapshot = record {
+  front = snapshot.front;
+  base = base_storage snapshot.base;
+}
+
+-- clocks that have accepted so many commands
+abbrev pub clock_storage : ℕ → State → ClockStorage
+clock_storage front clock = record {
+  base = base_storage clock.base;
+  frequency = clock.frequency;
+  tick = clock.tick;
+  front = front;
+}

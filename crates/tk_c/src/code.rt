@@ -1,0 +1,94 @@
+ghost use Rattle.std.specs.Prelude.{◌≡◌};
+ghost use Rattle.tk_c.specs.Codes.{number_of, code_of_refusal, code_of_read, code_of_fault};
+
+use tk_clock::{ReadError, Refusal};
+use tk_counter::DescError;
+
+/// What a call answers, by the numbers of `enum tk_code` in include/tk.h.
+#[derive(Clone, Copy, Debug, PartialEq, Eq)]
+pub enum Code {
+    /// Done.
+    Done = 0,
+    /// No more commands are counted.
+    Full = 1,
+    /// The clocks are asleep, and the command is not `Resume`.
+    Asleep = 2,
+    /// The clocks are awake, and the command is `Resume`.
+    Awake = 3,
+    /// The reading or a number is out of its range, or REALTIME can't be set so.
+    Invalid = 4,
+    /// The reading lies behind that of the last accepted command.
+    Behind = 5,
+    /// A clock would be at its limit or beyond it.
+    Range = 6,
+    /// Memory was refused. No call of this crate answers it, since none takes memory.
+    Memory = 7,
+    /// No command has this number.
+    BadCommand = 16,
+    /// No clock has this number.
+    BadClock = 17,
+    /// The words tell no snapshot, or no clocks.
+    BadWords = 18,
+    /// There is less room for results than there are stamps.
+    BadRoom = 19,
+    /// A reading would have fewer than 8 bits, or more than 64.
+    BadBits = 32,
+    /// The shift is above 32.
+    BadShift = 33,
+    /// The mult is below 256.
+    BadMult = 34,
+    /// The mult and 11 percent of it don't fit 32 bits.
+    BadAdjust = 35,
+    /// The frequency is 0 Hz, or the span is not of 1 to 600 seconds.
+    BadRate = 36,
+}
+
+impl Code {
+    /// The number that C has for it.
+    pub fn number(self) -> u32
+        ensures { result ≡ number_of self }
+    {
+        self as u32
+    }
+}
+
+impl From<Refusal> for Code {
+    ghost from_gives = { λ refusal code. code ≡ code_of_refusal refusal };
+
+    fn from(refusal: Refusal) -> Code {
+        match refusal {
+            Refusal::Full => Code::Full,
+            Refusal::Asleep => Code::Asleep,
+            Refusal::Awake => Code::Awake,
+            Refusal::Invalid => Code::Invalid,
+            Refusal::Behind => Code::Behind,
+            Refusal::Range => Code::Range,
+            Refusal::Memory => Code::Memory,
+        }
+    }
+}
+
+impl From<ReadError> for Code {
+    ghost from_gives = { λ refusal code. code ≡ code_of_read refusal };
+
+    fn from(refusal: ReadError) -> Code {
+        match refusal {
+            ReadError::Invalid => Code::Invalid,
+            ReadError::Range => Code::Range,
+        }
+    }
+}
+
+impl From<DescError> for Code {
+    ghost from_gives = { λ fault code. code ≡ code_of_fault fault };
+
+    fn from(fault: DescError) -> Code {
+        match fault {
+            DescError::Bits => Code::BadBits,
+            DescError::Shift => Code::BadShift,
+            DescError::Mult => Code::BadMult,
+            DescError::Adjust => Code::BadAdjust,
+            DescError::Rate => Code::BadRate,
+        }
+    }
+}

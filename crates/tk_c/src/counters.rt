@@ -1,0 +1,57 @@
+ghost use Rattle.std.specs.Prelude.{◌≡◌, MatchOption, Some};
+ghost use Rattle.tk_counter.specs.Counter.{Counter};
+ghost use Rattle.tk_counter.specs.Description.{first_fault};
+ghost use Rattle.tk_counter.specs.Frequency.{from_frequency, frequency_fault};
+ghost use Rattle.tk_c.specs.Codes.{number_of, code_of_fault};
+ghost use Rattle.tk_c.specs.declared.code.Code.TheVariants.{Done};
+ghost use Rattle.tk_c.specs.Storage.{counter_storage};
+
+use crate::code::Code;
+use crate::storage::CounterStorage;
+use tk_counter::CounterDesc;
+
+/// Writes the counter of these numbers; or answers the first thing that is wrong with them
+/// (`CounterDesc::new`).
+#[unsafe(no_mangle)]
+pub extern "C" fn tk_counter_new(
+    out: &mut CounterStorage,
+    bits: u32,
+    mult: u32,
+    shift: u32,
+) -> u32
+    ensures { let counter : Counter = record { bits = bits; mult = mult; shift = shift } in
+        MatchOption (first_fault counter)
+        ((result ≡ number_of Done) × (out.new ≡ counter_storage counter))
+        (λ fault. (result ≡ number_of (code_of_fault fault)) × (out.new ≡ out.old)) }
+{
+    match CounterDesc::new(bits, mult, shift) {
+        Ok(counter) => {
+            *out = CounterStorage::from(counter);
+            Code::Done.number()
+        }
+        Err(fault) => Code::from(fault).number(),
+    }
+}
+
+/// Writes the counter that runs at a frequency; or answers the first thing that is wrong with the
+/// numbers (`CounterDesc::from_hz`).
+#[unsafe(no_mangle)]
+pub extern "C" fn tk_counter_from_hz(
+    out: &mut CounterStorage,
+    bits: u32,
+    hz: u32,
+    maxsec: u32,
+) -> u32
+    ensures { MatchOption (frequency_fault bits hz maxsec)
+        ((result ≡ number_of Done) × MatchOption (from_frequency bits hz maxsec) ⊥
+        (λ counter. out.new ≡ counter_storage counter))
+        (λ fault. (result ≡ number_of (code_of_fault fault)) × (out.new ≡ out.old)) }
+{
+    match CounterDesc::from_hz(bits, hz, maxsec) {
+        Ok(counter) => {
+            *out = CounterStorage::from(counter);
+            Code::Done.number()
+        }
+        Err(fault) => Code::from(fault).number(),
+    }
+}

@@ -1,0 +1,76 @@
+ghost use Rattle.std.specs.Prelude.{◌≡◌, ◌^◌, ◌<◌, ◌≤◌, pos, ◌≤ℤ◌, length, MatchOption, ◌⊎◌};
+ghost use Rattle.tk_clock.specs.Refusal.{read_refusal};
+ghost use Rattle.tk_clock.specs.State.{base_value};
+ghost use Rattle.tk_clock.specs.Time.{nanoseconds};
+ghost use Rattle.tk_c.specs.Codes.{number_of, code_of_read};
+ghost use Rattle.tk_c.specs.declared.code.Code.TheVariants.{Done, BadClock, BadRoom};
+ghost use Rattle.tk_c.specs.Converted.{IsConverted};
+ghost use Rattle.tk_c.specs.Named.{clock_named};
+
+use crate::code::Code;
+use crate::named::clock_named;
+use tk_clock::{Snapshot, Timespec};
+use tk_lanes::{BatchError, lane_batch};
+
+/// Writes a clock's time at a reading; or answers why it has none (`Snapshot::get`).
+#[unsafe(no_mangle)]
+pub extern "C" fn tk_snapshot_get(
+    out: &mut Timespec,
+    snapshot: &Snapshot,
+    clock: u32,
+    reading: u64,
+) -> u32
+    ensures { MatchOption (clock_named clock)
+        ((result ≡ number_of BadClock) × (out.new ≡ out.old))
+        (λ named. MatchOption (read_refusal snapshot.now.base named reading)
+        ((result ≡ number_of Done)
+        × (nanoseconds out.new ≡ base_value snapshot.now.base named reading)
+        × (out.new.nsec < 10 ^ 9) × (pos 0 ≤ℤ out.new.sec))
+        (λ refusal. (result ≡ number_of (code_of_read refusal)) × (out.new ≡ out.old))) }
+{
+    let Some(named) = clock_named(clock) else {
+        return Code::BadClock.number();
+    };
+    match snapshot.get(named, reading) {
+        Ok(time) => {
+            // one word each, as the read has left them
+            out.sec = time.sec;
+            out.nsec = time.nsec;
+            Code::Done.number()
+        }
+        Err(refusal) => Code::from(refusal).number(),
+    }
+}
+
+/// Writes a clock at each of a list of stamps, in ns, and how many were converted: all, or those
+/// before the first that is refused, and why (`lane_batch`).
+#[unsafe(no_mangle)]
+pub extern "C" fn tk_snapshot_convert(
+    out: &mut [u64],
+    done: &mut usize,
+    snapshot: &Snapshot,
+    clock: u32,
+    stamps: &[u64],
+) -> u32
+    ensures { MatchOption (clock_named clock)
+        ((result ≡ number_of BadClock) × (out.new ≡ out.old) × (done.new ≡ done.old))
+        (λ named. ((length out.old < length stamps.now)
+        × (result ≡ number_of BadRoom) × (out.new ≡ out.old) × (done.new ≡ done.old))
+        ⊎ ((length stamps.now ≤ length out.old)
+        × IsConverted snapshot.now.base named stamps.now out.old out.new done.new result)) }
+{
+    let Some(named) = clock_named(clock) else {
+        return Code::BadClock.number();
+    };
+    let count = stamps.len();
+    if out.len() < count {
+        return Code::BadRoom.number();
+    }
+    let (converted, code) = match lane_batch(snapshot, named, stamps, &mut out[..count]) {
+        Ok(()) => (count, Code::Done),
+        Err(BatchError::Invalid { index }) => (index, Code::Invalid),
+        Err(BatchError::Range { index }) => (index, Code::Range),
+    };
+    *done = converted;
+    code.number()
+}

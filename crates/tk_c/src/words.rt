@@ -1,0 +1,90 @@
+//! Values as words, and the checked door from words back to values.
+ghost use Rattle.std.specs.Prelude.{◌≡◌, ◌⊎◌, MatchOption, Some};
+ghost use Rattle.tk_clock.specs.Running.{IsRunning};
+ghost use Rattle.tk_clock.specs.Snapshot.{Snapshot};
+ghost use Rattle.tk_clock.specs.Words.{words_of, restored};
+ghost use Rattle.tk_c.specs.Codes.{number_of};
+ghost use Rattle.tk_c.specs.declared.code.Code.TheVariants.{Done, BadWords};
+ghost use Rattle.tk_c.specs.Counted.{counted_snapshot};
+ghost use Rattle.tk_c.specs.Restored.{IsClockRestored};
+ghost use Rattle.tk_c.specs.Storage.{snapshot_storage};
+
+use crate::code::Code;
+use crate::counted::CountedClock;
+use crate::storage::{ClockStorage, SnapshotStorage};
+use tk_clock::{Clock, Snapshot};
+use tk_counter::CounterDesc;
+
+/// Writes the ten words of a snapshot (`Snapshot::words`).
+#[unsafe(no_mangle)]
+pub extern "C" fn tk_snapshot_words(words: &mut [u64; 10], snapshot: &Snapshot)
+    ensures value { words.new ≡ words_of snapshot.now }
+    ensures back { restored snapshot.now.base.counter words.new ≡ Some snapshot.now }
+{
+    *words = snapshot.words();
+}
+
+/// Writes the snapshot that ten words tell; or answers that they tell none (`Snapshot::from_words`).
+#[unsafe(no_mangle)]
+pub extern "C" fn tk_snapshot_from_words(
+    out: &mut SnapshotStorage,
+    counter: &CounterDesc,
+    words: &[u64; 10],
+) -> u32
+    ensures { MatchOption (restored counter.now words.now)
+        ((result ≡ number_of BadWords) × (out.new ≡ out.old))
+        (λ snapshot. (result ≡ number_of Done) × (out.new ≡ snapshot_storage snapshot)) }
+{
+    let Some(snapshot) = Snapshot::from_words(*counter, *words) else {
+        return Code::BadWords.number();
+    };
+    *out = SnapshotStorage::from(snapshot);
+    Code::Done.number()
+}
+
+/// Writes the ten words of the clocks' snapshot, and their frequency and tick.
+#[unsafe(no_mangle)]
+pub extern "C" fn tk_clock_words(
+    words: &mut [u64; 10],
+    frequency: &mut i64,
+    tick: &mut i64,
+    clock: &CountedClock,
+)
+    ensures words { words.new ≡ words_of (counted_snapshot clock.now) }
+    ensures frequency { frequency.new ≡ clock.now.clock.frequency }
+    ensures tick { tick.new ≡ clock.now.clock.tick }
+    ensures back { restored clock.now.clock.base.counter words.new
+        ≡ Some (counted_snapshot clock.now) }
+    ensures running { IsRunning clock.now.clock.base frequency.new tick.new }
+{
+    *words = clock.clock.snapshot(clock.front).words();
+    *frequency = clock.clock.frequency();
+    *tick = clock.clock.tick();
+}
+
+/// Writes the clocks that ten words, a frequency and a tick tell; or answers that they tell none
+/// (`Snapshot::from_words`, `Clock::from_snapshot`).
+#[unsafe(no_mangle)]
+pub extern "C" fn tk_clock_from_words(
+    out: &mut ClockStorage,
+    counter: &CounterDesc,
+    words: &[u64; 10],
+    frequency: i64,
+    tick: i64,
+) -> u32
+    ensures { MatchOption (restored counter.now words.now)
+        ((result ≡ number_of BadWords) × (out.new ≡ out.old))
+        (λ snapshot. IsClockRestored snapshot frequency tick out.old out.new result) }
+{
+    let Some(snapshot) = Snapshot::from_words(*counter, *words) else {
+        return Code::BadWords.number();
+    };
+    let Some(clock) = Clock::from_snapshot(snapshot, frequency, tick) else {
+        return Code::BadWords.number();
+    };
+    *out = ClockStorage::from(CountedClock {
+        clock,
+        front: snapshot.front(),
+    });
+    Code::Done.number()
+}

@@ -1,0 +1,104 @@
+/*
+ * A million stamps of a tracer into REALTIME: the clocks were steered and set
+ * before, one call converts all, and another stops at a stamp that is none.
+ */
+#include <inttypes.h>
+#include <stdbool.h>
+#include <stdio.h>
+#include <stdlib.h>
+#include <tk.h>
+
+enum {
+	STAMPS = 1000000,
+	HZ = 24000000,
+	CYCLES = 24007, /* from one stamp to the next: about a millisecond */
+	SPOILT = 654321, /* the place of the stamp that is none */
+};
+
+static const uint64_t OPENED_AT = 12345;
+
+/* Says which call was refused. */
+static bool is_done(uint32_t code, const char *call)
+{
+	if (code)
+		fprintf(stderr, "convert: %s got code %" PRIu32 "\n", call,
+			code);
+	return !code;
+}
+
+/* A counter of 48 bits; then 20 ppm slower, and 1.5 s on from half a second. */
+static bool make_snapshot(struct tk_snapshot *snapshot)
+{
+	struct tk_counter counter;
+	struct tk_clock clock;
+
+	if (!is_done(tk_counter_from_hz(&counter, 48, HZ, 600), "counter") ||
+	    !is_done(tk_clock_open(&clock, &counter, OPENED_AT, 1700000000, 0),
+		     "open") ||
+	    !is_done(tk_clock_apply(&clock, OPENED_AT + HZ / 4, TK_CMD_FREQ,
+				    -20 * 65536, 0),
+		     "frequency") ||
+	    !is_done(tk_clock_apply(&clock, OPENED_AT + HZ / 2, TK_CMD_STEP, 1,
+				    500000000),
+		     "step"))
+		return false;
+	tk_clock_snapshot(snapshot, &clock);
+	return true;
+}
+
+static void make_stamps(uint64_t stamps[STAMPS])
+{
+	for (size_t i = 0; i < STAMPS; i++)
+		stamps[i] = OPENED_AT + HZ / 2 + i * CYCLES;
+}
+
+static bool convert(uint64_t times[STAMPS], const struct tk_snapshot *snapshot,
+		    const uint64_t stamps[STAMPS])
+{
+	uint64_t sum = 0;
+	size_t done;
+	uint32_t code;
+
+	code = tk_snapshot_convert(times, STAMPS, &done, snapshot,
+				   TK_CLOCK_REALTIME, stamps, STAMPS);
+	if (!is_done(code, "convert"))
+		return false;
+	for (size_t i = 0; i < done; i++)
+		sum += times[i];
+	printf("%zu stamps: from %" PRIu64 " ns to %" PRIu64 " ns\n", done,
+	       times[0], times[done - 1]);
+	printf("their sum modulo 2^64: %" PRIu64 "\n", sum);
+	return true;
+}
+
+static bool convert_spoilt(uint64_t times[STAMPS],
+			   const struct tk_snapshot *snapshot,
+			   uint64_t stamps[STAMPS])
+{
+	uint32_t code;
+	size_t done;
+
+	stamps[SPOILT] = UINT64_MAX; /* of 48 bits it is none */
+	code = tk_snapshot_convert(times, STAMPS, &done, snapshot,
+				   TK_CLOCK_REALTIME, stamps, STAMPS);
+	if (code != TK_INVALID) {
+		fprintf(stderr, "convert: a stamp of 64 bits was taken\n");
+		return false;
+	}
+	printf("stamp %zu is above the counter's readings\n", done);
+	return true;
+}
+
+int main(void)
+{
+	static uint64_t stamps[STAMPS], times[STAMPS];
+	struct tk_snapshot snapshot;
+
+	if (!make_snapshot(&snapshot))
+		return EXIT_FAILURE;
+	make_stamps(stamps);
+	if (!convert(times, &snapshot, stamps) ||
+	    !convert_spoilt(times, &snapshot, stamps))
+		return EXIT_FAILURE;
+	return EXIT_SUCCESS;
+}

@@ -1,0 +1,195 @@
+/*
+ * The report of a script of tkcore on standard input: each of its commands and
+ * reads is one call of the library.
+ *
+ * The library keeps no journal, so no command is refused as full where tkcore's
+ * journal has no room: it is the report of `tkcore replay --keep`.
+ */
+#define _POSIX_C_SOURCE 200809L
+
+#include "script.h"
+
+#include <inttypes.h>
+#include <stdio.h>
+#include <stdlib.h>
+#include <string.h>
+#include <time.h>
+
+static const char *refusal_word(uint32_t code)
+{
+	switch (code) {
+	case TK_FULL:
+		return "full";
+	case TK_ASLEEP:
+		return "asleep";
+	case TK_AWAKE:
+		return "awake";
+	case TK_INVALID:
+		return "invalid";
+	case TK_BEHIND:
+		return "behind";
+	case TK_RANGE:
+		return "range";
+	default:
+		return "unknown";
+	}
+}
+
+static void print_refusal(uint32_t code)
+{
+	printf("no,%s\n", refusal_word(code));
+}
+
+static void print_time(const struct tk_time *time)
+{
+	printf("%" PRId64 ".%09" PRIu32, time->sec, time->nsec);
+}
+
+/* Prints the date and time in UTC, of a year of four digits. */
+static void print_utc(const struct tk_time *time)
+{
+	time_t sec = time->sec;
+	char text[sizeof("YYYY-MM-DDThh:mm:ss")];
+	struct tm utc;
+
+	if (!gmtime_r(&sec, &utc) ||
+	    !strftime(text, sizeof(text), "%Y-%m-%dT%H:%M:%S", &utc))
+		return;
+	printf(",%s.%09" PRIu32 "Z", text, time->nsec);
+}
+
+/*
+ * The library tells no numbers of a counter. Its mult stands in the words of an
+ * opening, and its shift is the one that, with the mult, makes the same counter.
+ */
+static uint32_t find_shift(const struct tk_counter *counter, uint32_t bits,
+			   uint32_t mult)
+{
+	struct tk_counter same;
+	uint32_t shift = 0;
+
+	while (tk_counter_new(&same, bits, mult, shift) == TK_OK &&
+	       memcmp(&same, counter, sizeof(same)))
+		shift++;
+	return shift;
+}
+
+/* Prints the counter: a cycle lasts mult / 2^shift ns. */
+static void print_opening(const struct script *script,
+			  const struct tk_snapshot *opening)
+{
+	uint64_t words[TK_WORDS];
+	uint32_t mult;
+
+	tk_snapshot_words(words, opening);
+	mult = (uint32_t)words[2];
+	printf("open,%" PRIu32 ",%" PRIu32 ",%" PRIu32 "\n", script->bits,
+	       mult, find_shift(&script->counter, script->bits, mult));
+}
+
+static void print_read(const struct tk_snapshot *snapshot,
+		       const struct row *row)
+{
+	struct tk_time time;
+	uint32_t code;
+
+	code = tk_snapshot_get(&time, snapshot, row->clock, row->reading);
+	if (code) {
+		print_refusal(code);
+		return;
+	}
+	printf("at,%s,", script_clock_word(row->clock));
+	print_time(&time);
+	if (row->clock == TK_CLOCK_REALTIME ||
+	    row->clock == TK_CLOCK_REALTIME_COARSE)
+		print_utc(&time);
+	putchar('\n');
+}
+
+/* Prints how many commands were accepted, and MONOTONIC at the last. */
+static void print_accepted(const struct tk_snapshot *snapshot)
+{
+	uint64_t words[TK_WORDS];
+	struct tk_time time;
+
+	tk_snapshot_words(words, snapshot);
+	if (tk_snapshot_get(&time, snapshot, TK_CLOCK_MONOTONIC, words[1]))
+		return; /* never: an accepted command leaves a time */
+	printf("ok,%" PRIu64 ",", words[0]);
+	print_time(&time);
+	putchar('\n');
+}
+
+static void run_row(struct tk_clock *clock, struct tk_snapshot *snapshot,
+		    const struct row *row)
+{
+	uint32_t code;
+
+	if (row->is_read) {
+		print_read(snapshot, row);
+		return;
+	}
+	code = tk_clock_apply(clock, row->reading, row->command, row->number,
+			      row->nsec);
+	if (code) {
+		print_refusal(code);
+		return;
+	}
+	tk_clock_snapshot(snapshot, clock);
+	print_accepted(snapshot);
+}
+
+static void run(struct script *script)
+{
+	struct tk_snapshot snapshot;
+
+	tk_clock_snapshot(&snapshot, &script->clock);
+	print_opening(script, &snapshot);
+	for (size_t i = 0; i < script->count; i++)
+		run_row(&script->clock, &snapshot, &script->rows[i]);
+}
+
+static int fail(const char *text)
+{
+	fprintf(stderr, "tkcore: %s\n", text);
+	return EXIT_FAILURE;
+}
+
+static int fail_script(const struct fault *fault)
+{
+	if (fault->record)
+		fprintf(stderr, "tkcore: script: record %zu: %s\n",
+			fault->record, fault->text);
+	else
+		fprintf(stderr, "tkcore: script: %s\n", fault->text);
+	return EXIT_FAILURE;
+}
+
+static int report(char *text, size_t length)
+{
+	struct script script;
+	struct fault fault;
+
+	if (!script_parse(&script, text, length, &fault))
+		return fail_script(&fault);
+	run(&script);
+	script_free(&script);
+	if (fflush(stdout) || ferror(stdout))
+		return fail("cannot write");
+	return EXIT_SUCCESS;
+}
+
+int main(void)
+{
+	/* one byte more than the most shows that a script is too large */
+	char *text = malloc(SCRIPT_LIMIT + 1);
+	size_t length;
+	int status;
+
+	if (!text)
+		return fail("out of memory");
+	length = fread(text, 1, SCRIPT_LIMIT + 1, stdin);
+	status = ferror(stdin) ? fail("cannot read") : report(text, length);
+	free(text);
+	return status;
+}

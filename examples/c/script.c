@@ -1,0 +1,358 @@
+#include "script.h"
+
+#include <stdlib.h>
+#include <string.h>
+
+enum {
+	FIELDS_MOST = 7, /* of an opening, its word among them */
+	FIRST_ROOM = 1024,
+};
+
+static const char NO_OPENING[] = "not a valid opening";
+static const char NO_WORD[] = "unknown word";
+static const char NO_FIELDS[] = "wrong number of fields";
+static const char NO_NUMBER[] = "not a number in range";
+static const char NO_MEMORY[] = "out of memory";
+
+/* What stands in a field, by the variable that it goes into. */
+enum kind { READING, NUMBER, NSEC, CLOCK };
+
+/* A record behind the opening: its word, and the fields after that. */
+struct shape {
+	const char *word;
+	bool is_read;
+	uint32_t command;
+	size_t count;
+	enum kind kinds[3];
+};
+
+static const struct shape SHAPES[] = {
+	{ "update", false, TK_CMD_UPDATE, 1, { READING } },
+	{ "set", false, TK_CMD_SET_TIME, 3, { READING, NUMBER, NSEC } },
+	{ "step", false, TK_CMD_STEP, 3, { READING, NUMBER, NSEC } },
+	{ "freq", false, TK_CMD_FREQ, 2, { READING, NUMBER } },
+	{ "tick", false, TK_CMD_TICK, 2, { READING, NUMBER } },
+	{ "tai", false, TK_CMD_TAI_OFFSET, 2, { READING, NUMBER } },
+	{ "suspend", false, TK_CMD_SUSPEND, 1, { READING } },
+	{ "resume", false, TK_CMD_RESUME, 3, { READING, NUMBER, NSEC } },
+	{ "get", true, 0, 2, { READING, CLOCK } },
+};
+
+static const struct {
+	const char *word;
+	uint32_t clock;
+} CLOCKS[] = {
+	{ "realtime", TK_CLOCK_REALTIME },
+	{ "monotonic", TK_CLOCK_MONOTONIC },
+	{ "boottime", TK_CLOCK_BOOTTIME },
+	{ "tai", TK_CLOCK_TAI },
+	{ "realtime_coarse", TK_CLOCK_REALTIME_COARSE },
+	{ "monotonic_coarse", TK_CLOCK_MONOTONIC_COARSE },
+	{ "monotonic_raw", TK_CLOCK_MONOTONIC_RAW },
+};
+
+#define COUNT_OF(array) (sizeof(array) / sizeof(*(array)))
+
+/* `counter` is bits, mult and shift, or bits, hz and maxsec. */
+struct opening {
+	bool by_frequency;
+	uint32_t counter[3];
+	uint64_t reading;
+	int64_t sec;
+	uint32_t nsec;
+};
+
+struct reader {
+	char *next, *end;
+};
+
+struct field {
+	const char *text;
+	size_t length;
+};
+
+/* Fields past the most are counted only. */
+struct record {
+	size_t number, count;
+	struct field fields[FIELDS_MOST];
+};
+
+static bool is_word(const struct field *field, const char *word)
+{
+	return field->length == strlen(word) &&
+	       !memcmp(field->text, word, field->length);
+}
+
+static bool ends_record(char c)
+{
+	return c == '\n' || c == '\r';
+}
+
+/* Copies what stands in quotes to `to`; the first quote is already behind. */
+static char *read_quoted(struct reader *reader, char *to)
+{
+	while (reader->next < reader->end) {
+		char c = *reader->next++;
+
+		if (c == '"') {
+			if (reader->next == reader->end || *reader->next != '"')
+				return to;
+			reader->next++;
+		}
+		*to++ = c;
+	}
+	return to;
+}
+
+/* Returns whether another field follows in the record. */
+static bool read_field(struct reader *reader, struct field *field)
+{
+	char *to = reader->next;
+
+	field->text = to;
+	if (reader->next < reader->end && *reader->next == '"') {
+		reader->next++;
+		to = read_quoted(reader, to);
+	}
+	while (reader->next < reader->end && *reader->next != ',' &&
+	       !ends_record(*reader->next))
+		*to++ = *reader->next++;
+	field->length = (size_t)(to - field->text);
+	return reader->next < reader->end && *reader->next++ == ',';
+}
+
+/* Returns false at the end. Empty lines are no records. */
+static bool read_record(struct reader *reader, struct record *record)
+{
+	struct field field;
+	bool more = true;
+
+	while (reader->next < reader->end && ends_record(*reader->next))
+		reader->next++;
+	if (reader->next == reader->end)
+		return false;
+	record->number++;
+	for (record->count = 0; more; record->count++) {
+		more = read_field(reader, &field);
+		if (record->count < FIELDS_MOST)
+			record->fields[record->count] = field;
+	}
+	return true;
+}
+
+static bool parse_digits(const char *text, size_t length, uint64_t most,
+			 uint64_t *out)
+{
+	uint64_t value = 0;
+
+	if (!length)
+		return false;
+	for (size_t i = 0; i < length; i++) {
+		unsigned int digit = (unsigned char)text[i] - '0';
+
+		if (digit > 9 || value > (most - digit) / 10)
+			return false;
+		value = value * 10 + digit;
+	}
+	*out = value;
+	return true;
+}
+
+static bool parse_u64(const struct field *field, uint64_t *out)
+{
+	return parse_digits(field->text, field->length, UINT64_MAX, out);
+}
+
+static bool parse_u32(const struct field *field, uint32_t *out)
+{
+	uint64_t value;
+
+	if (!parse_digits(field->text, field->length, UINT32_MAX, &value))
+		return false;
+	*out = (uint32_t)value;
+	return true;
+}
+
+static bool parse_i64(const struct field *field, int64_t *out)
+{
+	bool is_negative = field->length && *field->text == '-';
+	uint64_t most = (uint64_t)INT64_MAX + is_negative;
+	uint64_t value;
+
+	if (!parse_digits(field->text + is_negative,
+			  field->length - is_negative, most, &value))
+		return false;
+	*out = is_negative ? (int64_t)(0 - value) : (int64_t)value;
+	return true;
+}
+
+static const char *parse_clock(const struct field *field, uint32_t *clock)
+{
+	for (size_t i = 0; i < COUNT_OF(CLOCKS); i++) {
+		if (is_word(field, CLOCKS[i].word)) {
+			*clock = CLOCKS[i].clock;
+			return NULL;
+		}
+	}
+	return NO_WORD;
+}
+
+static const char *parse_field(const struct field *field, enum kind kind,
+			       struct row *row)
+{
+	bool is_number = true;
+
+	switch (kind) {
+	case READING:
+		is_number = parse_u64(field, &row->reading);
+		break;
+	case NUMBER:
+		is_number = parse_i64(field, &row->number);
+		break;
+	case NSEC:
+		is_number = parse_u32(field, &row->nsec);
+		break;
+	case CLOCK:
+		return parse_clock(field, &row->clock);
+	}
+	return is_number ? NULL : NO_NUMBER;
+}
+
+static const struct shape *find_shape(const struct field *word)
+{
+	for (size_t i = 0; i < COUNT_OF(SHAPES); i++) {
+		if (is_word(word, SHAPES[i].word))
+			return &SHAPES[i];
+	}
+	return NULL;
+}
+
+/* Returns what is wrong with the record, if something is. */
+static const char *parse_row(const struct record *record, struct row *row)
+{
+	const struct shape *shape = find_shape(&record->fields[0]);
+	const char *wrong = NULL;
+
+	if (!shape)
+		return NO_WORD;
+	if (record->count != shape->count + 1)
+		return NO_FIELDS;
+	*row = (struct row){ .is_read = shape->is_read, .command = shape->command };
+	for (size_t i = 0; i < shape->count && !wrong; i++)
+		wrong = parse_field(&record->fields[i + 1], shape->kinds[i],
+				    row);
+	return wrong;
+}
+
+static const char *parse_opening(const struct record *record,
+				 struct opening *opening)
+{
+	const struct field *fields = record->fields;
+
+	opening->by_frequency = is_word(&fields[0], "openhz");
+	if (!opening->by_frequency && !is_word(&fields[0], "open"))
+		return NO_OPENING;
+	if (record->count != FIELDS_MOST)
+		return NO_FIELDS;
+	for (size_t i = 0; i < COUNT_OF(opening->counter); i++) {
+		if (!parse_u32(&fields[i + 1], &opening->counter[i]))
+			return NO_NUMBER;
+	}
+	if (!parse_u64(&fields[4], &opening->reading) ||
+	    !parse_i64(&fields[5], &opening->sec) ||
+	    !parse_u32(&fields[6], &opening->nsec))
+		return NO_NUMBER;
+	return NULL;
+}
+
+/* Opens the clocks, or tells that counter or clocks refuse the numbers. */
+static const char *open_clocks(const struct opening *opening,
+			       struct script *script)
+{
+	const uint32_t *numbers = opening->counter;
+	uint32_t code;
+
+	script->bits = numbers[0];
+	if (opening->by_frequency)
+		code = tk_counter_from_hz(&script->counter, numbers[0],
+					  numbers[1], numbers[2]);
+	else
+		code = tk_counter_new(&script->counter, numbers[0], numbers[1],
+				      numbers[2]);
+	if (!code)
+		code = tk_clock_open(&script->clock, &script->counter,
+				     opening->reading, opening->sec,
+				     opening->nsec);
+	return code ? NO_OPENING : NULL;
+}
+
+/* Makes room for one row more. */
+static bool reserve_row(struct script *script, size_t *room)
+{
+	struct row *rows;
+
+	if (script->count < *room)
+		return true;
+	*room = *room ? *room * 2 : FIRST_ROOM;
+	rows = realloc(script->rows, *room * sizeof(*rows));
+	if (rows)
+		script->rows = rows;
+	return rows;
+}
+
+static const char *parse_rows(struct script *script, struct reader *reader,
+			      struct record *record)
+{
+	const char *wrong = NULL;
+	size_t room = 0;
+
+	while (!wrong && read_record(reader, record)) {
+		if (!reserve_row(script, &room))
+			return NO_MEMORY;
+		wrong = parse_row(record, &script->rows[script->count]);
+		script->count += !wrong;
+	}
+	return wrong;
+}
+
+bool script_parse(struct script *script, char *text, size_t length,
+		  struct fault *fault)
+{
+	struct reader reader = { text, text + length };
+	struct record record = { 0 };
+	struct opening opening;
+	const char *wrong;
+
+	*script = (struct script){ 0 };
+	if (length > SCRIPT_LIMIT)
+		wrong = "larger than 16777216 bytes";
+	else if (!read_record(&reader, &record))
+		wrong = "no record";
+	else
+		wrong = parse_opening(&record, &opening);
+	if (!wrong)
+		wrong = open_clocks(&opening, script);
+	if (!wrong)
+		wrong = parse_rows(script, &reader, &record);
+	if (!wrong)
+		return true;
+	*fault = (struct fault){ wrong == NO_MEMORY ? 0 : record.number,
+				 wrong };
+	script_free(script);
+	return false;
+}
+
+void script_free(struct script *script)
+{
+	free(script->rows);
+	*script = (struct script){ 0 };
+}
+
+const char *script_clock_word(uint32_t clock)
+{
+	for (size_t i = 0; i < COUNT_OF(CLOCKS); i++) {
+		if (CLOCKS[i].clock == clock)
+			return CLOCKS[i].word;
+	}
+	return "unknown";
+}

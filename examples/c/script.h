@@ -1,0 +1,52 @@
+/*
+ * The scripts of tkcore: an opening, and the rows behind it, each a command or
+ * a read of a clock. crates/tk_script/README.md has the format.
+ */
+#ifndef SCRIPT_H
+#define SCRIPT_H
+
+#include <stdbool.h>
+#include <stddef.h>
+#include <stdint.h>
+#include <tk.h>
+
+/* The most bytes of a script. */
+enum { SCRIPT_LIMIT = 16777216 };
+
+/* A command at a reading, or a read of a clock. */
+struct row {
+	bool is_read;
+	uint64_t reading;
+	uint32_t command; /* as tk_clock_apply takes it, with its numbers */
+	int64_t number;
+	uint32_t nsec;
+	uint32_t clock; /* as tk_snapshot_get takes it */
+};
+
+/* The clocks as the first record opens them, and the rows behind it. */
+struct script {
+	uint32_t bits; /* of the counter */
+	struct tk_counter counter;
+	struct tk_clock clock;
+	struct row *rows;
+	size_t count;
+};
+
+/* Why a script is refused. Record 0 stands for the script as a whole. */
+struct fault {
+	size_t record;
+	const char *text;
+};
+
+/*
+ * Parses a script. It writes over the text, where it drops quotes. On the first
+ * fault it returns false, and the script then holds no memory.
+ */
+bool script_parse(struct script *script, char *text, size_t length,
+		  struct fault *fault);
+void script_free(struct script *script);
+
+/* The word by which a script names a clock. */
+const char *script_clock_word(uint32_t clock);
+
+#endif

@@ -1,0 +1,91 @@
+#!/usr/bin/env python3
+"""A simulated machine whose oscillator is off, and which steers its clocks by a reference.
+
+    tools/build_c && examples/python/simulate.py dist
+
+Each poll asks the reference for the true time. The first offset is stepped away; each later one
+tells how far the frequency is off. The clocks are those of the library, so they keep each
+nanosecond and each rule of the kernel's. The table's columns: seconds of true time, REALTIME less
+true time in ns, and the frequency in force from there on in ppm. The program ends with status 1
+where the clocks don't come within a microsecond.
+"""
+import argparse
+import sys
+
+import tk
+
+HZ = 24_000_000
+OFF_PPB = 37_250  # the oscillator runs so much too fast, in parts of 10^9
+STARTED = 1_700_000_000 * tk.NANOS
+POLL = 16 * tk.NANOS
+POLLS = 8
+STEP_LIMIT = tk.NANOS // 8
+PPM = 65_536  # of a frequency's unit, 2^-16 ppm
+
+
+class Machine:
+    """Clocks over an oscillator, 2.5 s behind the true time when they are opened."""
+
+    def __init__(self, library):
+        counter = library.counter_from_hz(bits=48, hz=HZ, maxsec=600)
+        self.clock = library.open(counter, self.reading(STARTED), sec=STARTED // tk.NANOS - 3,
+                                  nsec=tk.NANOS // 2)
+        self.frequency = 0
+        self.offset = None
+
+    def reading(self, true_time):
+        """What the counter shows."""
+        cycles = (true_time - STARTED) * HZ * (tk.NANOS + OFF_PPB) // tk.NANOS**2
+        return (cycles + 987_654_321) % 2**48
+
+    def measure(self, true_time):
+        """REALTIME less the true time, in ns."""
+        return self.clock.snapshot().get("REALTIME", self.reading(true_time)) - true_time
+
+    def poll(self, true_time):
+        """Steps the clocks where they are far off, and else steers them, so that they gain no more
+        and lose what they are off until the next poll."""
+        offset, reading = self.measure(true_time), self.reading(true_time)
+        if abs(offset) > STEP_LIMIT:
+            self.clock.step(reading, -offset)
+            self.offset = 0
+            return offset
+        gained = offset - self.offset
+        self.frequency -= (gained + offset) * PPM * 1_000_000 // POLL
+        self.clock.apply(reading, "FREQ", self.frequency)
+        self.offset = offset
+        return offset
+
+
+def check_batch(machine, true_time):
+    """A thousand stamps of the last poll at once get the times that they get one by one."""
+    snapshot = machine.clock.snapshot()
+    stamps = [machine.reading(true_time + 1_000_003 * i) for i in range(1000)]
+    times = snapshot.convert("TAI", (tk.U64 * len(stamps))(*stamps))
+    return list(times) == [snapshot.get("TAI", stamp) for stamp in stamps]
+
+
+def check_refusal(machine, true_time):
+    """A reading behind the last one is refused."""
+    try:
+        machine.clock.apply(machine.reading(true_time) - 1, "UPDATE")
+    except tk.Refused as refused:
+        return refused.code == "BEHIND"
+    return False
+
+
+def main():
+    parser = argparse.ArgumentParser(description=__doc__.split("\n", maxsplit=1)[0])
+    parser.add_argument("folder", help="what tools/build_c made")
+    machine = Machine(tk.Library(parser.parse_args().folder))
+    offset, true_time = None, STARTED
+    for _ in range(POLLS):
+        true_time += POLL
+        offset = machine.poll(true_time)
+        print(f"{(true_time - STARTED) // tk.NANOS:5} {offset:12} {machine.frequency / PPM:9.3f}")
+    is_right = check_batch(machine, true_time) and check_refusal(machine, true_time)
+    sys.exit(0 if is_right and abs(offset) < 1000 else 1)
+
+
+if __name__ == "__main__":
+    main()

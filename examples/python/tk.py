@@ -1,0 +1,138 @@
+"""The clocks of libtk_c from Python, by ctypes.
+
+    library = tk.Library("dist")
+    counter = library.counter_from_hz(bits=48, hz=24_000_000, maxsec=600)
+    clock = library.open(counter, reading=0, sec=1_700_000_000)
+    clock.apply(24_000_000, "FREQ", 65_536)
+    clock.snapshot().get("REALTIME", 48_000_000)
+
+The numbers of codes, commands and clocks, and the sizes of values, are those of the header. Times
+are whole nanoseconds. A call that is refused raises Refused.
+"""
+import ctypes
+import re
+from ctypes import byref
+from pathlib import Path
+
+U32, U64, I64 = ctypes.c_uint32, ctypes.c_uint64, ctypes.c_int64
+SIZE = ctypes.c_size_t
+NANOS = 10**9
+
+
+class Refused(Exception):
+    """A call answered another code than OK. `code` is its name, as BEHIND, and `done` how many
+    stamps were converted."""
+
+    def __init__(self, code, done=None):
+        super().__init__(code)
+        self.code = code
+        self.done = done
+
+
+class Time(ctypes.Structure):
+    _fields_ = [("sec", I64), ("nsec", U32)]
+
+
+def enum(header, name, prefix):
+    """The names and numbers of an enum of the header, without their prefix."""
+    body = re.search(rf"enum {name} {{(.*?)}};", header, re.S).group(1)
+    return {word: int(number) for word, number in re.findall(rf"\b{prefix}(\w+) = (\d+)", body)}
+
+
+def value(header, name):
+    """The structure of a value that only the library looks into."""
+    told = re.search(rf"struct {name} {{\s*uint(\d+)_t tk_private\[(\d+)\]", header)
+    word = {"32": U32, "64": U64}[told.group(1)]
+    fields = [("tk_private", word * int(told.group(2)))]
+    return type(name, (ctypes.Structure,), {"_fields_": fields})
+
+
+class Library:
+    """The shared object and the header of a folder that tools/build_c made."""
+
+    def __init__(self, folder):
+        header = Path(folder, "include", "tk.h").read_text()
+        self.codes = {number: word for word, number in enum(header, "tk_code", "TK_").items()}
+        self.commands = enum(header, "tk_command", "TK_CMD_")
+        self.clocks = enum(header, "tk_clock_id", "TK_CLOCK_")
+        self.counter_value = value(header, "tk_counter")
+        self.clock_value = value(header, "tk_clock")
+        self.snapshot_value = value(header, "tk_snapshot")
+        self.calls = ctypes.CDLL(str(Path(folder, "lib", "libtk_c.so").resolve()))
+
+    def call(self, name, *arguments):
+        """Calls a function that answers a code."""
+        code = self.codes[getattr(self.calls, name)(*arguments)]
+        if code != "OK":
+            raise Refused(code)
+
+    def counter(self, bits, mult, shift):
+        counter = self.counter_value()
+        self.call("tk_counter_new", byref(counter), U32(bits), U32(mult), U32(shift))
+        return counter
+
+    def counter_from_hz(self, bits, hz, maxsec):
+        counter = self.counter_value()
+        self.call("tk_counter_from_hz", byref(counter), U32(bits), U32(hz), U32(maxsec))
+        return counter
+
+    def open(self, counter, reading, sec, nsec=0):
+        clock = Clock(self)
+        self.call("tk_clock_open", byref(clock.value), byref(counter), U64(reading), I64(sec),
+                  U32(nsec))
+        return clock
+
+
+class Clock:
+    """Running clocks."""
+
+    def __init__(self, library):
+        self.library = library
+        self.value = library.clock_value()
+
+    def apply(self, reading, command, number=0, nsec=0):
+        """Does a command of the header, by its name: `apply(reading, "TICK", 10_001)`."""
+        command = self.library.commands[command]
+        self.library.call("tk_clock_apply", byref(self.value), U64(reading), U32(command),
+                          I64(number), U32(nsec))
+
+    def step(self, reading, nanoseconds):
+        """Moves REALTIME, by a negative amount too."""
+        self.apply(reading, "STEP", *divmod(nanoseconds, NANOS))
+
+    def snapshot(self):
+        snapshot = Snapshot(self.library)
+        self.library.calls.tk_clock_snapshot(byref(snapshot.value), byref(self.value))
+        return snapshot
+
+
+class Snapshot:
+    """What a reader of the clocks is given."""
+
+    def __init__(self, library):
+        self.library = library
+        self.value = library.snapshot_value()
+
+    def get(self, clock, reading):
+        """A clock of the header at a reading, in ns: `get("REALTIME", reading)`."""
+        time, clock = Time(), self.library.clocks[clock]
+        self.library.call("tk_snapshot_get", byref(time), byref(self.value), U32(clock),
+                          U64(reading))
+        return time.sec * NANOS + time.nsec
+
+    def convert(self, clock, stamps):
+        """A clock at each stamp, in ns. `stamps` is a ctypes array of 64-bit numbers, and so is the
+        answer."""
+        count, done, clock = len(stamps), SIZE(), self.library.clocks[clock]
+        out = (U64 * count)()
+        try:
+            self.library.call("tk_snapshot_convert", out, SIZE(count), byref(done),
+                              byref(self.value), U32(clock), stamps, SIZE(count))
+        except Refused as refused:
+            raise Refused(refused.code, done.value) from None
+        return out
+
+    def words(self):
+        words = (U64 * 10)()
+        self.library.calls.tk_snapshot_words(words, byref(self.value))
+        return list(words)

@@ -1,0 +1,95 @@
+/*
+ * A program with neither C library nor start files, as a kernel has none: what
+ * it links is the archive alone. Every call is made once. It is for Linux on
+ * x86-64, and ends with the status 0 where each answers as it should, else with
+ * the line of the first that doesn't.
+ *
+ * STACK_OFF is how many bytes the stack is off its alignment to 16 bytes: 8 in
+ * a function as the kernel compiles it, by -mpreferred-stack-boundary=3.
+ */
+#include <tk.h>
+
+#ifndef STACK_OFF
+#define STACK_OFF 0
+#endif
+
+enum { EXIT = 60 }; /* the number of exit(2) */
+
+static void leave(long status)
+{
+	__asm__ volatile("syscall" : : "a"(EXIT), "D"(status));
+	__builtin_unreachable();
+}
+
+#define check(holds) \
+	do { \
+		if (!(holds)) \
+			leave(__LINE__); \
+	} while (0)
+
+/* The first reading is 5, and a cycle of the counter is a nanosecond. */
+static void open(struct tk_clock *clock, struct tk_counter *counter)
+{
+	check(tk_version() == TK_VERSION);
+	check(tk_counter_from_hz(counter, 32, 1000000000, 4) == TK_OK);
+	check(tk_counter_new(counter, 32, 1 << 24, 24) == TK_OK);
+	check(tk_clock_open(clock, counter, 5, 1700000000, 0) == TK_OK);
+	check(tk_clock_apply(clock, 1000000005, TK_CMD_UPDATE, 0, 0) == TK_OK);
+}
+
+static void read(const struct tk_snapshot *snapshot)
+{
+	static const uint64_t stamps[9] = { 0, 1500000005, 1500000006 };
+	struct tk_time time;
+	uint64_t out[9];
+	size_t done;
+
+	check(tk_snapshot_get(&time, snapshot, TK_CLOCK_REALTIME,
+			      1500000005) == TK_OK);
+	check(time.sec == 1700000001 && time.nsec == 500000000);
+	check(tk_snapshot_convert(out, 9, &done, snapshot, TK_CLOCK_MONOTONIC,
+				  stamps, 9) == TK_OK);
+	check(done == 9 && out[0] == 1000000000 && out[2] == 1500000001);
+}
+
+/* The words of clocks and of a snapshot give them back. */
+static void restore(const struct tk_clock *clock,
+		    const struct tk_counter *counter)
+{
+	uint64_t words[TK_WORDS], same[TK_WORDS];
+	struct tk_snapshot snapshot;
+	struct tk_clock other;
+	int64_t frequency, tick;
+
+	tk_clock_words(words, &frequency, &tick, clock);
+	check(frequency == 0 && tick == 10000);
+	check(tk_clock_from_words(&other, counter, words, frequency, tick) ==
+	      TK_OK);
+	tk_clock_snapshot(&snapshot, &other);
+	read(&snapshot);
+	check(tk_snapshot_from_words(&snapshot, counter, words) == TK_OK);
+	read(&snapshot);
+	tk_snapshot_words(same, &snapshot);
+	for (int i = 0; i < TK_WORDS; i++)
+		check(same[i] == words[i]);
+}
+
+void start(void)
+{
+	struct tk_counter counter;
+	struct tk_clock clock;
+
+	open(&clock, &counter);
+	restore(&clock, &counter);
+	leave(0);
+}
+
+#define TEXT_OF(number) #number
+#define TEXT(number) TEXT_OF(number)
+
+/* The system hands over an aligned stack. */
+__asm__(".globl _start\n"
+	"_start:\n"
+	"	and $-16, %rsp\n"
+	"	sub $" TEXT(STACK_OFF) ", %rsp\n"
+	"	call start\n");
