@@ -84,13 +84,7 @@ fn work_all<S: NamesScripts + Send + Sync, G: Gate + Sync, R: Threads + Wait + S
 }
 
 /// Starts so many threads, or none more from the first one on that can't be started.
-fn start_all<
-    's,
-    'e,
-    S: NamesScripts + Send + Sync + 'e,
-    G: Gate + Sync,
-    R: Threads + Wait + Sync,
->(
+fn start_all<'s, 'e, S: NamesScripts + Send + Sync + 'e, G: Gate + Sync, R: Threads + Wait + Sync>(
     scope: &'s Scope<'s, &'e ()>,
     rt: &'e R,
     alloc: Global,
