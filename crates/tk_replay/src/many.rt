@@ -20,8 +20,8 @@ const MOST_WORKERS: usize = 64;
 /// at once as there are workers.
 ///
 /// Each worker takes the next script that nobody has taken, until none is left: so a long script
-/// holds up its own worker alone. The gate is told of each script by its worker, with its place from
-/// 0. Count where there are fewer than 1 worker or more than 64. Memory where there is no room for
+/// holds up its own worker alone. The gate is told of each script by its worker, with its place
+/// from 0. Count where there are fewer than 1 worker or more than 64. Memory where there is no room for
 /// the answers, before a thread is started. Threads where a thread couldn't be started: the others
 /// then take no further script, and have ended when this returns.
 pub fn replay_all<G: Gate + Sync, R: Threads + Wait + Sync>(
@@ -84,13 +84,7 @@ fn work_all<S: NamesScripts + Send + Sync, G: Gate + Sync, R: Threads + Wait + S
 }
 
 /// Starts so many threads, or none more from the first one on that can't be started.
-fn start_all<
-    's,
-    'e,
-    S: NamesScripts + Send + Sync + 'e,
-    G: Gate + Sync,
-    R: Threads + Wait + Sync,
->(
+fn start_all<'s, 'e, S: NamesScripts + Send + Sync + 'e, G: Gate + Sync, R: Threads + Wait + Sync>(
     scope: &'s Scope<'s, &'e ()>,
     rt: &'e R,
     alloc: Global,

@@ -1,5 +1,4 @@
-use Rattle.std.proofs.Common.{◌≡◌, get_or, rules, arith}
-use Rattle.tk_replay.specs.Many.{IsOutcome}
+use Rattle.std.proofs.Common.{◌≡◌, get_or, rules}
 use Rattle.tk_replay.proofs.Outcomes.{outcomes_length, outcome_set}
 use Rattle.tk_replay.proofs.worklist.Worklist.hand_in.Goals as goal
 

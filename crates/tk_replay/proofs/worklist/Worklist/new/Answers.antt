@@ -1,6 +1,5 @@
-use Rattle.std.proofs.Common.{◌≡◌, ◌<◌, ◌+◌, ◌++◌, ◌∷◌, [], length, subst, sym, rules, arith, take}
+use Rattle.std.proofs.Common.{◌≡◌, ◌<◌, ◌+◌, ◌++◌, ◌∷◌, [], length, subst, sym, rules, take}
 use Rattle.std.specs.Prelude.{Err}
-use Rattle.std.specs.Global.{Vec}
 use Rattle.tk_script.specs.declared.script_error.ScriptError.TheVariants.{Memory}
 use Rattle.tk_replay.specs.Many.{AreOutcomes}
 use Rattle.tk_replay.proofs.Outcomes.{outcome_waits}

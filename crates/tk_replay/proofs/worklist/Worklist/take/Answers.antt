@@ -1,4 +1,4 @@
-use Rattle.std.proofs.Common.{rules, arith}
+use Rattle.std.proofs.Common.{rules}
 use Rattle.tk_replay.proofs.Outcomes.{outcomes_length}
 use Rattle.tk_replay.proofs.worklist.Worklist.take.Goals as goal
 
