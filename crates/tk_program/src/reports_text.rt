@@ -49,10 +49,7 @@ fn add_heading(text: &mut Vec<u8>, index: usize) -> Result<(), AllocError>
 }
 
 /// Adds a script's report, or a line with its fault.
-fn add_outcome(
-    text: &mut Vec<u8>,
-    outcome: &Result<Vec<u8>, ScriptError>,
-) -> Result<(), AllocError>
+fn add_outcome(text: &mut Vec<u8>, outcome: &Result<Vec<u8>, ScriptError>) -> Result<(), AllocError>
     ensures { OnOk result (text.new.items ≡ text.old.items ++ outcome_text outcome.now) }
 {
     match outcome {
