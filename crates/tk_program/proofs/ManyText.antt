@@ -1,10 +1,9 @@
 -- The text of many reports, file by file.
 use Rattle.std.proofs.Common.{◌≡◌, ℕ, ◌+◌, ◌<◌, List, [], ◌∷◌, ◌++◌, length, get_or, take, refl, sym, ap, ◌∙◌, append_assoc, arith}
-use Rattle.std.specs.Prelude.{Result, Ok, Err, codes}
+use Rattle.std.specs.Prelude.{Result}
 use Rattle.std.specs.Global.{Vec}
 use Rattle.std.proofs.lemmas.List.{append-nil, take_more, length-take-le}
 use Rattle.tk_script.specs.declared.script_error.ScriptError.{ScriptError}
-use Rattle.tk_script.specs.declared.script_error.ScriptError.TheVariants.{Fields}
 use Rattle.tk_program.specs.ManyText.{heading, outcome_text, text_from}
 
 -- one file more stands at the end
@@ -40,10 +39,3 @@ text_more outcomes index outcome below here =
     ap (text_from 0) (take_more outcomes index outcome below)
     ∙ ap (λ (o : Result (Vec ℕ) ScriptError). text_from 0 (take index outcomes ++ o ∷ [])) (sym here)
     ∙ text_from-push 0 (take index outcomes) outcome index counted
-
--- two scripts, the second of which has a fault
-worked : (report : Vec ℕ) →
-    text_from 0 (Ok report ∷ Err (Fields 2) ∷ [])
-    ≡ codes "file,0\n" ++ (report.items
-    ++ (codes "file,1\n" ++ (codes "fault,record 2: wrong number of fields\n" ++ [])))
-worked report = refl
