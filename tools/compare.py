@@ -6,7 +6,7 @@ differs.
 
 Each script is replayed. Another, mostly without a fault, is traced with stamps of its own, and races: alone, where the
 definitions have one answer, and as three actors, whose sums must agree. Each fifth time `many` makes the reports of the
-last five of these.
+last five of these. Words that the program refuses are left out, and the last line counts what was compared.
 """
 import os
 import random
@@ -179,6 +179,11 @@ class Comparison:
             sys.exit(1)
         self.counts[kind] = self.counts.get(kind, 0) + 1
 
+    def takes(self, words):
+        """Does the program know these words, before the name of a file?"""
+        script = file_of(self.folder, "least", b"open,8,256,0,0,0,0\n")
+        return ran(self.program, words + [script])[0] == 0
+
     def replay(self, text):
         self.check("replay", ran(self.program, [], text), wanted(report_of, text), text)
 
@@ -219,15 +224,17 @@ def main():
     seed = int(sys.argv[3]) if len(sys.argv) > 3 else random.randrange(2**32)
     with tempfile.TemporaryDirectory() as folder:
         both, last = Comparison(program, folder, seed), []
+        has_many, has_race = both.takes(["many", "1"]), both.takes(["race", "1"])
         for number in range(count):
             text = script(both.rng)
             both.replay(text)
             text, journal = sound(both.rng)
             both.trace(text, journal)
-            both.race(text)
             last = last[-4:] + [text]
-            if number % 5 == 4:
+            if has_many and number % 5 == 4:
                 both.many(last)
+            if has_race:
+                both.race(text)
     done = ", ".join(f"{number} of {kind}" for kind, number in both.counts.items())
     print(f"seed {seed}: each output is as the definitions have it ({done})")
 

@@ -95,14 +95,23 @@ fn takes_the_words_of_many_scripts(rt: HostRuntime) -> Result<(), Fail> {
     for (word, workers) in numbers {
         let files = Vec::from_slice(rt.alloc(), names.as_slice())?;
         let words = ["tkcore", "many", word, "b", "a", "b"];
-        assert_words(&rt, rt.alloc(), &words, Ok(Request::Many { workers, files }))?;
+        assert_words(
+            &rt,
+            rt.alloc(),
+            &words,
+            Ok(Request::Many { workers, files }),
+        )?;
     }
     Ok(())
 }
 
 #[test]
 fn takes_the_words_of_races(rt: HostRuntime) -> Result<(), Fail> {
-    let numbers: [(&str, u64); 3] = [("0", 0), ("01000", 1_000), ("18446744073709551615", u64::MAX)];
+    let numbers: [(&str, u64); 3] = [
+        ("0", 0),
+        ("01000", 1_000),
+        ("18446744073709551615", u64::MAX),
+    ];
     let names: [&str; 2] = ["a", "-b"];
     for (word, step) in numbers {
         let files = Vec::from_slice(rt.alloc(), names.as_slice())?;
@@ -227,7 +236,10 @@ fn tells_the_fault_of_a_script(rt: HostRuntime) -> Result<(), Fail> {
         (b"open,32,16777216,24,0,1700000000,0\n", b""),
     ];
     for (script, text) in faults {
-        assert_eq!(rt; told(rt.alloc(), &["tkcore"], &rt, script)?.as_slice(), text);
+        assert_eq!(rt;
+            told(rt.alloc(), &["tkcore"], &rt, script)?.as_slice(),
+            text
+        );
     }
     Ok(())
 }

@@ -79,7 +79,11 @@ fn tells_the_fault_of_a_trace(rt: HostRuntime) -> Result<(), Fail> {
     let faults: [(&[u8], &[u8], Fault); 6] = [
         (b"", b"x", Fault::Script(ScriptError::Empty)),
         (SCRIPT, SCRIPT, row),
-        (SCRIPT, b"0,-1\n", Fault::Stamps(ScriptError::Number { row: 1 })),
+        (
+            SCRIPT,
+            b"0,-1\n",
+            Fault::Stamps(ScriptError::Number { row: 1 }),
+        ),
         (
             SCRIPT,
             b"0,0\n1,0\n2,1000000000\n3,0\n",
@@ -121,7 +125,13 @@ fn a_file_that_is_not_there_cannot_be_read(rt: HostRuntime) -> Result<(), Fail> 
 fn traces_files_of_the_system(rt: HostRuntime) -> Result<(), Fail> {
     fs::write(&rt, "tk_program_script", SCRIPT)?;
     fs::write(&rt, "tk_program_stamps", STAMPS)?;
-    let words = ["tkcore", "trace", "monotonic", "tk_program_script", "tk_program_stamps"];
+    let words = [
+        "tkcore",
+        "trace",
+        "monotonic",
+        "tk_program_script",
+        "tk_program_stamps",
+    ];
     let given = line(rt.alloc(), &words)?;
     let mut reader: &[u8] = b"";
     let mut text = Vec::new(rt.alloc());

@@ -7,7 +7,7 @@ pub returns-clause-asked : goal.returns-clause-asked
 returns-clause-asked c =
     let clock = c.get_str-clock.ensures ∙ first_value-rows (found_of c.args.found.now) (codes "CLOCK") in
     let script =
-        c.get_str-script.ensures ∙ first_value-rows (found_of c.args.found.now) (codes "SCRIPT") in
+    c.get_str-script.ensures ∙ first_value-rows (found_of c.args.found.now) (codes "SCRIPT") in
     let stamps =
-        c.get_str-stamps.ensures ∙ first_value-rows (found_of c.args.found.now) (codes "STAMPS") in
+    c.get_str-stamps.ensures ∙ first_value-rows (found_of c.args.found.now) (codes "STAMPS") in
     rw (← clock, ← script, ← stamps) c.trace_asked.ensures.asked
