@@ -1,5 +1,5 @@
 -- One action's reply, by every history that is still possible.
-use Rattle.std.proofs.Common.{◌≡◌, ℕ, ◌+◌, ◌-◌, ◌<◌, ◌≤◌, true, Bool, List, [], ◌∷◌, ◌++◌, length, take, refl, sym, ap, ◌∙◌, subst, arith, append_assoc, length-append}
+use Rattle.std.proofs.Common.{◌≡◌, ℕ, ◌+◌, ◌-◌, ◌≤◌, true, Bool, List, [], ◌∷◌, ◌++◌, length, take, refl, sym, ap, ◌∙◌, subst, arith, append_assoc, length-append}
 use Rattle.std.specs.Prelude.{Some, None, slice_get, nat_lt, if◌then◌else◌}
 use Rattle.std.proofs.lemmas.Bool.{lt-ltb}
 use Rattle.std.proofs.lemmas.List.{take-append-le, take_all}
@@ -9,15 +9,13 @@ use Rattle.tk_clock.specs.declared.command.Command.{Command}
 use Rattle.tk_clock.specs.declared.command.Entry.{Entry}
 use Rattle.tk_clock.specs.declared.refusal.Refusal.{Refusal}
 use Rattle.tk_clock.specs.Journal.{Opening, Journal, prefix}
-use Rattle.tk_clock.specs.Snapshot.{Snapshot, snapshot_of}
-use Rattle.tk_keeper.specs.Keeper.{entry_at}
 use Rattle.tk_page.specs.History.{Begins}
-use Rattle.tk_latch.specs.Latch.{Learnt, IsRead, mark_of}
+use Rattle.tk_latch.specs.Latch.{Learnt, mark_of}
 use Rattle.tk_shared.specs.Callers.{Known, IsAccepted, IsRefused, IsSameCaller, IsRefusalAfter, entry_of}
 use Rattle.tk_shared.proofs.Kept.{whole_count}
 use Rattle.tk_shared.proofs.Prefixes.{prefix_self, prefix_trans, prefix_length}
-use Rattle.tk_race.specs.declared.action.Action.TheVariants.{Order, Look, Glance}
-use Rattle.tk_race.specs.declared.action.RaceReply.TheVariants.{Done, Refused, Saw, Glanced, Moved}
+use Rattle.tk_race.specs.declared.action.Action.TheVariants.{Order}
+use Rattle.tk_race.specs.declared.action.RaceReply.TheVariants.{Done, Refused}
 use Rattle.tk_race.specs.Actor.{IsAnswer}
 
 -- beginnings of journals
@@ -132,83 +130,5 @@ refused old new cmd refusal told same =
                   (begins_prefix new.seen history is.begins) told.reason;
             },
             (omega (arith, low, more), omega (arith, high, learnt)),
-          ));
-    }
-
--- a look
-pub saw : (old new : Known) (snapshot : Snapshot) → Begins old.seen new.seen →
-    snapshot ≡ snapshot_of new.seen →
-    (new.id ≡ old.id) × (new.accepted ≡ old.accepted) × (new.learnt ≡ old.learnt) →
-    IsAnswer old new Look (Saw snapshot.front)
-saw old new snapshot extends is_of same =
-    let more = begins_length old.seen new.seen extends in
-    let counted = same.1 in
-    let told = ap (λ (s : Snapshot). s.front) is_of in
-    record {
-      later = record {
-        id = same.0;
-        seen = extends;
-        learnt = subst (λ (l : Learnt). IsPrefix old.learnt.publications l.publications)
-            (sym same.2) (prefix_self old.learnt.publications);
-        counted = omega (arith, counted);
-      };
-      right = λ history is front least known.
-          (let low = known.0 in
-          let high = known.1 in
-          let learnt = ap (λ (l : Learnt). mark_of l.publications) same.2 in
-          let within = begins_length new.seen history is.begins in
-          let none : new.seen.opening.count ≡ 0 =
-          sym (ap (λ (o : Opening). o.count) is.begins.0) ∙ whole_count history is.whole in (
-            (omega (arith, low, more, told, none), omega (arith, told, none, within)),
-            (omega (arith, told, none), omega (arith, high, learnt)),
-          ));
-    }
-
--- a glance that a publication came between
-pub moved : (old new : Known) →
-    IsPrefix old.learnt.publications new.learnt.publications →
-    (new.id ≡ old.id) × (new.accepted ≡ old.accepted) × (new.seen ≡ old.seen) →
-    IsAnswer old new Glance Moved
-moved old new learnt same =
-    let more = prefix_length old.learnt.publications new.learnt.publications learnt in
-    let counted = same.1 in
-    record {
-      later = record {
-        id = same.0;
-        seen = subst (Begins old.seen) (sym same.2) (begins_self old.seen);
-        learnt = learnt;
-        counted = omega (arith, counted);
-      };
-      right = λ history is front least known.
-          (let low = known.0 in
-          let high = known.1 in
-          let seen = ap (λ (j : Journal). length j.entries) same.2 in
-          (tt, (omega (arith, low, seen), omega (arith, high, more))));
-    }
-
--- a glance
-pub glanced : (old new : Known) (snapshot : Snapshot) →
-    IsPrefix old.learnt.publications new.learnt.publications →
-    IsRead old.learnt new.learnt snapshot →
-    (new.id ≡ old.id) × (new.accepted ≡ old.accepted) × (new.seen ≡ old.seen) →
-    IsAnswer old new Glance (Glanced snapshot.front)
-glanced old new snapshot learnt read same =
-    let counted = same.1 in
-    let latest = read.mark in
-    let newer = read.newer in
-    record {
-      later = record {
-        id = same.0;
-        seen = subst (Begins old.seen) (sym same.2) (begins_self old.seen);
-        learnt = learnt;
-        counted = omega (arith, counted);
-      };
-      right = λ history is front least known.
-          (let low = known.0 in
-          let high = known.1 in
-          let seen = ap (λ (j : Journal). length j.entries) same.2 in
-          let within = is.learnt.within in (
-            (omega (arith, high, newer), omega (arith, latest, within)),
-            (omega (arith, low, seen), omega (arith, latest)),
           ));
     }

@@ -1,11 +1,10 @@
 -- Why a race isn't run.
-use Rattle.std.proofs.Common.{◌≡◌, ℕ, ◌≤◌, Bool, true, false, List, length, refl, arith}
-use Rattle.std.specs.Prelude.{Option, Some, None, Result, Ok, Err, MatchResult, not, nat_lt, ◌||◌, if◌then◌else◌}
+use Rattle.std.proofs.Common.{◌≡◌, ℕ, ◌≤◌, Bool, true, false, refl}
+use Rattle.std.specs.Prelude.{Some, None, Result, Ok, Err, MatchResult, not, nat_lt, ◌||◌, if◌then◌else◌}
 use Rattle.std.proofs.lemmas.Bool.{le-ltb}
 use Rattle.tk_counter.specs.Counter.{Counter, mask}
 use Rattle.tk_clock.specs.declared.timespec.Timespec.{Timespec}
 use Rattle.tk_clock.specs.Limits.{is_settable}
-use Rattle.tk_shared.specs.declared.fault.OpenError.{OpenError}
 use Rattle.tk_shared.specs.declared.fault.OpenError.TheVariants as faults
 use Rattle.tk_shared.specs.Opening.{opening_fault, most_callers}
 use Rattle.tk_race.specs.declared.race_error.RaceError.{RaceError}

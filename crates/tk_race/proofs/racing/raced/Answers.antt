@@ -1,7 +1,7 @@
-use Rattle.std.proofs.Common.{◌≡◌, List, length, ap, sym, subst, ◌∙◌, rules, arith}
+use Rattle.std.proofs.Common.{◌≡◌, length, ap, sym, subst, ◌∙◌, rules, arith}
 use Rattle.std.proofs.lemmas.List.{length-map}
 use Rattle.std.specs.Vec.{vec_len}
-use Rattle.tk_shared.specs.Callers.{Known, newcomers}
+use Rattle.tk_shared.specs.Callers.{newcomers}
 use Rattle.tk_shared.specs.Closing.{AreDifferent}
 use Rattle.tk_race.specs.Actor.{Actor}
 use Rattle.tk_race.proofs.Actors.{many_acted}
