@@ -1,6 +1,6 @@
 use super::{
-    BOOTTIME, MONOTONIC, MONOTONIC_COARSE, MONOTONIC_RAW, REALTIME, REALTIME_COARSE, TAI, commanded,
-    opened, wide_counter,
+    BOOTTIME, MONOTONIC, MONOTONIC_COARSE, MONOTONIC_RAW, REALTIME, REALTIME_COARSE, TAI,
+    commanded, opened, wide_counter,
 };
 use crate::{tk_snapshot_convert, tk_snapshot_get};
 use std::test::Fail;
@@ -48,7 +48,11 @@ fn a_refused_read_is_told_by_its_code(rt: HostRuntime) -> Result<(), Fail> {
         (&wide, MONOTONIC_RAW, i64::MAX as u64, 6),
     ] {
         let mut out = OLD;
-        assert_eq!(rt; tk_snapshot_get(&mut out, snapshot, id, reading), code, "{id}");
+        assert_eq!(rt;
+            tk_snapshot_get(&mut out, snapshot, id, reading),
+            code,
+            "{id}"
+        );
         assert_eq!(rt; out, OLD, "{id}");
     }
     Ok(())
@@ -68,7 +72,10 @@ fn stamps_are_converted_up_to_the_first_that_is_refused(rt: HostRuntime) -> Resu
     let wide = opened(wide_counter()?)?.clock.snapshot(0);
     let stamps = [1, 225_563_049_317];
     let answer = tk_snapshot_convert(&mut out, &mut done, &wide, MONOTONIC, &stamps);
-    assert_eq!(rt; (answer, done, out), (6, 1, [4_194_304, 7_300, 7_300, 7, 7]));
+    assert_eq!(rt;
+        (answer, done, out),
+        (6, 1, [4_194_304, 7_300, 7_300, 7, 7])
+    );
     Ok(())
 }
 

@@ -15,7 +15,10 @@ fn a_snapshot_comes_back_from_its_words(rt: HostRuntime) -> Result<(), Fail> {
     tk_snapshot_words(&mut words, &snapshot);
     assert_eq!(rt; words, words_of(&clock).0);
     let mut out = OLD_SNAPSHOT;
-    assert_eq!(rt; tk_snapshot_from_words(&mut out, &snapshot.desc(), &words), 0);
+    assert_eq!(rt;
+        tk_snapshot_from_words(&mut out, &snapshot.desc(), &words),
+        0
+    );
     assert_eq!(rt; out, SnapshotStorage::from(snapshot));
     Ok(())
 }
@@ -26,7 +29,10 @@ fn clocks_come_back_from_their_words(rt: HostRuntime) -> Result<(), Fail> {
     let (words, frequency, tick) = words_of(&clock);
     let mut out = OLD_CLOCK;
     let counter = nanosecond_counter()?;
-    assert_eq!(rt; tk_clock_from_words(&mut out, &counter, &words, frequency, tick), 0);
+    assert_eq!(rt;
+        tk_clock_from_words(&mut out, &counter, &words, frequency, tick),
+        0
+    );
     assert_eq!(rt; out, ClockStorage::from(clock));
     Ok(())
 }

@@ -9,8 +9,9 @@ fn clocks_come_back_from_their_parts(rt: HostRuntime) -> Result<(), Fail> {
     clock.apply(2_000, Command::Tick(11_000))?;
     assert_eq!(rt; (clock.frequency(), clock.tick()), (32_768_000, 11_000));
     let snapshot = clock.snapshot(2);
-    let mut again = Clock::from_snapshot(snapshot, clock.frequency(), clock.tick())
-        .ok_or("the clocks are running ones")?;
+    let mut again = Clock::from_snapshot(snapshot, clock.frequency(), clock.tick()).ok_or(
+        "the clocks are running ones",
+    )?;
     for now in [&mut clock, &mut again] {
         now.apply(3_000, Command::Step(time(-1, 5)))?;
         now.apply(4_000, Command::Freq(0))?;
@@ -39,7 +40,11 @@ fn no_clocks_have_another_rate_than_their_multiplier(rt: HostRuntime) -> Result<
         let words = [0, 0, mult, 0, 0, 0, 0, 0, raw_frac, 0];
         let snapshot = Snapshot::from_words(desc, words).ok_or("the words are in range")?;
         let clock = Clock::from_snapshot(snapshot, frequency, tick);
-        assert_eq!(rt; clock.is_some(), made, "{mult} {frequency} {tick} {raw_frac}");
+        assert_eq!(rt;
+            clock.is_some(),
+            made,
+            "{mult} {frequency} {tick} {raw_frac}"
+        );
     }
     Ok(())
 }
