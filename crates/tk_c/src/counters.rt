@@ -13,12 +13,7 @@ use tk_counter::CounterDesc;
 /// Writes the counter of these numbers; or answers the first thing that is wrong with them
 /// (`CounterDesc::new`).
 #[unsafe(no_mangle)]
-pub extern "C" fn tk_counter_new(
-    out: &mut CounterStorage,
-    bits: u32,
-    mult: u32,
-    shift: u32,
-) -> u32
+pub extern "C" fn tk_counter_new(out: &mut CounterStorage, bits: u32, mult: u32, shift: u32) -> u32
     ensures { let counter : Counter = record { bits = bits; mult = mult; shift = shift } in
         MatchOption (first_fault counter)
         ((result ≡ number_of Done) × (out.new ≡ counter_storage counter))

@@ -27,6 +27,9 @@ pub use code::Code;
 pub use counted::CountedClock;
 pub use counters::{tk_counter_from_hz, tk_counter_new};
 pub use snapshots::{tk_snapshot_convert, tk_snapshot_get};
-pub use storage::{ClockStorage, CounterStorage, SnapshotStorage};
+pub use storage::{BaseStorage, ClockStorage, CounterStorage, SnapshotStorage};
 pub use version::tk_version;
 pub use words::{tk_clock_from_words, tk_clock_words, tk_snapshot_from_words, tk_snapshot_words};
+
+#[cfg(test)]
+mod tests;

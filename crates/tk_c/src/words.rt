@@ -35,11 +35,13 @@ pub extern "C" fn tk_snapshot_from_words(
         ((result ≡ number_of BadWords) × (out.new ≡ out.old))
         (λ snapshot. (result ≡ number_of Done) × (out.new ≡ snapshot_storage snapshot)) }
 {
-    let Some(snapshot) = Snapshot::from_words(*counter, *words) else {
-        return Code::BadWords.number();
-    };
-    *out = SnapshotStorage::from(snapshot);
-    Code::Done.number()
+    match Snapshot::from_words(*counter, *words) {
+        Some(snapshot) => {
+            *out = SnapshotStorage::from(snapshot);
+            Code::Done.number()
+        }
+        None => Code::BadWords.number(),
+    }
 }
 
 /// Writes the ten words of the clocks' snapshot, and their frequency and tick.

@@ -11,6 +11,7 @@ pub mod Start
 pub mod Folding
 pub mod Honest
 pub mod Units
+pub mod LongUnits
 pub mod Forwarding
 pub mod Rates
 pub mod Ranges

@@ -1,4 +1,4 @@
-ghost use Rattle.std.specs.Prelude.{◌≡◌, ℕ, ◌+◌, ◌*◌, ◌/◌, ◌^◌, ◌<◌, ◌≤◌, MatchOption};
+ghost use Rattle.std.specs.Prelude.{◌≡◌, ℕ, ◌+◌, ◌*◌, ◌/◌, ◌^◌, ◌<◌, ◌≤◌, MatchOption, SomeIff};
 ghost use Rattle.tk_counter.specs.Counter.{second};
 ghost use Rattle.tk_clock.specs.Limits.{clock_end, raw_end};
 
@@ -9,6 +9,9 @@ pub(crate) const NANOS_PER_SECOND: u64 = 1_000_000_000;
 
 /// The nanoseconds at which every clock but MONOTONIC ends.
 const LONGEST_NANOS: u64 = 9_223_372_036 * NANOS_PER_SECOND;
+
+/// As many as the lower half of a word can tell apart.
+const HALF_WORD: u64 = 1 << 32;
 
 /// An amount of time: whole seconds, and what is left of them in units of `2^-shift` ns.
 #[repr(C)]
@@ -76,20 +79,60 @@ impl Amount {
             (clock_end * 10 ^ 9 ≤ nanos)
             (λ told. (told ≡ nanos) × (told ≤ (clock_end + raw_end) * 10 ^ 9)) }
     {
-        let gained = gained_nanos(self.frac, cycles, mult, desc.shift());
-        if gained >= u128::from(LONGEST_NANOS) {
+        let Some(gained) = gained_nanos(self.frac, cycles, mult, desc.shift()) else {
+            return None;
+        };
+        if gained >= LONGEST_NANOS {
             return None;
         }
-        Some(self.sec * NANOS_PER_SECOND + gained as u64)
+        Some(self.sec * NANOS_PER_SECOND + gained)
     }
 }
 
-/// `frac` and so many cycles at `mult`, in ns.
-fn gained_nanos(frac: u64, cycles: u64, mult: u32, shift: u32) -> u128
-    requires { shift ≤ 32 }
-    ensures { result ≡ (frac + cycles * mult) / 2 ^ shift }
+/// `frac` and so many cycles at `mult`, in ns. None where the ns don't fit 63 bits.
+fn gained_nanos(frac: u64, cycles: u64, mult: u32, shift: u32) -> Option<u64>
+    requires rest { frac < 2 ^ 62 }
+    requires shift { shift ≤ 32 }
+    ensures { let nanos = (frac + cycles * mult) / 2 ^ shift in
+        MatchOption result (2 ^ 63 ≤ nanos) (λ told. told ≡ nanos) }
 {
-    let units = u128::from(cycles) * u128::from(mult) + u128::from(frac);
-    // the remainder is the shift itself: it spares the processor a test whether it is below 64
-    units >> (shift % 64)
+    match narrow_units(frac, cycles, mult) {
+        Some(units) => Some(units >> shift),
+        None => long_nanos(frac, cycles, mult, shift),
+    }
+}
+
+/// `frac` and so many cycles at `mult`, in units of `2^-shift` ns, where they fit 64 bits.
+fn narrow_units(frac: u64, cycles: u64, mult: u32) -> Option<u64>
+    ensures { SomeIff result (frac + cycles * mult < 2 ^ 64) (frac + cycles * mult) }
+{
+    cycles.checked_mul(u64::from(mult))?.checked_add(frac)
+}
+
+/// As `gained_nanos`, where the units don't fit 64 bits.
+///
+/// `2^32` units are `2^(32 - shift)` ns, whole ones, so no division is needed.
+fn long_nanos(frac: u64, cycles: u64, mult: u32, shift: u32) -> Option<u64>
+    requires rest { frac < 2 ^ 62 }
+    requires shift { shift ≤ 32 }
+    ensures { let nanos = (frac + cycles * mult) / 2 ^ shift in
+        MatchOption result (2 ^ 63 ≤ nanos) (λ told. told ≡ nanos) }
+{
+    let (upper, rest) = halves(frac, cycles, mult);
+    if upper >> (31 + shift) != 0 {
+        return None;
+    }
+    Some((upper << (32 - shift)) + (rest >> shift))
+}
+
+/// `frac` and so many cycles at `mult`: how many times `2^32` units, and further units.
+fn halves(frac: u64, cycles: u64, mult: u32) -> (u64, u64)
+    requires { frac < 2 ^ 62 }
+    ensures value { 2 ^ 32 * result.0 + result.1 ≡ frac + cycles * mult }
+    ensures low { result.1 < 2 ^ 63 }
+{
+    let mult = u64::from(mult);
+    let lower = cycles % HALF_WORD * mult;
+    let upper = cycles / HALF_WORD * mult + lower / HALF_WORD;
+    (upper, lower % HALF_WORD + frac)
 }

@@ -102,11 +102,20 @@ impl ReadBase {
         ensures { result ≡ base_cycles self.now reading }
     {
         let gap = self.desc.gap(self.last, reading);
-        if self.asleep || self.desc.is_behind(gap) {
+        if self.asleep || self.leads_back(gap) {
             0
         } else {
             gap
         }
+    }
+
+    /// Does a gap lead back? It does where less than it is left up to the mask, as
+    /// `CounterDesc::is_behind` tells of any number.
+    fn leads_back(&self, gap: u64) -> bool
+        requires { gap ≤ mask self.now.counter }
+        ensures { result ≡ nat_lt (half self.now.counter) gap }
+    {
+        self.desc.mask() - gap < gap
     }
 
     /// MONOTONIC at a reading, in ns. None where the cycles since the last one are beyond every
@@ -217,6 +226,7 @@ impl ReadBase {
     /// A clock's time at a reading, or the first thing that is wrong.
     ///
     /// Each clock gets the steps for itself, so that which one it is is tested once.
+    #[inline(always)]
     pub fn get(&self, clock: ClockId, reading: u64) -> Result<Timespec, ReadError>
         ensures { MatchResult result
             (λ time. (read_refusal self.now clock reading ≡ None)

@@ -47,6 +47,7 @@ impl Snapshot {
     /// Invalid where the reading is above the mask, for every clock; Range where the clock is at
     /// its limit or beyond. A reading behind the last command gets the value at that command, and
     /// so does every reading while asleep.
+    #[inline(always)]
     pub fn get(&self, clock: ClockId, reading: u64) -> Result<Timespec, ReadError>
         ensures { MatchResult result
             (λ time. (read_refusal self.now.base clock reading ≡ None)

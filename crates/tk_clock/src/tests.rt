@@ -2,6 +2,7 @@
 
 mod copies;
 mod openings;
+mod parts;
 mod refusals;
 mod settings;
 mod sleep;

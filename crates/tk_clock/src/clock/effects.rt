@@ -25,17 +25,27 @@ impl Clock {
         ensures { IsEffect self.now reading cmd result }
     {
         match cmd {
-            Command::Update => self.update(self.forwarded(reading, cmd)?),
-            Command::SetTime(time) => self.set_time(self.forwarded(reading, cmd)?, time),
-            Command::Step(by) => self.step(self.forwarded(reading, cmd)?, by),
-            Command::Freq(frequency) => self.set_frequency(
-                self.forwarded(reading, cmd)?,
-                frequency,
-            ),
-            Command::Tick(tick) => self.set_tick(self.forwarded(reading, cmd)?, tick),
-            Command::Tai(seconds) => self.set_tai(self.forwarded(reading, cmd)?, seconds),
-            Command::Suspend => self.suspend(self.forwarded(reading, cmd)?),
             Command::Resume(away) => self.resume(reading, away),
+            _ => self.change(self.forwarded(reading, cmd)?, cmd),
+        }
+    }
+
+    /// The clocks after a command that is no resume, with the base that is brought forward to it.
+    fn change(&self, now: ReadBase, cmd: Command) -> Result<Clock, Refusal>
+        requires forwarded { IsForwarded self.now now }
+        requires early { IsEarly self.now now.last cmd }
+        requires awake { is_resume cmd ≡ false }
+        ensures { IsEffect self.now now.last cmd result }
+    {
+        match cmd {
+            Command::Update => self.update(now),
+            Command::SetTime(time) => self.set_time(now, time),
+            Command::Step(by) => self.step(now, by),
+            Command::Freq(frequency) => self.set_frequency(now, frequency),
+            Command::Tick(tick) => self.set_tick(now, tick),
+            Command::Tai(seconds) => self.set_tai(now, seconds),
+            Command::Suspend => self.suspend(now),
+            Command::Resume(_) => unreachable!(),
         }
     }
 

@@ -1,15 +1,15 @@
 use Rattle.std.proofs.Common.{◌+◌, ◌*◌, ◌/◌, ◌^◌, ap, ◌∙◌, arith}
-use Rattle.tk_clock.proofs.Units.{more_nanos}
+use Rattle.tk_clock.proofs.LongUnits.{more_nanos}
 use Rattle.tk_clock.proofs.amount.Amount.nanos_after.Goals as goal
 
-pub returns-then-gained-from : goal.returns-then-gained-from
-returns-then-gained-from c =
+pub returns-in_default : goal.returns-in_default
+returns-in_default c =
     let amount = c.args.self in
     let same = ap (λ s. (amount.frac + c.args.cycles * c.args.mult) / 2 ^ s)
     c.shift.ensures.value in
     let total = more_nanos amount.sec amount.frac (c.args.cycles * c.args.mult)
     c.args.desc.now.shift in
-    omega (arith, same, total, c.gained_nanos-gained.ensures, c.from.ensures, c.if-gained-from.true)
+    omega (arith, same, total, c.in_default.ensures)
 
 pub returns : goal.returns
 returns c =
@@ -18,6 +18,6 @@ returns c =
     c.shift.ensures.value in
     let total = more_nanos amount.sec amount.frac (c.args.cycles * c.args.mult)
     c.args.desc.now.shift in (
-      ap (λ n. amount.sec * 1000000000 + n) (c.gained_nanos-gained.ensures ∙ same) ∙ total,
-      omega (arith, c.requires.few, c.from.ensures, c.if-gained-from.false),
+      ap (λ n. amount.sec * 1000000000 + n) (c.in-Some.ensures ∙ same) ∙ total,
+      omega (arith, c.requires.few, c.if-gained-ge-LONGEST_NANOS.false),
     )
