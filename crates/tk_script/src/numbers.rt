@@ -1,4 +1,4 @@
-ghost use Rattle.std.specs.Prelude.{◌≡◌};
+ghost use Rattle.std.specs.Prelude.{◌≡◌, ◌≤◌, ◌-◌, ◌^◌, length};
 ghost use Rattle.tk_script.specs.Number.{is_numeral, number_up_to, number_of, number32_of, signed_of};
 
 /// The number that a field spells: one ASCII digit or more, leading zeros too, and within 64 bits.
@@ -38,8 +38,35 @@ pub(crate) fn signed(field: &[u8]) -> Option<i64>
     }
 }
 
-/// The number that a field spells, if it is at most `most`.
+/// The number that a field spells, if it is at most `most`. Up to nineteen digits fit a word, so
+/// most fields are read without a test of the sum.
 fn number_at_most(field: &[u8], most: u64) -> Option<u64>
+    ensures { result ≡ number_up_to most field.now }
+{
+    if field.len() > 19 {
+        return long_number(field, most);
+    }
+    short_number(field).filter(|value| *value <= most)
+}
+
+/// The number that a field of at most nineteen bytes spells.
+fn short_number(field: &[u8]) -> Option<u64>
+    requires { length field.now ≤ 19 }
+    ensures { result ≡ number_up_to (2 ^ 64 - 1) field.now }
+{
+    let mut value = 0u64;
+    for byte in field {
+        let digit = byte.wrapping_sub(b'0');
+        if digit > 9 {
+            return None;
+        }
+        value = value * 10 + u64::from(digit);
+    }
+    (!field.is_empty()).then_some(value)
+}
+
+/// The number that a field of any length spells, if it is at most `most`.
+fn long_number(field: &[u8], most: u64) -> Option<u64>
     ensures { result ≡ number_up_to most field.now }
 {
     if !has_digits_only(field) {

@@ -6,7 +6,7 @@ use Rattle.std.proofs.lemmas.List.Folds.{list_all_at}
 use Rattle.std.specs.List.{list_all}
 use Rattle.std.specs.Char.{is_ascii_digit, digit_value}
 use Rattle.std.specs.Str.Parse.{digits_value}
-use Rattle.tk_script.proofs.numbers.number_at_most.Goals as goal
+use Rattle.tk_script.proofs.numbers.long_number.Goals as goal
 
 -- both parts of a test that passed
 second : (a b : Bool) → (a && b) ≡ true → b ≡ true
