@@ -1,6 +1,12 @@
 use super::{nanosecond_counter, opened, time};
-use crate::{Clock, Command, Snapshot};
+use crate::{Clock, Command, Refusal, Snapshot};
 use std::test::Fail;
+
+/// Does two more commands.
+fn go_on(clock: &mut Clock) -> Result<(), Refusal> {
+    clock.apply(3_000, Command::Step(time(-1, 5)))?;
+    clock.apply(4_000, Command::Freq(0))
+}
 
 #[test]
 fn clocks_come_back_from_their_parts(rt: HostRuntime) -> Result<(), Fail> {
@@ -12,10 +18,8 @@ fn clocks_come_back_from_their_parts(rt: HostRuntime) -> Result<(), Fail> {
     let mut again = Clock::from_snapshot(snapshot, clock.frequency(), clock.tick()).ok_or(
         "the clocks are running ones",
     )?;
-    for now in [&mut clock, &mut again] {
-        now.apply(3_000, Command::Step(time(-1, 5)))?;
-        now.apply(4_000, Command::Freq(0))?;
-    }
+    go_on(&mut clock)?;
+    go_on(&mut again)?;
     assert_eq!(rt; again.snapshot(4).words(), clock.snapshot(4).words());
     assert_eq!(rt; (again.frequency(), again.tick()), (0, 11_000));
     Ok(())
