@@ -63,3 +63,33 @@ stops 'no output' 'cannot write' "$trace script stamps >&-"
 expect 'no input' 0 '' 3 1000499964 "$trace script stamps <&-"
 stops 'a pipe that nobody reads' 'cannot write' \
     "{ sleep 0.2; $trace script stamps; echo \$? >status; } | true; exit \$(cat status)"
+
+printf '%s\nset,5,7\n' "$opening" >bad
+for given in 'many' 'many 1' 'many 0 script' 'many 65 script' 'many +1 script' 'many 18446744073709551617 script' \
+    'many x script' 'many script 1' "many 1 \$'\\377'" 'many --help'; do
+    expect "the words $given" 2 "$words" 0 '' "\$program $given"
+done
+for workers in 1 2 064; do
+    expect "reports by $workers" 0 '' 8 'ok,2,1.000499963' "\$program many $workers script script"
+done
+expect 'a script with a fault' 1 '' 10 'ok,2,1.000499963' '$program many 2 script bad script'
+expect 'its line' 0 '' 1 'fault,record 2: wrong number of fields' \
+    '$program many 2 script bad script | sed -n 6p'
+expect 'a file that is no script' 1 '' 2 'fault,record 1: not a valid opening' '$program many 2 stamps'
+expect 'an empty file' 1 '' 2 'fault,no record' '$program many 2 empty'
+expect 'a file of one byte too many' 1 '' 2 'fault,larger than 16777216 bytes' '$program many 1 large'
+many='$program many 2'
+stops 'a missing file before good ones' 'cannot read' "$many missing script script"
+stops 'a missing file behind good ones' 'cannot read' "$many script script missing"
+stops 'a missing file behind a bad one' 'cannot read' "$many bad missing"
+stops 'a folder among good files' 'cannot read' "$many script folder script"
+stops 'many on a full disk' 'cannot write' "$many script script >/dev/full"
+stops 'a fault on a full disk' 'cannot write' "$many bad >/dev/full"
+stops 'many without output' 'cannot write' "$many script >&-"
+stops 'many with too little memory' 'out of memory' "ulimit -v 60000 && $many blank blank blank"
+# a limit on processes holds for no root, so another user starts the program; it may start it alone
+if [ "$(id -u)" = 0 ]; then
+    chmod -R a+rX "$work" && cp "$program" "$work/tkcore" && chmod a+rx "$work/tkcore" "$work"
+    stops 'a thread that cannot be started' 'cannot start a thread' \
+        "exec setpriv --reuid 61234 --regid 61234 --clear-groups bash -c 'ulimit -u 1 && exec ./tkcore many 2 script script'"
+fi

@@ -6,6 +6,7 @@ use Rattle.clap.specs.declared.error.ErrorKind.TheVariants.{OutOfMemory}
 use Rattle.tk_replay.specs.declared.fault.Fault.{Fault}
 use Rattle.tk_replay.specs.declared.fault.Fault.TheVariants as faults
 use Rattle.tk_replay.specs.Fault.{fault_text}
+use Rattle.tk_replay.specs.ManyError.{many_text}
 use Rattle.tk_program.specs.declared.command_line.WordsError.{WordsError}
 use Rattle.tk_program.specs.declared.command_line.WordsError.TheVariants as errors
 use Rattle.tk_program.specs.declared.ending.Ending.{Ending}
@@ -15,11 +16,17 @@ use Rattle.tk_program.specs.declared.ending.Ending.TheVariants as endings
 abbrev pub status_of : Ending → ℕ
 status_of endings.Done = 0
 status_of endings.Words = 2
+status_of endings.Faulty = 1
 status_of (endings.Fault fault) = 1
+status_of (endings.Many error) = 1
 
--- what is told of it, of a writer that tells its bytes: nothing where all was done, and else a line
+-- what is told of it, of a writer that tells its bytes: nothing where all was done, and nothing more
+-- where faults were told in its place, and else a line
 abbrev pub IsToldIn : {W : Type 0} → (W → Option (List ℕ)) → W → W → Ending → Type 0
 IsToldIn contents old new endings.Done = new ≡ old
+IsToldIn contents old new endings.Faulty = new ≡ old
+IsToldIn contents old new (endings.Many error) =
+    Appends (contents old) (contents new) (codes "tkcore: " ++ many_text error ++ codes "\n")
 IsToldIn contents old new endings.Words =
     Appends (contents old) (contents new) (codes "tkcore: " ++ codes "words refused" ++ codes "\n")
 IsToldIn contents old new (endings.Fault fault) =

@@ -5,3 +5,5 @@ pub mod Running
 pub mod ManyText
 pub mod Openings
 pub mod RaceText
+pub mod Files
+pub mod Many

@@ -4,7 +4,7 @@ ghost use Rattle.tk_program.specs.Ending.{IsToldIn, ending_at, ending_of, status
 use crate::command_line::WordsError;
 use std::io;
 use std::io::Write;
-use tk_replay::Fault;
+use tk_replay::{Fault, ManyError};
 
 /// How the program ends.
 #[derive(Clone, Copy, Debug, PartialEq, Eq)]
@@ -13,8 +13,13 @@ pub enum Ending {
     Done,
     /// The words are none of its own: status 2, told in a line.
     Words,
+    /// All was done, and scripts with a fault are told of where their reports would stand: status 1,
+    /// and nothing more is told.
+    Faulty,
     /// What the words ask for has failed: status 1, told in a line.
     Fault(Fault),
+    /// The reports of many scripts weren't made: status 1, told in a line.
+    Many(ManyError),
 }
 
 impl Ending {
@@ -25,7 +30,7 @@ impl Ending {
         match self {
             Ending::Done => 0,
             Ending::Words => 2,
-            Ending::Fault(_) => 1,
+            Ending::Faulty | Ending::Fault(_) | Ending::Many(_) => 1,
         }
     }
 
@@ -34,9 +39,10 @@ impl Ending {
         ensures { OnOk result (IsToldIn W.Write.contents out.old out.new self) }
     {
         match self {
-            Ending::Done => Ok(()),
+            Ending::Done | Ending::Faulty => Ok(()),
             Ending::Words => writeln!(out, "tkcore: words refused"),
             Ending::Fault(fault) => writeln!(out, "tkcore: {fault}"),
+            Ending::Many(error) => writeln!(out, "tkcore: {error}"),
         }
     }
 }

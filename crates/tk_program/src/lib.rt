@@ -16,7 +16,9 @@
 
 mod command_line;
 mod ending;
+mod files;
 mod folder;
+mod many;
 mod openings;
 mod race_lines;
 mod replaying;
