@@ -7,3 +7,4 @@ pub mod Openings
 pub mod RaceText
 pub mod Files
 pub mod Many
+pub mod Race

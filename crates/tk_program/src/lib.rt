@@ -21,10 +21,12 @@ mod folder;
 mod many;
 mod openings;
 mod race_lines;
+mod racing;
 mod replaying;
 mod reports_text;
 mod request;
 mod running;
+mod scripts;
 #[cfg(test)]
 mod tests;
 mod tracing;

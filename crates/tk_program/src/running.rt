@@ -9,7 +9,7 @@ use crate::command_line::{WordsError, asked};
 use crate::ending::Ending;
 use crate::folder::Folder;
 use crate::request::Request;
-use crate::{many, replaying, tracing};
+use crate::{many, racing, replaying, tracing};
 use std::alloc::Global;
 use std::env;
 use std::io::Write;
@@ -21,7 +21,8 @@ use tk_replay::{Sink, Source};
 
 /// Does what the words ask for, the first of which is the program's own; how it ended.
 ///
-/// The reports of many scripts wait for the threads that make them; all else is done by this one.
+/// The reports of many scripts wait for the threads that make them, and a race for its actors'; all
+/// else is done by this one.
 pub fn run<E: Threads + Wait + Sync, D: Folder, R: Source, W: Sink>(
     rt: &E,
     alloc: Global,
@@ -68,7 +69,9 @@ fn answer<E: Threads + Wait + Sync, D: Folder, R: Source, W: Sink>(
         Request::Many { workers, files } => {
             many::answer(rt, alloc, folder, writer, *workers, files.as_slice())
         }
-        Request::Race { .. } => Ending::Words,
+        Request::Race { step, files } => {
+            racing::answer(rt, alloc, folder, writer, *step, files.as_slice())
+        }
     }
 }
 
