@@ -1,5 +1,5 @@
 -- How a race of scripts ends.
-use Rattle.std.specs.Prelude.{◌≡◌, ℕ, ◌<◌, List, [], ◌∷◌, take, length, map, Ok, None, ◌⊎◌, slice_index_or}
+use Rattle.std.specs.Prelude.{◌≡◌, ℕ, ◌<◌, List, [], ◌∷◌, take, length, map, Bool, Option, None, Ok, ◌⊎◌, slice_index_or}
 use Rattle.std.specs.Borrow.{Bor}
 use Rattle.std.specs.List.{All, AllZip}
 use Rattle.tk_clock.specs.Journal.{Journal, accepted_count}
@@ -61,9 +61,9 @@ module _ {D F : Type 0} (open_gives : D → List ℕ → Option F → Type 0)
   abbrev pub StopsScripts : List (Bor (List ℕ)) → Ending → Type 0
   StopsScripts names ending =
       (ending ≡ endings.Fault faults.Memory)
-      ⊎ ((place : ℕ) × (name : Bor (List ℕ)) × (scripts : List Script)
-      × (place < length names) × (name ≡ slice_index_or names place name)
-      × AreScriptsFrom (take place names) scripts × StopsScript place name.now ending)
+      ⊎ ((place : ℕ) × (scripts : List Script) × (place < length names)
+      × AreScriptsFrom (take place names) scripts
+      × StopsScript place (slice_index_or (map (λ name. name.now) names) place []) ending)
 
 -- of a writer, before and after: what is known of its bytes, and what its calls came to
 module _ {W : Type 0} (contents : W → Option (List ℕ))
