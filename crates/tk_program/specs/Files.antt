@@ -1,5 +1,5 @@
 -- What reading files by their names comes to.
-use Rattle.std.specs.Prelude.{◌≡◌, ℕ, ◌<◌, List, length, Option, Some, None, ◌⊎◌, slice_index_or}
+use Rattle.std.specs.Prelude.{◌≡◌, ℕ, ◌<◌, List, [], length, map, Option, Some, None, ◌⊎◌, slice_index_or}
 use Rattle.std.specs.Borrow.{Bor}
 use Rattle.std.specs.List.{AllZip}
 use Rattle.std.specs.Global.{Vec}
@@ -37,5 +37,5 @@ module _ {D F : Type 0} (open_gives : D → List ℕ → Option F → Type 0)
   -- why files aren't all read: one of them, at this place, isn't; or memory was refused
   abbrev pub StopsFiles : List (Bor (List ℕ)) → Fault → Type 0
   StopsFiles names fault = (fault ≡ faults.Memory)
-      ⊎ ((place : ℕ) × (name : Bor (List ℕ)) × (place < length names)
-      × (name ≡ slice_index_or names place name) × StopsFile name.now fault)
+      ⊎ ((place : ℕ) × (place < length names)
+      × StopsFile (slice_index_or (map (λ name. name.now) names) place []) fault)
