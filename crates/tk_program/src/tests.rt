@@ -6,11 +6,13 @@ mod many;
 mod many_text;
 mod traces;
 
-use crate::{Ending, Request, WordsError, asked, run};
+use crate::{Ending, Folder, Request, WordsError, asked, run};
 use std::alloc::{AllocError, Global};
 use std::io::{Error, ErrorKind};
 use std::process::Abort;
+use std::sync::Wait;
 use std::test::Fail;
+use std::thread::Threads;
 use tk_clock::ClockId;
 use tk_replay::{Fault, ManyError};
 use tk_script::ScriptError;
@@ -200,7 +202,11 @@ fn refuses_words_that_could_not_be_taken(rt: HostRuntime) {
 }
 
 /// What a run by these words tells of how it ended.
-fn told(rt: &HostRuntime, words: &[&str], script: &[u8]) -> Result<Vec<u8>, Fail> {
+fn told(
+    rt: &(impl AllocGlobal + Folder + Threads + Wait + Sync),
+    words: &[&str],
+    script: &[u8],
+) -> Result<Vec<u8>, Fail> {
     let alloc = rt.alloc();
     let given = line(alloc, words)?;
     let mut reader = script;

@@ -2,7 +2,10 @@
 
 use super::line;
 use crate::{Ending, Folder, run};
+use std::process::Abort;
+use std::sync::Wait;
 use std::test::Fail;
+use std::thread::Threads;
 
 /// Files in memory, by their names.
 #[derive(Drop)]
@@ -28,7 +31,7 @@ impl<'a> Folder for Shelf<'a> {
 /// What a run by these words over these files ends with, and what it writes. It leaves standard
 /// input to others.
 pub(super) fn outcome(
-    rt: &HostRuntime,
+    rt: &(impl AllocGlobal + Abort + Threads + Wait + Sync),
     words: &[&str],
     files: &[(&str, &[u8])],
 ) -> Result<(Ending, Vec<u8>), Fail> {
