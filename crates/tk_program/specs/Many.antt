@@ -1,5 +1,5 @@
 -- How the reports of many scripts end.
-use Rattle.std.specs.Prelude.{◌≡◌, ℕ, List, length, Option, Result, Bool, true, is_ok, if◌then◌else◌, ◌⊎◌, map}
+use Rattle.std.specs.Prelude.{◌≡◌, ℕ, List, Option, Result, Bool, is_ok, if◌then◌else◌, ◌⊎◌}
 use Rattle.std.specs.Borrow.{Bor}
 use Rattle.std.specs.Global.{Vec}
 use Rattle.std.specs.List.{list_all}
