@@ -76,16 +76,16 @@ module _ {W : Type 0} (contents : W → Option (List ℕ))
       ⊎ EndsWriting contents write_gives flush_gives writer writer'
       (race_lines (accepted_count journal) replies) endings.Done ending
 
-  -- scripts that open their clocks as this one were raced; or their race has an error, and nothing
-  -- is written
-  abbrev pub EndsAlike : Script → List Script → Ending → Type 0
-  EndsAlike first scripts ending =
+  -- so many parts were raced on clocks that were opened as this script says; or that has an error,
+  -- and nothing is written
+  abbrev pub EndsParts : Script → ℕ → List (List Action) → Ending → Type 0
+  EndsParts first count parts ending =
       ((error : RaceError) × (ending ≡ endings.Race error)
-      × IsRaceError (length scripts) first.desc first.reading first.real error
+      × IsRaceError count first.desc first.reading first.real error
       × (writer' ≡ writer))
       ⊎ ((journal : Journal) × (replies : List (List RaceReply))
-      × (race_error (length scripts) first.desc first.reading first.real ≡ None)
-      × IsRaced first.desc first.real (map part_of scripts) journal replies
+      × (race_error count first.desc first.reading first.real ≡ None)
+      × IsRaced first.desc first.real parts journal replies
       × EndsTold journal replies ending)
 
   -- scripts were raced, an actor for each; or they don't all open their clocks as the first one,
@@ -95,7 +95,8 @@ module _ {W : Type 0} (contents : W → Option (List ℕ))
   EndsScripts (first ∷ others) ending =
       ((All (AreSameOpenings first) others → ⊥) × (ending ≡ endings.Openings)
       × (writer' ≡ writer))
-      ⊎ (All (AreSameOpenings first) others × EndsAlike first (first ∷ others) ending)
+      ⊎ (All (AreSameOpenings first) others
+      × EndsParts first (length (first ∷ others)) (map part_of (first ∷ others)) ending)
 
   -- the files of these names were read one after the other, and their scripts were raced; or one of
   -- them gives no script, and nothing is written

@@ -3,7 +3,7 @@ ghost use Rattle.std.specs.Prelude.{◌≡◌, ◌↔◌, length, map, IfOk, IsT
 ghost use Rattle.std.specs.List.{All};
 ghost use Rattle.tk_clock.specs.Journal.{accepted_count};
 ghost use Rattle.tk_program.specs.Openings.{AreSameOpenings};
-ghost use Rattle.tk_program.specs.Race.{EndsRace, EndsScripts, EndsTold, action_of, part_of};
+ghost use Rattle.tk_program.specs.Race.{EndsParts, EndsRace, EndsScripts, EndsTold, action_of, part_of};
 
 use crate::ending::Ending;
 use crate::folder::Folder;
@@ -45,7 +45,8 @@ pub(crate) fn answer<E: Threads + Wait + Sync, D: Folder, W: Sink>(
     }
 }
 
-/// Races these actors, each of which plays the part of one script.
+/// Races these actors, each of which plays the part of one script, if all scripts open their clocks
+/// alike.
 fn race_all<E: Threads + Wait + Sync, W: Sink>(
     rt: &E,
     alloc: Global,
@@ -54,23 +55,35 @@ fn race_all<E: Threads + Wait + Sync, W: Sink>(
     scripts: &[Script],
     actors: &[Vec<Action>],
 ) -> Ending
-    requires { map (λ a. a.items) actors.now ≡ map part_of scripts.now }
+    requires count { length actors.now ≡ length scripts.now }
+    requires parts { map (λ a. a.items) actors.now ≡ map part_of scripts.now }
     ensures { EndsScripts W.Write.contents W.Sink.write_gives W.Sink.flush_gives
         writer.old writer.new scripts.now result }
 {
     let Some((first, others)) = scripts.split_first() else {
         return Ending::Race(RaceError::Count);
     };
-    if !open_alike(first, others) {
-        return Ending::Openings;
+    if open_alike(first, others) {
+        race_as(rt, alloc, writer, step, first, actors)
+    } else {
+        Ending::Openings
     }
-    let Script {
-        desc,
-        reading,
-        real,
-        ..
-    } = *first;
-    match race(rt, alloc, desc, reading, real, step, actors, &NoGate) {
+}
+
+/// Races these actors on clocks that are opened as the script says.
+fn race_as<E: Threads + Wait + Sync, W: Sink>(
+    rt: &E,
+    alloc: Global,
+    writer: &mut W,
+    step: u64,
+    first: &Script,
+    actors: &[Vec<Action>],
+) -> Ending
+    ensures { EndsParts W.Write.contents W.Sink.write_gives W.Sink.flush_gives
+        writer.old writer.new
+        first.now (length actors.now) (map (λ a. a.items) actors.now) result }
+{
+    match race(rt, alloc, first.desc, first.reading, first.real, step, actors, &NoGate) {
         Ok(report) => tell(alloc, writer, &report),
         Err(error) => Ending::Race(error),
     }
@@ -101,7 +114,9 @@ fn tell<W: Sink>(alloc: Global, writer: &mut W, report: &RaceReport) -> Ending
 
 /// The part of each script.
 fn actors_of(alloc: Global, scripts: &[Script]) -> Result<Vec<Vec<Action>>, AllocError>
-    ensures { IfOk result (λ actors. map (λ a. a.items) actors.items ≡ map part_of scripts.now) }
+    ensures count { IfOk result (λ actors. length actors.items ≡ length scripts.now) }
+    ensures parts { IfOk result (λ actors.
+        map (λ a. a.items) actors.items ≡ map part_of scripts.now) }
 {
     let mut actors = Vec::with_capacity(alloc, scripts.len())?;
     'scripts: for script in scripts {
