@@ -35,11 +35,7 @@ pub(crate) fn read_files<D: Folder>(
 }
 
 /// The bytes of one file.
-pub(crate) fn read_file<D: Folder>(
-    alloc: Global,
-    folder: &D,
-    name: &str,
-) -> Result<Vec<u8>, Fault>
+pub(crate) fn read_file<D: Folder>(alloc: Global, folder: &D, name: &str) -> Result<Vec<u8>, Fault>
     ensures ok { IfOk result (λ text. IsReadFrom D.Folder.open_gives D.File.Read.remaining
         D.File.Source.read_gives folder.now name.now text.items) }
     ensures err { IfErr result (StopsFile D.Folder.open_gives D.File.Read.remaining

@@ -43,11 +43,7 @@ pub(crate) fn answer<E: Threads + Wait + Sync, D: Folder, W: Sink>(
 }
 
 /// Writes what scripts have come to. It ends as `Faulty` where one of them has a fault.
-fn tell<W: Sink>(
-    alloc: Global,
-    writer: &mut W,
-    outcomes: &[Result<Vec<u8>, ScriptError>],
-) -> Ending
+fn tell<W: Sink>(alloc: Global, writer: &mut W, outcomes: &[Result<Vec<u8>, ScriptError>]) -> Ending
     ensures { EndsTelling W.Write.contents W.Sink.write_gives W.Sink.flush_gives
         writer.old writer.new outcomes.now result }
 {

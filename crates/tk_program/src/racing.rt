@@ -40,7 +40,14 @@ pub(crate) fn answer<E: Threads + Wait + Sync, D: Folder, W: Sink>(
         Err(ending) => return ending,
     };
     match actors_of(alloc, scripts.as_slice()) {
-        Ok(actors) => race_all(rt, alloc, writer, step, scripts.as_slice(), actors.as_slice()),
+        Ok(actors) => race_all(
+            rt,
+            alloc,
+            writer,
+            step,
+            scripts.as_slice(),
+            actors.as_slice(),
+        ),
         Err(_) => Ending::Fault(Fault::Memory),
     }
 }
@@ -83,7 +90,16 @@ fn race_as<E: Threads + Wait + Sync, W: Sink>(
         writer.old writer.new
         first.now (length actors.now) (map (λ a. a.items) actors.now) result }
 {
-    match race(rt, alloc, first.desc, first.reading, first.real, step, actors, &NoGate) {
+    match race(
+        rt,
+        alloc,
+        first.desc,
+        first.reading,
+        first.real,
+        step,
+        actors,
+        &NoGate,
+    ) {
         Ok(report) => tell(alloc, writer, &report),
         Err(error) => Ending::Race(error),
     }

@@ -78,12 +78,7 @@ fn answer<E: Threads + Wait + Sync, D: Folder, R: Source, W: Sink>(
 /// Does what the process's words ask for, and tells how it ended, with the code to exit with.
 ///
 /// What can't be told is left out.
-pub fn run_and_tell<E, R, W, T>(
-    rt: &E,
-    reader: &mut R,
-    writer: &mut W,
-    told: &mut T,
-) -> ExitCode
+pub fn run_and_tell<E, R, W, T>(rt: &E, reader: &mut R, writer: &mut W, told: &mut T) -> ExitCode
 where
     E: Env + AllocGlobal + Folder + Threads + Wait + Sync,
     R: Source,

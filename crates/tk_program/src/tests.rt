@@ -4,6 +4,7 @@
 mod files;
 mod many;
 mod many_text;
+mod races;
 mod traces;
 
 use crate::{Ending, Folder, Request, WordsError, asked, run};
@@ -251,7 +252,14 @@ fn refused_words_leave_the_script_and_the_report(rt: HostRuntime) -> Result<(), 
     let script: &[u8] = b"open,32,16777216,24,0,1700000000,0\n";
     let mut reader = script;
     let mut writer = b"-".to_vec(rt.alloc())?;
-    let ending = run(&rt, rt.alloc(), given.as_slice(), &rt, &mut reader, &mut writer);
+    let ending = run(
+        &rt,
+        rt.alloc(),
+        given.as_slice(),
+        &rt,
+        &mut reader,
+        &mut writer,
+    );
     assert_eq!(rt; ending, Ending::Words);
     assert_eq!(rt; reader, script);
     assert_eq!(rt; writer.as_slice(), b"-".as_slice());
@@ -263,8 +271,16 @@ fn tells_each_ending(rt: HostRuntime) -> Result<(), Fail> {
     let endings: [(Ending, u8, &[u8]); 10] = [
         (Ending::Done, 0, b""),
         (Ending::Faulty, 1, b""),
-        (Ending::Many(ManyError::Count), 1, b"tkcore: count out of range\n"),
-        (Ending::Many(ManyError::Memory), 1, b"tkcore: out of memory\n"),
+        (
+            Ending::Many(ManyError::Count),
+            1,
+            b"tkcore: count out of range\n",
+        ),
+        (
+            Ending::Many(ManyError::Memory),
+            1,
+            b"tkcore: out of memory\n",
+        ),
         (
             Ending::Many(ManyError::Threads),
             1,

@@ -9,8 +9,8 @@ use std::thread::Threads;
 
 /// Files in memory, by their names.
 #[derive(Drop)]
-struct Shelf<'a> {
-    files: &'a [(&'a str, &'a [u8])],
+pub(super) struct Shelf<'a> {
+    pub(super) files: &'a [(&'a str, &'a [u8])],
 }
 
 impl<'a> Folder for Shelf<'a> {

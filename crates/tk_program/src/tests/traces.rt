@@ -100,12 +100,26 @@ fn traces_files_of_the_system(rt: HostRuntime) -> Result<(), Fail> {
     let given = line(rt.alloc(), &words)?;
     let mut reader: &[u8] = b"";
     let mut text = Vec::new(rt.alloc());
-    let ending = run(&rt, rt.alloc(), given.as_slice(), &rt, &mut reader, &mut text);
+    let ending = run(
+        &rt,
+        rt.alloc(),
+        given.as_slice(),
+        &rt,
+        &mut reader,
+        &mut text,
+    );
     assert_eq!(rt; ending, Ending::Done);
     assert_eq!(rt; text.as_slice(), TRACE);
     fs::remove_file(&rt, "tk_program_stamps")?;
     text.clear();
-    let ending = run(&rt, rt.alloc(), given.as_slice(), &rt, &mut reader, &mut text);
+    let ending = run(
+        &rt,
+        rt.alloc(),
+        given.as_slice(),
+        &rt,
+        &mut reader,
+        &mut text,
+    );
     assert_eq!(rt; ending, Ending::Fault(Fault::Read));
     assert!(rt; text.is_empty());
     fs::remove_file(&rt, "tk_program_script")?;
