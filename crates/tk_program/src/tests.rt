@@ -132,7 +132,8 @@ fn takes_its_words_when_memory_is_there(rt: HostRuntime) -> Result<(), Fail> {
     let found = asked(rt.alloc(), bounded.as_slice());
     assert_eq!(rt; found, Ok(Request::Replay { keep: Some(1) }));
     let many = line(rt.alloc(), &["tkcore", "many", "2", "a"])?;
-    let files = Vec::from_slice(rt.alloc(), ["a"].as_slice())?;
+    let names: [&str; 1] = ["a"];
+    let files = Vec::from_slice(rt.alloc(), names.as_slice())?;
     let found = asked(rt.alloc(), many.as_slice());
     assert_eq!(rt; found, Ok(Request::Many { workers: 2, files }));
     Ok(())
