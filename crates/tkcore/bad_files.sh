@@ -87,9 +87,40 @@ stops 'many on a full disk' 'cannot write' "$many script script >/dev/full"
 stops 'a fault on a full disk' 'cannot write' "$many bad >/dev/full"
 stops 'many without output' 'cannot write' "$many script >&-"
 stops 'many with too little memory' 'out of memory' "ulimit -v 60000 && $many blank blank blank"
+for given in 'race' 'race 1' 'race -1 script' 'race +1 script' 'race x script' 'race 18446744073709551616 script' \
+    'race script 1' "race 1 \$'\\377'" 'race --help'; do
+    expect "the words $given" 2 "$words" 0 '' "\$program $given"
+done
+race='$program race 1000'
+expect 'a race of one' 0 '' 2 'actor,0,2,0' "$race script"
+expect 'a race of two' 0 '' 3 'actor,1,2,0' "$race script script"
+expect 'their entries' 0 '' 1 'entries,4' "$race script script | sed -n 1p"
+expect 'a race of 64' 0 '' 65 'actor,63,2,0' "$race \$(yes script | head -n 64)"
+expect 'the largest step' 0 '' 2 'actor,0,0,2' '$program race 18446744073709551615 script'
+stops 'a race of 65' 'count out of range' "$race \$(yes script | head -n 65)"
+stops 'a missing file of 65' 'cannot read' "$race \$(yes script | head -n 64) missing"
+stops 'a missing file before scripts that race' 'cannot read' "$race missing script"
+stops 'a missing file behind scripts that race' 'cannot read' "$race script script missing"
+stops 'a missing file before a bad one' 'cannot read' "$race missing bad"
+stops 'a bad file before a missing one' 'file 0: record 2: wrong number of fields' "$race bad missing"
+stops 'a folder in a race' 'cannot read' "$race script folder"
+stops 'a fault in the second file' 'file 1: record 2: wrong number of fields' "$race script bad script"
+stops 'an empty file in a race' 'file 0: no record' "$race empty script"
+stops 'stamps in a race' 'file 1: record 1: not a valid opening' "$race script stamps"
+stops 'a racing file of one byte too many' 'file 1: larger than 16777216 bytes' "$race script large"
+echo open,8,256,0,1,0,0 >other
+stops 'openings that differ' 'openings differ' "$race script other"
+stops 'a fault behind openings that differ' 'file 2: record 2: wrong number of fields' "$race script other bad"
+stops 'openings of 65 that differ' 'openings differ' "$race other \$(yes script | head -n 64)"
+stops 'a race on a full disk' 'cannot write' "$race script script >/dev/full"
+stops 'a race without output' 'cannot write' "$race script >&-"
+{ echo "$opening" && yes update,0 | head -n 1500000; } >long
+stops 'a race with too little memory' 'out of memory' "ulimit -v 60000 && $race script long"
 # a limit on processes holds for no root, so another user starts the program; it may start it alone
 if [ "$(id -u)" = 0 ]; then
     chmod -R a+rX "$work" && cp "$program" "$work/tkcore" && chmod a+rx "$work/tkcore" "$work"
     stops 'a thread that cannot be started' 'cannot start a thread' \
         "exec setpriv --reuid 61234 --regid 61234 --clear-groups bash -c 'ulimit -u 1 && exec ./tkcore many 2 script script'"
+    stops 'a racing thread that cannot be started' 'cannot start a thread' \
+        "exec setpriv --reuid 61234 --regid 61234 --clear-groups bash -c 'ulimit -u 1 && exec ./tkcore race 1 script script'"
 fi

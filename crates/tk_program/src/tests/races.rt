@@ -62,8 +62,13 @@ fn assert_stops(
     files: &[(&str, &[u8])],
     wanted: Ending,
 ) -> Result<(), Fail> {
-    let mut words = Vec::from_slice(rt.alloc(), ["tkcore", "race", "1"].as_slice())?;
-    words.extend_from_slice(names)?;
+    let mut words: Vec<&str> = Vec::new(rt.alloc());
+    for word in ["tkcore", "race", "1"] {
+        words.push(word)?;
+    }
+    for name in names {
+        words.push(*name)?;
+    }
     let (ending, text) = outcome(rt, words.as_slice(), files)?;
     assert_eq!(rt; ending, wanted);
     assert!(rt; text.is_empty());
@@ -163,8 +168,13 @@ fn sixty_five_files_are_too_many(rt: HostRuntime) -> Result<(), Fail> {
 #[test]
 fn sixty_four_files_race(rt: HostRuntime) -> Result<(), Fail> {
     let files: [(&str, &[u8]); 1] = [("a", UPDATES)];
-    let mut words = Vec::from_slice(rt.alloc(), ["tkcore", "race", "1"].as_slice())?;
-    words.extend_from_slice(["a"; 64].as_slice())?;
+    let mut words = Vec::new(rt.alloc());
+    for word in ["tkcore", "race", "1"] {
+        words.push(word)?;
+    }
+    for _ in 0..64 {
+        words.push("a")?;
+    }
     let (ending, text) = outcome(&rt, words.as_slice(), &files)?;
     assert_eq!(rt; ending, Ending::Done);
     let mut wanted = b"entries,192\n".to_vec(rt.alloc())?;
