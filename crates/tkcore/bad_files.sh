@@ -63,3 +63,64 @@ stops 'no output' 'cannot write' "$trace script stamps >&-"
 expect 'no input' 0 '' 3 1000499964 "$trace script stamps <&-"
 stops 'a pipe that nobody reads' 'cannot write' \
     "{ sleep 0.2; $trace script stamps; echo \$? >status; } | true; exit \$(cat status)"
+
+printf '%s\nset,5,7\n' "$opening" >bad
+for given in 'many' 'many 1' 'many 0 script' 'many 65 script' 'many +1 script' 'many 18446744073709551617 script' \
+    'many x script' 'many script 1' "many 1 \$'\\377'" 'many --help'; do
+    expect "the words $given" 2 "$words" 0 '' "\$program $given"
+done
+for workers in 1 2 064; do
+    expect "reports by $workers" 0 '' 8 'ok,2,1.000499963' "\$program many $workers script script"
+done
+expect 'a script with a fault' 1 '' 10 'ok,2,1.000499963' '$program many 2 script bad script'
+expect 'its line' 0 '' 1 'fault,record 2: wrong number of fields' \
+    '$program many 2 script bad script | sed -n 6p'
+expect 'a file that is no script' 1 '' 2 'fault,record 1: not a valid opening' '$program many 2 stamps'
+expect 'an empty file' 1 '' 2 'fault,no record' '$program many 2 empty'
+expect 'a file of one byte too many' 1 '' 2 'fault,larger than 16777216 bytes' '$program many 1 large'
+many='$program many 2'
+stops 'a missing file before good ones' 'cannot read' "$many missing script script"
+stops 'a missing file behind good ones' 'cannot read' "$many script script missing"
+stops 'a missing file behind a bad one' 'cannot read' "$many bad missing"
+stops 'a folder among good files' 'cannot read' "$many script folder script"
+stops 'many on a full disk' 'cannot write' "$many script script >/dev/full"
+stops 'a fault on a full disk' 'cannot write' "$many bad >/dev/full"
+stops 'many without output' 'cannot write' "$many script >&-"
+stops 'many with too little memory' 'out of memory' "ulimit -v 60000 && $many blank blank blank"
+for given in 'race' 'race 1' 'race -1 script' 'race +1 script' 'race x script' 'race 18446744073709551616 script' \
+    'race script 1' "race 1 \$'\\377'" 'race --help'; do
+    expect "the words $given" 2 "$words" 0 '' "\$program $given"
+done
+race='$program race 1000'
+expect 'a race of one' 0 '' 2 'actor,0,2,0' "$race script"
+expect 'a race of two' 0 '' 3 'actor,1,2,0' "$race script script"
+expect 'their entries' 0 '' 1 'entries,4' "$race script script | sed -n 1p"
+expect 'a race of 64' 0 '' 65 'actor,63,2,0' "$race \$(yes script | head -n 64)"
+expect 'the largest step' 0 '' 2 'actor,0,0,2' '$program race 18446744073709551615 script'
+stops 'a race of 65' 'count out of range' "$race \$(yes script | head -n 65)"
+stops 'a missing file of 65' 'cannot read' "$race \$(yes script | head -n 64) missing"
+stops 'a missing file before scripts that race' 'cannot read' "$race missing script"
+stops 'a missing file behind scripts that race' 'cannot read' "$race script script missing"
+stops 'a missing file before a bad one' 'cannot read' "$race missing bad"
+stops 'a bad file before a missing one' 'file 0: record 2: wrong number of fields' "$race bad missing"
+stops 'a folder in a race' 'cannot read' "$race script folder"
+stops 'a fault in the second file' 'file 1: record 2: wrong number of fields' "$race script bad script"
+stops 'an empty file in a race' 'file 0: no record' "$race empty script"
+stops 'stamps in a race' 'file 1: record 1: not a valid opening' "$race script stamps"
+stops 'a racing file of one byte too many' 'file 1: larger than 16777216 bytes' "$race script large"
+echo open,8,256,0,1,0,0 >other
+stops 'openings that differ' 'openings differ' "$race script other"
+stops 'a fault behind openings that differ' 'file 2: record 2: wrong number of fields' "$race script other bad"
+stops 'openings of 65 that differ' 'openings differ' "$race other \$(yes script | head -n 64)"
+stops 'a race on a full disk' 'cannot write' "$race script script >/dev/full"
+stops 'a race without output' 'cannot write' "$race script >&-"
+{ echo "$opening" && yes update,0 | head -n 1500000; } >long
+stops 'a race with too little memory' 'out of memory' "ulimit -v 60000 && $race script long"
+# a limit on processes holds for no root, so another user starts the program; it may start it alone
+if [ "$(id -u)" = 0 ]; then
+    chmod -R a+rX "$work" && cp "$program" "$work/tkcore" && chmod a+rx "$work/tkcore" "$work"
+    stops 'a thread that cannot be started' 'cannot start a thread' \
+        "exec setpriv --reuid 61234 --regid 61234 --clear-groups bash -c 'ulimit -u 1 && exec ./tkcore many 2 script script'"
+    stops 'a racing thread that cannot be started' 'cannot start a thread' \
+        "exec setpriv --reuid 61234 --regid 61234 --clear-groups bash -c 'ulimit -u 1 && exec ./tkcore race 1 script script'"
+fi

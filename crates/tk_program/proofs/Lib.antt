@@ -1,3 +1,4 @@
 pub mod Worked
 pub mod ManyText
 pub mod RaceLines
+pub mod FilesRead

@@ -3,9 +3,13 @@ use Rattle.std.specs.Prelude.{◌≡◌, ℕ, List, ◌++◌, Option, IfSome, Re
 use Rattle.std.specs.Io.KnownBytes.{Appends}
 use Rattle.clap.specs.declared.error.ErrorKind.{ErrorKind}
 use Rattle.clap.specs.declared.error.ErrorKind.TheVariants.{OutOfMemory}
+use Rattle.tk_script.specs.declared.script_error.ScriptError.{ScriptError}
+use Rattle.tk_script.specs.declared.script_error.ScriptError.TheVariants as scripts
+use Rattle.tk_race.specs.RaceError.{error_text}
 use Rattle.tk_replay.specs.declared.fault.Fault.{Fault}
 use Rattle.tk_replay.specs.declared.fault.Fault.TheVariants as faults
 use Rattle.tk_replay.specs.Fault.{fault_text}
+use Rattle.tk_replay.specs.ManyError.{many_text}
 use Rattle.tk_program.specs.declared.command_line.WordsError.{WordsError}
 use Rattle.tk_program.specs.declared.command_line.WordsError.TheVariants as errors
 use Rattle.tk_program.specs.declared.ending.Ending.{Ending}
@@ -15,21 +19,45 @@ use Rattle.tk_program.specs.declared.ending.Ending.TheVariants as endings
 abbrev pub status_of : Ending → ℕ
 status_of endings.Done = 0
 status_of endings.Words = 2
+status_of endings.Faulty = 1
 status_of (endings.Fault fault) = 1
+status_of (endings.Many error) = 1
+status_of (endings.File index error) = 1
+status_of endings.Openings = 1
+status_of (endings.Race error) = 1
 
--- what is told of it, of a writer that tells its bytes: nothing where all was done, and else a line
+-- what is told of it, of a writer that tells its bytes: nothing where all was done, and nothing more
+-- where faults were told in its place, and else a line; the line of a script's fault is not said here
 abbrev pub IsToldIn : {W : Type 0} → (W → Option (List ℕ)) → W → W → Ending → Type 0
 IsToldIn contents old new endings.Done = new ≡ old
+IsToldIn contents old new endings.Faulty = new ≡ old
+IsToldIn contents old new (endings.Many error) =
+    Appends (contents old) (contents new) (codes "tkcore: " ++ many_text error ++ codes "\n")
 IsToldIn contents old new endings.Words =
     Appends (contents old) (contents new) (codes "tkcore: " ++ codes "words refused" ++ codes "\n")
 IsToldIn contents old new (endings.Fault fault) =
     IfSome (fault_text fault)
     (λ text. Appends (contents old) (contents new) (codes "tkcore: " ++ text ++ codes "\n"))
+IsToldIn contents old new (endings.File index error) = Unit {0}
+IsToldIn contents old new endings.Openings =
+    Appends (contents old) (contents new) (codes "tkcore: " ++ codes "openings differ" ++ codes "\n")
+IsToldIn contents old new (endings.Race error) =
+    Appends (contents old) (contents new) (codes "tkcore: " ++ error_text error ++ codes "\n")
 
 -- the ending that an outcome is
 abbrev pub ending_of : Result Unit Fault → Ending
 ending_of (Ok done) = endings.Done
 ending_of (Err fault) = endings.Fault fault
+
+-- the ending that the fault of a race's file at this place is; want of memory has no place
+abbrev pub ending_of_file : ℕ → ScriptError → Ending
+ending_of_file index scripts.Memory = endings.Fault faults.Memory
+ending_of_file index scripts.TooLarge = endings.File index scripts.TooLarge
+ending_of_file index scripts.Empty = endings.File index scripts.Empty
+ending_of_file index (scripts.Opening row) = endings.File index (scripts.Opening row)
+ending_of_file index (scripts.Word row) = endings.File index (scripts.Word row)
+ending_of_file index (scripts.Fields row) = endings.File index (scripts.Fields row)
+ending_of_file index (scripts.Number row) = endings.File index (scripts.Number row)
 
 -- the ending of words that ask for nothing
 abbrev pub ending_at : WordsError → Ending

@@ -5,3 +5,6 @@ pub mod Running
 pub mod ManyText
 pub mod Openings
 pub mod RaceText
+pub mod Files
+pub mod Many
+pub mod Race

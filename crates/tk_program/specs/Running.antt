@@ -1,5 +1,6 @@
 -- What the program did, by its words.
-use Rattle.std.specs.Prelude.{◌≡◌, ◌⊎◌, ℕ, List, Option, Some, None, Bool, Result}
+use Rattle.std.specs.Prelude.{◌≡◌, ◌⊎◌, ℕ, List, Option, Some, None, Bool, Result, map}
+use Rattle.std.specs.Borrow.{Bor}
 use Rattle.clap.specs.Words.{Text}
 use Rattle.tk_clock.specs.declared.clock_id.ClockId.{ClockId}
 use Rattle.tk_replay.specs.declared.fault.Fault.{Fault}
@@ -11,6 +12,8 @@ use Rattle.tk_program.specs.declared.ending.Ending.{Ending}
 use Rattle.tk_program.specs.declared.ending.Ending.TheVariants as endings
 use Rattle.tk_program.specs.CommandLine.{asked_of}
 use Rattle.tk_program.specs.Ending.{ending_of}
+use Rattle.tk_program.specs.Many.{EndsMany}
+use Rattle.tk_program.specs.Race.{EndsRace}
 use Rattle.tk_program.specs.Request.{Task, Replay, Trace, Many, Race, told_by}
 
 -- of a writer, before and after: what is known of its bytes, and what its calls came to
@@ -68,8 +71,14 @@ module _ {R W D F : Type 0} (remaining : R → Option (List ℕ)) (read_gives : 
   Ends (Some (Trace clock script stamps)) ending = (reader' ≡ reader)
       × EndsTrace contents write_gives flush_gives writer writer'
       open_gives file_remaining file_gives folder clock script stamps ending
-  Ends (Some (Many workers files)) ending = (ending ≡ endings.Words) × IsUntouched
-  Ends (Some (Race step files)) ending = (ending ≡ endings.Words) × IsUntouched
+  Ends (Some (Many workers files)) ending = (reader' ≡ reader)
+      × ((names : List (Bor Text)) × (map (λ name. name.now) names ≡ files)
+      × EndsMany contents write_gives flush_gives writer writer'
+      open_gives file_remaining file_gives folder names ending)
+  Ends (Some (Race step files)) ending = (reader' ≡ reader)
+      × ((names : List (Bor Text)) × (map (λ name. name.now) names ≡ files)
+      × EndsRace contents write_gives flush_gives writer writer'
+      open_gives file_remaining file_gives folder names ending)
 
   -- words ended so: as what they ask for, or memory was refused before that was known
   abbrev pub IsRun : Option (List Text) → Ending → Type 0

@@ -16,13 +16,17 @@
 
 mod command_line;
 mod ending;
+mod files;
 mod folder;
+mod many;
 mod openings;
 mod race_lines;
+mod racing;
 mod replaying;
 mod reports_text;
 mod request;
 mod running;
+mod scripts;
 #[cfg(test)]
 mod tests;
 mod tracing;
@@ -30,8 +34,8 @@ mod tracing;
 pub use command_line::{WordsError, asked};
 pub use ending::Ending;
 pub use folder::Folder;
-pub use reports_text::many_text;
 pub use openings::same_opening;
 pub use race_lines::race_text;
+pub use reports_text::many_text;
 pub use request::Request;
 pub use running::{run, run_and_tell};

@@ -9,16 +9,22 @@ use crate::command_line::{WordsError, asked};
 use crate::ending::Ending;
 use crate::folder::Folder;
 use crate::request::Request;
-use crate::{replaying, tracing};
+use crate::{many, racing, replaying, tracing};
 use std::alloc::Global;
 use std::env;
 use std::io::Write;
 use std::process::ExitCode;
 use std::rt::Env;
+use std::sync::Wait;
+use std::thread::Threads;
 use tk_replay::{Sink, Source};
 
 /// Does what the words ask for, the first of which is the program's own; how it ended.
-pub fn run<D: Folder, R: Source, W: Sink>(
+///
+/// The reports of many scripts wait for the threads that make them, and a race for its actors'; all
+/// else is done by this one.
+pub fn run<E: Threads + Wait + Sync, D: Folder, R: Source, W: Sink>(
+    rt: &E,
     alloc: Global,
     words: &[String],
     folder: &D,
@@ -32,13 +38,14 @@ pub fn run<D: Folder, R: Source, W: Sink>(
         (Some (map string_bytes words.now)) result }
 {
     match asked(alloc, words) {
-        Ok(request) => answer(alloc, &request, folder, reader, writer),
+        Ok(request) => answer(rt, alloc, &request, folder, reader, writer),
         Err(error) => Ending::from(error),
     }
 }
 
 /// Does what is asked for; how it ended.
-fn answer<D: Folder, R: Source, W: Sink>(
+fn answer<E: Threads + Wait + Sync, D: Folder, R: Source, W: Sink>(
+    rt: &E,
     alloc: Global,
     request: &Request<'_>,
     folder: &D,
@@ -59,20 +66,24 @@ fn answer<D: Folder, R: Source, W: Sink>(
             script,
             stamps,
         } => tracing::answer(alloc, folder, writer, *clock, script, stamps),
-        Request::Many { .. } => Ending::Words,
-        Request::Race { .. } => Ending::Words,
+        Request::Many { workers, files } => {
+            many::answer(rt, alloc, folder, writer, *workers, files.as_slice())
+        }
+        Request::Race { step, files } => {
+            racing::answer(rt, alloc, folder, writer, *step, files.as_slice())
+        }
     }
 }
 
 /// Does what the process's words ask for, and tells how it ended, with the code to exit with.
 ///
 /// What can't be told is left out.
-pub fn run_and_tell<E: Env + AllocGlobal + Folder, R: Source, W: Sink, T: Write>(
-    rt: &E,
-    reader: &mut R,
-    writer: &mut W,
-    told: &mut T,
-) -> ExitCode
+pub fn run_and_tell<E, R, W, T>(rt: &E, reader: &mut R, writer: &mut W, told: &mut T) -> ExitCode
+where
+    E: Env + AllocGlobal + Folder + Threads + Wait + Sync,
+    R: Source,
+    W: Sink,
+    T: Write,
     ensures { (words : Option (List (List ℕ))) × (ending : Ending)
         × IsRun R.Read.remaining R.Source.read_gives
         W.Write.contents W.Sink.write_gives W.Sink.flush_gives
@@ -86,18 +97,18 @@ pub fn run_and_tell<E: Env + AllocGlobal + Folder, R: Source, W: Sink, T: Write>
 }
 
 /// Does what the process's words ask for; how it ended.
-fn run_by_words_of<E: Env + AllocGlobal + Folder, R: Source, W: Sink>(
-    rt: &E,
-    reader: &mut R,
-    writer: &mut W,
-) -> Ending
+fn run_by_words_of<E, R, W>(rt: &E, reader: &mut R, writer: &mut W) -> Ending
+where
+    E: Env + AllocGlobal + Folder + Threads + Wait + Sync,
+    R: Source,
+    W: Sink,
     ensures { (words : Option (List (List ℕ))) × IsRun R.Read.remaining R.Source.read_gives
         W.Write.contents W.Sink.write_gives W.Sink.flush_gives
         E.Folder.open_gives E.File.Read.remaining E.File.Source.read_gives
         rt.now reader.old reader.new writer.old writer.new words result }
 {
     match words_of(rt) {
-        Ok(words) => run(rt.alloc(), words.as_slice(), rt, reader, writer),
+        Ok(words) => run(rt, rt.alloc(), words.as_slice(), rt, reader, writer),
         Err(error) => Ending::from(error),
     }
 }

@@ -1,16 +1,21 @@
 //! What no clause says: that the definitions take the words that are meant, and the texts of the
 //! faults.
 
+mod files;
+mod many;
 mod many_text;
+mod races;
 mod traces;
 
 use crate::{Ending, Folder, Request, WordsError, asked, run};
 use std::alloc::{AllocError, Global};
 use std::io::{Error, ErrorKind};
 use std::process::Abort;
+use std::sync::Wait;
 use std::test::Fail;
+use std::thread::Threads;
 use tk_clock::ClockId;
-use tk_replay::Fault;
+use tk_replay::{Fault, ManyError};
 use tk_script::ScriptError;
 
 /// The words of a command line.
@@ -127,7 +132,8 @@ fn takes_its_words_when_memory_is_there(rt: HostRuntime) -> Result<(), Fail> {
     let found = asked(rt.alloc(), bounded.as_slice());
     assert_eq!(rt; found, Ok(Request::Replay { keep: Some(1) }));
     let many = line(rt.alloc(), &["tkcore", "many", "2", "a"])?;
-    let files = Vec::from_slice(rt.alloc(), ["a"].as_slice())?;
+    let names: [&str; 1] = ["a"];
+    let files = Vec::from_slice(rt.alloc(), names.as_slice())?;
     let found = asked(rt.alloc(), many.as_slice());
     assert_eq!(rt; found, Ok(Request::Many { workers: 2, files }));
     Ok(())
@@ -198,17 +204,17 @@ fn refuses_words_that_could_not_be_taken(rt: HostRuntime) {
 }
 
 /// What a run by these words tells of how it ended.
-fn told<D: Folder>(
-    alloc: Global,
+fn told(
+    rt: &(impl AllocGlobal + Folder + Threads + Wait + Sync),
     words: &[&str],
-    folder: &D,
     script: &[u8],
 ) -> Result<Vec<u8>, Fail> {
+    let alloc = rt.alloc();
     let given = line(alloc, words)?;
     let mut reader = script;
     let mut writer = Vec::new(alloc);
     let mut told = Vec::new(alloc);
-    let ending = run(alloc, given.as_slice(), folder, &mut reader, &mut writer);
+    let ending = run(rt, alloc, given.as_slice(), rt, &mut reader, &mut writer);
     ending.tell(&mut told)?;
     Ok(told)
 }
@@ -236,10 +242,7 @@ fn tells_the_fault_of_a_script(rt: HostRuntime) -> Result<(), Fail> {
         (b"open,32,16777216,24,0,1700000000,0\n", b""),
     ];
     for (script, text) in faults {
-        assert_eq!(rt;
-            told(rt.alloc(), &["tkcore"], &rt, script)?.as_slice(),
-            text
-        );
+        assert_eq!(rt; told(&rt, &["tkcore"], script)?.as_slice(), text);
     }
     Ok(())
 }
@@ -250,7 +253,14 @@ fn refused_words_leave_the_script_and_the_report(rt: HostRuntime) -> Result<(), 
     let script: &[u8] = b"open,32,16777216,24,0,1700000000,0\n";
     let mut reader = script;
     let mut writer = b"-".to_vec(rt.alloc())?;
-    let ending = run(rt.alloc(), given.as_slice(), &rt, &mut reader, &mut writer);
+    let ending = run(
+        &rt,
+        rt.alloc(),
+        given.as_slice(),
+        &rt,
+        &mut reader,
+        &mut writer,
+    );
     assert_eq!(rt; ending, Ending::Words);
     assert_eq!(rt; reader, script);
     assert_eq!(rt; writer.as_slice(), b"-".as_slice());
@@ -259,8 +269,24 @@ fn refused_words_leave_the_script_and_the_report(rt: HostRuntime) -> Result<(), 
 
 #[test]
 fn tells_each_ending(rt: HostRuntime) -> Result<(), Fail> {
-    let endings: [(Ending, u8, &[u8]); 6] = [
+    let endings: [(Ending, u8, &[u8]); 10] = [
         (Ending::Done, 0, b""),
+        (Ending::Faulty, 1, b""),
+        (
+            Ending::Many(ManyError::Count),
+            1,
+            b"tkcore: count out of range\n",
+        ),
+        (
+            Ending::Many(ManyError::Memory),
+            1,
+            b"tkcore: out of memory\n",
+        ),
+        (
+            Ending::Many(ManyError::Threads),
+            1,
+            b"tkcore: cannot start a thread\n",
+        ),
         (Ending::Words, 2, b"tkcore: words refused\n"),
         (Ending::Fault(Fault::Read), 1, b"tkcore: cannot read\n"),
         (Ending::Fault(Fault::Memory), 1, b"tkcore: out of memory\n"),

@@ -5,6 +5,8 @@
 //! | none, or `replay` | the report of the script on standard input |
 //! | `replay --keep N` | the same with no limit to the commands, by a bounded journal |
 //! | `trace CLOCK SCRIPT STAMPS` | a clock at each stamp of a file, in ns, by the script in another |
+//! | `many WORKERS FILE..` | the reports of the scripts of files, by so many threads |
+//! | `race STEP FILE..` | the commands of scripts on one keeper, by a thread for each script |
 //!
 //! Status 0: done. Status 1: a fault, told on standard error. Status 2: other words, refused.
 #![tactic(auto)]

@@ -1,8 +1,8 @@
 //! The subcommand `trace`, over files in memory.
 
+use super::files::outcome;
 use super::line;
-use crate::{Ending, Folder, run};
-use std::alloc::Global;
+use crate::{Ending, run};
 use std::fs;
 use std::test::Fail;
 use tk_keeper::TraceError;
@@ -16,49 +16,14 @@ const STAMPS: &[u8] = b"0,1000000000\n1,1000000000\n2,1000000001\n";
 
 const TRACE: &[u8] = b"1000000000\n1000499963\n1000499964\n";
 
-/// Files in memory, by their names.
-#[derive(Drop)]
-struct Shelf<'a> {
-    files: &'a [(&'a str, &'a [u8])],
-}
-
-impl<'a> Folder for Shelf<'a> {
-    type File = &'a [u8];
-
-    ghost open_gives = { λ _ _ _. Unit {0} };
-
-    fn open_once(&self, name: &str) -> Option<&'a [u8]> {
-        for (known, bytes) in self.files {
-            if *known == name {
-                return Some(*bytes);
-            }
-        }
-        None
-    }
-}
-
-/// What a run by these words over these files ends with, and what it writes.
-fn outcome(
-    alloc: Global,
-    words: &[&str],
-    files: &[(&str, &[u8])],
-) -> Result<(Ending, Vec<u8>), Fail> {
-    let given = line(alloc, words)?;
-    let folder = Shelf { files };
-    let mut reader: &[u8] = b"never read";
-    let mut writer = Vec::new(alloc);
-    let ending = run(alloc, given.as_slice(), &folder, &mut reader, &mut writer);
-    Ok((ending, writer))
-}
-
 #[test]
 fn traces_files_by_their_names(rt: HostRuntime) -> Result<(), Fail> {
     let words = ["tkcore", "trace", "monotonic", "a", "b"];
-    let (ending, text) = outcome(rt.alloc(), &words, &[("a", SCRIPT), ("b", STAMPS)])?;
+    let (ending, text) = outcome(&rt, &words, &[("a", SCRIPT), ("b", STAMPS)])?;
     assert_eq!(rt; ending, Ending::Done);
     assert_eq!(rt; text.as_slice(), TRACE);
     let swapped = ["tkcore", "trace", "monotonic", "b", "a"];
-    let (ending, text) = outcome(rt.alloc(), &swapped, &[("b", SCRIPT), ("a", STAMPS)])?;
+    let (ending, text) = outcome(&rt, &swapped, &[("b", SCRIPT), ("a", STAMPS)])?;
     assert_eq!(rt; ending, Ending::Done);
     assert_eq!(rt; text.as_slice(), TRACE);
     Ok(())
@@ -67,7 +32,7 @@ fn traces_files_by_their_names(rt: HostRuntime) -> Result<(), Fail> {
 #[test]
 fn an_empty_stamp_file_writes_nothing(rt: HostRuntime) -> Result<(), Fail> {
     let words = ["tkcore", "trace", "tai", "a", "b"];
-    let (ending, text) = outcome(rt.alloc(), &words, &[("a", SCRIPT), ("b", b"")])?;
+    let (ending, text) = outcome(&rt, &words, &[("a", SCRIPT), ("b", b"")])?;
     assert_eq!(rt; ending, Ending::Done);
     assert!(rt; text.is_empty());
     Ok(())
@@ -102,7 +67,7 @@ fn tells_the_fault_of_a_trace(rt: HostRuntime) -> Result<(), Fail> {
     ];
     let words = ["tkcore", "trace", "monotonic", "a", "b"];
     for (script, stamps, fault) in faults {
-        let (ending, text) = outcome(rt.alloc(), &words, &[("a", script), ("b", stamps)])?;
+        let (ending, text) = outcome(&rt, &words, &[("a", script), ("b", stamps)])?;
         assert_eq!(rt; ending, Ending::Fault(fault));
         assert!(rt; text.is_empty());
     }
@@ -114,7 +79,7 @@ fn a_file_that_is_not_there_cannot_be_read(rt: HostRuntime) -> Result<(), Fail> 
     let words = ["tkcore", "trace", "monotonic", "a", "b"];
     let shelves: [&[(&str, &[u8])]; 3] = [&[], &[("a", b"no script")], &[("b", b"no stamps")]];
     for files in shelves {
-        let (ending, text) = outcome(rt.alloc(), &words, files)?;
+        let (ending, text) = outcome(&rt, &words, files)?;
         assert_eq!(rt; ending, Ending::Fault(Fault::Read));
         assert!(rt; text.is_empty());
     }
@@ -135,12 +100,26 @@ fn traces_files_of_the_system(rt: HostRuntime) -> Result<(), Fail> {
     let given = line(rt.alloc(), &words)?;
     let mut reader: &[u8] = b"";
     let mut text = Vec::new(rt.alloc());
-    let ending = run(rt.alloc(), given.as_slice(), &rt, &mut reader, &mut text);
+    let ending = run(
+        &rt,
+        rt.alloc(),
+        given.as_slice(),
+        &rt,
+        &mut reader,
+        &mut text,
+    );
     assert_eq!(rt; ending, Ending::Done);
     assert_eq!(rt; text.as_slice(), TRACE);
     fs::remove_file(&rt, "tk_program_stamps")?;
     text.clear();
-    let ending = run(rt.alloc(), given.as_slice(), &rt, &mut reader, &mut text);
+    let ending = run(
+        &rt,
+        rt.alloc(),
+        given.as_slice(),
+        &rt,
+        &mut reader,
+        &mut text,
+    );
     assert_eq!(rt; ending, Ending::Fault(Fault::Read));
     assert!(rt; text.is_empty());
     fs::remove_file(&rt, "tk_program_script")?;

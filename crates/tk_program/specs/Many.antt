@@ -1,0 +1,58 @@
+-- How the reports of many scripts end.
+use Rattle.std.specs.Prelude.{◌≡◌, ℕ, List, Option, Result, Bool, is_ok, if◌then◌else◌, ◌⊎◌}
+use Rattle.std.specs.Borrow.{Bor}
+use Rattle.std.specs.Global.{Vec}
+use Rattle.std.specs.List.{list_all}
+use Rattle.std.specs.Io.KnownBytes.{Appends}
+use Rattle.tk_script.specs.declared.script_error.ScriptError.{ScriptError}
+use Rattle.tk_replay.specs.declared.fault.Fault.{Fault}
+use Rattle.tk_replay.specs.declared.fault.Fault.TheVariants as faults
+use Rattle.tk_replay.specs.declared.many_error.ManyError.{ManyError}
+use Rattle.tk_replay.specs.Many.{AreOutcomes}
+use Rattle.tk_replay.specs.Writing.{IsFlushed, IsWrittenUpTo, WriteFailed}
+use Rattle.tk_program.specs.declared.ending.Ending.{Ending}
+use Rattle.tk_program.specs.declared.ending.Ending.TheVariants as endings
+use Rattle.tk_program.specs.Files.{AreReadFrom, StopsFiles}
+use Rattle.tk_program.specs.ManyText.{text_from}
+
+-- the ending of what scripts came to, when all of it is told: done, or one of them has a fault
+abbrev pub ending_of_outcomes : List (Result (Vec ℕ) ScriptError) → Ending
+ending_of_outcomes outcomes = if list_all is_ok outcomes then endings.Done else endings.Faulty
+
+-- of a writer, before and after: what is known of its bytes, and what its calls came to
+module _ {W : Type 0} (contents : W → Option (List ℕ))
+    (write_gives : W → List ℕ → Option ℕ → W → Type 0) (flush_gives : W → Bool → W → Type 0)
+    (writer writer' : W) where
+  -- a text was written to the end and flushed, and that is this ending; or the last write or the
+  -- flush failed, when so many bytes of it had gone out
+  abbrev pub EndsWriting : List ℕ → Ending → Ending → Type 0
+  EndsWriting text done ending =
+      ((ending ≡ done) × Appends (contents writer) (contents writer') text
+      × IsFlushed flush_gives writer')
+      ⊎ ((written : ℕ) × (ending ≡ endings.Fault (faults.Write written))
+      × IsWrittenUpTo (contents writer) (contents writer') text written
+      × WriteFailed write_gives flush_gives writer')
+
+  -- memory was refused, and nothing is written; or what scripts came to was written
+  abbrev pub EndsTelling : List (Result (Vec ℕ) ScriptError) → Ending → Type 0
+  EndsTelling outcomes ending =
+      ((ending ≡ endings.Fault faults.Memory) × (writer' ≡ writer))
+      ⊎ EndsWriting (text_from 0 outcomes) (ending_of_outcomes outcomes) ending
+
+  -- the scripts of these texts were replayed: that had an error, and nothing is written; or what
+  -- they came to was told
+  abbrev pub EndsReplays : List (Vec ℕ) → Ending → Type 0
+  EndsReplays texts ending =
+      ((error : ManyError) × (ending ≡ endings.Many error) × (writer' ≡ writer))
+      ⊎ ((outcomes : List (Result (Vec ℕ) ScriptError)) × AreOutcomes texts outcomes
+      × EndsTelling outcomes ending)
+
+  -- the files of these names were read and replayed; or one couldn't be read, and nothing is written
+  abbrev pub EndsMany : {D F : Type 0} → (D → List ℕ → Option F → Type 0) →
+      (F → Option (List ℕ)) → (F → Option ℕ → F → Type 0) →
+      D → List (Bor (List ℕ)) → Ending → Type 0
+  EndsMany open_gives remaining read_gives folder names ending =
+      ((fault : Fault) × (ending ≡ endings.Fault fault)
+      × StopsFiles open_gives remaining read_gives folder names fault × (writer' ≡ writer))
+      ⊎ ((texts : List (Vec ℕ)) × AreReadFrom open_gives remaining read_gives folder names texts
+      × EndsReplays texts ending)

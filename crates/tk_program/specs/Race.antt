@@ -1,0 +1,110 @@
+-- How a race of scripts ends.
+use Rattle.std.specs.Prelude.{◌≡◌, ℕ, ◌<◌, List, [], ◌∷◌, take, length, map, Bool, Option, None, Ok, ◌⊎◌, slice_index_or}
+use Rattle.std.specs.Borrow.{Bor}
+use Rattle.std.specs.List.{All, AllZip}
+use Rattle.tk_clock.specs.Journal.{Journal, accepted_count}
+use Rattle.tk_script.specs.declared.row.Row.{Row}
+use Rattle.tk_script.specs.declared.row.Row.TheVariants as rows
+use Rattle.tk_script.specs.declared.script.Script.{Script}
+use Rattle.tk_script.specs.declared.script_error.ScriptError.{ScriptError}
+use Rattle.tk_script.specs.Grammar.{Fails, parse_of}
+use Rattle.tk_script.specs.Script.{parse}
+use Rattle.tk_replay.specs.declared.fault.Fault.{Fault}
+use Rattle.tk_replay.specs.declared.fault.Fault.TheVariants as faults
+use Rattle.tk_race.specs.declared.action.Action.{Action}
+use Rattle.tk_race.specs.declared.action.Action.TheVariants as actions
+use Rattle.tk_race.specs.declared.action.RaceReply.{RaceReply}
+use Rattle.tk_race.specs.declared.race_error.RaceError.{RaceError}
+use Rattle.tk_race.specs.declared.race_error.RaceError.TheVariants as races
+use Rattle.tk_race.specs.Race.{IsRaced}
+use Rattle.tk_race.specs.RaceError.{IsRaceError, race_error}
+use Rattle.tk_program.specs.declared.ending.Ending.{Ending}
+use Rattle.tk_program.specs.declared.ending.Ending.TheVariants as endings
+use Rattle.tk_program.specs.Ending.{ending_of_file}
+use Rattle.tk_program.specs.Files.{IsReadFrom, StopsFile}
+use Rattle.tk_program.specs.Many.{EndsWriting}
+use Rattle.tk_program.specs.Openings.{AreSameOpenings}
+use Rattle.tk_program.specs.RaceText.{race_lines}
+
+-- what an actor does for a row: it gives the command, or it looks; the row's reading is not used
+abbrev pub action_of : Row → Action
+action_of (rows.Act reading cmd) = actions.Order cmd
+action_of (rows.Look reading clock) = actions.Look
+
+-- an actor's part
+abbrev pub part_of : Script → List Action
+part_of script = map action_of script.rows.items
+
+-- of a folder and its files: what opening a name came to, what is known of a file's bytes, and what
+-- its reads came to
+module _ {D F : Type 0} (open_gives : D → List ℕ → Option F → Type 0)
+    (remaining : F → Option (List ℕ)) (read_gives : F → Option ℕ → F → Type 0) (folder : D) where
+  -- a file of this name was read, and its bytes are this script
+  abbrev pub IsScriptFrom : List ℕ → Script → Type 0
+  IsScriptFrom name script = (text : List ℕ) × IsReadFrom open_gives remaining read_gives folder name text
+      × (parse_of text ≡ Ok (parse script))
+
+  abbrev pub AreScriptsFrom : List (Bor (List ℕ)) → List Script → Type 0
+  AreScriptsFrom names scripts = AllZip (λ name script. IsScriptFrom name.now script) names scripts
+
+  -- why the file at this place gives no script: it couldn't be read, or its bytes have this fault;
+  -- or memory was refused
+  abbrev pub StopsScript : ℕ → List ℕ → Ending → Type 0
+  StopsScript place name ending =
+      ((fault : Fault) × (ending ≡ endings.Fault fault)
+      × StopsFile open_gives remaining read_gives folder name fault)
+      ⊎ ((error : ScriptError) × (text : List ℕ) × (ending ≡ ending_of_file place error)
+      × IsReadFrom open_gives remaining read_gives folder name text × Fails error (parse_of text))
+
+  -- why files don't all give scripts: one of them doesn't, and those before it do; or memory was
+  -- refused
+  abbrev pub StopsScripts : List (Bor (List ℕ)) → Ending → Type 0
+  StopsScripts names ending =
+      (ending ≡ endings.Fault faults.Memory)
+      ⊎ ((place : ℕ) × (scripts : List Script) × (place < length names)
+      × AreScriptsFrom (take place names) scripts
+      × StopsScript place (slice_index_or (map (λ name. name.now) names) place []) ending)
+
+-- of a writer, before and after: what is known of its bytes, and what its calls came to
+module _ {W : Type 0} (contents : W → Option (List ℕ))
+    (write_gives : W → List ℕ → Option ℕ → W → Type 0) (flush_gives : W → Bool → W → Type 0)
+    (writer writer' : W) where
+  -- what a race has come to was told; or memory was refused, and nothing is written
+  abbrev pub EndsTold : Journal → List (List RaceReply) → Ending → Type 0
+  EndsTold journal replies ending =
+      ((ending ≡ endings.Fault faults.Memory) × (writer' ≡ writer))
+      ⊎ EndsWriting contents write_gives flush_gives writer writer'
+      (race_lines (accepted_count journal) replies) endings.Done ending
+
+  -- so many parts were raced on clocks that were opened as this script says; or that has an error,
+  -- and nothing is written
+  abbrev pub EndsParts : Script → ℕ → List (List Action) → Ending → Type 0
+  EndsParts first count parts ending =
+      ((error : RaceError) × (ending ≡ endings.Race error)
+      × IsRaceError count first.desc first.reading first.real error
+      × (writer' ≡ writer))
+      ⊎ ((journal : Journal) × (replies : List (List RaceReply))
+      × (race_error count first.desc first.reading first.real ≡ None)
+      × IsRaced first.desc first.real parts journal replies
+      × EndsTold journal replies ending)
+
+  -- scripts were raced, an actor for each; or they don't all open their clocks as the first one,
+  -- and nothing is written
+  abbrev pub EndsScripts : List Script → Ending → Type 0
+  EndsScripts [] ending = (ending ≡ endings.Race races.Count) × (writer' ≡ writer)
+  EndsScripts (first ∷ others) ending =
+      ((All (AreSameOpenings first) others → ⊥) × (ending ≡ endings.Openings)
+      × (writer' ≡ writer))
+      ⊎ (All (AreSameOpenings first) others
+      × EndsParts first (length (first ∷ others)) (map part_of (first ∷ others)) ending)
+
+  -- the files of these names were read one after the other, and their scripts were raced; or one of
+  -- them gives no script, and nothing is written
+  abbrev pub EndsRace : {D F : Type 0} → (D → List ℕ → Option F → Type 0) →
+      (F → Option (List ℕ)) → (F → Option ℕ → F → Type 0) →
+      D → List (Bor (List ℕ)) → Ending → Type 0
+  EndsRace open_gives remaining read_gives folder names ending =
+      (StopsScripts open_gives remaining read_gives folder names ending × (writer' ≡ writer))
+      ⊎ ((scripts : List Script)
+      × AreScriptsFrom open_gives remaining read_gives folder names scripts
+      × EndsScripts scripts ending)

@@ -1,0 +1,71 @@
+//! The subcommand `many`.
+ghost use Rattle.std.specs.Prelude.{◌≡◌, ◌≤◌, is_ok};
+ghost use Rattle.std.specs.List.{list_all};
+ghost use Rattle.tk_replay.specs.Many.{most_workers};
+ghost use Rattle.tk_program.specs.Many.{EndsMany, EndsTelling};
+
+use crate::ending::Ending;
+use crate::files::read_files;
+use crate::folder::Folder;
+use crate::reports_text::many_text;
+use std::alloc::Global;
+use std::sync::Wait;
+use std::thread::Threads;
+use tk_gate::NoGate;
+use tk_replay::{Fault, Sink, replay_all, write_whole};
+use tk_script::ScriptError;
+
+/// Writes the reports of the scripts of these files, made by so many threads.
+///
+/// All files are read before a thread is started.
+pub(crate) fn answer<E: Threads + Wait + Sync, D: Folder, W: Sink>(
+    rt: &E,
+    alloc: Global,
+    folder: &D,
+    writer: &mut W,
+    workers: u64,
+    files: &[&str],
+) -> Ending
+    requires { workers ≤ most_workers }
+    ensures { EndsMany W.Write.contents W.Sink.write_gives W.Sink.flush_gives
+        writer.old writer.new
+        D.Folder.open_gives D.File.Read.remaining D.File.Source.read_gives folder.now
+        files.now result }
+{
+    let scripts = match read_files(alloc, folder, files) {
+        Ok(scripts) => scripts,
+        Err(fault) => return Ending::Fault(fault),
+    };
+    match replay_all(rt, alloc, scripts.as_slice(), workers as usize, &NoGate) {
+        Ok(outcomes) => tell(alloc, writer, outcomes.as_slice()),
+        Err(error) => Ending::Many(error),
+    }
+}
+
+/// Writes what scripts have come to. It ends as `Faulty` where one of them has a fault.
+fn tell<W: Sink>(alloc: Global, writer: &mut W, outcomes: &[Result<Vec<u8>, ScriptError>]) -> Ending
+    ensures { EndsTelling W.Write.contents W.Sink.write_gives W.Sink.flush_gives
+        writer.old writer.new outcomes.now result }
+{
+    let text = match many_text(alloc, outcomes) {
+        Ok(text) => text,
+        Err(_) => return Ending::Fault(Fault::Memory),
+    };
+    match write_whole(writer, text.as_slice()) {
+        Ok(()) => {
+            if are_whole(outcomes) {
+                Ending::Done
+            } else {
+                Ending::Faulty
+            }
+        }
+        Err(written) => Ending::Fault(Fault::Write { written }),
+    }
+}
+
+/// Has no script a fault?
+fn are_whole(outcomes: &[Result<Vec<u8>, ScriptError>]) -> bool
+    ensures { result ≡ list_all is_ok outcomes.now }
+{
+    outcomes.iter().all(|outcome| outcome.is_ok())
+}

@@ -1,0 +1,158 @@
+//! The subcommand `race`.
+ghost use Rattle.std.specs.Prelude.{◌≡◌, ◌↔◌, length, map, IfOk, IsTrue};
+ghost use Rattle.std.specs.List.{All};
+ghost use Rattle.tk_clock.specs.Journal.{accepted_count};
+ghost use Rattle.tk_program.specs.Openings.{AreSameOpenings};
+ghost use Rattle.tk_program.specs.Race.{EndsParts, EndsRace, EndsScripts, EndsTold, action_of, part_of};
+
+use crate::ending::Ending;
+use crate::folder::Folder;
+use crate::openings::same_opening;
+use crate::race_lines::race_text;
+use crate::scripts::read_scripts;
+use std::alloc::{AllocError, Global};
+use std::sync::Wait;
+use std::thread::Threads;
+use tk_gate::NoGate;
+use tk_race::{Action, RaceError, RaceReport, race};
+use tk_replay::{Fault, Sink, write_whole};
+use tk_script::{Row, Script};
+
+/// Races the scripts of these files, an actor for each, and writes what that comes to.
+///
+/// The clocks are opened as the scripts say, which are to agree on it. In each command the counter
+/// is read, a step later than before.
+pub(crate) fn answer<E: Threads + Wait + Sync, D: Folder, W: Sink>(
+    rt: &E,
+    alloc: Global,
+    folder: &D,
+    writer: &mut W,
+    step: u64,
+    files: &[&str],
+) -> Ending
+    ensures { EndsRace W.Write.contents W.Sink.write_gives W.Sink.flush_gives
+        writer.old writer.new
+        D.Folder.open_gives D.File.Read.remaining D.File.Source.read_gives folder.now
+        files.now result }
+{
+    let scripts = match read_scripts(alloc, folder, files) {
+        Ok(scripts) => scripts,
+        Err(ending) => return ending,
+    };
+    match actors_of(alloc, scripts.as_slice()) {
+        Ok(actors) => race_all(
+            rt,
+            alloc,
+            writer,
+            step,
+            scripts.as_slice(),
+            actors.as_slice(),
+        ),
+        Err(_) => Ending::Fault(Fault::Memory),
+    }
+}
+
+/// Races these actors, each of which plays the part of one script, if all scripts open their clocks
+/// alike.
+fn race_all<E: Threads + Wait + Sync, W: Sink>(
+    rt: &E,
+    alloc: Global,
+    writer: &mut W,
+    step: u64,
+    scripts: &[Script],
+    actors: &[Vec<Action>],
+) -> Ending
+    requires count { length actors.now ≡ length scripts.now }
+    requires parts { map (λ a. a.items) actors.now ≡ map part_of scripts.now }
+    ensures { EndsScripts W.Write.contents W.Sink.write_gives W.Sink.flush_gives
+        writer.old writer.new scripts.now result }
+{
+    let Some((first, others)) = scripts.split_first() else {
+        return Ending::Race(RaceError::Count);
+    };
+    if open_alike(first, others) {
+        race_as(rt, alloc, writer, step, first, actors)
+    } else {
+        Ending::Openings
+    }
+}
+
+/// Races these actors on clocks that are opened as the script says.
+fn race_as<E: Threads + Wait + Sync, W: Sink>(
+    rt: &E,
+    alloc: Global,
+    writer: &mut W,
+    step: u64,
+    first: &Script,
+    actors: &[Vec<Action>],
+) -> Ending
+    ensures { EndsParts W.Write.contents W.Sink.write_gives W.Sink.flush_gives
+        writer.old writer.new
+        first.now (length actors.now) (map (λ a. a.items) actors.now) result }
+{
+    match race(
+        rt,
+        alloc,
+        first.desc,
+        first.reading,
+        first.real,
+        step,
+        actors,
+        &NoGate,
+    ) {
+        Ok(report) => tell(alloc, writer, &report),
+        Err(error) => Ending::Race(error),
+    }
+}
+
+/// Do all the others open their clocks as the first one?
+fn open_alike(first: &Script, others: &[Script]) -> bool
+    ensures { IsTrue result ↔ All (AreSameOpenings first.now) others.now }
+{
+    others.iter().all(|other| same_opening(first, other))
+}
+
+/// Writes what a race has come to.
+fn tell<W: Sink>(alloc: Global, writer: &mut W, report: &RaceReport) -> Ending
+    ensures { EndsTold W.Write.contents W.Sink.write_gives W.Sink.flush_gives
+        writer.old writer.new
+        report.now.keeper.journal (map (λ r. r.items) report.now.replies.items) result }
+{
+    let text = match race_text(alloc, report) {
+        Ok(text) => text,
+        Err(fault) => return Ending::Fault(fault),
+    };
+    match write_whole(writer, text.as_slice()) {
+        Ok(()) => Ending::Done,
+        Err(written) => Ending::Fault(Fault::Write { written }),
+    }
+}
+
+/// The part of each script.
+fn actors_of(alloc: Global, scripts: &[Script]) -> Result<Vec<Vec<Action>>, AllocError>
+    ensures count { IfOk result (λ actors. length actors.items ≡ length scripts.now) }
+    ensures parts { IfOk result (λ actors.
+        map (λ a. a.items) actors.items ≡ map part_of scripts.now) }
+{
+    let mut actors = Vec::with_capacity(alloc, scripts.len())?;
+    'scripts: for script in scripts {
+        let part = part_in(alloc, script.rows.as_slice())?;
+        actors.push(part)?;
+    }
+    Ok(actors)
+}
+
+/// What an actor does for these rows: it gives the commands, and looks where a clock is asked.
+fn part_in(alloc: Global, rows: &[Row]) -> Result<Vec<Action>, AllocError>
+    ensures { IfOk result (λ actions. actions.items ≡ map action_of rows.now) }
+{
+    let mut actions = Vec::with_capacity(alloc, rows.len())?;
+    'rows: for row in rows {
+        let action = match row {
+            Row::Act { cmd, .. } => Action::Order(*cmd),
+            Row::Look { .. } => Action::Look,
+        };
+        actions.push(action)?;
+    }
+    Ok(actions)
+}
