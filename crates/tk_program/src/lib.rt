@@ -9,6 +9,8 @@
 //! | `asked`, `Request` | what words ask for |
 //! | `WordsError` | why words ask for nothing |
 //! | `many_text` | the reports of many scripts in one text |
+//! | `race_text` | what a race has come to, in lines |
+//! | `same_opening` | do two scripts open their clocks alike? |
 //! | `Ending` | how the program ends: its status and what it tells |
 //!
 //! Each subcommand has an arm of `Request` and a module of its own.
