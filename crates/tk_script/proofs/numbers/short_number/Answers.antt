@@ -42,7 +42,7 @@ loop-byte-preserved c =
     let byte = get_or c.args.field.now c.loop-byte.byte-index 0 in
     let more = digits_value_more 10 c.args.field.now c.loop-byte.byte-index c.loop-byte-test.true in
     let all = list_all_more is_ascii_digit c.args.field.now c.loop-byte.byte-index 0
-        c.loop-byte-test.true in
+    c.loop-byte-test.true in
     let digit = is_digit byte (omega arith) (omega arith) in
     let value = value_of byte (omega arith) (omega arith) in
     let next = one_more c.loop-byte.byte-index in
