@@ -39,7 +39,8 @@
  *   overlaps nothing else that it is handed. What `out` holds before the call doesn't matter.
  *
  * Where they may be called
- *   From any context: process, softirq, interrupt or NMI. No call waits, takes a lock, allocates,
+ *   From any context that may use what the archive's code uses (docs/C.md: SSE, the stack below
+ *   its pointer): process, softirq, interrupt or NMI. No call waits, takes a lock, allocates,
  *   or ends the process, and none keeps anything of its own. Two threads must not write one value,
  *   nor one write it while another reads it: that is for the caller's lock (the kernel's
  *   tk_core.seq and timekeeper_lock).
