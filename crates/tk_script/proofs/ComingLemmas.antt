@@ -10,7 +10,7 @@ use Rattle.tk_script.specs.Coming.{IsReady, coming, opened_with, records_left, r
 use Rattle.tk_script.specs.Field.{◌>>=◌}
 use Rattle.tk_script.specs.Grammar.{Fails, Parse, parse_records}
 use Rattle.tk_script.specs.Opening.{start_of}
-use Rattle.tk_script.specs.Reading.{IsReading, left_of}
+use Rattle.tk_script.specs.Cursor.{IsCursor, left_in}
 use Rattle.tk_script.specs.Records.{each, records_of}
 use Rattle.tk_script.specs.Rows.{row_of, rows_of}
 use Rattle.tk_script.specs.declared.opening.Start.{Start}
@@ -64,17 +64,17 @@ left-some (Some left) h = (left, refl)
 left-some None h = cc h
 
 pub left-known : (reader : RowReader) → IsReady reader →
-    (left : List (List (List ℕ))) × (left_of reader.reader ≡ Some left)
-left-known reader ready = left-some (left_of reader.reader) ready.left
+    (left : List (List (List ℕ))) × (left_in reader.records ≡ Some left)
+left-known reader ready = left-some (left_in reader.records) ready.left
 
 -- by the records that are left
-coming-left : (reader : RowReader) (left : List (List (List ℕ))) → left_of reader.reader ≡ Some left
+coming-left : (reader : RowReader) (left : List (List (List ℕ))) → left_in reader.records ≡ Some left
     → coming reader ≡ rows_of reader.row left
 unfolding coming
 coming-left reader left e = rw e refl
 
 records_left-left : (reader : RowReader) (left : List (List (List ℕ))) →
-    left_of reader.reader ≡ Some left
+    left_in reader.records ≡ Some left
     → records_left reader ≡ length left
 unfolding records_left
 records_left-left reader left e = rw e refl
@@ -82,7 +82,7 @@ records_left-left reader left e = rw e refl
 -- behind the opening
 pub ready-open : (reader : RowReader) (bytes : List ℕ) (first : List (List ℕ))
     (left : List (List (List ℕ)))
-    → IsReading reader.reader → left_of reader.reader ≡ Some left → reader.row ≡ 2
+    → IsCursor reader.records → left_in reader.records ≡ Some left → reader.row ≡ 2
     → records_of bytes ≡ first ∷ left → length bytes ≤ 2 ^ 24 → IsReady reader
 ready-open reader bytes first left reading e two split small =
     let few : length (records_of bytes) ≤ length bytes + 1 = records_of-few bytes in
@@ -92,7 +92,7 @@ ready-open reader bytes first left reading e two split small =
 
 pub parse-open : (reader : RowReader) (start : Start) (records left : List (List (List ℕ)))
     (first : List (List ℕ))
-    → left_of reader.reader ≡ Some left → reader.row ≡ 2 → records ≡ first ∷ left →
+    → left_in reader.records ≡ Some left → reader.row ≡ 2 → records ≡ first ∷ left →
     start_of first ≡ Ok start
     → parse_records records ≡ opened_with start (coming reader)
 unfolding parse_records
@@ -113,7 +113,7 @@ parse-open reader start records left first e two split told =
 
 -- no record is left
 pub coming-none : (reader : RowReader) (left : List (List (List ℕ))) →
-    left_of reader.reader ≡ Some left → left ≡ []
+    left_in reader.records ≡ Some left → left ≡ []
     → coming reader ≡ Ok []
 unfolding each
 coming-none reader left e none = coming-left reader left e ∙ rw none refl
@@ -121,7 +121,7 @@ coming-none reader left e none = coming-left reader left e ∙ rw none refl
 -- the next record has a fault
 pub coming-fault : (reader : RowReader) (left later : List (List (List ℕ))) (first : List (List ℕ))
     (fault : ScriptError)
-    → left_of reader.reader ≡ Some left → left ≡ first ∷ later → row_of reader.row first ≡ Err fault
+    → left_in reader.records ≡ Some left → left ≡ first ∷ later → row_of reader.row first ≡ Err fault
     → coming reader ≡ Err fault
 unfolding each
 coming-fault reader left later first fault e split told = coming-left reader left e
@@ -130,8 +130,8 @@ coming-fault reader left later first fault e split told = coming-left reader lef
 -- the next record tells a row
 pub coming-row : (old new : RowReader) (left later : List (List (List ℕ))) (first : List (List ℕ))
     (row : Row)
-    → left_of old.reader ≡ Some left → left ≡ first ∷ later → row_of old.row first ≡ Ok row
-    → left_of new.reader ≡ Some later → new.row ≡ old.row + 1 →
+    → left_in old.records ≡ Some left → left ≡ first ∷ later → row_of old.row first ≡ Ok row
+    → left_in new.records ≡ Some later → new.row ≡ old.row + 1 →
     coming old ≡ row_and row (coming new)
 unfolding each
 coming-row old new left later first row e split told rest next =
@@ -144,15 +144,15 @@ coming-row old new left later first row e split told rest next =
     by (Err fault) = refl
 
 pub left-row : (old new : RowReader) (left later : List (List (List ℕ))) (first : List (List ℕ))
-    → left_of old.reader ≡ Some left → left ≡ first ∷ later → left_of new.reader ≡ Some later
+    → left_in old.records ≡ Some left → left ≡ first ∷ later → left_in new.records ≡ Some later
     → records_left old ≡ records_left new + 1
 left-row old new left later first e split rest =
     records_left-left old left e ∙ ap length split
     ∙ rw (records_left-left new later rest) (omega arith)
 
 pub ready-row : (old new : RowReader) (later : List (List (List ℕ)))
-    → IsReady old → records_left old ≡ records_left new + 1 → IsReading new.reader →
-    left_of new.reader ≡ Some later
+    → IsReady old → records_left old ≡ records_left new + 1 → IsCursor new.records →
+    left_in new.records ≡ Some later
     → new.row ≡ old.row + 1 → IsReady new
 ready-row old new later ready one reading rest next =
     record { reading = reading; left = rw rest refl; count = omega (arith, ready.count, one, next) }

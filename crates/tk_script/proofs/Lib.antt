@@ -1,5 +1,9 @@
 pub mod ListLemmas
 pub mod RecordLemmas
+pub mod PlainLemmas
+pub mod NumberLemmas
+pub mod FrequentLemmas
+pub mod CursorLemmas
 pub mod ReadingLemmas
 pub mod EachLemmas
 pub mod StampLemmas

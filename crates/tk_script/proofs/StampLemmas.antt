@@ -1,11 +1,15 @@
 -- The items of a stamp file, read one after the other.
-use Rattle.std.proofs.Common.{◌≡◌, ◌<◌, ◌≤◌, ◌∙◌, ◌+◌, ◌++◌, ◌^◌, ℕ, List, [], ◌∷◌, length, map, nat_lt, Ok, Err, true, false, refl, sym, ap, arith}
+use Rattle.std.proofs.Common.{◌≡◌, ◌<◌, ◌≤◌, ◌∙◌, ◌+◌, ◌++◌, ◌^◌, ℕ, List, [], ◌∷◌, length, map, nat_lt, Ok, Err, true, false, inl, inr, refl, sym, ap, arith}
 use Rattle.std.proofs.lemmas.Grind.{common_steps}
 use Rattle.std.proofs.lemmas.List.{map_push, length_push}
+use Rattle.tk_script.specs.Cursor.{NextFails}
+use Rattle.tk_script.specs.Grammar.{Fails}
 use Rattle.tk_script.specs.Records.{each, records_of}
 use Rattle.tk_script.specs.Stamps.{Items, items_of, stamp_of, stamps_of, told}
 use Rattle.tk_script.specs.declared.script_error.ScriptError.{ScriptError}
 use Rattle.tk_script.specs.declared.script_error.ScriptError.TheVariants as errors
+use Rattle.tk_script.proofs.EachLemmas.{Goes, goes-fault}
+use Rattle.tk_script.proofs.GrammarLemmas.{fails-from}
 
 -- both lists grew by one
 pub paired-more : (xs ys xs' ys' : List ℕ) (x y : ℕ)
@@ -36,6 +40,16 @@ told-all records pairs items e f = rw e (ap Ok f)
 pub told-fault : (records : List (List (List ℕ))) (fault : ScriptError)
     → each stamp_of 1 records ≡ Err fault → told 1 records ≡ Err fault
 told-fault records fault e = rw e refl
+
+-- a record that can't be told ends it too, and so does want of memory
+pub told-fails : (records left : List (List (List ℕ))) (front : List (ℕ × ℕ)) (n : ℕ)
+    (fault : ScriptError)
+    → Goes stamp_of (each stamp_of 1 records) front n left → NextFails (stamp_of n) left fault →
+    Fails fault (told 1 records)
+told-fails records left front n fault goes (inl memory) = rw memory tt
+told-fails records left front n fault goes (inr (first, later, split, e)) =
+    fails-from fault (told 1 records) (told-fault records fault
+    (goes-fault stamp_of (each stamp_of 1 records) front n left first later fault goes split e))
 
 -- too many bytes
 pub stamps-large : (bytes : List ℕ) → 2 ^ 24 < length bytes → stamps_of bytes ≡ Err errors.TooLarge

@@ -1,7 +1,7 @@
 -- What a reader of a script's rows has still to read.
 use Rattle.std.specs.Prelude.{◌≡◌, ℕ, ◌+◌, ◌<◌, ◌^◌, List, [], ◌∷◌, length, Option, Some, None, IsSome, Result, Ok, Err, unwrap_or}
+use Rattle.tk_script.specs.Cursor.{IsCursor, left_in}
 use Rattle.tk_script.specs.Grammar.{Parse}
-use Rattle.tk_script.specs.Reading.{IsReading, left_of}
 use Rattle.tk_script.specs.Rows.{rows_of}
 use Rattle.tk_script.specs.declared.opening.Start.{Start}
 use Rattle.tk_script.specs.declared.row.Row.{Row}
@@ -10,16 +10,16 @@ use Rattle.tk_script.specs.declared.script_error.ScriptError.{ScriptError}
 
 -- how many records are left
 unfoldable pub records_left : RowReader → ℕ
-records_left reader = length (unwrap_or (left_of reader.reader) [])
+records_left reader = length (unwrap_or (left_in reader.records) [])
 
 -- the rows that these records tell, or their first fault
 unfoldable pub coming : RowReader → Result (List Row) ScriptError
-coming reader = rows_of reader.row (unwrap_or (left_of reader.reader) [])
+coming reader = rows_of reader.row (unwrap_or (left_in reader.records) [])
 
 -- it has not failed, and there are numbers for the records that are left
 pub record IsReady (reader : RowReader) : Type 0 where
-  pub reading : IsReading reader.reader
-  pub left : IsSome (left_of reader.reader)
+  pub reading : IsCursor reader.records
+  pub left : IsSome (left_in reader.records)
   pub count : reader.row + records_left reader < 2 ^ 32
 
 -- a row, and then those of a later reading, or its fault

@@ -8,6 +8,8 @@ pub mod Reading
 pub mod Grammar
 pub mod Script
 pub mod Stamps
+pub mod Plain
+pub mod Cursor
 pub mod Coming
 pub mod Utc
 pub mod Lines

@@ -1,12 +1,12 @@
 ghost use Rattle.std.specs.Prelude.{◌≡◌, ◌+◌, ◌<◌, ◌^◌};
-ghost use Rattle.csv.specs.Records.{fields_of};
+ghost use Rattle.tk_script.specs.Cursor.{fields_of};
 ghost use Rattle.tk_script.specs.Word.{is_word};
 ghost use Rattle.tk_script.specs.Field as spec;
 
 use crate::names::clock_word;
 use crate::numbers::{number, number32, signed};
+use crate::records::Records;
 use crate::script_error::ScriptError;
-use csv::ByteRecord;
 use tk_clock::{ClockId, Timespec};
 
 /// Are these bytes the word?
@@ -17,28 +17,28 @@ pub(crate) fn has_word(bytes: &[u8], word: &[u8]) -> bool
 }
 
 /// The field at a place, or no bytes behind the last one.
-pub(crate) fn field(fields: &ByteRecord, i: usize) -> &[u8]
+pub(crate) fn field<'a>(fields: &'a Records<'_>, i: usize) -> &'a [u8]
     ensures { result.now ≡ spec.field (fields_of fields.now) i }
 {
     fields.get(i).unwrap_or(&[])
 }
 
 /// A number of 64 bits in the record `row`.
-pub(crate) fn number_at(row: u64, fields: &ByteRecord, i: usize) -> Result<u64, ScriptError>
+pub(crate) fn number_at(row: u64, fields: &Records<'_>, i: usize) -> Result<u64, ScriptError>
     ensures { result ≡ spec.number_at row (fields_of fields.now) i }
 {
     number(field(fields, i)).ok_or(ScriptError::Number { row })
 }
 
 /// A number of 32 bits.
-pub(crate) fn number32_at(row: u64, fields: &ByteRecord, i: usize) -> Result<u32, ScriptError>
+pub(crate) fn number32_at(row: u64, fields: &Records<'_>, i: usize) -> Result<u32, ScriptError>
     ensures { result ≡ spec.number32_at row (fields_of fields.now) i }
 {
     number32(field(fields, i)).ok_or(ScriptError::Number { row })
 }
 
 /// A signed number of 64 bits.
-pub(crate) fn signed_at(row: u64, fields: &ByteRecord, i: usize) -> Result<i64, ScriptError>
+pub(crate) fn signed_at(row: u64, fields: &Records<'_>, i: usize) -> Result<i64, ScriptError>
     ensures { result ≡ spec.signed_at row (fields_of fields.now) i }
 {
     signed(field(fields, i)).ok_or(ScriptError::Number { row })
@@ -46,7 +46,7 @@ pub(crate) fn signed_at(row: u64, fields: &ByteRecord, i: usize) -> Result<i64, 
 
 /// Seconds, and in the next field nanoseconds.
 #[tactic(auto, unfolding(crate::specs::Field::time_at))]
-pub(crate) fn time_at(row: u64, fields: &ByteRecord, i: usize) -> Result<Timespec, ScriptError>
+pub(crate) fn time_at(row: u64, fields: &Records<'_>, i: usize) -> Result<Timespec, ScriptError>
     requires { i < 2 ^ 32 }
     ensures { result ≡ spec.time_at row (fields_of fields.now) i }
 {
@@ -56,7 +56,7 @@ pub(crate) fn time_at(row: u64, fields: &ByteRecord, i: usize) -> Result<Timespe
 }
 
 /// A clock's word.
-pub(crate) fn clock_at(row: u64, fields: &ByteRecord, i: usize) -> Result<ClockId, ScriptError>
+pub(crate) fn clock_at(row: u64, fields: &Records<'_>, i: usize) -> Result<ClockId, ScriptError>
     ensures { result ≡ spec.clock_at row (fields_of fields.now) i }
 {
     clock_word(field(fields, i)).ok_or(ScriptError::Word { row })

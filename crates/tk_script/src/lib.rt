@@ -17,10 +17,12 @@
 mod at_lines;
 mod calendar;
 mod fields;
+mod frequent;
 mod lines;
 mod names;
 mod numbers;
 mod opening;
+mod plain;
 mod records;
 mod row;
 mod row_reader;

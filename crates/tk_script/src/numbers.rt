@@ -1,4 +1,7 @@
-ghost use Rattle.std.specs.Prelude.{◌≡◌, ◌≤◌, ◌-◌, ◌^◌, length};
+ghost use Rattle.std.specs.Prelude.{◌≡◌, ◌≤◌, ◌<◌, ◌-◌, ◌^◌, ◌++◌, ℕ, List, length, take, slice_index, Some, IfSome, true, false};
+ghost use Rattle.std.specs.List.{list_all};
+ghost use Rattle.std.specs.Char.{is_ascii_digit};
+ghost use Rattle.std.specs.Str.Parse.{digits_value};
 ghost use Rattle.tk_script.specs.Number.{is_numeral, number_up_to, number_of, number32_of, signed_of};
 
 /// The number that a field spells: one ASCII digit or more, leading zeros too, and within 64 bits.
@@ -54,15 +57,43 @@ fn short_number(field: &[u8]) -> Option<u64>
     requires { length field.now ≤ 19 }
     ensures { result ≡ number_up_to (2 ^ 64 - 1) field.now }
 {
+    let (value, len) = leading_digits(field);
+    (len == field.len() && !field.is_empty()).then_some(value)
+}
+
+/// The number that the digits at the front of a text spell, and what follows them. None without a
+/// digit, and only the first nineteen are taken.
+pub(crate) fn number_in_front(text: &[u8]) -> Option<(u64, &[u8])>
+    ensures { IfSome result (λ found. (digits : List ℕ) × (text.now ≡ digits ++ found.1.now)
+        × (number_of digits ≡ Some found.0)) }
+{
+    let (value, len) = leading_digits(&text[..text.len().min(19)]);
+    if len == 0 {
+        return None;
+    }
+    Some((value, &text[len..]))
+}
+
+/// The digits at the front of at most nineteen bytes: the number that they spell, and how many they
+/// are.
+fn leading_digits(text: &[u8]) -> (u64, usize)
+    requires { length text.now ≤ 19 }
+    ensures fits { result.0 < 2 ^ 64 }
+    ensures len { result.1 ≤ length text.now }
+    ensures value { result.0 ≡ digits_value 10 (take result.1 text.now) }
+    ensures digits { list_all is_ascii_digit (take result.1 text.now) ≡ true }
+    ensures stops { result.1 < length text.now →
+        is_ascii_digit (slice_index text.now result.1) ≡ false }
+{
     let mut value = 0u64;
-    for byte in field {
-        let digit = byte.wrapping_sub(b'0');
+    for i in 0..text.len() {
+        let digit = text[i].wrapping_sub(b'0');
         if digit > 9 {
-            return None;
+            return (value, i);
         }
         value = value * 10 + u64::from(digit);
     }
-    (!field.is_empty()).then_some(value)
+    (value, text.len())
 }
 
 /// The number that a field of any length spells, if it is at most `most`.

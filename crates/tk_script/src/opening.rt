@@ -1,11 +1,11 @@
 ghost use Rattle.std.specs.Prelude.{◌≡◌, IfOk, None};
-ghost use Rattle.csv.specs.Records.{fields_of};
+ghost use Rattle.tk_script.specs.Cursor.{fields_of};
 ghost use Rattle.tk_clock.specs.Refusal.{opening_refusal};
 ghost use Rattle.tk_script.specs.Opening as spec;
 
 use crate::fields::{field, has_word, number_at, number32_at, time_at};
+use crate::records::Records;
 use crate::script_error::ScriptError;
-use csv::ByteRecord;
 use tk_clock::{Clock, Timespec};
 use tk_counter::CounterDesc;
 
@@ -31,7 +31,7 @@ enum Telling {
 
 /// The opening that the first record tells, by its word.
 #[tactic(auto, unfolding(crate::specs::Opening::start_of))]
-pub(crate) fn read_start(fields: &ByteRecord) -> Result<Start, ScriptError>
+pub(crate) fn read_start(fields: &Records<'_>) -> Result<Start, ScriptError>
     ensures value { result ≡ spec.start_of (fields_of fields.now) }
     ensures opens { IfOk result (λ start.
         opening_refusal start.desc start.reading start.real ≡ None) }
@@ -48,7 +48,7 @@ pub(crate) fn read_start(fields: &ByteRecord) -> Result<Start, ScriptError>
 
 /// Bits, the two numbers that tell the counter, reading, sec and nsec.
 #[tactic(auto, unfolding(crate::specs::Opening::opening_of))]
-fn read_opening(telling: Telling, fields: &ByteRecord) -> Result<Start, ScriptError>
+fn read_opening(telling: Telling, fields: &Records<'_>) -> Result<Start, ScriptError>
     ensures value { result ≡ spec.opening_of telling (fields_of fields.now) }
     ensures opens { IfOk result (λ start.
         opening_refusal start.desc start.reading start.real ≡ None) }

@@ -1,9 +1,15 @@
-ghost use Rattle.std.specs.Prelude.{◌≡◌, ℕ, List, Some, true, IfOk, IfErr};
+ghost use Rattle.std.specs.Prelude.{◌≡◌, ℕ, List, Some, true, length, option_map, IfOk, IfErr, IfSome, IfNone};
 ghost use Rattle.csv.specs.Reading.{error_kind};
-ghost use Rattle.csv.specs.Records.{fields_of};
+ghost use Rattle.csv.specs.Records as csv_records;
+ghost use Rattle.csv.specs.Records.{field_at};
+ghost use Rattle.tk_script.specs.Cursor.{IsCursor, TakesTold, fields_of, left_in};
 ghost use Rattle.tk_script.specs.Reading.{IsReading, IsWantOfMemory, Takes, left_of};
 ghost use Rattle.tk_script.specs.Records.{records_of};
+ghost use Rattle.tk_script.specs.Rows.{row_of};
+ghost use Rattle.tk_script.specs.Stamps.{stamp_of};
 
+use crate::plain::{Lines, is_plain};
+use crate::row::Row;
 use crate::script_error::ScriptError;
 use csv::{ByteRecord, Error, Reader, ReaderBuilder};
 use std::alloc::Global;
@@ -11,9 +17,100 @@ use std::alloc::Global;
 /// How many bytes a script or a stamp file may have.
 pub(crate) const SIZE_LIMIT: usize = 16_777_216;
 
+/// The records of a text, one after the other, and the one that was read last. Both ways read what
+/// csv's rules find in the text.
+#[derive(Drop)]
+pub(crate) enum Records<'a> {
+    /// Those of any text.
+    Quoted(Quoted<'a>),
+    /// Those of a text without quotes and carriage returns.
+    Plain(Lines<'a>),
+}
+
+/// A reader by csv, and the record that it read last.
+#[derive(Drop)]
+pub(crate) struct Quoted<'a> {
+    reader: Reader<&'a [u8]>,
+    fields: ByteRecord,
+}
+
+impl<'a> Records<'a> {
+    /// All records of the bytes. No record is a header, and lengths may differ.
+    pub(crate) fn open(alloc: Global, bytes: &'a [u8]) -> Records<'a>
+        ensures reading { IsCursor result }
+        ensures left { left_in result ≡ Some (records_of bytes.now) }
+    {
+        if is_plain(bytes) {
+            return Records::Plain(Lines::new(bytes));
+        }
+        Records::Quoted(Quoted {
+            reader: open_reader(alloc, bytes),
+            fields: ByteRecord::new(alloc),
+        })
+    }
+
+    /// Reads the next record, if there is one.
+    pub(crate) fn advance(&mut self) -> Result<bool, ScriptError>
+        requires { IsCursor self.old }
+        ensures reading { IfOk result (λ found. found ≡ true → IsCursor self.new) }
+        ensures takes { IfOk result (λ found. (rs : List (List (List ℕ))) → left_in self.old ≡ Some rs
+            → Takes found (fields_of self.new) rs (left_in self.new)) }
+        ensures err { IfErr result (λ e. e ≡ ScriptError.Memory) }
+    {
+        match self {
+            Records::Quoted(quoted) => next_fields(&mut quoted.reader, &mut quoted.fields),
+            Records::Plain(lines) => Ok(lines.advance()),
+        }
+    }
+
+    /// How many fields the record has that was read last.
+    pub(crate) fn len(&self) -> usize
+        ensures { result ≡ length (fields_of self.now) }
+    {
+        match self {
+            Records::Quoted(quoted) => quoted.fields.len(),
+            Records::Plain(lines) => lines.len(),
+        }
+    }
+
+    /// Its field at a place, if it has so many.
+    pub(crate) fn get(&self, i: usize) -> Option<&[u8]>
+        ensures { option_map (λ s. s.now) result ≡ field_at (fields_of self.now) i }
+    {
+        match self {
+            Records::Quoted(quoted) => quoted.fields.get(i),
+            Records::Plain(lines) => lines.get(i),
+        }
+    }
+
+    /// Takes the row of the next record, where it is of a frequent form and has no fault.
+    pub(crate) fn take_row(&mut self) -> Option<Row>
+        requires { IsCursor self.old }
+        ensures some { IfSome result (λ row. TakesTold row_of row self.old self.new) }
+        ensures none { IfNone result (self.new ≡ self.old) }
+    {
+        match self {
+            Records::Quoted(_) => None,
+            Records::Plain(lines) => lines.take_row(),
+        }
+    }
+
+    /// Takes the item of the next record of a stamp file, where it lies plainly and has no fault.
+    pub(crate) fn take_stamp(&mut self) -> Option<(u64, u64)>
+        requires { IsCursor self.old }
+        ensures some { IfSome result (λ item. TakesTold stamp_of item self.old self.new) }
+        ensures none { IfNone result (self.new ≡ self.old) }
+    {
+        match self {
+            Records::Quoted(_) => None,
+            Records::Plain(lines) => lines.take_stamp(),
+        }
+    }
+}
+
 /// A reader of the bytes by the crate's defaults, but that no record is a header and that lengths
 /// may differ.
-pub(crate) fn open_reader(alloc: Global, bytes: &[u8]) -> Reader<&[u8]>
+fn open_reader(alloc: Global, bytes: &[u8]) -> Reader<&[u8]>
     ensures reading { IsReading result }
     ensures left { left_of result ≡ Some (records_of bytes.now) }
 {
@@ -23,15 +120,12 @@ pub(crate) fn open_reader(alloc: Global, bytes: &[u8]) -> Reader<&[u8]>
         .from_reader(alloc, bytes)
 }
 
-/// Reads the next record, if there is one.
-pub(crate) fn next_fields(
-    reader: &mut Reader<&[u8]>,
-    fields: &mut ByteRecord,
-) -> Result<bool, ScriptError>
+/// Reads the next record by csv, if there is one.
+fn next_fields(reader: &mut Reader<&[u8]>, fields: &mut ByteRecord) -> Result<bool, ScriptError>
     requires { IsReading reader.old }
     ensures reading { IfOk result (λ found. found ≡ true → IsReading reader.new) }
     ensures takes { IfOk result (λ found. (rs : List (List (List ℕ))) → left_of reader.old ≡ Some rs
-        → Takes found (fields_of fields.new) rs (left_of reader.new)) }
+        → Takes found (csv_records.fields_of fields.new) rs (left_of reader.new)) }
     ensures err { IfErr result (λ e. e ≡ ScriptError.Memory) }
 {
     match reader.read_byte_record(fields) {

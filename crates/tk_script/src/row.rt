@@ -1,11 +1,11 @@
 ghost use Rattle.std.specs.Prelude.{◌≡◌};
-ghost use Rattle.csv.specs.Records.{fields_of};
+ghost use Rattle.tk_script.specs.Cursor.{fields_of};
 ghost use Rattle.tk_script.specs.Rows as spec;
 ghost use Rattle.tk_script.specs.declared.row.Row.TheVariants.{Act};
 
 use crate::fields::{clock_at, field, has_word, number_at, signed_at, time_at};
+use crate::records::Records;
 use crate::script_error::ScriptError;
-use csv::ByteRecord;
 use tk_clock::{ClockId, Command, Timespec};
 
 /// What a record of a script after the first one asks for, at a reading of the counter in cycles.
@@ -19,7 +19,7 @@ pub enum Row {
 
 /// What the record `row` asks for, by its word; the frequent words come first.
 #[tactic(auto, unfolding(crate::specs::Rows::row_of))]
-pub(crate) fn read_row(row: u64, fields: &ByteRecord) -> Result<Row, ScriptError>
+pub(crate) fn read_row(row: u64, fields: &Records<'_>) -> Result<Row, ScriptError>
     ensures { result ≡ spec.row_of row (fields_of fields.now) }
 {
     let word = field(fields, 0);
@@ -55,7 +55,7 @@ fn act(reading: u64, cmd: Command) -> Row
 
 /// A reading alone.
 #[tactic(auto, unfolding(crate::specs::Rows::plain_of))]
-fn read_plain(row: u64, fields: &ByteRecord) -> Result<u64, ScriptError>
+fn read_plain(row: u64, fields: &Records<'_>) -> Result<u64, ScriptError>
     ensures { result ≡ spec.plain_of row (fields_of fields.now) }
 {
     if fields.len() != 2 {
@@ -66,7 +66,7 @@ fn read_plain(row: u64, fields: &ByteRecord) -> Result<u64, ScriptError>
 
 /// A reading and a time.
 #[tactic(auto, unfolding(crate::specs::Rows::timed_of))]
-fn read_timed(row: u64, fields: &ByteRecord) -> Result<(u64, Timespec), ScriptError>
+fn read_timed(row: u64, fields: &Records<'_>) -> Result<(u64, Timespec), ScriptError>
     ensures { result ≡ spec.timed_of row (fields_of fields.now) }
 {
     if fields.len() != 4 {
@@ -79,7 +79,7 @@ fn read_timed(row: u64, fields: &ByteRecord) -> Result<(u64, Timespec), ScriptEr
 
 /// A reading and a signed number.
 #[tactic(auto, unfolding(crate::specs::Rows::valued_of))]
-fn read_valued(row: u64, fields: &ByteRecord) -> Result<(u64, i64), ScriptError>
+fn read_valued(row: u64, fields: &Records<'_>) -> Result<(u64, i64), ScriptError>
     ensures { result ≡ spec.valued_of row (fields_of fields.now) }
 {
     if fields.len() != 3 {
@@ -92,7 +92,7 @@ fn read_valued(row: u64, fields: &ByteRecord) -> Result<(u64, i64), ScriptError>
 
 /// A reading and a clock.
 #[tactic(auto, unfolding(crate::specs::Rows::look_of))]
-fn read_look(row: u64, fields: &ByteRecord) -> Result<(u64, ClockId), ScriptError>
+fn read_look(row: u64, fields: &Records<'_>) -> Result<(u64, ClockId), ScriptError>
     ensures { result ≡ spec.look_of row (fields_of fields.now) }
 {
     if fields.len() != 3 {

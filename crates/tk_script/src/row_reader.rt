@@ -4,19 +4,16 @@ ghost use Rattle.tk_script.specs.Grammar.{Fails, parse_of};
 ghost use Rattle.tk_script.specs.Coming.{IsReady, Steps, coming, opened_with};
 
 use crate::opening::{Start, read_start};
-use crate::records::{SIZE_LIMIT, next_fields, open_reader};
+use crate::records::{Records, SIZE_LIMIT};
 use crate::row::{Row, read_row};
 use crate::script_error::ScriptError;
-use csv::{ByteRecord, Reader};
 use std::alloc::Global;
 
 /// The rows of a script, read one after the other: it keeps one record in memory, however long the
 /// script is.
 #[derive(Drop)]
 pub struct RowReader<'a> {
-    reader: Reader<&'a [u8]>,
-    /// The record that was read last, whose memory the next one takes.
-    fields: ByteRecord,
+    records: Records<'a>,
     /// The number of the next record.
     row: u64,
 }
@@ -38,20 +35,12 @@ impl<'a> RowReader<'a> {
         if bytes.len() > SIZE_LIMIT {
             return Err(ScriptError::TooLarge);
         }
-        let mut reader = open_reader(alloc, bytes);
-        let mut fields = ByteRecord::new(alloc);
-        if !next_fields(&mut reader, &mut fields)? {
+        let mut records = Records::open(alloc, bytes);
+        if !records.advance()? {
             return Err(ScriptError::Empty);
         }
-        let start = read_start(&fields)?;
-        Ok((
-            start,
-            RowReader {
-                reader,
-                fields,
-                row: 2,
-            },
-        ))
+        let start = read_start(&records)?;
+        Ok((start, RowReader { records, row: 2 }))
     }
 
     /// The next row, or none where no record is left; a fault is that of the next record. After
@@ -62,10 +51,14 @@ impl<'a> RowReader<'a> {
             (λ row. Steps row self.old self.new)
             (λ error. Fails error (coming self.old)) }
     {
-        if !next_fields(&mut self.reader, &mut self.fields)? {
+        if let Some(row) = self.records.take_row() {
+            self.row += 1;
+            return Ok(Some(row));
+        }
+        if !self.records.advance()? {
             return Ok(None);
         }
-        let row = read_row(self.row, &self.fields)?;
+        let row = read_row(self.row, &self.records)?;
         self.row += 1;
         Ok(Some(row))
     }

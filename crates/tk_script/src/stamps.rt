@@ -1,13 +1,11 @@
-ghost use Rattle.std.specs.Prelude.{◌≡◌, ℕ, List, IfOk, IfErr, OnOk, Some, length, ◌++◌, ◌∷◌, []};
-ghost use Rattle.csv.specs.Records.{fields_of};
-ghost use Rattle.tk_script.specs.Reading.{IsReading, left_of};
+ghost use Rattle.std.specs.Prelude.{◌≡◌, ℕ, List, IfOk, IfErr, OnOk, IsSome, MatchResult, Some, length, ◌++◌, ◌∷◌, []};
+ghost use Rattle.tk_script.specs.Cursor.{IsCursor, NextFails, NextTold, fields_of, left_in};
 ghost use Rattle.tk_script.specs.Grammar.{Gives};
 ghost use Rattle.tk_script.specs.Stamps as spec;
 
 use crate::fields::number_at;
-use crate::records::{SIZE_LIMIT, next_fields, open_reader};
+use crate::records::{Records, SIZE_LIMIT};
 use crate::script_error::ScriptError;
-use csv::{ByteRecord, Reader};
 use std::alloc::Global;
 
 /// Stamps to be told in a clock's time, each with its front: how many accepted commands come before
@@ -31,9 +29,7 @@ impl Stamps {
         if bytes.len() > SIZE_LIMIT {
             return Err(ScriptError::TooLarge);
         }
-        let mut reader = open_reader(alloc, bytes);
-        let mut fields = ByteRecord::new(alloc);
-        read_stamps(alloc, &mut reader, &mut fields)
+        read_stamps(alloc, &mut Records::open(alloc, bytes))
     }
 
     /// Appends an item. Where memory is refused the two lists may differ in length.
@@ -48,13 +44,9 @@ impl Stamps {
 }
 
 /// The items of the records that are left, the first of which is the first of the file.
-fn read_stamps(
-    alloc: Global,
-    reader: &mut Reader<&[u8]>,
-    fields: &mut ByteRecord,
-) -> Result<Stamps, ScriptError>
-    requires { IsReading reader.old }
-    ensures gives { (rs : List (List (List ℕ))) → left_of reader.old ≡ Some rs
+fn read_stamps(alloc: Global, records: &mut Records<'_>) -> Result<Stamps, ScriptError>
+    requires { IsCursor records.old }
+    ensures gives { (rs : List (List (List ℕ))) → left_in records.old ≡ Some rs
         → Gives spec.items result (spec.told 1 rs) }
     ensures paired { IfOk result (λ s. length s.fronts.items ≡ length s.stamps.items) }
 {
@@ -63,18 +55,36 @@ fn read_stamps(
         stamps: Vec::new(alloc),
     };
     for row in 1..u64::MAX {
-        if !next_fields(reader, fields)? {
+        let Some((front, stamp)) = next_stamp(row, records)? else {
             return Ok(stamps);
-        }
-        let (front, stamp) = read_stamp(row, fields)?;
+        };
         stamps.push(front, stamp)?;
     }
     Err(ScriptError::Memory)
 }
 
+/// The next item, if there is one: that of the record `row`.
+fn next_stamp(row: u64, records: &mut Records<'_>) -> Result<Option<(u64, u64)>, ScriptError>
+    requires { IsCursor records.old }
+    ensures reading { IfOk result (λ found. IsSome found → IsCursor records.new) }
+    ensures takes { (rs : List (List (List ℕ))) → left_in records.old ≡ Some rs
+        → MatchResult result
+        (λ found. NextTold (spec.stamp_of row) rs found (left_in records.new))
+        (λ error. NextFails (spec.stamp_of row) rs error) }
+{
+    if let Some(item) = records.take_stamp() {
+        return Ok(Some(item));
+    }
+    if !records.advance()? {
+        return Ok(None);
+    }
+    let item = read_stamp(row, records)?;
+    Ok(Some(item))
+}
+
 /// A front and a stamp in the record `row`.
 #[tactic(auto, unfolding(crate::specs::Stamps::stamp_of))]
-fn read_stamp(row: u64, fields: &ByteRecord) -> Result<(u64, u64), ScriptError>
+fn read_stamp(row: u64, fields: &Records<'_>) -> Result<(u64, u64), ScriptError>
     ensures { result ≡ spec.stamp_of row (fields_of fields.now) }
 {
     if fields.len() != 2 {

@@ -1,6 +1,6 @@
 use Rattle.std.proofs.Common.{◌∙◌, Err, sym, ap, refl}
 use Rattle.std.proofs.lemmas.Result.{err_from_is_err_and}
-use Rattle.csv.specs.Records.{fields_of}
+use Rattle.tk_script.specs.Cursor.{fields_of}
 use Rattle.tk_script.specs.Grammar.{parse_of}
 use Rattle.tk_script.specs.Records.{records_of}
 use Rattle.tk_script.specs.declared.row_reader.RowReader.{RowReader}
@@ -15,18 +15,18 @@ returns-then-bytes-gt-SIZE_LIMIT-clause-gives c =
 pub returns-then-not-branch-clause-gives : goal.returns-then-not-branch-clause-gives
 returns-then-not-branch-clause-gives c =
     let none = rw c.if-not-branch.true at
-    (c.in_ok-next_fields.ensures.takes
-    (records_of c.args.bytes.now) c.open_reader-reader.ensures.left) in
+    (c.in_ok-advance.ensures.takes
+    (records_of c.args.bytes.now) c.open-records.ensures.left) in
     parse-small c.args.bytes.now c.if-bytes-gt-SIZE_LIMIT.false
     ∙ parse-none (records_of c.args.bytes.now) none
 
 pub returns-in_err-start-clause-gives : goal.returns-in_err-start-clause-gives
 returns-in_err-start-clause-gives c =
     let some = rw c.if-not-branch.false at
-    (c.in_ok-next_fields.ensures.takes
-    (records_of c.args.bytes.now) c.open_reader-reader.ensures.left) in
+    (c.in_ok-advance.ensures.takes
+    (records_of c.args.bytes.now) c.open-records.ensures.left) in
     let fault = parse-small c.args.bytes.now c.if-bytes-gt-SIZE_LIMIT.false
-    ∙ parse-start_fault (records_of c.args.bytes.now) some.0 (fields_of c.next_fields.new.fields)
+    ∙ parse-start_fault (records_of c.args.bytes.now) some.0 (fields_of c.advance.new.self)
     c.in_err-start.field-0.0 some.1 (sym c.read_start.ensures.value ∙ c.in_err-start.was) in
     let exit = err_from_is_err_and c.from_residual-in_err-start.result
     c.from_residual-in_err-start.ensures.1 in
@@ -35,14 +35,14 @@ returns-in_err-start-clause-gives c =
 pub returns-clause-gives : goal.returns-clause-gives
 returns-clause-gives c =
     let some = rw c.if-not-branch.false at
-    (c.in_ok-next_fields.ensures.takes
-    (records_of c.args.bytes.now) c.open_reader-reader.ensures.left) in
+    (c.in_ok-advance.ensures.takes
+    (records_of c.args.bytes.now) c.open-records.ensures.left) in
     let reader : RowReader =
-    record { reader = c.next_fields.new.reader; fields = c.next_fields.new.fields; row = 2 } in
-    let first = fields_of c.next_fields.new.fields in
+    record { records = c.advance.new.self; row = 2 } in
+    let first = fields_of c.advance.new.self in
     let small = c.if-bytes-gt-SIZE_LIMIT.false in (
       ready-open reader c.args.bytes.now first some.0
-          (c.in_ok-next_fields.ensures.reading c.if-not-branch.false) some.2 refl some.1 small,
+          (c.in_ok-advance.ensures.reading c.if-not-branch.false) some.2 refl some.1 small,
       parse-small c.args.bytes.now small
           ∙ parse-open reader c.in_ok-start.start (records_of c.args.bytes.now) some.0 first some.2
           refl some.1 (sym c.read_start.ensures.value ∙ c.in_ok-start.was),

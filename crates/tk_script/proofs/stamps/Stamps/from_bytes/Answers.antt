@@ -9,4 +9,4 @@ returns-then-bytes-gt-SIZE_LIMIT-clause-gives c =
 pub returns-clause-gives : goal.returns-clause-gives
 returns-clause-gives c =
     rw (stamps-small c.args.bytes.now c.if-bytes-gt-SIZE_LIMIT.false)
-    (c.read_stamps.ensures.gives (records_of c.args.bytes.now) c.open_reader-reader.ensures.left)
+    (c.read_stamps.ensures.gives (records_of c.args.bytes.now) c.open.ensures.left)

@@ -1,11 +1,11 @@
-use Rattle.std.proofs.Common.{◌≡◌, ◌∙◌, ℕ, ◌+◌, ◌*◌, ◌%◌, ◌<◌, ◌≤◌, ◌^◌, length, Bool, true, get_or, refl, arith, ◌&&◌}
+use Rattle.std.proofs.Common.{◌≡◌, ◌∙◌, ℕ, ◌+◌, ◌*◌, ◌%◌, ◌<◌, ◌≤◌, ◌^◌, Bool, true, get_or, refl, arith, ◌&&◌}
 use Rattle.std.proofs.Math.Nat.{pow-le-pow_right}
 use Rattle.std.proofs.lemmas.Nat.{pow-add}
 use Rattle.std.proofs.lemmas.Grind.{common_steps}
 use Rattle.std.proofs.lemmas.Int.Digits.{digits_value_more}
 use Rattle.std.proofs.lemmas.List.Folds.{list_all_more}
 use Rattle.std.specs.Char.{is_ascii_digit, digit_value}
-use Rattle.tk_script.proofs.numbers.short_number.Goals as goal
+use Rattle.tk_script.proofs.numbers.leading_digits.Goals as goal
 
 -- a byte at most nine above `0` is a digit, and so far above is its value
 is_digit : (byte : ℕ) → byte < 256 → (byte + 208) % 256 ≤ 9 → is_ascii_digit byte ≡ true
@@ -29,23 +29,23 @@ one_more i = pow-add 10 i 1
 
 pub overflow_mul-value : goal.overflow_mul-value
 overflow_mul-value c =
-    let below = short c.loop-byte.value c.loop-byte.byte-index c.loop-byte.invariant.2 (omega arith) in
+    let below = short c.loop-i.value c.loop-i.i c.loop-i.invariant.2 (omega arith) in
     omega arith
 
 pub overflow_add-value : goal.overflow_add-value
 overflow_add-value c =
-    let below = short c.loop-byte.value c.loop-byte.byte-index c.loop-byte.invariant.2 (omega arith) in
+    let below = short c.loop-i.value c.loop-i.i c.loop-i.invariant.2 (omega arith) in
     omega arith
 
-pub loop-byte-preserved : goal.loop-byte-preserved
-loop-byte-preserved c =
-    let byte = get_or c.args.field.now c.loop-byte.byte-index 0 in
-    let more = digits_value_more 10 c.args.field.now c.loop-byte.byte-index c.loop-byte-test.true in
-    let all = list_all_more is_ascii_digit c.args.field.now c.loop-byte.byte-index 0
-    c.loop-byte-test.true in
+pub loop-i-preserved : goal.loop-i-preserved
+loop-i-preserved c =
+    let byte = get_or c.args.text.now c.loop-i.i 0 in
+    let more = digits_value_more 10 c.args.text.now c.loop-i.i c.loop-i-test.true in
+    let all = list_all_more is_ascii_digit c.args.text.now c.loop-i.i 0
+    c.loop-i-test.true in
     let digit = is_digit byte (omega arith) (omega arith) in
     let value = value_of byte (omega arith) (omega arith) in
-    let next = one_more c.loop-byte.byte-index in
-    let value_below = c.loop-byte.invariant.2 in
-    let both_digits = both _ _ c.loop-byte.invariant.1 digit in
+    let next = one_more c.loop-i.i in
+    let value_below = c.loop-i.invariant.2 in
+    let both_digits = both _ _ c.loop-i.invariant.1 digit in
     (omega arith, all ∙ both_digits, omega (arith, next, value_below))

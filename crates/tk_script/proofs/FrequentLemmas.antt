@@ -1,0 +1,146 @@
+-- What the frequent forms of a record tell.
+use Rattle.std.proofs.Common.{◌≡◌, ◌∙◌, ◌++◌, ℕ, List, [], ◌∷◌, length, Bool, true, false, Some, None, Ok, codes, refl, sym, ap, cond, arith, append_assoc, length-append}
+use Rattle.std.specs.Prelude.{◌==◌, ◌||◌, ◌&&◌, ◌^◌, ◌-◌, nat_le, not}
+use Rattle.std.specs.Char.{is_ascii_digit}
+use Rattle.std.specs.List.{list_any, list_all}
+use Rattle.std.specs.Str.Parse.{digits_value}
+use Rattle.std.proofs.lemmas.Bool.{eqb-true}
+use Rattle.std.proofs.lemmas.List.Folds.{list_any-append}
+use Rattle.csv.specs.Records.{field_at}
+use Rattle.memchr.specs.Find.{is_byte, is_byte2}
+use Rattle.tk_clock.specs.declared.clock_id.ClockId.{ClockId}
+use Rattle.tk_clock.specs.declared.command.Command.TheVariants.{Update}
+use Rattle.tk_script.specs.Number.{number_of}
+use Rattle.tk_script.specs.Plain.{EndsLine, FrontTells, Lacks, cut_at_commas, cut_behind}
+use Rattle.tk_script.specs.Rows.{look_of, plain_of, row_of}
+use Rattle.tk_script.specs.Stamps.{stamp_of}
+use Rattle.tk_script.specs.Word.{clock_of}
+use Rattle.tk_script.specs.declared.row.Row.TheVariants.{Act, Look}
+use Rattle.tk_script.proofs.PlainLemmas.{cut-first, cut-whole, not-true, or-none}
+
+and-both : (a b : Bool) → (a && b) ≡ true → (a ≡ true) × (b ≡ true)
+and-both true b e = (refl, e)
+and-both false b e = cc e
+
+-- digits lack each byte that is none
+digits-lack : (byte : ℕ) (digits : List ℕ) → is_ascii_digit byte ≡ false →
+    list_all is_ascii_digit digits ≡ true → Lacks (is_byte byte) digits
+digits-lack byte [] other all = refl
+digits-lack byte (digit ∷ digits) other all =
+    let parts = and-both (is_ascii_digit digit) (list_all is_ascii_digit digits) all in
+    let first : (digit == byte) ≡ false = not-true (digit == byte)
+    (λ same. let e = eqb-true digit byte same in cc (parts.0, other, ap is_ascii_digit e)) in
+    rw first (digits-lack byte digits other parts.1)
+
+-- a number is of digits
+picks : (some digits small : Bool) (value number : ℕ)
+    → cond ((some && digits) && small) (Some value) None ≡ Some number → digits ≡ true
+picks true true small value number e = refl
+picks true false small value number e = cc e
+picks false digits small value number e = cc e
+
+-- and so does a number
+number-lacks : (byte : ℕ) (digits : List ℕ) (number : ℕ) → is_ascii_digit byte ≡ false →
+    number_of digits ≡ Some number → Lacks (is_byte byte) digits
+number-lacks byte digits number other e =
+    digits-lack byte digits other (picks (not (length digits == 0)) (list_all is_ascii_digit digits)
+    (nat_le (digits_value 10 digits) (2 ^ 64 - 1)) (digits_value 10 digits) number e)
+
+-- a text that lacks two bytes lacks each
+lacks-either : (a b : ℕ) (xs : List ℕ) → Lacks (is_byte2 a b) xs →
+    Lacks (is_byte a) xs × Lacks (is_byte b) xs
+lacks-either a b [] e = (refl, refl)
+lacks-either a b (x ∷ xs) e =
+    let parts = or-none (x == a || x == b) (list_any (is_byte2 a b) xs) e in
+    let first = or-none (x == a) (x == b) parts.0 in
+    let later = lacks-either a b xs parts.1 in
+    (rw first.0 later.0, rw first.1 later.1)
+
+-- an update
+update-row : (n reading : ℕ) (digits : List ℕ) → number_of digits ≡ Some reading →
+    row_of n (codes "update" ∷ digits ∷ []) ≡ Ok (Act reading Update)
+unfolding row_of plain_of field_at
+update-row n reading digits e = rw e refl
+
+update-cut : (digits : List ℕ) → Lacks (is_byte 44) digits →
+    cut_at_commas (codes "update," ++ digits) ≡ codes "update" ∷ digits ∷ []
+unfolding cut_behind
+update-cut digits whole = ap (λ (fs : List (List ℕ)). codes "update" ∷ fs) (cut-whole [] digits whole)
+
+pub front-update : (text rest end digits : List ℕ) (reading : ℕ)
+    → text ≡ codes "update," ++ (digits ++ end) → number_of digits ≡ Some reading →
+    EndsLine end rest → FrontTells row_of text (Act reading Update) rest
+front-update text rest end digits reading split number ends = (
+  codes "update," ++ digits,
+  (omega arith, number-lacks 10 digits reading refl number, (end, split, ends)),
+  λ n. ap (row_of n) (update-cut digits (number-lacks 44 digits reading refl number))
+      ∙ update-row n reading digits number,
+)
+
+-- a read
+look-row : (n reading : ℕ) (digits word : List ℕ) (clock : ClockId) →
+    number_of digits ≡ Some reading → clock_of word ≡ Some clock →
+    row_of n (codes "get" ∷ digits ∷ word ∷ []) ≡ Ok (Look reading clock)
+unfolding row_of look_of field_at
+look-row n reading digits word clock e f = rw (e, f) refl
+
+look-cut : (digits word : List ℕ) → Lacks (is_byte 44) digits → Lacks (is_byte 44) word →
+    cut_at_commas (codes "get," ++ (digits ++ 44 ∷ word)) ≡ codes "get" ∷ digits ∷ word ∷ []
+unfolding cut_behind
+look-cut digits word whole whole' =
+    ap (λ (fs : List (List ℕ)). codes "get" ∷ fs)
+    (cut-first [] digits word whole ∙ ap (λ (fs : List (List ℕ)). digits ∷ fs) (cut-whole [] word whole'))
+
+pub front-look : (text rest end digits word : List ℕ) (reading : ℕ) (clock : ClockId)
+    → text ≡ codes "get," ++ (digits ++ (codes "," ++ (word ++ end))) →
+    number_of digits ≡ Some reading → clock_of word ≡ Some clock →
+    Lacks (is_byte2 44 10) word → EndsLine end rest →
+    FrontTells row_of text (Look reading clock) rest
+front-look text rest end digits word reading clock split number told whole ends =
+    let lacks = lacks-either 44 10 word whole in
+    let feeds : Lacks (is_byte 10) (digits ++ 44 ∷ word) =
+    list_any-append (is_byte 10) digits (44 ∷ word)
+    ∙ rw (number-lacks 10 digits reading refl number, lacks.1) refl in (
+      codes "get," ++ (digits ++ 44 ∷ word),
+      (
+        omega arith,
+        feeds,
+        (
+          end,
+          split ∙ ap (λ (t : List ℕ). codes "get," ++ t)
+              (sym (append_assoc digits (44 ∷ word) end)),
+          ends,
+        ),
+      ),
+      λ n. ap (row_of n)
+          (look-cut digits word (number-lacks 44 digits reading refl number) lacks.0)
+          ∙ look-row n reading digits word clock number told,
+    )
+
+-- an item of a stamp file
+stamp-row : (n front stamp : ℕ) (digits more : List ℕ) →
+    number_of digits ≡ Some front → number_of more ≡ Some stamp →
+    stamp_of n (digits ∷ more ∷ []) ≡ Ok (front, stamp)
+unfolding stamp_of field_at
+stamp-row n front stamp digits more e f = rw (e, f) refl
+
+pub front-stamp : (text rest end digits more : List ℕ) (front stamp : ℕ)
+    → text ≡ digits ++ (codes "," ++ (more ++ end)) →
+    number_of digits ≡ Some front → number_of more ≡ Some stamp → EndsLine end rest →
+    FrontTells stamp_of text (front, stamp) rest
+front-stamp text rest end digits more front stamp split number number' ends =
+    let feeds : Lacks (is_byte 10) (digits ++ 44 ∷ more) =
+    list_any-append (is_byte 10) digits (44 ∷ more)
+    ∙ rw (number-lacks 10 digits front refl number, number-lacks 10 more stamp refl number') refl in
+    let cut : cut_at_commas (digits ++ 44 ∷ more) ≡ digits ∷ more ∷ [] =
+    cut-first [] digits more (number-lacks 44 digits front refl number)
+    ∙ ap (λ (fs : List (List ℕ)). digits ∷ fs)
+    (cut-whole [] more (number-lacks 44 more stamp refl number')) in (
+      digits ++ 44 ∷ more,
+      (
+        omega (arith, length-append digits (44 ∷ more)),
+        feeds,
+        (end, split ∙ sym (append_assoc digits (44 ∷ more) end), ends),
+      ),
+      λ n. ap (stamp_of n) cut ∙ stamp-row n front stamp digits more number number',
+    )

@@ -1,0 +1,48 @@
+-- What is left of a text's records, whichever way they are read.
+use Rattle.std.specs.Prelude.{◌≡◌, ◌⊎◌, ℕ, List, [], ◌∷◌, Option, None, Some, true, Result, Ok, Err}
+use Rattle.csv.specs.Records as csv
+use Rattle.csv.specs.declared.parser.State.TheVariants.{StartRecord}
+use Rattle.tk_script.specs.Plain.{IsPlain, cut_at_commas}
+use Rattle.tk_script.specs.Reading.{IsReading, Takes, left_of}
+use Rattle.tk_script.specs.Records.{records_after}
+use Rattle.tk_script.specs.declared.records.Records.{Records}
+use Rattle.tk_script.specs.declared.records.Records.TheVariants.{Quoted, Plain}
+use Rattle.tk_script.specs.declared.script_error.ScriptError.{ScriptError}
+use Rattle.tk_script.specs.declared.script_error.ScriptError.TheVariants as errors
+
+-- csv's reader reads on, or the text that is left is plain
+abbrev pub IsCursor : Records → Type 0
+IsCursor (Quoted quoted) = IsReading quoted.reader
+IsCursor (Plain lines) = IsPlain lines.rest.now
+
+-- the records that are left, where csv's reader has not failed
+abbrev pub left_in : Records → Option (List (List (List ℕ)))
+left_in (Quoted quoted) = left_of quoted.reader
+left_in (Plain lines) = Some (records_after StartRecord lines.rest.now)
+
+-- the fields of the record that was read last
+abbrev pub fields_of : Records → List (List ℕ)
+fields_of (Quoted quoted) = csv.fields_of quoted.fields
+fields_of (Plain lines) = cut_at_commas lines.line.now
+
+-- a step took the next record, which tells this, whatever its number, and left the others
+abbrev pub TakesTold : {A : Type 0} → (ℕ → List (List ℕ) → Result A ScriptError) → A → Records →
+    Records → Type 0
+TakesTold tell told old new = IsCursor new
+    × ((records : List (List (List ℕ))) → left_in old ≡ Some records
+    → (fields : List (List ℕ)) × Takes true fields records (left_in new)
+    × ((n : ℕ) → tell n fields ≡ Ok told))
+
+-- a step took the first of these records, which tells this, and left the others, or there was none
+abbrev pub NextTold : {A : Type 0} → (List (List ℕ) → Result A ScriptError) →
+    List (List (List ℕ)) → Option A → Option (List (List (List ℕ))) → Type 0
+NextTold tell records None left = records ≡ []
+NextTold tell records (Some told) left = (fields : List (List ℕ)) × (rest : List (List (List ℕ)))
+    × (records ≡ fields ∷ rest) × (left ≡ Some rest) × (tell fields ≡ Ok told)
+
+-- want of memory, or the fault of the first of these records
+abbrev pub NextFails : {A : Type 0} → (List (List ℕ) → Result A ScriptError) →
+    List (List (List ℕ)) → ScriptError → Type 0
+NextFails tell records error = (error ≡ errors.Memory)
+    ⊎ ((fields : List (List ℕ)) × (rest : List (List (List ℕ))) × (records ≡ fields ∷ rest)
+    × (tell fields ≡ Err error))

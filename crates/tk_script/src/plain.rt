@@ -1,0 +1,170 @@
+//! Texts without quotes and carriage returns: a record is a line, cut at its commas.
+ghost use Rattle.std.specs.Prelude.{◌≡◌, ◌≢◌, ◌<◌, [], length, option_map, slice_index, None, Some, true, IfSome, IfNone, MatchOption};
+ghost use Rattle.csv.specs.Machine.{next_record};
+ghost use Rattle.csv.specs.Reading.{default_config, strip_bom};
+ghost use Rattle.csv.specs.Records.{field_at};
+ghost use Rattle.csv.specs.declared.parser.State.TheVariants.{StartRecord};
+ghost use Rattle.tk_script.specs.Plain.{EndsLine, FrontTells, IsPlain, cut_at_commas};
+ghost use Rattle.tk_script.specs.Reading.{Takes};
+ghost use Rattle.tk_script.specs.Records.{records_after};
+ghost use Rattle.tk_script.specs.Rows.{row_of};
+ghost use Rattle.tk_script.specs.Stamps.{stamp_of};
+
+use crate::frequent::{row_in_front, stamp_in_front};
+use crate::row::Row;
+use memchr::{memchr, memchr2};
+
+/// The lines of a plain text: the one that was read last, and what follows it.
+#[derive(Clone, Copy)]
+pub(crate) struct Lines<'a> {
+    line: &'a [u8],
+    rest: &'a [u8],
+}
+
+impl<'a> Lines<'a> {
+    /// All lines of a text.
+    pub(crate) fn new(text: &'a [u8]) -> Lines<'a>
+        ensures { result.rest.now ≡ text.now }
+    {
+        Lines {
+            line: &[],
+            rest: text,
+        }
+    }
+
+    /// Goes on to the next line that is not empty, if there is one.
+    pub(crate) fn advance(&mut self) -> bool
+        requires { IsPlain self.old.rest.now }
+        ensures plain { result ≡ true → IsPlain self.new.rest.now }
+        ensures takes { Takes result (cut_at_commas self.new.line.now)
+            (records_after StartRecord self.old.rest.now)
+            (Some (records_after StartRecord self.new.rest.now)) }
+    {
+        let Some((line, rest)) = first_line(self.rest) else {
+            return false;
+        };
+        self.line = line;
+        self.rest = rest;
+        true
+    }
+
+    /// How many fields the line has.
+    pub(crate) fn len(&self) -> usize
+        ensures { result ≡ length (cut_at_commas self.now.line.now) }
+    {
+        field_count(self.line)
+    }
+
+    /// Its field at a place, if it has so many.
+    pub(crate) fn get(&self, i: usize) -> Option<&'a [u8]>
+        ensures { option_map (λ s. s.now) result ≡ field_at (cut_at_commas self.now.line.now) i }
+    {
+        field_of_line(self.line, i)
+    }
+
+    /// Takes the row of the next line, where it is of a frequent form and has no fault.
+    pub(crate) fn take_row(&mut self) -> Option<Row>
+        ensures some { IfSome result (λ row. FrontTells row_of self.old.rest.now row self.new.rest.now) }
+        ensures none { IfNone result (self.new ≡ self.old) }
+    {
+        let (row, rest) = row_in_front(self.rest)?;
+        self.rest = rest;
+        Some(row)
+    }
+
+    /// Takes the item of the next line of a stamp file, where it has no fault.
+    pub(crate) fn take_stamp(&mut self) -> Option<(u64, u64)>
+        ensures some { IfSome result (λ item. FrontTells stamp_of self.old.rest.now item self.new.rest.now) }
+        ensures none { IfNone result (self.new ≡ self.old) }
+    {
+        let (item, rest) = stamp_in_front(self.rest)?;
+        self.rest = rest;
+        Some(item)
+    }
+}
+
+/// Are the bytes a plain text, with no byte order mark that a reader would drop?
+pub(crate) fn is_plain(bytes: &[u8]) -> bool
+    ensures plain { result ≡ true → IsPlain bytes.now }
+    ensures unmarked { result ≡ true → strip_bom bytes.now ≡ bytes.now }
+{
+    if !bytes.is_empty() && bytes[0] == 0xef {
+        return false;
+    }
+    memchr2(b'"', b'\r', bytes).is_none()
+}
+
+/// The first line that is not empty, and what follows it.
+pub(crate) fn first_line(text: &[u8]) -> Option<(&[u8], &[u8])>
+    requires { IsPlain text.now }
+    ensures record { MatchOption result
+        (next_record default_config StartRecord [] [] text.now ≡ None)
+        (λ found. next_record default_config StartRecord [] [] text.now
+        ≡ Some (cut_at_commas found.0.now, StartRecord, found.1.now)) }
+    ensures plain { IfSome result (λ found. IsPlain found.1.now) }
+{
+    let text = behind_empty_lines(text);
+    if text.is_empty() {
+        return None;
+    }
+    match memchr(b'\n', text) {
+        Some(end) => Some((&text[..end], &text[end + 1..])),
+        None => Some((text, &[])),
+    }
+}
+
+/// The text behind the empty lines at its start.
+fn behind_empty_lines(text: &[u8]) -> &[u8]
+    requires { IsPlain text.now }
+    ensures same { next_record default_config StartRecord [] [] result.now
+        ≡ next_record default_config StartRecord [] [] text.now }
+    ensures plain { IsPlain result.now }
+    ensures first { 0 < length result.now → slice_index result.now 0 ≢ 10 }
+{
+    for i in 0..text.len() {
+        if text[i] != b'\n' {
+            return &text[i..];
+        }
+    }
+    &[]
+}
+
+/// What follows the end of a line, which is a line feed or the end of the text.
+pub(crate) fn behind_line(text: &[u8]) -> Option<&[u8]>
+    ensures { IfSome result (λ rest. EndsLine text.now rest.now) }
+{
+    if text.is_empty() {
+        return Some(text);
+    }
+    if text[0] == b'\n' {
+        Some(&text[1..])
+    } else {
+        None
+    }
+}
+
+/// How many fields a line has.
+pub(crate) fn field_count(line: &[u8]) -> usize
+    ensures { result ≡ length (cut_at_commas line.now) }
+{
+    let mut commas = 0;
+    for byte in line {
+        if *byte == b',' {
+            commas += 1;
+        }
+    }
+    commas + 1
+}
+
+/// The field of a line at a place, if it has so many.
+pub(crate) fn field_of_line(line: &[u8], i: usize) -> Option<&[u8]>
+    ensures { option_map (λ s. s.now) result ≡ field_at (cut_at_commas line.now) i }
+{
+    let Some(comma) = memchr(b',', line) else {
+        return if i == 0 { Some(line) } else { None };
+    };
+    if i == 0 {
+        return Some(&line[..comma]);
+    }
+    field_of_line(&line[comma + 1..], i - 1)
+}
