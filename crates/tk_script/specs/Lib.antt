@@ -11,3 +11,4 @@ pub mod Stamps
 pub mod Coming
 pub mod Utc
 pub mod Lines
+pub mod Line

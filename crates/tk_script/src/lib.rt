@@ -16,7 +16,9 @@
 
 mod at_lines;
 mod calendar;
+mod digits;
 mod fields;
+mod line;
 mod lines;
 mod names;
 mod numbers;
@@ -27,7 +29,6 @@ mod row_reader;
 mod script;
 mod script_error;
 mod stamps;
-mod text;
 
 pub use at_lines::line_at;
 pub use calendar::{Calendar, utc};
