@@ -1,8 +1,10 @@
--- The digits of a time are ASCII.
-use Rattle.std.proofs.Common.{ℕ, ◌+◌, ◌/◌, ◌%◌, ◌<◌, List, [], ◌∷◌, ◌++◌, codes, arith, Result, Ok, Err, IsOk, MatchResult, rules}
+-- The digits of a time are ASCII, and a date is short.
+use Rattle.std.proofs.Common.{◌≡◌, ℕ, ◌≤◌, length, ℤ, pos, negsuc, ◌+◌, ◌/◌, ◌%◌, ◌<◌, List, [], ◌∷◌, ◌++◌, codes, arith, Result, Ok, Err, IsOk, MatchResult, rules}
 use Rattle.std.specs.Str.{IsAscii, IsUtf8}
 use Rattle.std.proofs.lemmas.Str.{IsAscii-append, IsUtf8-from_ascii}
 use Rattle.std.proofs.lemmas.Str.Ascii.{IsAscii-nil, IsAscii-cons}
+use Rattle.jiff.specs.Types.{Date}
+use Rattle.jiff.specs.Words.{date_text}
 use Rattle.tk_script.specs.Utc.{two_digits, four_digits, nine_digits, time_part}
 
 IsAscii-two_digits : (n : ℕ) → n < 100 → IsAscii (two_digits n)
@@ -53,3 +55,8 @@ pub IsOk-from_match : {T E : Type 0} (r : Result T E) (P : T → Type 0) (Q : E 
     ((e : E) → Q e → ⊥) → MatchResult r P Q → IsOk r
 IsOk-from_match (Ok x) P Q n m = search rules
 IsOk-from_match (Err e) P Q n m = absurd (n e m)
+
+-- a date in ten bytes, or in thirteen before the year 0
+pub length-date_text : (d : Date) (year : ℤ) → d.year ≡ year → length (date_text d) ≤ 13
+length-date_text d (pos n) e = rw e (omega arith)
+length-date_text d (negsuc n) e = rw e (omega arith)

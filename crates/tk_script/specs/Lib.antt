@@ -13,3 +13,4 @@ pub mod Cursor
 pub mod Coming
 pub mod Utc
 pub mod Lines
+pub mod Line

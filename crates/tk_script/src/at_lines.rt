@@ -1,10 +1,11 @@
-ghost use Rattle.std.specs.Prelude.{◌≡◌, ℕ, ◌++◌, List, OnOk, OnErr, IfErr, codes, length, take};
+ghost use Rattle.std.specs.Prelude.{◌≡◌, ℕ, ◌++◌, ◌≤◌, List, OnOk, OnErr, IfErr, codes, length};
+ghost use Rattle.tk_script.specs.Line.{HasRoom};
 ghost use Rattle.tk_script.specs.Lines.{IsWritable, IsAtLine, IsUtcLine, at_text};
 
 use crate::calendar::{Calendar, day_and_second, time_of_day};
+use crate::line::Line;
 use crate::names::word_of_clock;
 use crate::script_error::ScriptError;
-use crate::text::{add, add_time, undo_if_err};
 use std::alloc::Allocator;
 use tk_clock::{ClockId, Timespec};
 
@@ -87,9 +88,9 @@ fn line_at_plain<A: Allocator>(
     ensures err { OnErr result (out.new.items ≡ out.old.items) }
     ensures memory { IfErr result (λ e. e ≡ ScriptError.Memory) }
 {
-    let len = out.len();
-    let added = add_at(out, clock, time);
-    undo_if_err(out, len, added)
+    let mut line = Line::end();
+    put_at(&mut line, clock, time);
+    line.add_to(out)
 }
 
 /// Appends the line of a clock's time with this date and time of day behind it.
@@ -98,68 +99,32 @@ fn line_at_with<A: Allocator>(
     clock: ClockId,
     time: Timespec,
     date: &[u8],
-    time_of_day: &[u8],
+    time_of_day: &[u8; 20],
 ) -> Result<(), ScriptError>
-    requires { IsWritable time }
+    requires writable { IsWritable time }
+    requires short { length date.now ≤ 13 }
     ensures ok { OnOk result (out.new.items
         ≡ out.old.items ++ (at_text clock time ++ codes "," ++ (date.now ++ time_of_day.now) ++ codes "\n")) }
     ensures err { OnErr result (out.new.items ≡ out.old.items) }
     ensures memory { IfErr result (λ e. e ≡ ScriptError.Memory) }
 {
-    let len = out.len();
-    let added = add_at_utc(out, clock, time, date, time_of_day);
-    undo_if_err(out, len, added)
+    let mut line = Line::end();
+    line.put(time_of_day);
+    line.put(date);
+    line.put(b",");
+    put_at(&mut line, clock, time);
+    line.add_to(out)
 }
 
-/// The line of a clock's time, or a part of it.
-fn add_at<A: Allocator>(
-    out: &mut Vec<u8, A>,
-    clock: ClockId,
-    time: Timespec,
-) -> Result<(), ScriptError>
-    requires { IsWritable time }
-    ensures ok { OnOk result (out.new.items ≡ out.old.items ++ (at_text clock time ++ codes "\n")) }
-    ensures err { OnErr result (take (length out.old.items) out.new.items ≡ out.old.items) }
-    ensures memory { IfErr result (λ e. e ≡ ScriptError.Memory) }
+/// Puts a clock and its time in front of what there is of a line.
+#[inline(always)]
+fn put_at(line: &mut Line, clock: ClockId, time: Timespec)
+    requires writable { IsWritable time }
+    requires room { HasRoom 50 line.old }
+    ensures { line.new ≡ at_text clock time ++ line.old }
 {
-    add_at_text(out, clock, time)?;
-    add(out, b"\n")
-}
-
-/// The same with the time as UTC text.
-fn add_at_utc<A: Allocator>(
-    out: &mut Vec<u8, A>,
-    clock: ClockId,
-    time: Timespec,
-    date: &[u8],
-    time_of_day: &[u8],
-) -> Result<(), ScriptError>
-    requires { IsWritable time }
-    ensures ok { OnOk result (out.new.items
-        ≡ out.old.items ++ (at_text clock time ++ codes "," ++ (date.now ++ time_of_day.now) ++ codes "\n")) }
-    ensures err { OnErr result (take (length out.old.items) out.new.items ≡ out.old.items) }
-    ensures memory { IfErr result (λ e. e ≡ ScriptError.Memory) }
-{
-    add_at_text(out, clock, time)?;
-    add(out, b",")?;
-    add(out, date)?;
-    add(out, time_of_day)?;
-    add(out, b"\n")
-}
-
-/// A clock's time without the line's end, or a part of it.
-fn add_at_text<A: Allocator>(
-    out: &mut Vec<u8, A>,
-    clock: ClockId,
-    time: Timespec,
-) -> Result<(), ScriptError>
-    requires { IsWritable time }
-    ensures ok { OnOk result (out.new.items ≡ out.old.items ++ at_text clock time) }
-    ensures err { OnErr result (take (length out.old.items) out.new.items ≡ out.old.items) }
-    ensures memory { IfErr result (λ e. e ≡ ScriptError.Memory) }
-{
-    add(out, b"at,")?;
-    add(out, word_of_clock(clock))?;
-    add(out, b",")?;
-    add_time(out, time)
+    line.put_time(time);
+    line.put(b",");
+    line.put(word_of_clock(clock));
+    line.put(b"at,");
 }

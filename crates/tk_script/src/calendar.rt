@@ -4,8 +4,8 @@ ghost use Rattle.tk_script.specs.Utc.{IsDateText, IsUtcText, time_part};
 ghost use Rattle.tk_script.specs.Lines.{IsWritable};
 ghost use Rattle.tk_clock.specs.Limits.{clock_end};
 
+use crate::digits::{nine_digits_of, two_digits_of};
 use crate::script_error::ScriptError;
-use crate::text::{nine_digits_of, two_digits_of};
 use jiff::civil::Date;
 use std::alloc::{Allocator, Global};
 use std::marker::Model;

@@ -16,8 +16,10 @@
 
 mod at_lines;
 mod calendar;
+mod digits;
 mod fields;
 mod frequent;
+mod line;
 mod lines;
 mod names;
 mod numbers;
@@ -29,7 +31,6 @@ mod row_reader;
 mod script;
 mod script_error;
 mod stamps;
-mod text;
 
 pub use at_lines::line_at;
 pub use calendar::{Calendar, utc};

@@ -1,4 +1,4 @@
-ghost use Rattle.std.specs.Prelude.{◌≡◌};
+ghost use Rattle.std.specs.Prelude.{◌≡◌, ◌≤◌, length};
 ghost use Rattle.tk_script.specs.Word.{clock_of, clock_name, refusal_name};
 
 use crate::fields::has_word;
@@ -29,7 +29,8 @@ pub fn clock_word(word: &[u8]) -> Option<ClockId>
 
 /// A clock's word.
 pub(crate) fn word_of_clock(clock: ClockId) -> &'static [u8]
-    ensures { result.now ≡ clock_name clock }
+    ensures name { result.now ≡ clock_name clock }
+    ensures short { length result.now ≤ 16 }
 {
     match clock {
         ClockId::Realtime => b"realtime",
@@ -44,7 +45,8 @@ pub(crate) fn word_of_clock(clock: ClockId) -> &'static [u8]
 
 /// A refusal's word.
 pub(crate) fn word_of_refusal(refusal: Refusal) -> &'static [u8]
-    ensures { result.now ≡ refusal_name refusal }
+    ensures name { result.now ≡ refusal_name refusal }
+    ensures short { length result.now ≤ 7 }
 {
     match refusal {
         Refusal::Full => b"full",

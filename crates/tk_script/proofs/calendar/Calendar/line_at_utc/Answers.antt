@@ -1,6 +1,7 @@
-use Rattle.std.proofs.Common.{◌≡◌, ◌∙◌, ◌++◌, ℕ, List, refl, ap, pos, unsigned_abs, ◌/◌, ◌%◌, rules}
+use Rattle.std.proofs.Common.{◌≡◌, ◌∙◌, ◌++◌, ℕ, List, refl, ap, pos, unsigned_abs, ◌/◌, ◌%◌, rules, length, arith}
 use Rattle.std.proofs.lemmas.Result.{on_ok_weaker}
 use Rattle.tk_script.specs.Utc.{IsDateText, IsUtcText, time_part}
+use Rattle.tk_script.proofs.TextLemmas.{length-date_text}
 use Rattle.tk_script.proofs.calendar.Calendar.line_at_utc.Goals as goal
 
 -- the text of a date, and that of a time of day, in one
@@ -22,3 +23,9 @@ returns-clause-ok g c =
     c.time_of_day-time_of_day.ensures n c.day_and_second-day.ensures.day
     c.day_and_second-day.ensures.second in
     on_ok_weaker c.line_at_with.result (λ e. (_, e, (_, text, refl))) c.line_at_with.ensures.ok
+
+pub line_at_with-requires-clause-short : goal.line_at_with-requires-clause-short
+line_at_with-requires-clause-short g c =
+    let told = c.in_ok-date.ensures.ok in
+    let short = length-date_text told.0 told.0.year refl in
+    omega (arith, short, ap length told.2, ap length c.as_bytes.ensures.value)

@@ -1,0 +1,90 @@
+//! A line of a report as it is made: on the stack, from its end to its front, since the front of a
+//! number is known last.
+ghost use Rattle.std.specs.Prelude.{◌≡◌, ◌+◌, ◌≤◌, ℕ, List, [], ◌++◌, OnOk, OnErr, IfErr, codes, length, decimal, drop};
+ghost use Rattle.tk_script.specs.Line.{HasRoom};
+ghost use Rattle.tk_script.specs.Lines.{IsWritable, time_text};
+
+use crate::digits::nine_digits_of;
+use crate::script_error::ScriptError;
+use itoa::write_digits;
+use std::alloc::Allocator;
+use std::marker::Model;
+use tk_clock::Timespec;
+
+/// The most bytes of a line. The longest that is made has 85.
+const ROOM: usize = 96;
+
+/// What there is of a line, up to its end.
+#[derive(Drop)]
+pub(crate) struct Line {
+    bytes: [u8; ROOM],
+    /// Where it begins in `bytes`.
+    start: usize,
+}
+
+impl Model for Line {
+    ghost Value = { List ℕ };
+
+    ghost view = { λ a. drop a.start a.bytes };
+
+    ghost invariant = { λ a. a.start ≤ 96 };
+}
+
+impl Line {
+    /// The end of a line.
+    #[inline(always)]
+    pub fn end() -> Line
+        ensures { result ≡ codes "\n" }
+    {
+        Line {
+            bytes: [b'\n'; ROOM],
+            start: ROOM - 1,
+        }
+    }
+
+    /// Puts a text in front.
+    #[inline(always)]
+    pub fn put(&mut self, text: &[u8])
+        requires { HasRoom (length text.now) self.old }
+        ensures text { self.new ≡ text.now ++ self.old }
+        ensures more { length self.new ≡ length text.now + length self.old }
+    {
+        let start = self.start - text.len();
+        self.bytes[start..self.start].copy_from_slice(text);
+        self.start = start;
+    }
+
+    /// Puts a number in front, in decimal.
+    #[inline(always)]
+    pub fn put_number(&mut self, n: u64)
+        requires { HasRoom 20 self.old }
+        ensures text { self.new ≡ decimal n ++ self.old }
+        ensures more { length self.new ≤ 20 + length self.old }
+    {
+        self.start = write_digits(n, &mut self.bytes, self.start);
+    }
+
+    /// Puts seconds, a dot and nanoseconds in front.
+    #[inline(always)]
+    pub fn put_time(&mut self, time: Timespec)
+        requires writable { IsWritable time }
+        requires room { HasRoom 30 self.old }
+        ensures text { self.new ≡ time_text time ++ self.old }
+        ensures more { length self.new ≤ 30 + length self.old }
+    {
+        self.put(&nine_digits_of(time.nsec));
+        self.put(b".");
+        self.put_number(time.sec as u64);
+    }
+
+    /// Appends the line to a report, or nothing.
+    #[inline(always)]
+    pub fn add_to<A: Allocator>(&self, out: &mut Vec<u8, A>) -> Result<(), ScriptError>
+        ensures ok { OnOk result (out.new.items ≡ out.old.items ++ self.now) }
+        ensures err { OnErr result (out.new.items ≡ out.old.items) }
+        ensures memory { IfErr result (λ e. e ≡ ScriptError.Memory) }
+    {
+        out.extend_from_slice(&self.bytes[self.start..])
+            .map_err(|_| ScriptError::Memory)
+    }
+}
