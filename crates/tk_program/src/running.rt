@@ -21,8 +21,8 @@ use tk_replay::{Sink, Source};
 
 /// Does what the words ask for, the first of which is the program's own; how it ended.
 ///
-/// The reports of many scripts wait for the threads that make them, and a race for its actors'; all
-/// else is done by this one.
+/// The reports of many scripts wait for the threads that make them, and a race for its actors'. A
+/// long trace is converted by several threads; all else is done by this one.
 pub fn run<E: Threads + Wait + Sync, D: Folder, R: Source, W: Sink>(
     rt: &E,
     alloc: Global,
@@ -65,7 +65,7 @@ fn answer<E: Threads + Wait + Sync, D: Folder, R: Source, W: Sink>(
             clock,
             script,
             stamps,
-        } => tracing::answer(alloc, folder, writer, *clock, script, stamps),
+        } => tracing::answer(rt, alloc, folder, writer, *clock, script, stamps),
         Request::Many { workers, files } => {
             many::answer(rt, alloc, folder, writer, *workers, files.as_slice())
         }

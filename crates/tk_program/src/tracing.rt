@@ -4,13 +4,15 @@ ghost use Rattle.tk_program.specs.Running.{EndsTrace};
 use crate::ending::Ending;
 use crate::folder::Folder;
 use std::alloc::Global;
+use std::thread::Threads;
 use tk_clock::ClockId;
 use tk_replay::{Fault, Sink, trace};
 
 /// Converts the stamps of one file by the script in another, to the writer.
 ///
 /// Both are opened before either is read. The two may be one file: it is then opened twice.
-pub(crate) fn answer<D: Folder, W: Sink>(
+pub(crate) fn answer<E: Threads + Sync, D: Folder, W: Sink>(
+    rt: &E,
     alloc: Global,
     folder: &D,
     writer: &mut W,
@@ -29,6 +31,6 @@ pub(crate) fn answer<D: Folder, W: Sink>(
     let Some(mut stamps) = folder.open_once(stamps) else {
         return Ending::Fault(Fault::Read);
     };
-    let outcome = trace(alloc, &mut script, &mut stamps, clock, writer);
+    let outcome = trace(rt, alloc, &mut script, &mut stamps, clock, writer);
     Ending::from(outcome)
 }

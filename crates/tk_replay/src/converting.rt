@@ -11,14 +11,17 @@ use crate::fault::Fault;
 use crate::journaling::keeper_of;
 use itoa::Buffer;
 use std::alloc::{AllocError, Allocator, Global};
+use std::thread::Threads;
 use tk_clock::ClockId;
 use tk_keeper::Timekeeper;
+use tk_pieces::trace_all;
 use tk_script::Stamps;
 
 /// The trace of a script's bytes and of a stamp file's: a clock at each stamp, a line each, or the
 /// first fault of the script, then of the stamp file, then of its items. `Memory` may stand in the
 /// place of any other answer.
-pub(crate) fn trace_of(
+pub(crate) fn trace_of<E: Threads + Sync>(
+    rt: &E,
     alloc: Global,
     script: &[u8],
     stamps: &[u8],
@@ -30,7 +33,7 @@ pub(crate) fn trace_of(
 {
     let keeper = keeper_of(alloc, script)?;
     let items = items_of(alloc, stamps)?;
-    convert(alloc, &keeper, &items, clock)
+    convert(rt, alloc, &keeper, &items, clock)
 }
 
 /// The items of a stamp file's bytes.
@@ -47,8 +50,10 @@ fn items_of(alloc: Global, stamps: &[u8]) -> Result<Stamps, Fault>
     }
 }
 
-/// The lines of items, or the fault of the first one that has any.
-pub(crate) fn convert<A: Allocator + Copy, B: Allocator>(
+/// The lines of items, or the fault of the first one that has any. A long list is converted by
+/// several threads.
+pub(crate) fn convert<E: Threads + Sync, A: Allocator + Copy + Sync, B: Allocator + Copy>(
+    rt: &E,
     alloc: B,
     keeper: &Timekeeper<A>,
     items: &Stamps,
@@ -60,7 +65,8 @@ pub(crate) fn convert<A: Allocator + Copy, B: Allocator>(
         (λ fault. (fault ≡ Fault.Memory) ⊎ ((error : TraceError) × (fault ≡ Fault.Trace error)
         × IsItemsFault clock keeper.now.journal (spec.items items.now) error)) }
 {
-    let values = keeper.trace(items.fronts.as_slice(), items.stamps.as_slice(), clock)?;
+    let (fronts, stamps) = (items.fronts.as_slice(), items.stamps.as_slice());
+    let values = trace_all(rt, alloc, keeper, fronts, stamps, clock)?;
     Ok(lines_of(alloc, values.as_slice())?)
 }
 

@@ -4,6 +4,7 @@
 mod fakes;
 mod files;
 mod full;
+mod long_traces;
 mod many;
 mod memory;
 mod reports;

@@ -7,6 +7,7 @@ use crate::fault::Fault;
 use crate::sink::{Sink, write_whole};
 use crate::source::{Source, read_to_end};
 use std::alloc::Global;
+use std::thread::Threads;
 use tk_clock::ClockId;
 
 /// Reads a script and then stamps to their ends, writes the clock's value at each stamp, in ns, a
@@ -19,7 +20,11 @@ use tk_clock::ClockId;
 /// one shows that it is too large. So Read comes before all other faults; then Script, Stamps and
 /// Trace, by the first item that has a fault. Memory may stand in the place of any answer before
 /// the first byte is written. No call is tried again, as in `replay`.
-pub fn trace<R: Source, S: Source, W: Sink>(
+///
+/// From 131,072 stamps on they are converted by as many threads as there are processors, and by the
+/// calling thread where none can be started. All else is done by the calling thread.
+pub fn trace<E: Threads + Sync, R: Source, S: Source, W: Sink>(
+    rt: &E,
     alloc: Global,
     script: &mut R,
     stamps: &mut S,
@@ -36,7 +41,7 @@ pub fn trace<R: Source, S: Source, W: Sink>(
 {
     let script = read_to_end(alloc, script)?;
     let stamps = read_to_end(alloc, stamps)?;
-    let text = trace_of(alloc, script.as_slice(), stamps.as_slice(), clock)?;
+    let text = trace_of(rt, alloc, script.as_slice(), stamps.as_slice(), clock)?;
     match write_whole(writer, text.as_slice()) {
         Ok(()) => Ok(()),
         Err(written) => Err(Fault::Write { written }),

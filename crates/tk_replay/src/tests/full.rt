@@ -72,7 +72,7 @@ fn a_full_journal_has_no_later_front(rt: HostRuntime) -> Result<(), Fail> {
         let mut text = Vec::new(rt.alloc());
         let clock = ClockId::Monotonic;
         assert_eq!(rt;
-            trace(rt.alloc(), &mut reader, &mut stamps, clock, &mut text),
+            trace(&rt, rt.alloc(), &mut reader, &mut stamps, clock, &mut text),
             outcome
         );
         assert_eq!(rt; text.as_slice(), lines);
@@ -101,6 +101,7 @@ fn traces_stamps_by_the_million(rt: HostRuntime) -> Result<(), Fail> {
     let mut text = Vec::new(rt.alloc());
     assert_eq!(rt;
         trace(
+            &rt,
             rt.alloc(),
             &mut script,
             &mut stamps,

@@ -3,14 +3,16 @@
 use super::fakes::{Turn, Writer};
 use super::traces::{STAMPS, STEERED, TRACE, traced, willing};
 use crate::converting::convert;
-use crate::journaling::keeper_after;
+use crate::journaling::{keeper_after, keeper_of};
 use crate::reporting::report_rows;
 use crate::{Fault, replay, replay_bounded, report, report_bounded};
 use std::alloc::Global;
 use std::process::Abort;
 use std::test::Fail;
+use std::thread::Threads;
 use tk_clock::ClockId;
 use tk_heap::Heap;
+use tk_keeper::Timekeeper;
 use tk_script::{RowReader, ScriptError, Stamps};
 
 /// How long the script is: its opening, and 600 updates.
@@ -127,41 +129,72 @@ at,tai,1700086400.000000000\nok,10,0.000000010\n"
 #[test]
 fn trace_or_want_of_it(rt: HostRuntime) {
     let mut writer = willing();
-    let outcome = traced(rt.alloc(), STEERED, STAMPS, ClockId::Monotonic, &mut writer);
+    let outcome = traced(&rt, STEERED, STAMPS, ClockId::Monotonic, &mut writer);
     assert_written(&rt, outcome, &writer);
 }
 
 #[test]
 fn there_is_memory_for_a_trace(rt: HostRuntime) {
     let mut writer = willing();
-    let outcome = traced(rt.alloc(), STEERED, STAMPS, ClockId::Monotonic, &mut writer);
+    let outcome = traced(&rt, STEERED, STAMPS, ClockId::Monotonic, &mut writer);
     assert_eq!(rt; outcome, Ok(()));
     assert_eq!(rt; writer.text(), TRACE);
 }
 
-/// The lines of stamps by the journal of `DATED`, both out of the heap.
-fn lines<'h>(
+/// The commands of `DATED` out of the heap.
+fn commands<'h>(
     alloc: Global,
     heap: &'h Heap<Global>,
-    stamps: &[u8],
-) -> Result<Vec<u8, &'h Heap<Global>>, Fault> {
+) -> Result<Timekeeper<&'h Heap<Global>>, ScriptError> {
     let (start, mut rows) = RowReader::open(alloc, DATED)?;
-    let keeper = keeper_after(heap, start, &mut rows)?;
-    let items = Stamps::from_bytes(alloc, stamps)?;
-    convert(heap, &keeper, &items, ClockId::Monotonic)
+    keeper_after(heap, start, &mut rows)
 }
 
 #[test]
-fn each_growth_of_a_trace_refused_in_turn(rt: HostRuntime) {
+fn each_growth_of_a_traces_journal_refused_in_turn(rt: HostRuntime) {
     let heap = Heap::new(rt.alloc());
     let mut is_whole = false;
     'requests: for request in 1..=1_000 {
         heap.refuse(request);
-        let told = lines(rt.alloc(), &heap, b"10,12\n0,7\n9,1000\n");
+        let told = commands(rt.alloc(), &heap);
+        is_whole = heap.grant_all();
+        match told {
+            Ok(keeper) => {
+                assert!(rt; is_whole && request > 2);
+                assert_eq!(rt; keeper.len(), 10);
+                break 'requests;
+            }
+            Err(error) => {
+                assert!(rt; !is_whole);
+                assert_eq!(rt; error, ScriptError::Memory);
+            }
+        }
+    }
+    assert!(rt; is_whole);
+}
+
+/// The lines of stamps by the journal of `DATED`, out of the heap.
+fn lines<'h>(
+    rt: &(impl AllocGlobal + Threads + Sync),
+    heap: &'h Heap<Global>,
+    stamps: &[u8],
+) -> Result<Vec<u8, &'h Heap<Global>>, Fault> {
+    let keeper = keeper_of(rt.alloc(), DATED)?;
+    let items = Stamps::from_bytes(rt.alloc(), stamps)?;
+    convert(rt, heap, &keeper, &items, ClockId::Monotonic)
+}
+
+#[test]
+fn each_growth_of_a_traces_lines_refused_in_turn(rt: HostRuntime) {
+    let heap = Heap::new(rt.alloc());
+    let mut is_whole = false;
+    'requests: for request in 1..=1_000 {
+        heap.refuse(request);
+        let told = lines(&rt, &heap, b"10,12\n0,7\n9,1000\n");
         is_whole = heap.grant_all();
         match told {
             Ok(text) => {
-                assert!(rt; is_whole && request > 4);
+                assert!(rt; is_whole && request > 2);
                 assert_eq!(rt; text.as_slice(), b"12\n7\n1000\n".as_slice());
                 break 'requests;
             }
@@ -173,6 +206,6 @@ fn each_growth_of_a_trace_refused_in_turn(rt: HostRuntime) {
     }
     assert!(rt; is_whole);
     heap.refuse_all();
-    assert!(rt; matches!(lines(rt.alloc(), &heap, b"10,12\n"), Err(Fault::Memory)));
+    assert!(rt; matches!(lines(&rt, &heap, b"10,12\n"), Err(Fault::Memory)));
     heap.grant_all();
 }

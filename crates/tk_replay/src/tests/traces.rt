@@ -2,10 +2,10 @@
 
 use super::fakes::{Endless, Reader, Turn, Writer};
 use crate::{Fault, trace};
-use std::alloc::Global;
 use std::io::{ErrorKind, Read};
 use std::process::Abort;
 use std::test::Fail;
+use std::thread::Threads;
 use tk_clock::ClockId;
 use tk_keeper::TraceError;
 use tk_script::ScriptError;
@@ -25,14 +25,14 @@ pub(super) const TRACE: &[u8] = b"1000000000\n1000499963\n1000499964\n";
 
 /// Traces two texts into a writer.
 pub(super) fn traced(
-    alloc: Global,
+    rt: &(impl AllocGlobal + Threads + Sync),
     script: &[u8],
     stamps: &[u8],
     clock: ClockId,
     writer: &mut Writer,
 ) -> Result<(), Fault> {
     let (mut script, mut stamps) = (script, stamps);
-    trace(alloc, &mut script, &mut stamps, clock, writer)
+    trace(rt, rt.alloc(), &mut script, &mut stamps, clock, writer)
 }
 
 /// A writer that takes all in pieces of ten bytes.
@@ -42,36 +42,40 @@ pub(super) fn willing() -> Writer {
 
 /// The text of a trace.
 fn assert_trace(
-    rt: &impl Abort,
-    alloc: Global,
+    rt: &(impl Abort + AllocGlobal + Threads + Sync),
     script: &[u8],
     clock: ClockId,
     stamps: &[u8],
     text: &[u8],
 ) {
     let mut writer = willing();
-    assert_eq!(rt; traced(alloc, script, stamps, clock, &mut writer), Ok(()));
+    assert_eq!(rt; traced(rt, script, stamps, clock, &mut writer), Ok(()));
     assert_eq!(rt; writer.text(), text);
 }
 
 /// A trace's fault, after which nothing was written.
-fn assert_fault(rt: &impl Abort, alloc: Global, script: &[u8], stamps: &[u8], fault: Fault) {
+fn assert_fault(
+    rt: &(impl Abort + AllocGlobal + Threads + Sync),
+    script: &[u8],
+    stamps: &[u8],
+    fault: Fault,
+) {
     let mut writer = willing();
-    let outcome = traced(alloc, script, stamps, ClockId::Monotonic, &mut writer);
+    let outcome = traced(rt, script, stamps, ClockId::Monotonic, &mut writer);
     assert_eq!(rt; outcome, Err(fault));
     assert_eq!(rt; writer.calls, 0);
 }
 
 #[test]
 fn tells_each_stamp_as_of_its_front(rt: HostRuntime) {
-    assert_trace(&rt, rt.alloc(), STEERED, ClockId::Monotonic, STAMPS, TRACE);
+    assert_trace(&rt, STEERED, ClockId::Monotonic, STAMPS, TRACE);
 }
 
 #[test]
 fn fronts_may_go_up_and_down(rt: HostRuntime) {
     let stamps = b"2,1000000001\n0,1000000000\n2,1000000001\n1,1000000000\n1,1000000000\n0,7\n";
     let text = b"1000499964\n1000000000\n1000499964\n1000499963\n1000499963\n7\n";
-    assert_trace(&rt, rt.alloc(), STEERED, ClockId::Monotonic, stamps, text);
+    assert_trace(&rt, STEERED, ClockId::Monotonic, stamps, text);
 }
 
 #[test]
@@ -79,10 +83,10 @@ fn refused_commands_and_reads_count_for_no_front(rt: HostRuntime) {
     let script = b"open,32,16777216,24,0,1700000000,0\n\
 update,4294967296\nget,5,monotonic\nfreq,0,65536000\nresume,0,0,0\nget,4294967296,tai\n\
 freq,1000000000,-32768000\n";
-    assert_trace(&rt, rt.alloc(), script, ClockId::Monotonic, STAMPS, TRACE);
+    assert_trace(&rt, script, ClockId::Monotonic, STAMPS, TRACE);
     let further = b"3,0\n";
     let fault = Fault::Trace(TraceError::Unknown { index: 0 });
-    assert_fault(&rt, rt.alloc(), script, further, fault);
+    assert_fault(&rt, script, further, fault);
 }
 
 #[test]
@@ -109,7 +113,7 @@ tai,1000,37\nsuspend,1000\nresume,5,5,500000000\n";
         ),
     ];
     for (clock, text) in clocks {
-        assert_trace(&rt, rt.alloc(), script, clock, stamps, text);
+        assert_trace(&rt, script, clock, stamps, text);
     }
 }
 
@@ -117,7 +121,7 @@ tai,1000,37\nsuspend,1000\nresume,5,5,500000000\n";
 fn no_stamps_are_no_byte(rt: HostRuntime) {
     for stamps in [b"".as_slice(), b"\n\r\n\n".as_slice()] {
         let mut writer = willing();
-        let outcome = traced(rt.alloc(), STEERED, stamps, ClockId::Tai, &mut writer);
+        let outcome = traced(&rt, STEERED, stamps, ClockId::Tai, &mut writer);
         assert_eq!(rt; outcome, Ok(()));
         assert_eq!(rt; writer.len, 0);
         // the flush alone
@@ -166,7 +170,7 @@ fn the_first_item_with_a_fault_decides(rt: HostRuntime) {
         ),
     ];
     for (script, stamps, error) in faults {
-        assert_fault(&rt, rt.alloc(), script, stamps, Fault::Trace(error));
+        assert_fault(&rt, script, stamps, Fault::Trace(error));
     }
 }
 
@@ -185,7 +189,7 @@ fn the_stamp_file_has_the_first_fault_of_its_records(rt: HostRuntime) {
         (b"0,4294967296\nx,0\n1\n", ScriptError::Number { row: 2 }),
     ];
     for (stamps, error) in faults {
-        assert_fault(&rt, rt.alloc(), STEERED, stamps, Fault::Stamps(error));
+        assert_fault(&rt, STEERED, stamps, Fault::Stamps(error));
     }
 }
 
@@ -203,7 +207,7 @@ fn the_script_is_judged_before_the_stamps(rt: HostRuntime) -> Result<(), Fail> {
     ];
     for (script, error) in faults {
         for stamps in [STAMPS, b"1", b"9,0\n", huge.as_slice()] {
-            assert_fault(&rt, rt.alloc(), script, stamps, Fault::Script(error));
+            assert_fault(&rt, script, stamps, Fault::Script(error));
         }
     }
     Ok(())
@@ -213,9 +217,9 @@ fn the_script_is_judged_before_the_stamps(rt: HostRuntime) -> Result<(), Fail> {
 fn takes_no_stamps_above_the_limit(rt: HostRuntime) -> Result<(), Fail> {
     let stamps = Vec::from_elem(rt.alloc(), b'\n', 16_777_217)?;
     let fault = Fault::Stamps(ScriptError::TooLarge);
-    assert_fault(&rt, rt.alloc(), STEERED, stamps.as_slice(), fault);
+    assert_fault(&rt, STEERED, stamps.as_slice(), fault);
     let mut writer = willing();
-    let outcome = traced(rt.alloc(), STEERED, &stamps[1..], ClockId::Tai, &mut writer);
+    let outcome = traced(&rt, STEERED, &stamps[1..], ClockId::Tai, &mut writer);
     assert_eq!(rt; outcome, Ok(()));
     assert_eq!(rt; writer.len, 0);
     Ok(())
@@ -225,9 +229,14 @@ fn takes_no_stamps_above_the_limit(rt: HostRuntime) -> Result<(), Fail> {
 const FAULTS: [ErrorKind; 2] = [ErrorKind::Other, ErrorKind::Interrupted];
 
 /// Traces two readers, one of which fails: nothing is written, and no read is tried again.
-fn assert_unread<R: Read, S: Read>(rt: &impl Abort, alloc: Global, script: &mut R, stamps: &mut S) {
+fn assert_unread<R: Read, S: Read>(
+    rt: &(impl Abort + AllocGlobal + Threads + Sync),
+    script: &mut R,
+    stamps: &mut S,
+) {
     let mut writer = willing();
-    let outcome = trace(alloc, script, stamps, ClockId::Monotonic, &mut writer);
+    let clock = ClockId::Monotonic;
+    let outcome = trace(rt, rt.alloc(), script, stamps, clock, &mut writer);
     assert_eq!(rt; outcome, Err(Fault::Read));
     assert_eq!(rt; writer.calls, 0);
 }
@@ -242,13 +251,13 @@ fn a_read_that_fails_is_told_before_all_other_faults(rt: HostRuntime) {
             for read in 0..9 {
                 let mut script = Reader::new(text, read, fault);
                 let mut stamps = Reader::new(b"no stamps", NEVER, fault);
-                assert_unread(&rt, rt.alloc(), &mut script, &mut stamps);
+                assert_unread(&rt, &mut script, &mut stamps);
                 assert_eq!(rt; (script.reads, stamps.reads), (read + 1, 0));
             }
             for read in 0..5 {
                 let mut script = Reader::new(text, NEVER, fault);
                 let mut stamps = Reader::new(STAMPS, read, fault);
-                assert_unread(&rt, rt.alloc(), &mut script, &mut stamps);
+                assert_unread(&rt, &mut script, &mut stamps);
                 assert_eq!(rt; stamps.reads, read + 1);
             }
         }
@@ -261,6 +270,7 @@ fn reads_both_inputs_to_the_limit(rt: HostRuntime) {
     let mut stamps = Endless { given: 0 };
     let mut writer = willing();
     let outcome = trace(
+        &rt,
         rt.alloc(),
         &mut script,
         &mut stamps,
@@ -282,7 +292,7 @@ fn a_write_that_fails_ends_it(rt: HostRuntime) {
     for turn in turns {
         for write in 0..4 {
             let mut writer = Writer::new(10, write, turn);
-            let outcome = traced(rt.alloc(), STEERED, STAMPS, ClockId::Monotonic, &mut writer);
+            let outcome = traced(&rt, STEERED, STAMPS, ClockId::Monotonic, &mut writer);
             let written = u64::from(write) * 10;
             assert_eq!(rt; outcome, Err(Fault::Write { written }), "{turn:?}");
             assert_eq!(rt; writer.text(), &TRACE[..write as usize * 10]);
@@ -296,7 +306,7 @@ fn a_flush_that_fails_is_told_behind_the_text(rt: HostRuntime) {
     for fault in FAULTS {
         let mut writer = willing();
         writer.flush_fault = Some(fault);
-        let outcome = traced(rt.alloc(), STEERED, STAMPS, ClockId::Monotonic, &mut writer);
+        let outcome = traced(&rt, STEERED, STAMPS, ClockId::Monotonic, &mut writer);
         assert_eq!(rt; outcome, Err(Fault::Write { written: 33 }));
         assert_eq!(rt; writer.text(), TRACE);
         assert_eq!(rt; writer.calls, 5);
@@ -306,7 +316,7 @@ fn a_flush_that_fails_is_told_behind_the_text(rt: HostRuntime) {
 #[test]
 fn writes_a_trace_by_single_bytes(rt: HostRuntime) {
     let mut writer = Writer::new(1, NEVER, Turn::TakesNone);
-    let outcome = traced(rt.alloc(), STEERED, STAMPS, ClockId::Monotonic, &mut writer);
+    let outcome = traced(&rt, STEERED, STAMPS, ClockId::Monotonic, &mut writer);
     assert_eq!(rt; outcome, Ok(()));
     assert_eq!(rt; writer.text(), TRACE);
     assert_eq!(rt; writer.calls, 34);

@@ -4,7 +4,7 @@ use Rattle.tk_replay.proofs.Traces.{MayFault-stamps, trace-converted}
 use Rattle.tk_replay.proofs.converting.trace_of.Goals as goal
 
 pub returns-in_err-items : goal.returns-in_err-items
-returns-in_err-items c =
+returns-in_err-items g c =
     let exit = err_from_is_err_and c.from_residual-in_err-items.result
     c.from_residual-in_err-items.ensures.1 in
     let told = c.in_err-items.ensures.gives in
@@ -13,7 +13,7 @@ returns-in_err-items c =
     c.in_ok-keeper.keeper.journal told.0 c.in_ok-keeper.ensures told.2)
 
 pub returns : goal.returns
-returns c =
+returns g c =
     trace-converted c.args.clock c.args.script.now c.args.stamps.now c.in_ok-keeper.keeper.journal
     (items c.in_ok-items.items) (λ text. text.items) c.convert.result c.in_ok-keeper.ensures
     c.in_ok-items.ensures.gives c.convert.ensures
