@@ -45,8 +45,10 @@
  *   test them, so that later calls need no test.
  *
  * Pointers
- *   None may be NULL, also where a count is 0. Each is aligned for its type. What a call writes
- *   overlaps nothing else that it is handed. What `out` holds before the call doesn't matter.
+ *   None may be NULL, also where a count or a room is 0: then any other address does, as that of a
+ *   variable of the type, and nothing is read or written there (docs/C.md says why). Each is
+ *   aligned for its type. What a call writes overlaps nothing else that it is handed. What `out`
+ *   holds before the call doesn't matter.
  *
  * Where they may be called
  *   No call waits, takes a lock, allocates, calls back, ends the process, or keeps anything of its
@@ -287,7 +289,8 @@ TK_MUST_CHECK uint32_t tk_snapshot_get(struct tk_time *out, const struct tk_snap
  * room for `room` (timekeeping_cycles_to_ns). *done is how many were converted: all at TK_OK; at
  * TK_INVALID or TK_RANGE it is the place of the first stamp that tk_snapshot_get refuses so, those
  * before it are written, and the others stay as they were. TK_BAD_CLOCK first, then TK_BAD_ROOM
- * where room is below count: then neither out nor *done is written.
+ * where room is below count: then neither out nor *done is written. A count of 0 is done, with
+ * *done 0.
  */
 TK_MUST_CHECK uint32_t tk_snapshot_convert(uint64_t *out, size_t room, size_t *done,
 					   const struct tk_snapshot *snapshot, uint32_t clock,
