@@ -12,7 +12,6 @@
 #include <inttypes.h>
 #include <stdio.h>
 #include <stdlib.h>
-#include <string.h>
 #include <time.h>
 
 static const char *refusal_word(uint32_t code)
@@ -58,33 +57,13 @@ static void print_utc(const struct tk_time *time)
 	printf(",%s.%09" PRIu32 "Z", text, time->nsec);
 }
 
-/*
- * The library tells no numbers of a counter. Its mult stands in the words of an
- * opening, and its shift is the one that, with the mult, makes the same counter.
- */
-static uint32_t find_shift(const struct tk_counter *counter, uint32_t bits,
-			   uint32_t mult)
-{
-	struct tk_counter same;
-	uint32_t shift = 0;
-
-	while (tk_counter_new(&same, bits, mult, shift) == TK_OK &&
-	       memcmp(&same, counter, sizeof(same)))
-		shift++;
-	return shift;
-}
-
 /* Prints the counter: a cycle lasts mult / 2^shift ns. */
-static void print_opening(const struct script *script,
-			  const struct tk_snapshot *opening)
+static void print_opening(const struct tk_counter *counter)
 {
-	uint64_t words[TK_WORDS];
-	uint32_t mult;
+	uint32_t bits, mult, shift;
 
-	tk_snapshot_words(words, opening);
-	mult = (uint32_t)words[2];
-	printf("open,%" PRIu32 ",%" PRIu32 ",%" PRIu32 "\n", script->bits,
-	       mult, find_shift(&script->counter, script->bits, mult));
+	tk_counter_numbers(&bits, &mult, &shift, counter);
+	printf("open,%" PRIu32 ",%" PRIu32 ",%" PRIu32 "\n", bits, mult, shift);
 }
 
 static void print_read(const struct tk_snapshot *snapshot,
@@ -144,7 +123,7 @@ static void run(struct script *script)
 	struct tk_snapshot snapshot;
 
 	tk_clock_snapshot(&snapshot, &script->clock);
-	print_opening(script, &snapshot);
+	print_opening(&script->counter);
 	for (size_t i = 0; i < script->count; i++)
 		run_row(&script->clock, &snapshot, &script->rows[i]);
 }

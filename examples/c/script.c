@@ -272,7 +272,6 @@ static const char *open_clocks(const struct opening *opening,
 	const uint32_t *numbers = opening->counter;
 	uint32_t code;
 
-	script->bits = numbers[0];
 	if (opening->by_frequency)
 		code = tk_counter_from_hz(&script->counter, numbers[0],
 					  numbers[1], numbers[2]);

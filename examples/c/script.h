@@ -25,7 +25,6 @@ struct row {
 
 /* The clocks as the first record opens them, and the rows behind it. */
 struct script {
-	uint32_t bits; /* of the counter */
 	struct tk_counter counter;
 	struct tk_clock clock;
 	struct row *rows;

@@ -57,6 +57,13 @@ class Machine:
         return offset
 
 
+def check_numbers(library):
+    """The numbers of a counter give it back."""
+    counter = library.counter_from_hz(bits=48, hz=HZ, maxsec=600)
+    numbers = library.numbers(counter)
+    return numbers == (48, 699_050_667, 24) and bytes(library.counter(*numbers)) == bytes(counter)
+
+
 def check_batch(machine, true_time):
     """A thousand stamps of the last poll at once get the times that they get one by one."""
     snapshot = machine.clock.snapshot()
@@ -77,13 +84,15 @@ def check_refusal(machine, true_time):
 def main():
     parser = argparse.ArgumentParser(description=__doc__.split("\n", maxsplit=1)[0])
     parser.add_argument("folder", help="what tools/build_c made")
-    machine = Machine(tk.Library(parser.parse_args().folder))
+    library = tk.Library(parser.parse_args().folder)
+    machine = Machine(library)
     offset, true_time = None, STARTED
     for _ in range(POLLS):
         true_time += POLL
         offset = machine.poll(true_time)
         print(f"{(true_time - STARTED) // tk.NANOS:5} {offset:12} {machine.frequency / PPM:9.3f}")
     is_right = check_batch(machine, true_time) and check_refusal(machine, true_time)
+    is_right = is_right and check_numbers(library)
     sys.exit(0 if is_right and abs(offset) < 1000 else 1)
 
 

@@ -76,6 +76,12 @@ class Library:
         self.call("tk_counter_from_hz", byref(counter), U32(bits), U32(hz), U32(maxsec))
         return counter
 
+    def numbers(self, counter):
+        """The bits, the mult and the shift of a counter."""
+        numbers = [U32(), U32(), U32()]
+        self.calls.tk_counter_numbers(*map(byref, numbers), byref(counter))
+        return tuple(number.value for number in numbers)
+
     def open(self, counter, reading, sec, nsec=0):
         clock = Clock(self)
         self.call("tk_clock_open", byref(clock.value), byref(counter), U64(reading), I64(sec),

@@ -206,12 +206,28 @@ static uint32_t try_from_hz(struct tk_counter *counter)
 	return code;
 }
 
+/* The numbers of a counter give it back. */
+static void try_numbers(const struct tk_counter *of)
+{
+	const struct tk_counter *counter = put(rooms.counter, of, sizeof(*of));
+	uint32_t *bits = place(rooms.words, sizeof(*bits));
+	uint32_t *mult = place(rooms.frequency, sizeof(*mult));
+	uint32_t *shift = place(rooms.tick, sizeof(*shift));
+	struct tk_counter same;
+
+	tk_counter_numbers(bits, mult, shift, counter);
+	check(!memcmp(counter, of, sizeof(*of)));
+	check(!tk_counter_new(&same, *bits, *mult, *shift));
+	check(!memcmp(&same, of, sizeof(*of)));
+}
+
 static void some_counter(struct tk_counter *counter)
 {
 	uint32_t bits = 8 + (uint32_t)below(57);
 
 	if (one_in(2) ? try_new(counter) : try_from_hz(counter))
 		check(!tk_counter_from_hz(counter, bits, 24000000, 600));
+	try_numbers(counter);
 }
 
 /* Snapshots. */

@@ -23,6 +23,14 @@ static void meet(const char *name, uint32_t wanted, uint32_t code)
 
 #define MEET(code, call) meet(#code, code, call)
 
+static void need(bool holds, const char *what)
+{
+	if (holds)
+		return;
+	fprintf(stderr, "each_code: not so: %s\n", what);
+	status = EXIT_FAILURE;
+}
+
 static void counters(struct tk_counter *counter)
 {
 	struct tk_counter out;
@@ -97,6 +105,9 @@ static void reads(const struct tk_clock *clock, const struct tk_counter *counter
 					   TK_CLOCK_MONOTONIC, stamps, 3));
 	MEET(TK_BAD_ROOM, tk_snapshot_convert(out, 2, &done, &snapshot,
 					      TK_CLOCK_MONOTONIC, stamps, 3));
+	MEET(TK_OK, tk_snapshot_convert(out, 0, &done, &snapshot,
+					TK_CLOCK_MONOTONIC, stamps, 0));
+	need(done == 0, "no stamp is converted of none");
 	tk_snapshot_words(words, &snapshot);
 	MEET(TK_OK, tk_snapshot_from_words(&other, counter, words));
 	words[7] = 200002;

@@ -30,9 +30,13 @@ static void leave(long status)
 /* The first reading is 5, and a cycle of the counter is a nanosecond. */
 static void open(struct tk_clock *clock, struct tk_counter *counter)
 {
+	uint32_t bits, mult, shift;
+
 	check(tk_version() == TK_VERSION);
 	check(tk_counter_from_hz(counter, 32, 1000000000, 4) == TK_OK);
 	check(tk_counter_new(counter, 32, 1 << 24, 24) == TK_OK);
+	tk_counter_numbers(&bits, &mult, &shift, counter);
+	check(bits == 32 && mult == 1 << 24 && shift == 24);
 	check(tk_clock_open(clock, counter, 5, 1700000000, 0) == TK_OK);
 	check(tk_clock_apply(clock, 1000000005, TK_CMD_UPDATE, 0, 0) == TK_OK);
 }

@@ -1,4 +1,4 @@
-ghost use Rattle.std.specs.Prelude.{◌≡◌, MatchOption, Some};
+ghost use Rattle.std.specs.Prelude.{◌≡◌, MatchOption, Some, None};
 ghost use Rattle.tk_counter.specs.Counter.{Counter};
 ghost use Rattle.tk_counter.specs.Description.{first_fault};
 ghost use Rattle.tk_counter.specs.Frequency.{from_frequency, frequency_fault};
@@ -49,4 +49,24 @@ pub extern "C" fn tk_counter_from_hz(
         }
         Err(fault) => Code::from(fault).number(),
     }
+}
+
+/// Writes the numbers of a counter: how many bits a reading has, and the mult and the shift of a
+/// cycle, which lasts `mult / 2^shift` ns (`CounterDesc::bits`, `mult` and `shift`).
+#[unsafe(no_mangle)]
+pub extern "C" fn tk_counter_numbers(
+    bits: &mut u32,
+    mult: &mut u32,
+    shift: &mut u32,
+    counter: &CounterDesc,
+)
+    ensures bits { bits.new ≡ counter.now.bits }
+    ensures mult { mult.new ≡ counter.now.mult }
+    ensures shift { shift.new ≡ counter.now.shift }
+    ensures back { first_fault (record { bits = bits.new; mult = mult.new; shift = shift.new })
+        ≡ None }
+{
+    *bits = counter.bits();
+    *mult = counter.mult();
+    *shift = counter.shift();
 }

@@ -2,7 +2,7 @@
 //!
 //! | Item | What it is |
 //! |---|---|
-//! | `tk_counter_*` | counters from numbers |
+//! | `tk_counter_*` | counters from numbers, and their numbers |
 //! | `tk_clock_*` | the running clocks: opened, changed by commands, as words |
 //! | `tk_snapshot_*` | what a reader is given: times and lists of times, as words |
 //! | `CountedClock` | what C calls `struct tk_clock` |
@@ -25,7 +25,7 @@ mod words;
 pub use clocks::{tk_clock_apply, tk_clock_open, tk_clock_snapshot};
 pub use code::Code;
 pub use counted::CountedClock;
-pub use counters::{tk_counter_from_hz, tk_counter_new};
+pub use counters::{tk_counter_from_hz, tk_counter_new, tk_counter_numbers};
 pub use snapshots::{tk_snapshot_convert, tk_snapshot_get};
 pub use storage::{BaseStorage, ClockStorage, CounterStorage, SnapshotStorage};
 pub use version::tk_version;

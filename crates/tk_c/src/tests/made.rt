@@ -1,9 +1,10 @@
 use super::{OLD_CLOCK, OLD_COUNTER, OLD_SNAPSHOT, commanded, nanosecond_counter};
 use crate::{
     BaseStorage, ClockStorage, CounterStorage, SnapshotStorage, tk_clock_open, tk_clock_snapshot,
-    tk_counter_from_hz, tk_counter_new, tk_version,
+    tk_counter_from_hz, tk_counter_new, tk_counter_numbers, tk_version,
 };
 use std::test::Fail;
+use tk_counter::CounterDesc;
 
 /// The counter of one nanosecond a cycle, as it is written.
 const COUNTER: CounterStorage = CounterStorage {
@@ -49,6 +50,27 @@ fn a_frequency_gives_a_counter_or_its_first_fault(rt: HostRuntime) {
         let told = if code == 0 { scaled } else { OLD_COUNTER };
         assert_eq!(rt; out, told, "{bits} {hz} {maxsec}");
     }
+}
+
+#[test]
+fn a_counter_tells_its_numbers(rt: HostRuntime) -> Result<(), Fail> {
+    for (counter, numbers) in [
+        (CounterDesc::new(32, 16_777_216, 24)?, (32, 16_777_216, 24)),
+        (CounterDesc::new(8, 256, 0)?, (8, 256, 0)),
+        (
+            CounterDesc::new(64, 3_869_339_906, 32)?,
+            (64, 3_869_339_906, 32),
+        ),
+        (
+            CounterDesc::from_hz(56, 24_000_000, 600)?,
+            (56, 699_050_667, 24),
+        ),
+    ] {
+        let (mut bits, mut mult, mut shift) = (7, 7, 7);
+        tk_counter_numbers(&mut bits, &mut mult, &mut shift, &counter);
+        assert_eq!(rt; (bits, mult, shift), numbers);
+    }
+    Ok(())
 }
 
 #[test]
