@@ -1,5 +1,5 @@
 -- Journals that come to the same state tell the same, now and after every command.
-use Rattle.std.proofs.Common.{◌≡◌, ◌∙◌, ℕ, ◌+◌, refl, sym, ap, arith}
+use Rattle.std.proofs.Common.{◌≡◌, ◌∙◌, ℕ, refl, sym, ap, arith}
 use Rattle.std.specs.Prelude.{None}
 use Rattle.std.proofs.lemmas.List.{length_push}
 use Rattle.tk_clock.specs.declared.clock_id.ClockId.{ClockId}

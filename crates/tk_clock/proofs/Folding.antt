@@ -1,16 +1,15 @@
 -- Folding keeps a journal legal, adds up, and leaves what the journal comes to.
-use Rattle.std.proofs.Common.{◌≡◌, ℕ, ◌+◌, ◌≤◌, List, [], ◌∷◌, ◌++◌, length, take, drop, refl, sym, ◌∙◌, ap, subst, arith, length-append, length-drop, drop-drop}
-use Rattle.std.specs.Prelude.{Some, slice_get, Option}
+use Rattle.std.proofs.Common.{◌≡◌, ℕ, ◌+◌, ◌≤◌, List, [], ◌∷◌, ◌++◌, length, take, drop, sym, ◌∙◌, ap, subst, arith, length-append, length-drop, drop-drop}
+use Rattle.std.specs.Prelude.{Some, slice_get}
 use Rattle.std.proofs.lemmas.List.{take-append-drop, length-take-le, take_all, take-append-le, drop-append-le}
 use Rattle.std.proofs.Math.Seq.{take-add}
 use Rattle.tk_clock.specs.declared.command.Entry.{Entry}
-use Rattle.tk_clock.specs.declared.refusal.Refusal.{Refusal}
 use Rattle.tk_clock.specs.Folding.{IsAlike, journal_from, folded_by}
-use Rattle.tk_clock.specs.Journal.{Opening, Journal, prefix, followed_by, accepted_count}
+use Rattle.tk_clock.specs.Journal.{Opening, Journal, prefix, followed_by}
 use Rattle.tk_clock.specs.Legal.{IsLegal, IsAccepted, folded_opening}
 use Rattle.tk_clock.specs.Monotonic.{current_frequency, current_tick}
 use Rattle.tk_clock.specs.Refusal.{clock_refusal}
-use Rattle.tk_clock.specs.Snapshot.{Snapshot, snapshot_of}
+use Rattle.tk_clock.specs.Snapshot.{snapshot_of}
 use Rattle.tk_clock.specs.State.{State, state_of}
 use Rattle.tk_clock.proofs.Alike.{clock_refusal-alike, snapshot_of-alike}
 use Rattle.tk_clock.proofs.Later.{extended_by, Follows, Follows-accepted, Follows-take, Follows-alike, IsAccepted-extended, state_of-alike}

@@ -1,67 +1,29 @@
 -- An accepted entry keeps a journal legal, and its state the one that it comes to.
-use Rattle.std.proofs.Common.{◌≡◌, ℕ, zero, suc, ◌+◌, ◌<◌, ◌≤◌, List, [], ◌∷◌, ◌++◌, length, take, take-take, refl, sym, ◌∙◌, ap, subst, arith, Bool, true, false, inl, inr}
-use Rattle.std.specs.Prelude.{ℤ, pos, ◌-◌, ◌*◌, nat_lt, Option, Some, None, not, ◌&&◌, ◌||◌, if◌then◌else◌, slice_get}
-use Rattle.std.proofs.lemmas.List.{take-append-le, take_at, take_all, length-take, length_push}
+use Rattle.std.proofs.Common.{◌≡◌, ℕ, zero, suc, ◌+◌, ◌<◌, ◌≤◌, List, [], ◌∷◌, ◌++◌, length, take, take-take, refl, sym, ◌∙◌, ap, subst, arith, false, inl, inr}
+use Rattle.std.specs.Prelude.{ℤ, pos, ◌-◌, ◌*◌, Option, Some, None, slice_get}
+use Rattle.std.proofs.lemmas.List.{take_at, take_all, length-take, length_push}
 use Rattle.std.proofs.lemmas.Bool.{cases_lt}
 use Rattle.std.proofs.lemmas.Option.{slice_get_within}
 use Rattle.tk_clock.specs.declared.command.Entry.{Entry}
 use Rattle.tk_clock.specs.declared.command.Command.{Command}
 use Rattle.tk_clock.specs.declared.refusal.Refusal.{Refusal}
-use Rattle.tk_clock.specs.declared.refusal.Refusal.TheVariants.{Full, Asleep, Awake, Invalid, Behind, Range, Memory}
 use Rattle.tk_clock.specs.Command.{is_resume}
 use Rattle.tk_clock.specs.declared.timespec.Timespec.{Timespec}
-use Rattle.tk_clock.specs.Journal.{Opening, Journal, opened, prefix, followed_by, is_asleep, last_reading}
+use Rattle.tk_clock.specs.Journal.{Opening, Journal, opened, prefix, followed_by, is_asleep}
 use Rattle.tk_clock.specs.Monotonic.{current_multiplier}
 use Rattle.tk_clock.specs.Time.{nanoseconds}
-use Rattle.tk_clock.specs.Clocks.{clock_value}
-use Rattle.tk_counter.specs.Counter.{Counter, IsCounter, mask, half, gap, usual_tick}
+use Rattle.tk_counter.specs.Counter.{Counter, IsCounter, usual_tick}
 use Rattle.tk_clock.specs.State.{State, state_of, effect}
-use Rattle.tk_clock.specs.Refusal.{first_of, clock_refusal, state_refusal, first_refusal, opening_refusal, is_full, IsRefusal}
-use Rattle.tk_clock.specs.Limits.{is_well_formed, is_past_limit, is_bad_setting}
+use Rattle.tk_clock.specs.Refusal.{first_of, clock_refusal, state_refusal, first_refusal, opening_refusal, is_full}
 use Rattle.tk_clock.specs.Legal.{IsLegal, IsAccepted, IsWhole, folded_opening}
+use Rattle.tk_clock.proofs.Append.{slice_get-append, slice_get-push, prefix-followed_by}
 use Rattle.tk_clock.proofs.Ledger.{ledger, fits_sleep, clock_refusal-state, no_more}
-
-slice_get-append : {X : Type 0} (xs : List X) (y : X) (k : ℕ) → k < length xs →
-    slice_get (xs ++ y ∷ []) k ≡ slice_get xs k
-slice_get-append [] y k within = absurd (omega arith)
-slice_get-append (x ∷ xs) y zero within = refl
-slice_get-append (x ∷ xs) y (suc k) within = slice_get-append xs y k (omega arith)
-
-slice_get-push : {X : Type 0} (xs : List X) (y : X) → slice_get (xs ++ y ∷ []) (length xs) ≡ Some y
-slice_get-push [] y = refl
-slice_get-push (x ∷ xs) y = slice_get-push xs y
+use Rattle.tk_clock.proofs.Refusals.{first_refusal-room}
 
 -- an accepted command passes the early tests
 early_none : (early later : Option Refusal) → first_of early later ≡ None → early ≡ None
 early_none None later e = refl
 early_none (Some refusal) later e = e
-
--- want of memory is never told by the tests
-tests_never_memory : (a b c d e f : Bool) →
-    first_of (first_of (if a then Some Asleep else if b then Some Awake else None)
-    (first_of (if c then Some Invalid else None) (if d then Some Behind else None)))
-    (if e then Some Range else if f then Some Invalid else None)
-    ≡ Some Memory → ⊥
-tests_never_memory true b c d e f h = cc
-tests_never_memory false true c d e f h = cc
-tests_never_memory false false true d e f h = cc
-tests_never_memory false false false true e f h = cc
-tests_never_memory false false false false true f h = cc
-tests_never_memory false false false false false true h = cc
-tests_never_memory false false false false false false h = cc
-
-never_memory : (journal : Journal) (entry : Entry) → clock_refusal journal entry ≡ Some Memory → ⊥
-never_memory journal entry told =
-    tests_never_memory
-    (is_asleep journal && not (is_resume entry.cmd))
-    (not (is_asleep journal) && is_resume entry.cmd)
-    (nat_lt (mask journal.opening.counter) entry.reading || not (is_well_formed entry.cmd))
-    (not (is_resume entry.cmd)
-    && nat_lt (half journal.opening.counter)
-    (gap journal.opening.counter (last_reading journal) entry.reading))
-    (is_past_limit (λ clock. clock_value (followed_by journal entry) clock entry.reading) entry.cmd)
-    (is_bad_setting (λ clock. clock_value journal clock entry.reading) entry.cmd)
-    told
 
 -- a journal that has room refuses an entry as its state does
 pub first_refusal-state : (journal : Journal) (state : State) (who reading : ℕ) (cmd : Command)
@@ -70,16 +32,10 @@ pub first_refusal-state : (journal : Journal) (state : State) (who reading : ℕ
     first_refusal journal (record { who = who; reading = reading; cmd = cmd }) ≡ told
 first_refusal-state journal state who reading cmd told running room e =
     let entry : Entry = record { who = who; reading = reading; cmd = cmd } in
-    ap (λ (b : Bool). if b then Some Full else clock_refusal journal entry) room
+    first_refusal-room journal entry room
     ∙ clock_refusal-state journal who reading cmd
     ∙ ap (λ s. state_refusal s reading cmd) (sym running)
     ∙ e
-
--- a full journal refuses every entry
-pub first_refusal-full : (journal : Journal) (entry : Entry) → is_full journal ≡ true →
-    first_refusal journal entry ≡ Some Full
-first_refusal-full journal entry full =
-    ap (λ (b : Bool). if b then Some Full else clock_refusal journal entry) full
 
 -- an accepted command leaves the state that the longer journal comes to
 pub state_of-followed_by : (journal : Journal) (state : State) (who reading : ℕ) (cmd : Command) →
@@ -100,11 +56,9 @@ earlier_accepted : (journal : Journal) (entry : Entry) → IsAccepted journal �
     slice_get (journal.entries ++ entry ∷ []) k ≡ Some other →
     clock_refusal (prefix k (followed_by journal entry)) other ≡ None
 earlier_accepted journal entry all k other low found =
-    let same : prefix k (followed_by journal entry) ≡ prefix k journal =
-    ap (λ (es : List Entry). record journal { entries = es })
-    (take-append-le k journal.entries (entry ∷ []) (omega arith)) in
+    let same = prefix-followed_by journal entry k (omega arith) in
     ap (λ (j : Journal). clock_refusal j other) same
-    ∙ all k other (sym (slice_get-append journal.entries entry k low) ∙ found)
+    ∙ all k other (sym (slice_get-append journal.entries (entry ∷ []) k low) ∙ found)
 
 last_accepted : (journal : Journal) (entry : Entry) → clock_refusal journal entry ≡ None →
     (k : ℕ) (other : Entry) → length journal.entries ≤ k →
@@ -155,16 +109,6 @@ IsAccepted-prefix journal n all =
     (take-take k n journal.entries (omega arith)) in
     ap (λ (j : Journal). clock_refusal j entry) same
     ∙ all k entry (slice_get-take n journal.entries k entry found)
-
-not_full : (b : Bool) (told : Option Refusal) → (if b then Some Full else told) ≡ None → told ≡ None
-not_full true told e = cc
-not_full false told e = e
-
--- an entry that nothing refuses passes the clock's tests
-pub passes_clock : (journal : Journal) (entry : Entry) → first_refusal journal entry ≡ None →
-    clock_refusal journal entry ≡ None
-passes_clock journal entry accepted =
-    not_full (is_full journal) (clock_refusal journal entry) accepted
 
 -- a legal journal stays legal
 pub IsLegal-followed_by : (journal : Journal) (entry : Entry) → IsLegal journal →
@@ -298,17 +242,3 @@ IsWhole-legal journal legal none =
           (sym same) (reading, real, whole.opens.2, opening);
       accepted = legal.accepted;
     }
-
--- the answer to a refused entry is told as such
-pub IsRefusal-told : (journal : Journal) (entry : Entry) (refusal : Refusal) →
-    is_full journal ≡ false →
-    first_refusal journal entry ≡ Some refusal → IsRefusal journal entry refusal
-IsRefusal-told journal entry Full room told = told
-IsRefusal-told journal entry Asleep room told = told
-IsRefusal-told journal entry Awake room told = told
-IsRefusal-told journal entry Invalid room told = told
-IsRefusal-told journal entry Behind room told = told
-IsRefusal-told journal entry Range room told = told
-IsRefusal-told journal entry Memory room told =
-    absurd (never_memory journal entry
-    (sym (ap (λ (b : Bool). if b then Some Full else clock_refusal journal entry) room) ∙ told))

@@ -3,6 +3,7 @@ pub mod Append
 pub mod Stretches
 pub mod Offsets
 pub mod Ledger
+pub mod Refusals
 pub mod Legal
 pub mod Monotone
 pub mod Alike

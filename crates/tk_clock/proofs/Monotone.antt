@@ -14,11 +14,12 @@ use Rattle.tk_clock.specs.Life.{IsInLife, NeverFalls}
 use Rattle.tk_clock.specs.Command.{is_suspend, is_resume}
 use Rattle.tk_clock.specs.Clocks.{clock_value}
 use Rattle.tk_clock.specs.Limits.{is_well_formed}
-use Rattle.tk_clock.specs.Refusal.{first_of, value_refusal, clock_refusal, first_refusal, is_full}
+use Rattle.tk_clock.specs.Refusal.{first_of, value_refusal, first_refusal}
 use Rattle.tk_clock.specs.declared.refusal.Refusal.{Refusal}
-use Rattle.tk_clock.specs.declared.refusal.Refusal.TheVariants.{Full, Asleep, Awake, Invalid, Behind}
+use Rattle.tk_clock.specs.declared.refusal.Refusal.TheVariants.{Asleep, Awake, Invalid, Behind}
 use Rattle.tk_clock.proofs.Stretches.{cycles_to, monotonic_units-followed_by, last_reading-followed_by}
 use Rattle.tk_clock.proofs.Offsets.{monotonic-last}
+use Rattle.tk_clock.proofs.Refusals.{passes_clock}
 
 -- a longer journal has no fewer units
 pub monotonic_units-≤ : (journal : Journal) (entry : Entry) →
@@ -164,10 +165,6 @@ counted_alike false false true behind gap later e = cc
 counted_alike false false false true gap later e = cc
 counted_alike false false false false gap later e = refl
 
-not_full : (b : Bool) (told : Option Refusal) → (if b then Some Full else told) ≡ None → told ≡ None
-not_full true told e = cc
-not_full false told e = e
-
 -- MONOTONIC before and after an accepted command agree at its reading
 pub agrees : (journal : Journal) (entry : Entry) → first_refusal journal entry ≡ None →
     monotonic journal entry.reading ≡ monotonic (followed_by journal entry) entry.reading
@@ -175,7 +172,7 @@ agrees journal entry accepted =
     let counter = journal.opening.counter in
     let after = followed_by journal entry in
     let scale = 2 ^ counter.shift in
-    let told = not_full (is_full journal) (clock_refusal journal entry) accepted in
+    let told = passes_clock journal entry accepted in
     let same : cycles_after journal entry.reading ≡ cycles_to journal entry.reading =
     counted_alike (is_asleep journal) (is_resume entry.cmd)
     (nat_lt (mask counter) entry.reading || not (is_well_formed entry.cmd))

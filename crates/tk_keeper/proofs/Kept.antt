@@ -1,25 +1,16 @@
 -- The kept states of a journal, entry by entry.
 use Rattle.std.proofs.Common.{◌≡◌, ◌≢◌, ℕ, zero, suc, ◌+◌, ◌-◌, ◌*◌, ◌/◌, ◌%◌, ◌<◌, ◌≤◌, List, [], ◌∷◌, ◌++◌, length, drop, length-drop, refl, sym, ◌∙◌, ap, arith, inl, inr}
 use Rattle.std.specs.Prelude.{Some, slice_get}
-use Rattle.std.proofs.lemmas.List.{take-append-le, take_all, length_push}
+use Rattle.std.proofs.lemmas.List.{take_all, length_push}
 use Rattle.std.proofs.lemmas.Bool.{cases_lt}
 use Rattle.tk_clock.specs.declared.command.Entry.{Entry}
 use Rattle.tk_clock.specs.Journal.{Journal, prefix, followed_by, accepted_count}
 use Rattle.tk_clock.specs.Legal.{IsAccepted}
 use Rattle.tk_clock.specs.State.{State, state_of}
 use Rattle.tk_keeper.specs.Keeper.{HasKept}
+use Rattle.tk_clock.proofs.Append.{slice_get-append, slice_get-push, prefix-followed_by}
 use Rattle.tk_clock.proofs.Folding.{state_of-folded}
 use Rattle.tk_clock.specs.Folding.{folded_by}
-
-slice_get-append : {X : Type 0} (xs : List X) (y : X) (k : ℕ) → k < length xs →
-    slice_get (xs ++ y ∷ []) k ≡ slice_get xs k
-slice_get-append [] y k within = absurd (omega arith)
-slice_get-append (x ∷ xs) y zero within = refl
-slice_get-append (x ∷ xs) y (suc k) within = slice_get-append xs y k (omega arith)
-
-slice_get-push : {X : Type 0} (xs : List X) (y : X) → slice_get (xs ++ y ∷ []) (length xs) ≡ Some y
-slice_get-push [] y = refl
-slice_get-push (x ∷ xs) y = slice_get-push xs y
 
 -- the place of a kept state lies within the journal
 within : (kept count listed i place : ℕ) → kept + count / 256 ≡ (count + listed) / 256 → i < kept →
@@ -34,9 +25,7 @@ earlier : (journal : Journal) (entry : Entry) (start : State) (kept : List State
 earlier journal entry start kept i place held low here =
     let inside = within (length kept) journal.opening.count (length journal.entries) i place
     held.all low here in
-    let same : prefix place (followed_by journal entry) ≡ prefix place journal =
-    ap (λ (es : List Entry). record journal { entries = es })
-    (take-append-le place journal.entries (entry ∷ []) inside) in
+    let same = prefix-followed_by journal entry place inside in
     held.told i place low here ∙ ap (λ (j : Journal). Some (state_of j)) (sym same)
 
 -- an entry whose number is no multiple leaves the kept states
@@ -88,7 +77,7 @@ HasKept-more journal entry start kept held even =
       all = omega (arith, held.all, there, longer, length_push kept state);
       told = λ i place low here.
           elim (cases_lt i (length kept)) [
-            | inl earlier_one ↦ slice_get-append kept state i earlier_one
+            | inl earlier_one ↦ slice_get-append kept (state ∷ []) i earlier_one
                 ∙ earlier journal entry start kept i place held earlier_one here
             | inr high ↦ newest journal entry start kept i place held there
                 (omega (arith, length_push kept state)) here

@@ -1,15 +1,14 @@
 -- Room in a journal.
-use Rattle.std.proofs.Common.{◌≡◌, ◌∙◌, ℕ, ◌-◌, ◌<◌, ◌≤◌, ◌^◌, length, length-drop, refl, sym, arith, Bool, true, false}
-use Rattle.std.specs.Prelude.{Option, Some, None, if◌then◌else◌}
+use Rattle.std.proofs.Common.{◌≡◌, ◌∙◌, ℕ, ◌<◌, ◌≤◌, length, length-drop, sym, arith, false}
+use Rattle.std.specs.Prelude.{None}
 use Rattle.std.proofs.lemmas.Grind.{common_steps}
 use Rattle.std.proofs.lemmas.List.{length_push}
 use Rattle.tk_clock.specs.declared.command.Entry.{Entry}
-use Rattle.tk_clock.specs.declared.refusal.Refusal.{Refusal}
-use Rattle.tk_clock.specs.declared.refusal.Refusal.TheVariants.{Full}
 use Rattle.tk_clock.specs.Journal.{Journal, followed_by, accepted_count}
-use Rattle.tk_clock.specs.Refusal.{is_full, clock_refusal, first_refusal}
+use Rattle.tk_clock.specs.Refusal.{is_full, first_refusal}
 use Rattle.tk_clock.specs.State.{State, state_of}
-use Rattle.tk_clock.proofs.Legal.{IsLegal-followed_by, passes_clock}
+use Rattle.tk_clock.proofs.Legal.{IsLegal-followed_by}
+use Rattle.tk_clock.proofs.Refusals.{accepts_room, passes_clock}
 use Rattle.tk_keeper.specs.Keeper.{IsKept}
 use Rattle.tk_clock.proofs.Folding.{IsLegal-folded, state_of-whole}
 use Rattle.tk_clock.specs.Limits.{listed_most, counted_most}
@@ -20,24 +19,13 @@ pub not_full : (journal : Journal) → is_full journal ≡ false →
     (length journal.entries < listed_most) × (accepted_count journal < counted_most)
 not_full journal e = (grind (arith, common_steps), grind (arith, common_steps))
 
-has_room : (full : Bool) (told : Option Refusal) → (if full then Some Full else told) ≡ None →
-    full ≡ false
-has_room true told e = cc
-has_room false told e = refl
-
--- a journal that takes an entry isn't full
-pub accepts-not_full : (journal : Journal) (entry : Entry) → first_refusal journal entry ≡ None →
-    is_full journal ≡ false
-accepts-not_full journal entry accepted =
-    has_room (is_full journal) (clock_refusal journal entry) accepted
-
 -- an accepted entry keeps the journal legal, and within its room
 pub IsKept-followed_by : (journal : Journal) (entry : Entry) (before after : State) →
     IsKept journal before →
     first_refusal journal entry ≡ None → after ≡ state_of (followed_by journal entry) →
     IsKept (followed_by journal entry) after
 IsKept-followed_by journal entry before after held accepted running =
-    let more = not_full journal (accepts-not_full journal entry accepted) in
+    let more = not_full journal (accepts_room journal entry accepted) in
     record {
       legal = IsLegal-followed_by journal entry held.legal (passes_clock journal entry accepted);
       running = running;

@@ -8,9 +8,10 @@ use Rattle.tk_clock.specs.declared.refusal.Refusal.{Refusal}
 use Rattle.tk_clock.specs.declared.refusal.Refusal.TheVariants.{Full, Asleep, Awake, Invalid, Behind, Range, Memory}
 use Rattle.tk_clock.specs.Journal.{Journal, followed_by, accepted_count}
 use Rattle.tk_clock.specs.Refusal.{first_refusal, IsRefusal}
+use Rattle.tk_clock.proofs.Refusals.{accepts_room}
 use Rattle.tk_clock.specs.Run.{Reply, Run, reply_if, reply_to, run}
 use Rattle.tk_keeper.specs.Keeper.{Keeper}
-use Rattle.tk_keeper.proofs.Room.{not_full, accepts-not_full}
+use Rattle.tk_keeper.proofs.Room.{not_full}
 use Rattle.tk_clock.specs.Limits.{listed_most}
 
 -- what `apply` answers and leaves
@@ -67,7 +68,7 @@ pub finds_room : (journal : Journal) (entry : Entry) (left spare : ℕ) → 0 < 
     first_refusal journal entry ≡ None → 0 < spare
 finds_room journal entry left spare some enough accepted =
     some_room left (length journal.entries) spare some
-    (not_full journal (accepts-not_full journal entry accepted)).0 enough
+    (not_full journal (accepts_room journal entry accepted)).0 enough
 
 pub never_short : (before after : Keeper) (entry : Entry) (result : Result ℕ Refusal) (left : ℕ) →
     IsAnswer before entry result after →

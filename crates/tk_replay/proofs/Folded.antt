@@ -1,6 +1,6 @@
 -- A journal that was folded replies as the whole one does.
-use Rattle.std.proofs.Common.{◌≡◌, ◌∙◌, ℕ, ◌-◌, ◌<◌, ◌≤◌, ◌^◌, List, length, refl, sym, ap, subst, arith, Bool, false}
-use Rattle.std.specs.Prelude.{Option, Some, Result, Ok, Err, max, if◌then◌else◌}
+use Rattle.std.proofs.Common.{◌≡◌, ◌∙◌, ℕ, ◌-◌, ◌<◌, ◌≤◌, List, length, refl, sym, ap, subst, arith, false}
+use Rattle.std.specs.Prelude.{Option, Some, Result, Ok, Err, max}
 use Rattle.std.proofs.lemmas.Grind.{common_steps}
 use Rattle.std.proofs.lemmas.List.{take_all}
 use Rattle.tk_clock.specs.declared.command.Entry.{Entry}
@@ -17,6 +17,7 @@ use Rattle.tk_clock.specs.Folding.{IsAlike}
 use Rattle.tk_replay.specs.Folding.{IsReplied, greatest_keep}
 use Rattle.tk_replay.specs.Report.{reply_by}
 use Rattle.tk_clock.proofs.Alike.{clock_refusal-alike}
+use Rattle.tk_clock.proofs.Refusals.{first_refusal-room}
 use Rattle.tk_replay.proofs.Alike.{answer-alike, reply-alike}
 use Rattle.tk_clock.specs.Limits.{listed_most, counted_most}
 
@@ -51,8 +52,7 @@ has_room before after folded keep told same alike small few =
 not_full : (journal : Journal) (entry : Entry) → is_full journal ≡ false →
     reply_to journal entry ≡ reply_by clock_refusal journal entry
 not_full journal entry room =
-    ap (λ (b : Bool). reply_if journal entry (if b then Some Full else clock_refusal journal entry))
-    room
+    ap (reply_if journal entry) (first_refusal-room journal entry room)
 
 -- what is answered where memory isn't wanting is the whole journal's reply
 replied : (whole : Journal) (kept after : Keeper) (entry : Entry) (result : Result ℕ Refusal) →

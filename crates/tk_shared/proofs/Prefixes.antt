@@ -1,6 +1,5 @@
--- Beginnings of lists, and places in them.
-use Rattle.std.proofs.Common.{◌≡◌, ℕ, zero, suc, ◌<◌, ◌≤◌, List, [], ◌∷◌, ◌++◌, length, refl, sym, ap, ◌∙◌, arith, append_assoc, length-append}
-use Rattle.std.specs.Prelude.{Some, slice_get}
+-- Beginnings of lists.
+use Rattle.std.proofs.Common.{◌≤◌, List, [], ◌++◌, length, sym, ap, ◌∙◌, arith, append_assoc, length-append}
 use Rattle.std.proofs.lemmas.List.{append-nil}
 use mathlib.Core.List.{IsPrefix}
 
@@ -14,13 +13,3 @@ module _ {A : Type 0} where
 
   pub prefix_length : (xs ys : List A) → IsPrefix xs ys → length xs ≤ length ys
   prefix_length xs ys p = omega (arith, sym (ap length p.1) ∙ length-append xs p.0)
-
-  pub slice_get-append : (xs ys : List A) (k : ℕ) → k < length xs →
-      slice_get (xs ++ ys) k ≡ slice_get xs k
-  slice_get-append [] ys k within = absurd (omega arith)
-  slice_get-append (x ∷ xs) ys zero within = refl
-  slice_get-append (x ∷ xs) ys (suc k) within = slice_get-append xs ys k (omega arith)
-
-  pub slice_get-push : (xs : List A) (y : A) → slice_get (xs ++ y ∷ []) (length xs) ≡ Some y
-  slice_get-push [] y = refl
-  slice_get-push (x ∷ xs) y = slice_get-push xs y

@@ -2,20 +2,14 @@
 use Rattle.std.proofs.Common.{◌≡◌, ℕ, zero, suc, ◌+◌, ◌<◌, ◌≤◌, List, [], ◌∷◌, ◌++◌, length, sym, ap, ◌∙◌, arith, inl, inr}
 use Rattle.std.specs.Prelude.{Some, slice_get}
 use Rattle.std.proofs.lemmas.Bool.{cases_lt}
-use Rattle.std.proofs.lemmas.List.{take-append-le, take_all, length_push}
+use Rattle.std.proofs.lemmas.List.{take_all, length_push}
 use mathlib.Core.List.{IsPrefix}
 use Rattle.tk_clock.specs.declared.command.Entry.{Entry}
 use Rattle.tk_clock.specs.Journal.{Journal, prefix, followed_by}
 use Rattle.tk_clock.specs.Snapshot.{Snapshot, snapshot_of}
 use Rattle.tk_shared.specs.History.{AreSnapshots}
-use Rattle.tk_shared.proofs.Prefixes.{slice_get-append, slice_get-push, prefix_length}
-
--- the first entries of a longer history
-prefix-followed_by : (history : Journal) (entry : Entry) (k : ℕ) → k ≤ length history.entries →
-    prefix k (followed_by history entry) ≡ prefix k history
-prefix-followed_by history entry k within =
-    ap (λ (es : List Entry). record history { entries = es })
-    (take-append-le k history.entries (entry ∷ []) within)
+use Rattle.tk_clock.proofs.Append.{slice_get-append, slice_get-push, prefix-followed_by}
+use Rattle.tk_shared.proofs.Prefixes.{prefix_length}
 
 prefix-whole : (history : Journal) (k : ℕ) → length history.entries ≤ k → prefix k history ≡ history
 prefix-whole history k within =

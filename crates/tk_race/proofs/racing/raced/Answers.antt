@@ -1,8 +1,10 @@
 use Rattle.std.proofs.Common.{◌≡◌, length, ap, sym, subst, ◌∙◌, rules, arith}
 use Rattle.std.proofs.lemmas.List.{length-map}
+use Rattle.std.specs.Global.{Vec}
 use Rattle.std.specs.Vec.{vec_len}
 use Rattle.tk_shared.specs.Callers.{newcomers}
 use Rattle.tk_shared.specs.Closing.{AreDifferent}
+use Rattle.tk_race.specs.declared.action.Action.{Action}
 use Rattle.tk_race.specs.Actor.{Actor}
 use Rattle.tk_race.proofs.Actors.{many_acted}
 use Rattle.tk_race.proofs.Outcome.{length-newcomers, all_different, outcome}
@@ -51,8 +53,8 @@ returns g c =
     let known : c.in-Ok.callers.items ≡ newcomers start.latch start.journal start.callers =
     search rules in
     let some = c.requires.some in
-    let callers = c.requires.callers in
+    let each = length-map c.args.actions.now (λ (a : Vec Action). a.items) in
     outcome start.latch start.journal c.in-Ok-close.closed.keeper.journal start.callers _
     c.in_ok-actors.actors.items c.in_ok-acted.acted.items c.part.new.callers.items _
-    (omega (arith, some, callers)) (c.in_ok-actors.ensures.callers ∙ known) c.in_ok-acted.ensures
+    (omega (arith, some, each)) (c.in_ok-actors.ensures.callers ∙ known) c.in_ok-acted.ensures
     c.part.ensures.callers c.part.ensures.replies c.in-Ok-close.ensures.1

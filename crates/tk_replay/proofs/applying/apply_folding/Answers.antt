@@ -6,7 +6,8 @@ use Rattle.tk_keeper.specs.Keeper.{Keeper}
 use Rattle.tk_replay.specs.Folding.{IsReplied, listed_after, listed_then}
 use Rattle.tk_replay.specs.Report.{event, reply_by}
 use Rattle.tk_replay.proofs.Folded.{IsAlike-folded, IsReplied-folded, has_room}
-use Rattle.tk_replay.proofs.Listed.{is_full-refused, listed-answered, listed_then-folded}
+use Rattle.tk_replay.proofs.Listed.{listed-answered, listed_then-folded}
+use Rattle.tk_clock.proofs.Refusals.{is_full-refused}
 use Rattle.tk_replay.proofs.applying.apply_folding.Goals as goal
 
 pub returns-in-Err-Full : goal.returns-in-Err-Full

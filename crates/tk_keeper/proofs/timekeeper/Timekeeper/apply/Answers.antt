@@ -9,7 +9,8 @@ use Rattle.tk_clock.specs.Monotonic.{monotonic}
 use Rattle.tk_clock.specs.Refusal.{is_full, first_refusal}
 use Rattle.tk_clock.specs.State.{state_of}
 use Rattle.tk_clock.proofs.Monotone.{never_falls, agrees}
-use Rattle.tk_clock.proofs.Legal.{first_refusal-state, state_of-followed_by, IsRefusal-told}
+use Rattle.tk_clock.proofs.Legal.{first_refusal-state, state_of-followed_by}
+use Rattle.tk_clock.proofs.Refusals.{IsRefusal-told}
 use Rattle.tk_keeper.specs.Keeper.{Keeper}
 use Rattle.tk_keeper.proofs.timekeeper.Timekeeper.apply.Goals as goal
 use Rattle.tk_clock.specs.Folding.{journal_from}
