@@ -1,6 +1,6 @@
-//! Records of fields, by the rules of crates.io's csv crate as it is set up by default: fields end at
-//! commas, records at line ends, and empty lines are none. A field that begins with a quote goes on
-//! to the quote that ends it, where two quotes stand for one. A byte order mark is dropped.
+//! Records of fields, by the rules of crates.io's csv crate as it is set up by default: fields end
+//! at commas, records at line ends, and empty lines are none. A field that begins with a quote goes
+//! on to the quote that ends it, where two quotes stand for one. A byte order mark is dropped.
 
 use std::borrow::Cow;
 

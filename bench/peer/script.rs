@@ -159,8 +159,8 @@ impl Fields<'_, '_> {
 
     fn signed(&self, place: usize) -> Result<i64, ScriptError> {
         let number = match self.at(place) {
-            [b'-', digits @ ..] => number(digits).and_then(|number| 0i64.checked_sub_unsigned(number)),
-            digits => number(digits).and_then(|number| i64::try_from(number).ok()),
+            [b'-', digits @ ..] => number(digits).and_then(|n| 0i64.checked_sub_unsigned(n)),
+            digits => number(digits).and_then(|n| i64::try_from(n).ok()),
         };
         number.ok_or(ScriptError::Number(self.row))
     }

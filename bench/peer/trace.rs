@@ -1,4 +1,4 @@
-//! A clock at each stamp of a file. What reading takes is kept for each number of accepted commands.
+//! A clock at each stamp of a file. What reading takes is kept for each number of commands.
 
 use crate::clocks::{Base, ClockId, Refusal};
 use crate::lines::add_number;

@@ -1,5 +1,5 @@
-//! Lists of stamps, each by the line of its front: into a new list and into memory that is there, by
-//! one thread and by as many as there are processors.
+//! Lists of stamps, each by the line of its front: into a new list and into memory that is there,
+//! by one thread and by as many as there are processors.
 
 use crate::bench::{Bench, Job, Unit};
 use crate::digest::of_numbers;
