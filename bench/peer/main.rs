@@ -1,0 +1,54 @@
+//! The jobs of `crates/tk_bench` in plain Rust, as one writes them by hand with std alone, and the
+//! reports and traces of `tkcore` as a whole program. Nothing here is proved.
+//!
+//! | Words | What it does |
+//! |---|---|
+//! | none | each job a few times: for each a line `JOB<tab>CHECK` |
+//! | `time`, `time JOB..` | for each job, or for these: `JOB<tab>NUMBER<tab>UNIT<tab>CHECK` |
+//! | `replay` | the report of the script on standard input |
+//! | `trace CLOCK SCRIPT STAMPS` | the clock at each stamp of a file |
+
+mod batch_jobs;
+mod bench;
+mod clock_jobs;
+mod clocks;
+mod csv;
+mod digest;
+mod inputs;
+mod keeper;
+mod keeper_jobs;
+mod line;
+mod lines;
+mod program;
+mod report;
+mod script;
+mod text_jobs;
+mod trace;
+mod trace_jobs;
+
+use bench::Bench;
+use std::process::ExitCode;
+
+fn main() -> ExitCode {
+    let words: Vec<String> = std::env::args().skip(1).collect();
+    let words: Vec<&str> = words.iter().map(String::as_str).collect();
+    match words.as_slice() {
+        ["replay"] => program::replay(),
+        ["trace", clock, script, stamps] => program::trace(clock, script, stamps),
+        words => match Bench::of_words(words) {
+            Some(bench) => {
+                run(&bench);
+                ExitCode::SUCCESS
+            }
+            None => program::refused(),
+        },
+    }
+}
+
+fn run(bench: &Bench) {
+    clock_jobs::run(bench);
+    keeper_jobs::run(bench);
+    batch_jobs::run(bench);
+    trace_jobs::run(bench);
+    text_jobs::run(bench);
+}

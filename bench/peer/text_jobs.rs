@@ -1,0 +1,71 @@
+//! Reports of scripts and traces by stamp files, from bytes to text.
+
+use crate::bench::{Bench, Job, Unit};
+use crate::clocks::ClockId;
+use crate::digest::of_bytes;
+use crate::inputs::{script, stamp_file};
+use crate::report::report;
+use crate::trace::trace;
+
+const STRETCH: u64 = 1_000;
+
+struct Report {
+    script: Vec<u8>,
+    text: Vec<u8>,
+}
+
+impl Job for Report {
+    fn turn(&mut self) {
+        self.text = Vec::new();
+        self.text = report(&self.script).expect("a good script");
+    }
+
+    fn check(&self) -> Option<u64> {
+        Some(of_bytes(&self.text))
+    }
+}
+
+struct Trace {
+    script: Vec<u8>,
+    stamps: Vec<u8>,
+    text: Vec<u8>,
+}
+
+impl Job for Trace {
+    fn turn(&mut self) {
+        self.text = Vec::new();
+        self.text = trace(&self.script, &self.stamps, ClockId::Tai).expect("good stamps");
+    }
+
+    fn check(&self) -> Option<u64> {
+        Some(of_bytes(&self.text))
+    }
+}
+
+pub fn run(bench: &Bench) {
+    if !bench.wants_any("text_") {
+        return;
+    }
+    for (name, pairs, clock, turns) in [
+        ("text_report_100000", 50_000, "tai", 20),
+        ("text_report_utc_100000", 50_000, "realtime", 20),
+        ("text_report_1000000", 500_000, "tai", 4),
+    ] {
+        let mut job = Report {
+            script: script(pairs, Some(clock)),
+            text: Vec::new(),
+        };
+        bench.run(name, Unit::Whole, turns, &mut job);
+    }
+    for (name, stamps, rises) in [
+        ("text_trace_rising_1000000", 1_000_000, true),
+        ("text_trace_jumping_100000", 100_000, false),
+    ] {
+        let mut job = Trace {
+            script: script(STRETCH, None),
+            stamps: stamp_file(stamps, STRETCH, rises),
+            text: Vec::new(),
+        };
+        bench.run(name, Unit::Whole, 4, &mut job);
+    }
+}

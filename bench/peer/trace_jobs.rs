@@ -1,0 +1,130 @@
+//! Lists of stamps, each by the line of its front: into a new list and into memory that is there,
+//! by one thread and by as many as there are processors.
+
+use crate::bench::{Bench, Job, Unit};
+use crate::digest::of_numbers;
+use crate::inputs::stamps;
+use crate::line::{Fault, Line};
+use std::hint::black_box;
+use std::thread;
+
+#[derive(Clone, Copy)]
+enum Form {
+    New,
+    Into,
+    SharedNew,
+    SharedInto,
+}
+
+struct Trace {
+    form: Form,
+    lines: [Line; 2],
+    threads: usize,
+    fronts: Vec<u64>,
+    stamps: Vec<u64>,
+    made: Vec<u64>,
+    out: Vec<u64>,
+}
+
+impl Job for Trace {
+    fn turn(&mut self) {
+        let (lines, threads) = (&self.lines[..], self.threads);
+        let (fronts, stamps) = (black_box(&self.fronts[..]), black_box(&self.stamps[..]));
+        let out = black_box(&mut self.out[..]);
+        self.made = Vec::new();
+        match self.form {
+            Form::New => self.made = new_list(lines, fronts, stamps).expect("good stamps"),
+            Form::Into => in_place(lines, fronts, stamps, 0, out).expect("good stamps"),
+            Form::SharedNew => {
+                self.made = vec![0; stamps.len()];
+                shared(threads, lines, fronts, stamps, &mut self.made).expect("good stamps");
+            }
+            Form::SharedInto => shared(threads, lines, fronts, stamps, out).expect("good stamps"),
+        }
+    }
+
+    fn check(&self) -> Option<u64> {
+        match self.form {
+            Form::New | Form::SharedNew => Some(of_numbers(&self.made)),
+            Form::Into | Form::SharedInto => Some(of_numbers(&self.out)),
+        }
+    }
+}
+
+/// The line of each front.
+#[inline(always)]
+fn line_at(lines: &[Line], index: usize, front: u64) -> Result<&Line, Fault> {
+    lines.get(front as usize).ok_or(Fault::Unknown(index))
+}
+
+#[inline(never)]
+fn new_list(lines: &[Line], fronts: &[u64], stamps: &[u64]) -> Result<Vec<u64>, Fault> {
+    let mut values = Vec::with_capacity(stamps.len());
+    for (index, (front, stamp)) in fronts.iter().zip(stamps).enumerate() {
+        values.push(line_at(lines, index, *front)?.at(index, *stamp)?);
+    }
+    Ok(values)
+}
+
+/// Items whose first one has the place `first` in the whole list.
+#[inline(never)]
+fn in_place(
+    lines: &[Line],
+    fronts: &[u64],
+    stamps: &[u64],
+    first: usize,
+    out: &mut [u64],
+) -> Result<(), Fault> {
+    for (index, ((front, stamp), out)) in fronts.iter().zip(stamps).zip(out).enumerate() {
+        *out = line_at(lines, first + index, *front)?.at(first + index, *stamp)?;
+    }
+    Ok(())
+}
+
+/// A piece for each thread; the first fault in the list's order.
+fn shared(
+    threads: usize,
+    lines: &[Line],
+    fronts: &[u64],
+    stamps: &[u64],
+    out: &mut [u64],
+) -> Result<(), Fault> {
+    let piece = stamps.len().div_ceil(threads).max(1);
+    thread::scope(|scope| {
+        let pieces = fronts.chunks(piece).zip(stamps.chunks(piece)).zip(out.chunks_mut(piece));
+        let workers: Vec<_> = pieces
+            .enumerate()
+            .map(|(place, ((fronts, stamps), out))| {
+                scope.spawn(move || in_place(lines, fronts, stamps, place * piece, out))
+            })
+            .collect();
+        workers.into_iter().try_for_each(|worker| worker.join().expect("no panic"))
+    })
+}
+
+pub fn run(bench: &Bench) {
+    if !bench.wants_any("trace_") && !bench.wants_any("pieces_") {
+        return;
+    }
+    for (count, turns) in [(100_000, 50), (1_000_000, 20), (10_000_000, 5)] {
+        let mut job = Trace {
+            form: Form::New,
+            lines: [Line::opened(), Line::opened()],
+            threads: thread::available_parallelism().map_or(1, |threads| threads.get()),
+            fronts: vec![1; count],
+            stamps: stamps(count),
+            made: Vec::new(),
+            out: vec![0; count],
+        };
+        for (name, form) in [
+            (format!("trace_new_{count}"), Form::New),
+            (format!("trace_into_{count}"), Form::Into),
+            (format!("pieces_new_{count}"), Form::SharedNew),
+            (format!("pieces_into_{count}"), Form::SharedInto),
+        ] {
+            job.form = form;
+            job.out.fill(0);
+            bench.run(&name, Unit::Each(count as u64, "stamp"), turns, &mut job);
+        }
+    }
+}

@@ -1,0 +1,112 @@
+//! Lists of stamps by one snapshot, in the cache and out of it.
+
+use crate::bench::{Bench, Job, Unit};
+use crate::digest::of_numbers;
+use crate::inputs::{OPENING, repeated, stamps};
+use anyhow::{Context, Result, ensure};
+use std::thread::Threads;
+use tk_clock::{Clock, ClockId, Command, Snapshot, Timespec};
+use tk_counter::CounterDesc;
+use tk_lanes::{lane_batch, plain_batch};
+
+/// The call that converts.
+#[derive(Clone, Copy)]
+enum Form {
+    Lanes,
+    Plain,
+}
+
+/// Conversions of one list, so many in a turn.
+#[derive(Drop)]
+struct Batch {
+    form: Form,
+    snapshot: Snapshot,
+    times: u32,
+    stamps: Vec<u64>,
+    out: Vec<u64>,
+}
+
+impl Job for Batch {
+    fn turn<R: Threads + Sync>(&mut self, _rt: &R) -> Result<()> {
+        let (stamps, out) = (self.stamps.as_slice(), self.out.as_mut_slice());
+        ensure!(stamps.len() == out.len(), "lists of two lengths");
+        for _ in 0..self.times {
+            match self.form {
+                Form::Lanes => lane_batch(&self.snapshot, ClockId::Realtime, stamps, out)?,
+                Form::Plain => plain_batch(&self.snapshot, ClockId::Realtime, stamps, out)?,
+            }
+        }
+        Ok(())
+    }
+
+    fn check(&self) -> u64 {
+        of_numbers(self.out.as_slice())
+    }
+}
+
+/// 4,096 stamps, fifty times in a turn, and ten million.
+pub(crate) fn run_batches(rt: &(impl Threads + Sync), bench: &Bench<'_>) -> Result<()> {
+    if !bench.wants_any("batch_") {
+        return Ok(());
+    }
+    let snapshot = updated(bench.unknown()).context("no clocks")?;
+    let names = [
+        ("batch_lanes_4096", Form::Lanes),
+        ("batch_lanes_4096_untested", Form::Lanes),
+        ("batch_lanes_4096_memcpy", Form::Lanes),
+        ("batch_plain_4096", Form::Plain),
+    ];
+    run_forms(rt, bench, snapshot, 4_096, 50, names)?;
+    let names = [
+        ("batch_lanes_10000000", Form::Lanes),
+        ("batch_lanes_10000000_untested", Form::Lanes),
+        ("batch_lanes_10000000_memcpy", Form::Lanes),
+        ("batch_plain_10000000", Form::Plain),
+    ];
+    run_forms(rt, bench, snapshot, 10_000_000, 1, names)
+}
+
+/// The jobs of these names, over a list of so many stamps that is converted so often in a turn.
+fn run_forms(
+    rt: &(impl Threads + Sync),
+    bench: &Bench<'_>,
+    snapshot: Snapshot,
+    count: usize,
+    times: u32,
+    names: [(&str, Form); 4],
+) -> Result<()> {
+    let stamps = stamps(bench.alloc(), count)?;
+    let out = repeated(bench.alloc(), count, 0)?;
+    let mut job = Batch {
+        form: Form::Lanes,
+        snapshot,
+        times,
+        stamps,
+        out,
+    };
+    let turns = if times > 1 { 200 } else { 5 };
+    let unit = Unit::Each((count as u64).wrapping_mul(u64::from(times)), "stamp");
+    for (name, form) in names {
+        job.form = form;
+        job.out.fill(0);
+        bench.run(rt, name, unit, turns, &mut job)?;
+    }
+    Ok(())
+}
+
+/// Clocks with one command, of a counter of one nanosecond a cycle.
+fn updated(unknown: u32) -> Option<Snapshot> {
+    let desc = CounterDesc::new(
+        unknown.wrapping_add(48),
+        unknown.wrapping_add(16_777_216),
+        unknown.wrapping_add(24),
+    )
+    .ok()?;
+    let real = Timespec {
+        sec: 1_700_000_000,
+        nsec: 0,
+    };
+    let mut clock = Clock::open(desc, OPENING, real).ok()?;
+    clock.apply(OPENING, Command::Update).ok()?;
+    Some(clock.snapshot(1))
+}

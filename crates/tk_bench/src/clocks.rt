@@ -1,0 +1,122 @@
+//! Reads of a snapshot, and updates of running clocks.
+
+use crate::bench::{Bench, Job, Unit};
+use crate::digest::of_snapshot;
+use anyhow::{Context, Result};
+use std::thread::Threads;
+use tk_clock::{Clock, ClockId, Command, Snapshot, Timespec};
+use tk_counter::CounterDesc;
+
+/// Calls in a turn.
+const CALLS: u64 = 1_000_000;
+
+const TURNS: u32 = 20;
+
+/// Reads of a clock at readings that jump about below a mask.
+#[derive(Drop)]
+struct Gets {
+    snapshot: Snapshot,
+    clock: ClockId,
+    mask: u64,
+    sum: u64,
+}
+
+impl Job for Gets {
+    fn turn<R: Threads + Sync>(&mut self, _rt: &R) -> Result<()> {
+        let mut sum: u64 = 0;
+        for turn in 0..CALLS {
+            let reading = turn.wrapping_mul(0x9e37_79b9_7f4a_7c15) & self.mask;
+            if let Ok(time) = self.snapshot.get(self.clock, reading) {
+                sum = sum.wrapping_add(u64::from(time.nsec) ^ time.sec.unsigned_abs());
+            }
+        }
+        self.sum = sum;
+        Ok(())
+    }
+
+    fn check(&self) -> u64 {
+        self.sum
+    }
+}
+
+/// Updates of clocks, so many cycles apart.
+#[derive(Drop)]
+struct Updates {
+    opened: Clock,
+    step: u64,
+    mask: u64,
+    updated: Snapshot,
+}
+
+impl Job for Updates {
+    fn turn<R: Threads + Sync>(&mut self, _rt: &R) -> Result<()> {
+        let mut clock = self.opened;
+        let mut reading: u64 = 0;
+        let mut accepted: u64 = 0;
+        for _ in 0..CALLS {
+            reading = reading.wrapping_add(self.step) & self.mask;
+            if clock.apply(reading, Command::Update).is_ok() {
+                accepted = accepted.wrapping_add(1);
+            }
+        }
+        self.updated = clock.snapshot(accepted);
+        Ok(())
+    }
+
+    fn check(&self) -> u64 {
+        of_snapshot(&self.updated)
+    }
+}
+
+/// Reads near the last command and far from it, and updates a microsecond and 0.7 s apart.
+pub(crate) fn run_clocks(rt: &(impl Threads + Sync), bench: &Bench<'_>) -> Result<()> {
+    let unknown = bench.unknown();
+    let fine = opened(unknown, 32, 16_777_216).context("no clocks")?;
+    let wide = opened(unknown, 64, 699_050_667).context("no clocks")?;
+    let clock = if unknown == 0 {
+        ClockId::Realtime
+    } else {
+        ClockId::Tai
+    };
+    for (name, opened, mask) in [
+        ("clock_get_1ms", fine, 0xf_ffff),
+        ("clock_get_2s", fine, 0x7fff_ffff),
+        ("clock_get_12h", wide, 0xff_ffff_ffff),
+    ] {
+        let mut job = Gets {
+            snapshot: opened.snapshot(0),
+            clock,
+            mask,
+            sum: 0,
+        };
+        bench.run(rt, name, Unit::Each(CALLS, "read"), TURNS, &mut job)?;
+    }
+    for (name, opened, step, mask) in [
+        ("clock_apply_1us", fine, 1_000, 0xffff_ffff),
+        ("clock_apply_700ms", wide, 16_777_216, u64::MAX),
+    ] {
+        let mut job = Updates {
+            opened,
+            step,
+            mask,
+            updated: opened.snapshot(0),
+        };
+        bench.run(rt, name, Unit::Each(CALLS, "command"), TURNS, &mut job)?;
+    }
+    Ok(())
+}
+
+/// Clocks of a counter whose numbers the compiler can't know.
+fn opened(unknown: u32, bits: u32, mult: u32) -> Option<Clock> {
+    let desc = CounterDesc::new(
+        unknown.wrapping_add(bits),
+        unknown.wrapping_add(mult),
+        unknown.wrapping_add(24),
+    )
+    .ok()?;
+    let real = Timespec {
+        sec: 1_700_000_000,
+        nsec: 0,
+    };
+    Clock::open(desc, 0, real).ok()
+}

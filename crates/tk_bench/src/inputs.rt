@@ -1,0 +1,51 @@
+//! What jobs are handed: lists of stamps, scripts and stamp files.
+
+use anyhow::Result;
+use std::alloc::{AllocError, Global};
+
+/// The reading at which the clocks of lists of stamps are opened.
+pub(crate) const OPENING: u64 = 12_345;
+
+/// So many times the number.
+pub(crate) fn repeated(alloc: Global, count: usize, number: u64) -> Result<Vec<u64>, AllocError> {
+    vec![in alloc; number; count]
+}
+
+/// Stamps that jump about in the 275 seconds after the opening, at a nanosecond a cycle.
+pub(crate) fn stamps(alloc: Global, count: usize) -> Result<Vec<u64>, AllocError> {
+    let mut stamps = repeated(alloc, count, 0)?;
+    let mut state = 88172645463325252u64;
+    for stamp in stamps.iter_mut() {
+        state = state
+            .wrapping_mul(6364136223846793005)
+            .wrapping_add(1442695040888963407);
+        *stamp = OPENING + (state >> 26);
+    }
+    Ok(stamps)
+}
+
+/// A script of updates 10 ns apart, and of a read of the clock behind each, if there is one.
+pub(crate) fn script(alloc: Global, updates: u64, clock: Option<&str>) -> Result<Vec<u8>> {
+    let mut script = Vec::from_slice(alloc, b"open,64,16777216,24,0,1700000000,0\n")?;
+    for n in 0..updates {
+        let reading = n.wrapping_mul(10);
+        script.extend_from_slice(format!(in alloc; "update,{reading}\n")?.as_bytes())?;
+        if let Some(clock) = clock {
+            let later = reading.wrapping_add(5);
+            script.extend_from_slice(format!(in alloc; "get,{later},{clock}\n")?.as_bytes())?;
+        }
+    }
+    Ok(script)
+}
+
+/// A stamp file whose fronts rise by one each `stretch` stamps, or jump about below it.
+pub(crate) fn stamp_file(alloc: Global, count: u64, stretch: u64, rises: bool) -> Result<Vec<u8>> {
+    let mut file = Vec::new(alloc);
+    let stretch = stretch.max(1);
+    for n in 0..count {
+        let front = if rises { n / stretch } else { n % stretch };
+        let stamp = n.wrapping_mul(997);
+        file.extend_from_slice(format!(in alloc; "{front},{stamp}\n")?.as_bytes())?;
+    }
+    Ok(file)
+}

@@ -1,0 +1,112 @@
+//! Commands of a keeper, with folds, and snapshots of its past.
+
+use crate::bench::{Bench, Job, Unit};
+use crate::digest::of_snapshot;
+use anyhow::{Context, Result};
+use std::alloc::Global;
+use std::thread::Threads;
+use tk_clock::{Command, Timespec};
+use tk_counter::CounterDesc;
+use tk_keeper::Timekeeper;
+
+const COMMANDS: u64 = 10_000_000;
+
+/// How many entries a journal lists.
+const LISTED: u64 = 1_048_576;
+
+/// How many entries a full journal keeps: three quarters.
+const KEPT: u64 = 786_432;
+
+const READS: u64 = 100_000;
+
+/// Updates a microsecond apart, by a keeper that is opened for them.
+#[derive(Drop)]
+struct Commands {
+    alloc: Global,
+    desc: CounterDesc,
+    count: u64,
+    keeper: Timekeeper,
+}
+
+impl Job for Commands {
+    fn turn<R: Threads + Sync>(&mut self, _rt: &R) -> Result<()> {
+        self.keeper = opened(self.alloc, self.desc).context("no keeper")?;
+        for step in 0..self.count {
+            let reading = step.wrapping_mul(1_000) & 0xffff_ffff;
+            if self.keeper.apply(0, reading, Command::Update).is_err() {
+                let _ = self.keeper.fold(KEPT);
+                let again = self.keeper.apply(0, reading, Command::Update);
+                again.ok().context("a command is refused")?;
+            }
+        }
+        Ok(())
+    }
+
+    fn check(&self) -> u64 {
+        of_snapshot(&self.keeper.snapshot()).wrapping_add(self.keeper.folded())
+    }
+}
+
+/// Snapshots at fronts that jump about in a full journal.
+#[derive(Drop)]
+struct Past {
+    keeper: Timekeeper,
+    sum: u64,
+}
+
+impl Job for Past {
+    fn turn<R: Threads + Sync>(&mut self, _rt: &R) -> Result<()> {
+        let mut sum: u64 = 0;
+        for step in 0..READS {
+            let front = step.wrapping_mul(0x9e37_79b9_7f4a_7c15) >> 44;
+            if let Ok(snapshot) = self.keeper.snapshot_at(front) {
+                sum = sum.wrapping_add(snapshot.last() ^ snapshot.frac());
+            }
+        }
+        self.sum = sum;
+        Ok(())
+    }
+
+    fn check(&self) -> u64 {
+        self.sum
+    }
+}
+
+/// Ten million updates with folds, and snapshots of a full journal.
+pub(crate) fn run_keepers(rt: &(impl Threads + Sync), bench: &Bench<'_>) -> Result<()> {
+    if !bench.wants_any("keeper_") {
+        return Ok(());
+    }
+    let (alloc, unknown) = (bench.alloc(), bench.unknown());
+    let desc = CounterDesc::new(32, unknown.wrapping_add(16_777_216), 24);
+    let desc = desc.ok().context("no counter")?;
+    let mut job = Commands {
+        alloc,
+        desc,
+        count: COMMANDS,
+        keeper: opened(alloc, desc).context("no keeper")?,
+    };
+    let unit = Unit::Each(COMMANDS, "command");
+    bench.run(rt, "keeper_commands_10000000", unit, 1, &mut job)?;
+    job.count = LISTED;
+    job.turn(rt)?;
+    let mut job = Past {
+        keeper: job.keeper,
+        sum: 0,
+    };
+    bench.run(
+        rt,
+        "keeper_snapshot_at",
+        Unit::Each(READS, "read"),
+        2,
+        &mut job,
+    )
+}
+
+fn opened(alloc: Global, desc: CounterDesc) -> Option<Timekeeper> {
+    let real = Timespec {
+        sec: 1_700_000_000,
+        nsec: 0,
+    };
+    Timekeeper::open(alloc, desc, 0, real).ok()
+}

@@ -1,0 +1,38 @@
+//! Times the calls of one thread, and whole texts: of each job the least time of some turns.
+//!
+//! | Words | What it prints |
+//! |---|---|
+//! | none | for each job a line `JOB<tab>CHECK`, after few turns |
+//! | `time` | for each job a line `JOB<tab>NUMBER<tab>UNIT<tab>CHECK` |
+//! | `time JOB..` | the same for these jobs |
+//!
+//! NUMBER is the least time of a turn, in ns for each of what UNIT names, or in ms for the whole.
+//! CHECK is drawn from all that the last turn gave. The programs in `bench/peer` and `bench/c` have
+//! jobs of the same names. `bench/run` runs them beside this one and compares the checks.
+#![tactic(auto)]
+
+mod batches;
+mod bench;
+mod clocks;
+mod digest;
+mod inputs;
+mod keepers;
+mod texts;
+mod traces;
+
+use anyhow::Result;
+use batches::run_batches;
+use bench::Bench;
+use clocks::run_clocks;
+use keepers::run_keepers;
+use texts::run_texts;
+use traces::run_traces;
+
+fn main(rt: HostRuntime) -> Result<()> {
+    let bench = Bench::of_words(&rt)?;
+    run_clocks(&rt, &bench)?;
+    run_keepers(&rt, &bench)?;
+    run_batches(&rt, &bench)?;
+    run_traces(&rt, &bench)?;
+    run_texts(&rt, &bench)
+}

@@ -1,0 +1,94 @@
+//! Reports of scripts and traces by stamp files, from bytes to text.
+
+use crate::bench::{Bench, Job, Unit};
+use crate::digest::of_bytes;
+use crate::inputs::{script, stamp_file};
+use anyhow::Result;
+use std::alloc::Global;
+use std::thread::Threads;
+use tk_clock::ClockId;
+use tk_replay::{report, trace};
+
+/// Stamps in a row that have one front, where fronts rise; and commands of the script.
+const STRETCH: u64 = 1_000;
+
+/// The report of a script.
+#[derive(Drop)]
+struct Report {
+    alloc: Global,
+    script: Vec<u8>,
+    text: Vec<u8>,
+}
+
+impl Job for Report {
+    fn turn<R: Threads + Sync>(&mut self, _rt: &R) -> Result<()> {
+        self.text = Vec::new(self.alloc);
+        self.text = report(self.alloc, self.script.as_slice())?;
+        Ok(())
+    }
+
+    fn check(&self) -> u64 {
+        of_bytes(self.text.as_slice())
+    }
+}
+
+/// TAI at each stamp of a file.
+#[derive(Drop)]
+struct Trace {
+    alloc: Global,
+    script: Vec<u8>,
+    stamps: Vec<u8>,
+    text: Vec<u8>,
+}
+
+impl Job for Trace {
+    fn turn<R: Threads + Sync>(&mut self, _rt: &R) -> Result<()> {
+        self.text = Vec::new(self.alloc);
+        let (mut script, mut stamps) = (self.script.as_slice(), self.stamps.as_slice());
+        trace(
+            self.alloc,
+            &mut script,
+            &mut stamps,
+            ClockId::Tai,
+            &mut self.text,
+        )?;
+        Ok(())
+    }
+
+    fn check(&self) -> u64 {
+        of_bytes(self.text.as_slice())
+    }
+}
+
+/// Reports of 100,000 and a million records, and traces of as many stamps.
+pub(crate) fn run_texts(rt: &(impl Threads + Sync), bench: &Bench<'_>) -> Result<()> {
+    if !bench.wants_any("text_") {
+        return Ok(());
+    }
+    let alloc = bench.alloc();
+    for (name, pairs, clock, turns) in [
+        ("text_report_100000", 50_000, "tai", 20),
+        ("text_report_utc_100000", 50_000, "realtime", 20),
+        ("text_report_1000000", 500_000, "tai", 4),
+    ] {
+        let mut job = Report {
+            alloc,
+            script: script(alloc, pairs, Some(clock))?,
+            text: Vec::new(alloc),
+        };
+        bench.run(rt, name, Unit::Whole, turns, &mut job)?;
+    }
+    for (name, stamps, rises) in [
+        ("text_trace_rising_1000000", 1_000_000, true),
+        ("text_trace_jumping_100000", 100_000, false),
+    ] {
+        let mut job = Trace {
+            alloc,
+            script: script(alloc, STRETCH, None)?,
+            stamps: stamp_file(alloc, stamps, STRETCH, rises)?,
+            text: Vec::new(alloc),
+        };
+        bench.run(rt, name, Unit::Whole, 4, &mut job)?;
+    }
+    Ok(())
+}

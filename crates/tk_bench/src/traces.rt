@@ -1,0 +1,129 @@
+//! Lists of stamps by a journal: into a new list and into memory that is there, by one thread and
+//! by all.
+
+use crate::bench::{Bench, Job, Unit};
+use crate::digest::of_numbers;
+use crate::inputs::{OPENING, repeated, stamps};
+use anyhow::{Context, Result, ensure};
+use std::alloc::Global;
+use std::thread::Threads;
+use tk_clock::{ClockId, Command, Timespec};
+use tk_counter::CounterDesc;
+use tk_keeper::Timekeeper;
+use tk_pieces::{trace_all, trace_all_into};
+
+/// The call that converts.
+#[derive(Clone, Copy)]
+enum Form {
+    Trace,
+    TraceInto,
+    TraceAll,
+    TraceAllInto,
+}
+
+/// A conversion of one list.
+#[derive(Drop)]
+struct Trace {
+    form: Form,
+    alloc: Global,
+    keeper: Timekeeper,
+    fronts: Vec<u64>,
+    stamps: Vec<u64>,
+    /// The list that was made last.
+    made: Vec<u64>,
+    /// The memory that is there.
+    out: Vec<u64>,
+}
+
+impl Job for Trace {
+    fn turn<R: Threads + Sync>(&mut self, rt: &R) -> Result<()> {
+        let (fronts, stamps) = (self.fronts.as_slice(), self.stamps.as_slice());
+        let (keeper, clock) = (&self.keeper, ClockId::Realtime);
+        let out = self.out.as_mut_slice();
+        ensure!(fronts.len() == stamps.len(), "lists of two lengths");
+        ensure!(stamps.len() == out.len(), "lists of two lengths");
+        self.made = Vec::new(self.alloc);
+        match self.form {
+            Form::Trace => self.made = keeper.trace(fronts, stamps, clock)?,
+            Form::TraceInto => keeper.trace_into(fronts, stamps, clock, out)?,
+            Form::TraceAll => {
+                self.made = trace_all(rt, self.alloc, keeper, fronts, stamps, clock)?;
+            }
+            Form::TraceAllInto => trace_all_into(rt, keeper, fronts, stamps, clock, out)?,
+        }
+        Ok(())
+    }
+
+    fn check(&self) -> u64 {
+        match self.form {
+            Form::Trace | Form::TraceAll => of_numbers(self.made.as_slice()),
+            Form::TraceInto | Form::TraceAllInto => of_numbers(self.out.as_slice()),
+        }
+    }
+}
+
+/// Each form at 100,000, a million and ten million stamps.
+pub(crate) fn run_traces(rt: &(impl Threads + Sync), bench: &Bench<'_>) -> Result<()> {
+    if !bench.wants_any("trace_") && !bench.wants_any("pieces_") {
+        return Ok(());
+    }
+    let names = [
+        ("trace_new_100000", Form::Trace),
+        ("trace_into_100000", Form::TraceInto),
+        ("pieces_new_100000", Form::TraceAll),
+        ("pieces_into_100000", Form::TraceAllInto),
+    ];
+    run_forms(rt, bench, 100_000, 50, names)?;
+    let names = [
+        ("trace_new_1000000", Form::Trace),
+        ("trace_into_1000000", Form::TraceInto),
+        ("pieces_new_1000000", Form::TraceAll),
+        ("pieces_into_1000000", Form::TraceAllInto),
+    ];
+    run_forms(rt, bench, 1_000_000, 20, names)?;
+    let names = [
+        ("trace_new_10000000", Form::Trace),
+        ("trace_into_10000000", Form::TraceInto),
+        ("pieces_new_10000000", Form::TraceAll),
+        ("pieces_into_10000000", Form::TraceAllInto),
+    ];
+    run_forms(rt, bench, 10_000_000, 5, names)
+}
+
+/// The jobs of these names, over so many stamps.
+fn run_forms(
+    rt: &(impl Threads + Sync),
+    bench: &Bench<'_>,
+    count: usize,
+    turns: u32,
+    names: [(&str, Form); 4],
+) -> Result<()> {
+    let alloc = bench.alloc();
+    let mut job = Trace {
+        form: Form::Trace,
+        alloc,
+        keeper: opened(alloc, bench.unknown()).context("no keeper")?,
+        fronts: repeated(alloc, count, 1)?,
+        stamps: stamps(alloc, count)?,
+        made: Vec::new(alloc),
+        out: repeated(alloc, count, 0)?,
+    };
+    for (name, form) in names {
+        job.form = form;
+        job.out.fill(0);
+        bench.run(rt, name, Unit::Each(count as u64, "stamp"), turns, &mut job)?;
+    }
+    Ok(())
+}
+
+/// Clocks with one command, of a counter of one nanosecond a cycle.
+fn opened(alloc: Global, unknown: u32) -> Option<Timekeeper> {
+    let desc = CounterDesc::new(48, unknown.wrapping_add(16_777_216), 24).ok()?;
+    let real = Timespec {
+        sec: 1_700_000_000,
+        nsec: 0,
+    };
+    let mut keeper = Timekeeper::open(alloc, desc, OPENING, real).ok()?;
+    keeper.apply(0, OPENING, Command::Update).ok()?;
+    Some(keeper)
+}
