@@ -1,0 +1,85 @@
+//! A race: actors in threads of their own on one shared keeper, and what each was answered.
+use crate::clock::{weighed, Command, Refusal};
+use crate::shared::{Caller, Locked, SharedKeeper};
+use crate::{Effort, Turn};
+use std::hint::black_box;
+use std::thread;
+use std::time::Instant;
+
+const ACTORS: usize = 4;
+const ORDERS: u64 = 100_000;
+
+#[derive(Clone, Copy)]
+#[allow(dead_code)]
+enum Action {
+    Order(Command),
+    Look,
+    Glance,
+}
+
+#[derive(Clone, Copy)]
+#[allow(dead_code)]
+enum Reply {
+    Done(u64),
+    Refused(Refusal),
+    Saw(u64),
+    Glanced(u64),
+    Moved,
+}
+
+fn replied(keeper: &SharedKeeper, caller: &mut Caller, action: Action) -> Reply {
+    match action {
+        Action::Order(cmd) => match keeper.command(caller, cmd) {
+            Ok(number) => Reply::Done(number),
+            Err(refusal) => Reply::Refused(refusal),
+        },
+        Action::Look => Reply::Saw(keeper.read(caller)[0]),
+        Action::Glance => match keeper.fast_read(caller) {
+            Ok(words) => Reply::Glanced(words[0]),
+            Err(_) => Reply::Moved,
+        },
+    }
+}
+
+fn orders(actors: &[Vec<Action>]) -> usize {
+    let is_order = |action: &&Action| matches!(action, Action::Order(_));
+    actors.iter().map(|a| a.iter().filter(is_order).count()).sum()
+}
+
+fn race(actors: &[Vec<Action>]) -> (Locked, Vec<Vec<Reply>>) {
+    let (keeper, mut callers) = SharedKeeper::opened(actors.len() as u32, orders(actors));
+    let keeper = Box::new(keeper);
+    let shared = &*keeper;
+    let replies = thread::scope(|scope| {
+        let started: Vec<_> = actors
+            .iter()
+            .zip(callers.iter_mut())
+            .map(|(actions, caller)| {
+                let mut replies = Vec::with_capacity(actions.len());
+                scope.spawn(move || {
+                    for action in actions {
+                        replies.push(replied(shared, caller, *action));
+                    }
+                    replies
+                })
+            })
+            .collect();
+        started.into_iter().map(|one| one.join().unwrap()).collect()
+    });
+    (keeper.close(), replies)
+}
+
+/// Times a race, with the opening of its keeper and its closing.
+pub fn four_actors(effort: Effort) -> Turn {
+    let orders = effort.of(ORDERS) as usize;
+    let actors = vec![vec![Action::Order(Command::Update); orders]; ACTORS];
+    let start = Instant::now();
+    let (locked, replies) = race(black_box(&actors));
+    let time = start.elapsed();
+    black_box(replies);
+    Turn {
+        time,
+        count: locked.count(),
+        check: weighed(&locked.words()),
+    }
+}

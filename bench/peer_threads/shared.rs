@@ -1,0 +1,245 @@
+//! A shared keeper: a lock of std, a journal in a vector with a copy of the clocks at each 256th
+//! entry, a page and a latch.
+use crate::clock::{weighed, weight, Clock, Command, Refusal, Words, STEP};
+use crate::latch::Latch;
+use crate::page::Page;
+use crate::{Effort, Turn};
+use std::hint::black_box;
+use std::sync::atomic::{AtomicU64, Ordering};
+use std::sync::Mutex;
+use std::thread;
+use std::time::Instant;
+
+const COMMANDS: u64 = 300_000;
+
+/// How many entries a journal may list, and how many commands it may count.
+const LISTED_LIMIT: usize = 1_048_576;
+const COUNTED_LIMIT: u64 = (1 << 63) - 1;
+
+/// The clocks are kept at each such entry.
+const KEPT_EVERY: u64 = 256;
+
+/// How many reads are made between two looks at whether the others have ended.
+const READS_BETWEEN: u64 = 64;
+
+#[derive(Clone, Copy)]
+#[allow(dead_code)]
+struct Entry {
+    who: u32,
+    reading: u64,
+    cmd: Command,
+}
+
+struct Ticker {
+    next: u64,
+}
+
+impl Ticker {
+    fn read(&mut self) -> u64 {
+        let now = self.next;
+        self.next = now.wrapping_add(STEP);
+        now
+    }
+}
+
+pub struct Locked {
+    clock: Clock,
+    entries: Vec<Entry>,
+    kept: Vec<Clock>,
+    counter: Ticker,
+}
+
+impl Locked {
+    fn apply(&mut self, who: u32, cmd: Command) -> Result<u64, Refusal> {
+        let reading = self.counter.read() & self.clock.desc.mask();
+        if self.entries.len() >= LISTED_LIMIT || self.entries.len() as u64 >= COUNTED_LIMIT {
+            return Err(Refusal::Full);
+        }
+        self.clock.apply(reading, cmd)?;
+        self.entries.push(Entry { who, reading, cmd });
+        let number = self.entries.len() as u64;
+        if number % KEPT_EVERY == 0 {
+            self.kept.push(self.clock);
+        }
+        Ok(number)
+    }
+
+    /// How many commands were accepted.
+    pub fn count(&self) -> u64 {
+        self.entries.len() as u64
+    }
+
+    pub fn words(&self) -> Words {
+        self.clock.words(self.count())
+    }
+}
+
+pub struct Caller {
+    id: u32,
+    accepted: u64,
+    front: u64,
+    mark: u64,
+}
+
+pub struct SharedKeeper {
+    page: Page,
+    latch: Latch,
+    locked: Mutex<Locked>,
+}
+
+impl SharedKeeper {
+    pub fn opened(callers: u32, room: usize) -> (SharedKeeper, Vec<Caller>) {
+        let clock = Clock::opened();
+        let words = clock.words(0);
+        let mut counter = Ticker { next: 0 };
+        counter.read();
+        let keeper = SharedKeeper {
+            page: Page::new(words),
+            latch: Latch::new(words),
+            locked: Mutex::new(Locked {
+                clock,
+                entries: Vec::with_capacity(room),
+                kept: Vec::with_capacity(room / KEPT_EVERY as usize + 1),
+                counter,
+            }),
+        };
+        let caller = |id| Caller {
+            id,
+            accepted: 0,
+            front: 0,
+            mark: 0,
+        };
+        (keeper, (0..callers).map(caller).collect())
+    }
+
+    pub fn command(&self, caller: &mut Caller, cmd: Command) -> Result<u64, Refusal> {
+        let mut locked = self.locked.lock().unwrap();
+        let number = locked.apply(caller.id, cmd)?;
+        let words = locked.clock.words(number);
+        self.page.store(words);
+        self.latch.publish(&words);
+        caller.accepted += 1;
+        caller.front = number;
+        caller.mark = number;
+        Ok(number)
+    }
+
+    pub fn read(&self, caller: &mut Caller) -> Words {
+        let words = self.page.load();
+        caller.front = words[0];
+        words
+    }
+
+    pub fn fast_read(&self, caller: &mut Caller) -> Result<Words, (u64, u64)> {
+        let words = self.latch.try_read()?;
+        caller.mark = words[0];
+        Ok(words)
+    }
+
+    pub fn close(self) -> Locked {
+        self.locked.into_inner().unwrap()
+    }
+}
+
+fn gives(keeper: &SharedKeeper, caller: &mut Caller, count: u64) {
+    for _ in 0..count {
+        let _ = black_box(keeper.command(caller, Command::Update));
+    }
+}
+
+/// A keeper with five callers, the last apart.
+fn opened() -> (Box<SharedKeeper>, Vec<Caller>, Caller) {
+    let (keeper, mut callers) = SharedKeeper::opened(5, COMMANDS as usize);
+    let caller = callers.pop().unwrap();
+    (Box::new(keeper), callers, caller)
+}
+
+/// Times commands by one thread.
+pub fn one_thread(effort: Effort) -> Turn {
+    let (keeper, _, mut caller) = opened();
+    let count = effort.of(COMMANDS);
+    let start = Instant::now();
+    gives(&keeper, &mut caller, count);
+    let time = start.elapsed();
+    let check = weighed(&keeper.read(&mut caller));
+    Turn { time, count, check }
+}
+
+/// Times commands by four threads.
+pub fn four_threads(effort: Effort) -> Turn {
+    let (keeper, mut callers, mut caller) = opened();
+    let (keeper, count) = (&*keeper, effort.of(COMMANDS));
+    let start = Instant::now();
+    thread::scope(|scope| {
+        for one in callers.iter_mut() {
+            scope.spawn(move || gives(keeper, one, count / 4));
+        }
+    });
+    let time = start.elapsed();
+    let check = weighed(&keeper.read(&mut caller));
+    Turn { time, count, check }
+}
+
+/// Reads until all four have ended: how often, and how far the sum of the weights is from so many
+/// times the usual one, which is 0 where each read was whole.
+fn reads(keeper: &SharedKeeper, caller: &mut Caller, usual: u64, ended: &AtomicU64) -> (u64, u64) {
+    let (mut count, mut sum) = (0u64, 0u64);
+    while ended.load(Ordering::SeqCst) < 4 {
+        for _ in 0..READS_BETWEEN {
+            sum = sum.wrapping_add(weight(&keeper.read(caller)));
+        }
+        count += READS_BETWEEN;
+    }
+    (count, sum.wrapping_sub(count.wrapping_mul(usual)))
+}
+
+/// The same with fast reads, of which only those count that answer.
+fn fast_reads(
+    keeper: &SharedKeeper,
+    caller: &mut Caller,
+    usual: u64,
+    ended: &AtomicU64,
+) -> (u64, u64) {
+    let (mut count, mut sum) = (0u64, 0u64);
+    while ended.load(Ordering::SeqCst) < 4 {
+        for _ in 0..READS_BETWEEN {
+            if let Ok(words) = keeper.fast_read(caller) {
+                sum = sum.wrapping_add(weight(&words));
+                count += 1;
+            }
+        }
+    }
+    (count, sum.wrapping_sub(count.wrapping_mul(usual)))
+}
+
+/// Times reads beside four threads that give commands.
+fn beside(
+    effort: Effort,
+    read: impl FnOnce(&SharedKeeper, &mut Caller, u64, &AtomicU64) -> (u64, u64),
+) -> Turn {
+    let (keeper, mut callers, mut caller) = opened();
+    let usual = weight(&keeper.read(&mut caller));
+    let ended = AtomicU64::new(0);
+    let (shared, told, each) = (&*keeper, &ended, effort.of(COMMANDS) / 4);
+    let start = Instant::now();
+    let (count, off) = thread::scope(|scope| {
+        for one in callers.iter_mut() {
+            scope.spawn(move || {
+                gives(shared, one, each);
+                told.fetch_add(1, Ordering::SeqCst)
+            });
+        }
+        read(shared, &mut caller, usual, told)
+    });
+    let time = start.elapsed();
+    let check = weighed(&keeper.read(&mut caller)).wrapping_add(off);
+    Turn { time, count, check }
+}
+
+pub fn reads_beside(effort: Effort) -> Turn {
+    beside(effort, reads)
+}
+
+pub fn fast_reads_beside(effort: Effort) -> Turn {
+    beside(effort, fast_reads)
+}

@@ -1,0 +1,67 @@
+//! Reports of many scripts, by one worker and by four.
+use crate::job::Effort;
+use crate::turn::{IN_MILLISECONDS, Turn};
+use std::alloc::{AllocError, Global};
+use std::fmt::Write;
+use std::sync::Wait;
+use std::thread::Threads;
+use std::time::{Clock as Hours, Instant};
+use tk_gate::NoGate;
+use tk_replay::replay_all;
+
+const SCRIPTS: usize = 8;
+
+/// How many updates a script has in a full turn, each with a read behind it.
+const PAIRS: u64 = 50_000;
+
+/// A script of an opening, and of updates and reads of TAI by turns.
+fn script(alloc: Global, pairs: u64) -> Result<Vec<u8>, std::fmt::Error> {
+    let mut text = String::new(alloc);
+    text.push_str("open,32,16777216,24,0,1700000000,0\n")?;
+    for place in 0..pairs {
+        write!(text, "update,{place}\nget,{place},tai\n")?;
+    }
+    Ok(text.into_bytes())
+}
+
+fn scripts(alloc: Global, pairs: u64) -> Result<Vec<Vec<u8>>, AllocError> {
+    let mut scripts = Vec::new(alloc);
+    for _ in 0..SCRIPTS {
+        scripts.push(script(alloc, pairs).map_err(|_| AllocError)?)?;
+    }
+    Ok(scripts)
+}
+
+/// The bytes of a text in one number, each in its own place, behind another one's.
+fn weighed(before: u64, text: &[u8]) -> u64 {
+    let mut sum = before;
+    for byte in text {
+        sum = sum.wrapping_mul(31).wrapping_add(u64::from(*byte));
+    }
+    sum
+}
+
+/// Times the reports of all scripts by so many workers.
+pub fn turn<R: Threads + Wait + Hours + Sync>(
+    rt: &R,
+    alloc: Global,
+    workers: usize,
+    effort: Effort,
+) -> Option<Turn> {
+    let scripts = scripts(alloc, effort.of(PAIRS)).ok()?;
+    let start = Instant::now(rt).ok()?;
+    let outcomes = replay_all(rt, alloc, scripts.as_slice(), workers, &NoGate).ok()?;
+    let time = start.elapsed(rt).ok()?;
+    let mut check = 0u64;
+    for outcome in &outcomes {
+        let Ok(report) = outcome else {
+            return None;
+        };
+        check = weighed(check, report.as_slice());
+    }
+    Some(Turn {
+        time,
+        count: IN_MILLISECONDS,
+        check,
+    })
+}

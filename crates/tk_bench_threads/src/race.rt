@@ -1,0 +1,51 @@
+//! A race of four actors.
+use crate::clocks::{OPENED_TIME, STEP, nanosecond_counter, weighed};
+use crate::job::Effort;
+use crate::turn::Turn;
+use std::alloc::{AllocError, Global};
+use std::sync::Wait;
+use std::thread::Threads;
+use std::time::{Clock as Hours, Instant};
+use tk_clock::Command;
+use tk_gate::NoGate;
+use tk_race::{Action, race};
+
+const ACTORS: usize = 4;
+
+/// How many orders each actor has in a full turn.
+const ORDERS: u64 = 100_000;
+
+/// So many orders of an update for each actor.
+fn updates(alloc: Global, orders: u64) -> Result<Vec<Vec<Action>>, AllocError> {
+    let mut all = Vec::new(alloc);
+    for _ in 0..ACTORS {
+        all.push(vec![in alloc; Action::Order(Command::Update); orders as usize]?)?;
+    }
+    Ok(all)
+}
+
+/// Times a race, with the opening of its keeper and its closing.
+pub fn turn<R: Threads + Wait + Hours + Sync>(
+    rt: &R,
+    alloc: Global,
+    effort: Effort,
+) -> Option<Turn> {
+    let desc = nanosecond_counter()?;
+    let actors = updates(alloc, effort.of(ORDERS)).ok()?;
+    let start = Instant::now(rt).ok()?;
+    let report = race(
+        rt,
+        alloc,
+        desc,
+        0,
+        OPENED_TIME,
+        STEP,
+        actors.as_slice(),
+        &NoGate,
+    )
+    .ok()?;
+    let time = start.elapsed(rt).ok()?;
+    let count = report.keeper.len() as u64;
+    let check = weighed(&report.keeper.snapshot());
+    Some(Turn { time, count, check })
+}

@@ -1,0 +1,257 @@
+//! Commands of a shared keeper by one thread and by four, and reads beside them.
+ghost use Rattle.tk_shared.specs.Opening.{IsNamed};
+
+use crate::clocks::{OPENED_TIME, STEP, nanosecond_counter, weighed, weight};
+use crate::job::Effort;
+use crate::turn::Turn;
+use std::alloc::Global;
+use std::marker::Brand;
+use std::sync::Wait;
+use std::sync::atomic::{AtomicU64, Ordering};
+use std::thread::{self, Threads};
+use std::time::{Clock as Hours, Instant};
+use tk_clock::Command;
+use tk_shared::{Caller, Named, Prepared, SharedKeeper, Ticker, prepare};
+
+/// How many commands a full turn gives, in all threads together.
+const COMMANDS: u64 = 300_000;
+
+/// Room for as many.
+const ROOM: usize = 300_000;
+
+/// How many reads are made between two looks at whether the others have ended.
+const READS_BETWEEN: u64 = 64;
+
+/// What is timed.
+#[derive(Clone, Copy)]
+pub enum Work {
+    OneThread,
+    FourThreads,
+    ReadsBeside,
+    FastReadsBeside,
+}
+
+/// Times the work, on a keeper that was just opened for five callers.
+pub fn turn<R: Threads + Wait + Hours + Sync>(
+    rt: &R,
+    alloc: Global,
+    work: Work,
+    effort: Effort,
+) -> Option<Turn> {
+    let counter = Ticker::new(0, STEP);
+    let desc = nanosecond_counter()?;
+    let prepared = prepare(alloc, rt, desc, OPENED_TIME, counter, 5, ROOM).ok()?;
+    worked::<Brand, R>(rt, alloc, prepared, work, effort.of(COMMANDS))
+}
+
+fn worked<L: Named + Send + Sync, R: Threads + Wait + Hours + Sync>(
+    rt: &R,
+    alloc: Global,
+    prepared: Prepared<Ticker>,
+    work: Work,
+    commands: u64,
+) -> Option<Turn>
+    requires named { IsNamed prepared L.page L.latch L.name L.parts L.callers }
+{
+    let (keeper, mut callers) = SharedKeeper::<L, Ticker>::open(alloc, prepared).ok()?;
+    let caller = callers.pop()?;
+    let start = Instant::now(rt).ok()?;
+    let (done, mut caller) = does(rt, &keeper, caller, callers, work, commands);
+    let time = start.elapsed(rt).ok()?;
+    let last = keeper.read(rt, &mut caller);
+    Some(Turn {
+        time,
+        count: done.count,
+        check: weighed(&last).wrapping_add(done.off(weight(&last))),
+    })
+}
+
+/// What was done.
+#[derive(Clone, Copy)]
+struct Done {
+    /// How often that was done which is timed.
+    count: u64,
+    /// The sum of the weights of what was read.
+    sum: u64,
+    /// How many snapshots that was.
+    read: u64,
+}
+
+impl Done {
+    /// So many commands, and no read.
+    fn commands(count: u64) -> Done {
+        Done {
+            count,
+            sum: 0,
+            read: 0,
+        }
+    }
+
+    /// How far the sum is from that of so many snapshots of the usual weight: 0 where each was whole.
+    fn off(&self, usual: u64) -> u64 {
+        self.sum.wrapping_sub(self.read.wrapping_mul(usual))
+    }
+}
+
+/// Does the work; what was done, and the first caller back.
+fn does<L: Named + Send + Sync, R: Threads + Wait + Sync>(
+    rt: &R,
+    keeper: &SharedKeeper<L, Ticker>,
+    mut caller: Caller<L>,
+    others: Vec<Caller<L>>,
+    work: Work,
+    commands: u64,
+) -> (Done, Caller<L>) {
+    match work {
+        Work::OneThread => {
+            gives(rt, keeper, &mut caller, commands);
+            (Done::commands(commands), caller)
+        }
+        Work::FourThreads => {
+            let ended = AtomicU64::new(0);
+            quarters(rt, keeper, others, commands, &ended);
+            (Done::commands(commands), caller)
+        }
+        Work::ReadsBeside => beside(rt, keeper, caller, others, commands, false),
+        Work::FastReadsBeside => beside(rt, keeper, caller, others, commands, true),
+    }
+}
+
+/// Gives so many commands.
+fn gives<L: Named, R: Wait>(
+    rt: &R,
+    keeper: &SharedKeeper<L, Ticker>,
+    caller: &mut Caller<L>,
+    count: u64,
+) {
+    for _ in 0..count {
+        let _ = keeper.command(rt, caller, Command::Update);
+    }
+}
+
+/// Gives so many commands, and tells that it has ended.
+fn part<L: Named, R: Wait>(
+    rt: &R,
+    keeper: &SharedKeeper<L, Ticker>,
+    mut caller: Caller<L>,
+    count: u64,
+    ended: &AtomicU64,
+) {
+    gives(rt, keeper, &mut caller, count);
+    ended.fetch_add(1, Ordering::SeqCst);
+}
+
+/// Gives a quarter of the commands in each of two threads.
+fn half<L: Named + Send + Sync, R: Threads + Wait + Sync>(
+    rt: &R,
+    keeper: &SharedKeeper<L, Ticker>,
+    one: Caller<L>,
+    two: Caller<L>,
+    commands: u64,
+    ended: &AtomicU64,
+) {
+    let _ = thread::join(
+        rt,
+        move || part(rt, keeper, one, commands / 4, ended),
+        move || part(rt, keeper, two, commands / 4, ended),
+    );
+}
+
+/// Gives a quarter of the commands in a thread for each of the last four callers.
+fn quarters<L: Named + Send + Sync, R: Threads + Wait + Sync>(
+    rt: &R,
+    keeper: &SharedKeeper<L, Ticker>,
+    mut callers: Vec<Caller<L>>,
+    commands: u64,
+    ended: &AtomicU64,
+) {
+    let (Some(one), Some(two), Some(three), Some(four)) = (
+        callers.pop(),
+        callers.pop(),
+        callers.pop(),
+        callers.pop(),
+    ) else {
+        return;
+    };
+    let _ = thread::join(
+        rt,
+        move || half(rt, keeper, one, two, commands, ended),
+        move || half(rt, keeper, three, four, commands, ended),
+    );
+}
+
+/// Reads beside four threads that give the commands, until these have ended; the reads, and the
+/// caller that made them.
+fn beside<L: Named + Send + Sync, R: Threads + Wait + Sync>(
+    rt: &R,
+    keeper: &SharedKeeper<L, Ticker>,
+    mut caller: Caller<L>,
+    others: Vec<Caller<L>>,
+    commands: u64,
+    is_fast: bool,
+) -> (Done, Caller<L>) {
+    let ended = AtomicU64::new(0);
+    let told = &ended;
+    let (_, read) = thread::join(
+        rt,
+        move || quarters(rt, keeper, others, commands, told),
+        move || {
+            let done = if is_fast {
+                fast_reads(keeper, &mut caller, told)
+            } else {
+                reads(rt, keeper, &mut caller, told)
+            };
+            (done, caller)
+        },
+    );
+    read
+}
+
+/// Reads until all four have ended.
+fn reads<L: Named, R: Wait>(
+    rt: &R,
+    keeper: &SharedKeeper<L, Ticker>,
+    caller: &mut Caller<L>,
+    ended: &AtomicU64,
+) -> Done {
+    let (mut count, mut sum) = (0u64, 0u64);
+    for _ in 0..u64::MAX {
+        if ended.load(Ordering::SeqCst) >= 4 {
+            break;
+        }
+        for _ in 0..READS_BETWEEN {
+            sum = sum.wrapping_add(weight(&keeper.read(rt, caller)));
+        }
+        count = count.wrapping_add(READS_BETWEEN);
+    }
+    Done {
+        count,
+        sum,
+        read: count,
+    }
+}
+
+/// The same with fast reads, of which only those count that answer.
+fn fast_reads<L: Named>(
+    keeper: &SharedKeeper<L, Ticker>,
+    caller: &mut Caller<L>,
+    ended: &AtomicU64,
+) -> Done {
+    let (mut count, mut sum) = (0u64, 0u64);
+    for _ in 0..u64::MAX {
+        if ended.load(Ordering::SeqCst) >= 4 {
+            break;
+        }
+        for _ in 0..READS_BETWEEN {
+            if let Ok(snapshot) = keeper.fast_read(caller) {
+                sum = sum.wrapping_add(weight(&snapshot));
+                count = count.wrapping_add(1);
+            }
+        }
+    }
+    Done {
+        count,
+        sum,
+        read: count,
+    }
+}
