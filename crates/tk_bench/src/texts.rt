@@ -42,10 +42,11 @@ struct Trace {
 }
 
 impl Job for Trace {
-    fn turn<R: Threads + Sync>(&mut self, _rt: &R) -> Result<()> {
+    fn turn<R: Threads + Sync>(&mut self, rt: &R) -> Result<()> {
         self.text = Vec::new(self.alloc);
         let (mut script, mut stamps) = (self.script.as_slice(), self.stamps.as_slice());
         trace(
+            rt,
             self.alloc,
             &mut script,
             &mut stamps,
