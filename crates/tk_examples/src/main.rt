@@ -8,6 +8,7 @@
 
 use std::alloc::{AllocError, Global};
 use std::process::ExitCode;
+use std::thread::Threads;
 use std::{fs, io};
 use tk_clock::ClockId;
 use tk_replay::{Fault, report, report_bounded, trace};
@@ -21,18 +22,18 @@ enum Verdict {
 }
 
 fn main(rt: HostRuntime) -> ExitCode {
-    match check_all(&rt) {
+    match check_all(&rt, &rt) {
         Ok(Verdict::AsExpected) => ExitCode::from(0),
         Ok(Verdict::Differs) | Err(_) => ExitCode::from(1),
     }
 }
 
 /// Checks the examples that standard input names, and tells what each came to.
-fn check_all(rt: &HostRuntime) -> io::Result<Verdict> {
+fn check_all(rt: &HostRuntime, threads: &(impl Threads + Sync)) -> io::Result<Verdict> {
     let mut all = Verdict::AsExpected;
     for line in rt.lines(rt.alloc()) {
         let example = line?;
-        match check(rt, example.as_str())? {
+        match check(rt, threads, example.as_str())? {
             Verdict::AsExpected => println!(rt; "{example}: as expected")?,
             Verdict::Differs => {
                 println!(rt; "{example}: differs")?;
@@ -44,11 +45,11 @@ fn check_all(rt: &HostRuntime) -> io::Result<Verdict> {
 }
 
 /// Checks the script that a line names, or the trace.
-fn check(rt: &HostRuntime, example: &str) -> io::Result<Verdict> {
+fn check(rt: &HostRuntime, threads: &(impl Threads + Sync), example: &str) -> io::Result<Verdict> {
     match example.split_once(' ') {
         None => check_report(rt, example),
         Some((word, name)) => match clock_word(word.as_bytes()) {
-            Some(clock) => check_trace(rt, clock, name),
+            Some(clock) => check_trace(rt, threads, clock, name),
             None => Ok(Verdict::Differs),
         },
     }
@@ -68,13 +69,18 @@ fn check_report(rt: &HostRuntime, name: &str) -> io::Result<Verdict> {
 }
 
 /// Compares the trace of an example with the one beside it.
-fn check_trace(rt: &HostRuntime, clock: ClockId, name: &str) -> io::Result<Verdict> {
+fn check_trace(
+    rt: &HostRuntime,
+    threads: &(impl Threads + Sync),
+    clock: ClockId,
+    name: &str,
+) -> io::Result<Verdict> {
     let alloc = rt.alloc();
     let mut script = fs::open(rt, format!(in alloc; "{name}.csv")?)?;
     let mut stamps = fs::open(rt, format!(in alloc; "{name}.stamps")?)?;
     let expected = expected_of(rt, name, "trace")?;
     let mut told = Vec::new(alloc);
-    if let Err(fault) = trace(rt, alloc, &mut script, &mut stamps, clock, &mut told) {
+    if let Err(fault) = trace(threads, alloc, &mut script, &mut stamps, clock, &mut told) {
         told = fault_text(alloc, fault)?;
     }
     Ok(verdict_if(told.as_slice() == expected.as_slice()))
