@@ -1,5 +1,5 @@
 /* A library that refuses one request for memory of the program which it is loaded into: the one whose number, counted from
- * 1, stands in the variable REFUSE. tools/refuse_each.sh builds it and loads it by LD_PRELOAD. */
+ * 1 over all threads, stands in the variable REFUSE. tools/refuse_each.sh builds it and loads it by LD_PRELOAD. */
 #include <errno.h>
 #include <stddef.h>
 #include <stdlib.h>
@@ -8,18 +8,18 @@ extern void *__libc_malloc(size_t size);
 extern void *__libc_calloc(size_t count, size_t size);
 extern void *__libc_realloc(void *block, size_t size);
 
-/* How many requests are still granted before the one that is refused; below 0, all are. */
-static long granted = -2;
+/* The number of the request that is refused, 0 where none is, and below 0 until the first request comes. */
+static long refused = -1;
+
+/* How many requests there were. */
+static long requests;
 
 static int is_refused(void) {
-    if (granted == -2) {
+    if (refused < 0) {
         const char *number = getenv("REFUSE");
-        granted = number ? atol(number) - 1 : -1;
+        refused = number ? atol(number) : 0;
     }
-    if (granted < 0) {
-        return 0;
-    }
-    if (granted-- > 0) {
+    if (__atomic_add_fetch(&requests, 1, __ATOMIC_SEQ_CST) != refused) {
         return 0;
     }
     errno = ENOMEM;

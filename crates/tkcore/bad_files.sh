@@ -123,4 +123,6 @@ if [ "$(id -u)" = 0 ]; then
         "exec setpriv --reuid 61234 --regid 61234 --clear-groups bash -c 'ulimit -u 1 && exec ./tkcore many 2 script script'"
     stops 'a racing thread that cannot be started' 'cannot start a thread' \
         "exec setpriv --reuid 61234 --regid 61234 --clear-groups bash -c 'ulimit -u 1 && exec ./tkcore race 1 script script'"
+    expect 'a trace goes on where no thread can be started' 0 '' 4194304 1700000000000000000 \
+        "exec setpriv --reuid 61234 --regid 61234 --clear-groups bash -c 'ulimit -u 1 && exec ./tkcore trace realtime script most'"
 fi
