@@ -121,8 +121,9 @@ enum tk_code {
 	/* the reading lies behind that of the last accepted command (clocksource_delta); never at
 	 * RESUME */
 	TK_BEHIND = 5,
-	/* a clock would be at its limit or beyond it: MONOTONIC, BOOTTIME, REALTIME or TAI behind a
-	 * command, the clock that is read at a read */
+	/* a clock would be at its limit or beyond it: after a command MONOTONIC or BOOTTIME, or
+	 * REALTIME or TAI where the command is neither SET_TIME nor STEP; at a read the clock that
+	 * is read */
 	TK_RANGE = 6,
 
 	/* A number that is none of this header's. */
@@ -180,7 +181,7 @@ enum tk_command {
 
 /* The clocks, by the numbers of clock_gettime(2). */
 enum tk_clock_id {
-	/* the time since 1970, which may be set and stepped: it is never below MONOTONIC */
+	/* the time since 1970, which may be set and stepped; it is never below MONOTONIC */
 	TK_CLOCK_REALTIME = 0,
 	/* the awake time since opening, from 0: no command moves it back, and it stands still while
 	 * asleep */

@@ -1,4 +1,4 @@
-ghost use Rattle.std.specs.Prelude.{◌≡◌, ℕ, ◌+◌, ◌*◌, ◌/◌, ◌^◌, ◌<◌, ◌≤◌, MatchOption, SomeIff};
+ghost use Rattle.std.specs.Prelude.{◌≡◌, ℕ, ◌+◌, ◌*◌, ◌/◌, ◌^◌, ◌<◌, ◌≤◌, ◌⊎◌, MatchOption};
 ghost use Rattle.tk_counter.specs.Counter.{second};
 ghost use Rattle.tk_clock.specs.Limits.{clock_end, raw_end};
 
@@ -7,8 +7,11 @@ use tk_counter::CounterDesc;
 /// The nanoseconds of a second.
 pub(crate) const NANOS_PER_SECOND: u64 = 1_000_000_000;
 
-/// The nanoseconds at which every clock but MONOTONIC ends.
-const LONGEST_NANOS: u64 = 9_223_372_036 * NANOS_PER_SECOND;
+/// So many nanoseconds don't fit 63 bits, and are beyond every clock's limit.
+const TOO_MANY_NANOS: u64 = 1 << 63;
+
+/// Fewer cycles have less than 2^63 units at any multiplier.
+const NARROW_CYCLES: u64 = 1 << 31;
 
 /// As many as the lower half of a word can tell apart.
 const HALF_WORD: u64 = 1 << 32;
@@ -70,66 +73,57 @@ impl Amount {
         self.sec * NANOS_PER_SECOND + (self.frac >> desc.shift())
     }
 
-    /// The amount with so many cycles at `mult` on top, in whole nanoseconds. None as for `grown`.
-    pub fn nanos_after(self, desc: &CounterDesc, cycles: u64, mult: u32) -> Option<u64>
+    /// The amount with so many cycles at `mult` on top, in whole nanoseconds. Where that is beyond
+    /// every clock's limit, it may be another number beyond them.
+    pub fn nanos_after(self, desc: &CounterDesc, cycles: u64, mult: u32) -> u64
         requires rest { self.frac < second desc.now }
         requires few { self.sec ≤ raw_end }
-        ensures { let nanos = (units_of desc.now self + cycles * mult) / 2 ^ desc.now.shift in
-            MatchOption result
-            (clock_end * 10 ^ 9 ≤ nanos)
-            (λ told. (told ≡ nanos) × (told ≤ (clock_end + raw_end) * 10 ^ 9)) }
+        ensures told { let nanos = (units_of desc.now self + cycles * mult) / 2 ^ desc.now.shift in
+            (result ≡ nanos) ⊎ ((2 ^ 63 ≤ nanos) × (2 ^ 63 ≤ result)) }
+        ensures most { result ≤ 15 * 10 ^ 18 }
     {
-        let Some(gained) = gained_nanos(self.frac, cycles, mult, desc.shift()) else {
-            return None;
-        };
-        if gained >= LONGEST_NANOS {
-            return None;
-        }
-        Some(self.sec * NANOS_PER_SECOND + gained)
+        self.sec * NANOS_PER_SECOND + gained_nanos(self.frac, cycles, mult, desc.shift())
     }
 }
 
-/// `frac` and so many cycles at `mult`, in ns. None where the ns don't fit 63 bits.
-fn gained_nanos(frac: u64, cycles: u64, mult: u32, shift: u32) -> Option<u64>
+/// `frac` and so many cycles at `mult`, in ns. Where these don't fit 63 bits, it may be another
+/// number that doesn't.
+fn gained_nanos(frac: u64, cycles: u64, mult: u32, shift: u32) -> u64
     requires rest { frac < 2 ^ 62 }
     requires shift { shift ≤ 32 }
-    ensures { let nanos = (frac + cycles * mult) / 2 ^ shift in
-        MatchOption result (2 ^ 63 ≤ nanos) (λ told. told ≡ nanos) }
+    ensures told { let nanos = (frac + cycles * mult) / 2 ^ shift in
+        (result ≡ nanos) ⊎ ((2 ^ 63 ≤ nanos) × (2 ^ 63 ≤ result)) }
+    ensures most { result ≤ 139 * 10 ^ 17 }
 {
-    match narrow_units(frac, cycles, mult) {
-        Some(units) => Some(units >> shift),
-        None => long_nanos(frac, cycles, mult, shift),
+    if cycles < NARROW_CYCLES {
+        (frac + cycles * u64::from(mult)) >> shift
+    } else {
+        long_nanos(frac, cycles, mult, shift)
     }
 }
 
-/// `frac` and so many cycles at `mult`, in units of `2^-shift` ns, where they fit 64 bits.
-fn narrow_units(frac: u64, cycles: u64, mult: u32) -> Option<u64>
-    ensures { SomeIff result (frac + cycles * mult < 2 ^ 64) (frac + cycles * mult) }
-{
-    cycles.checked_mul(u64::from(mult))?.checked_add(frac)
-}
-
-/// As `gained_nanos`, where the units don't fit 64 bits.
+/// As `gained_nanos`, where the units may not fit 64 bits.
 ///
 /// `2^32` units are `2^(32 - shift)` ns, whole ones, so no division is needed.
-fn long_nanos(frac: u64, cycles: u64, mult: u32, shift: u32) -> Option<u64>
+fn long_nanos(frac: u64, cycles: u64, mult: u32, shift: u32) -> u64
     requires rest { frac < 2 ^ 62 }
     requires shift { shift ≤ 32 }
-    ensures { let nanos = (frac + cycles * mult) / 2 ^ shift in
-        MatchOption result (2 ^ 63 ≤ nanos) (λ told. told ≡ nanos) }
+    ensures told { let nanos = (frac + cycles * mult) / 2 ^ shift in
+        (result ≡ nanos) ⊎ ((2 ^ 63 ≤ nanos) × (2 ^ 63 ≤ result)) }
+    ensures most { result ≤ 139 * 10 ^ 17 }
 {
     let (upper, rest) = halves(frac, cycles, mult);
     if upper >> (31 + shift) != 0 {
-        return None;
+        return TOO_MANY_NANOS;
     }
-    Some((upper << (32 - shift)) + (rest >> shift))
+    (upper << (32 - shift)) + (rest >> shift)
 }
 
 /// `frac` and so many cycles at `mult`: how many times `2^32` units, and further units.
 fn halves(frac: u64, cycles: u64, mult: u32) -> (u64, u64)
     requires { frac < 2 ^ 62 }
     ensures value { 2 ^ 32 * result.0 + result.1 ≡ frac + cycles * mult }
-    ensures low { result.1 < 2 ^ 63 }
+    ensures low { result.1 < 2 ^ 62 + 2 ^ 32 }
 {
     let mult = u64::from(mult);
     let lower = cycles % HALF_WORD * mult;

@@ -1,4 +1,4 @@
-ghost use Rattle.std.specs.Prelude.{◌≡◌, ℕ, ◌+◌, ◌*◌, ◌/◌, ◌^◌, ◌<◌, ◌≤◌, MatchOption, MatchResult, Some, None, pos, ◌≤ℤ◌, ◌+ℤ◌, ◌*ℤ◌, ◌<ℤ◌, not, nat_lt, int_lt, true, false, IsTrue, ◌↔◌};
+ghost use Rattle.std.specs.Prelude.{◌≡◌, ℕ, ◌+◌, ◌*◌, ◌/◌, ◌^◌, ◌<◌, ◌≤◌, ◌⊎◌, MatchOption, MatchResult, Some, None, pos, ◌≤ℤ◌, ◌+ℤ◌, ◌*ℤ◌, ◌<ℤ◌, not, nat_lt, int_lt, true, false, IsTrue, ◌↔◌};
 
 mod changes;
 
@@ -118,23 +118,21 @@ impl ReadBase {
         self.desc.mask() - gap < gap
     }
 
-    /// MONOTONIC at a reading, in ns. None where the cycles since the last one are beyond every
-    /// clock's limit.
-    fn monotonic_at(&self, reading: u64) -> Option<u64>
-        ensures { MatchOption result
-            (clock_end * 10 ^ 9 ≤ base_monotonic self.now reading)
-            (λ nanos. (nanos ≡ base_monotonic self.now reading)
-            × (nanos ≤ (clock_end + raw_end) * 10 ^ 9)) }
+    /// MONOTONIC at a reading, in ns. Where that is beyond every clock's limit, it may be another
+    /// number beyond them.
+    fn monotonic_at(&self, reading: u64) -> u64
+        ensures told { let nanos = base_monotonic self.now reading in
+            (result ≡ nanos) ⊎ ((2 ^ 63 ≤ nanos) × (2 ^ 63 ≤ result)) }
+        ensures most { result ≤ 15 * 10 ^ 18 }
     {
         let cycles = self.cycles_since(reading);
         self.monotonic.nanos_after(&self.desc, cycles, self.mult)
     }
 
-    /// MONOTONIC_RAW at a reading, in ns. None as for MONOTONIC.
-    fn raw_at(&self, reading: u64) -> Option<u64>
-        ensures { MatchOption result
-            (clock_end * 10 ^ 9 ≤ base_raw self.now reading)
-            (λ nanos. nanos ≡ base_raw self.now reading) }
+    /// MONOTONIC_RAW at a reading, in ns, as MONOTONIC.
+    fn raw_at(&self, reading: u64) -> u64
+        ensures { let nanos = base_raw self.now reading in
+            (result ≡ nanos) ⊎ ((2 ^ 63 ≤ nanos) × (2 ^ 63 ≤ result)) }
     {
         let cycles = self.cycles_since(reading);
         self.raw.nanos_after(&self.desc, cycles, self.desc.mult())
@@ -203,22 +201,22 @@ impl ReadBase {
         u64::from(self.tai) * NANOS_PER_SECOND
     }
 
-    /// A clock at a reading, in ns. None where it is beyond every limit.
+    /// A clock at a reading, in ns. Where that is at its limit or beyond, it may be another number
+    /// that is.
     #[inline(always)]
-    fn value(&self, clock: ClockId, reading: u64) -> Option<u64>
-        ensures { MatchOption result
-            (limit clock ≤ℤ base_value self.now clock reading)
-            (λ nanos. pos nanos ≡ base_value self.now clock reading) }
+    fn value(&self, clock: ClockId, reading: u64) -> u64
+        ensures { let nanos = base_value self.now clock reading in
+            (pos result ≡ nanos) ⊎ ((limit clock ≤ℤ nanos) × (limit clock ≤ℤ pos result)) }
     {
         match clock {
             ClockId::Monotonic => self.monotonic_at(reading),
-            ClockId::Realtime => self.monotonic_at(reading)?.checked_add(self.real_offset),
-            ClockId::Boottime => self.monotonic_at(reading)?.checked_add(self.boot_offset),
+            ClockId::Realtime => self.monotonic_at(reading).saturating_add(self.real_offset),
+            ClockId::Boottime => self.monotonic_at(reading).saturating_add(self.boot_offset),
             ClockId::Tai => {
-                (self.monotonic_at(reading)? + self.tai_nanos()).checked_add(self.real_offset)
+                (self.monotonic_at(reading) + self.tai_nanos()).saturating_add(self.real_offset)
             }
-            ClockId::RealtimeCoarse => self.monotonic_now().checked_add(self.real_offset),
-            ClockId::MonotonicCoarse => Some(self.monotonic_now()),
+            ClockId::RealtimeCoarse => self.monotonic_now().saturating_add(self.real_offset),
+            ClockId::MonotonicCoarse => self.monotonic_now(),
             ClockId::MonotonicRaw => self.raw_at(reading),
         }
     }
@@ -257,9 +255,7 @@ impl ReadBase {
         if reading > self.desc.mask() {
             return Err(ReadError::Invalid);
         }
-        let Some(nanos) = self.value(clock, reading) else {
-            return Err(ReadError::Range);
-        };
+        let nanos = self.value(clock, reading);
         if nanos >= limit(clock) {
             return Err(ReadError::Range);
         }

@@ -1,23 +1,23 @@
-use Rattle.std.proofs.Common.{◌+◌, ◌*◌, ◌/◌, ◌^◌, ap, ◌∙◌, arith}
+use Rattle.std.proofs.Common.{◌≡◌, ℕ, ◌+◌, ◌*◌, ◌/◌, ◌^◌, ◌≤◌, ◌⊎◌, inl, inr, ap, ◌∙◌, arith}
 use Rattle.tk_clock.proofs.LongUnits.{more_nanos}
 use Rattle.tk_clock.proofs.amount.Amount.nanos_after.Goals as goal
 
-pub returns-in_default : goal.returns-in_default
-returns-in_default c =
+-- what tells the nanoseconds gained tells those on top of whole seconds
+on_top : (whole gained nanos total : ℕ) → whole + nanos ≡ total →
+    (gained ≡ nanos) ⊎ ((2 ^ 63 ≤ nanos) × (2 ^ 63 ≤ gained)) →
+    (whole + gained ≡ total) ⊎ ((2 ^ 63 ≤ total) × (2 ^ 63 ≤ whole + gained))
+on_top whole gained nanos total e (inl told) = inl (ap (λ n. whole + n) told ∙ e)
+on_top whole gained nanos total e (inr beyond) =
+    let far = beyond.0 in
+    let more = beyond.1 in
+    inr (omega (arith, e, far), omega (arith, more))
+
+pub returns-clause-told : goal.returns-clause-told
+returns-clause-told c =
     let amount = c.args.self in
     let same = ap (λ s. (amount.frac + c.args.cycles * c.args.mult) / 2 ^ s)
     c.shift.ensures.value in
     let total = more_nanos amount.sec amount.frac (c.args.cycles * c.args.mult)
     c.args.desc.now.shift in
-    omega (arith, same, total, c.in_default.ensures)
-
-pub returns : goal.returns
-returns c =
-    let amount = c.args.self in
-    let same = ap (λ s. (amount.frac + c.args.cycles * c.args.mult) / 2 ^ s)
-    c.shift.ensures.value in
-    let total = more_nanos amount.sec amount.frac (c.args.cycles * c.args.mult)
-    c.args.desc.now.shift in (
-      ap (λ n. amount.sec * 1000000000 + n) (c.in-Some.ensures ∙ same) ∙ total,
-      omega (arith, c.requires.few, c.if-gained-ge-LONGEST_NANOS.false),
-    )
+    on_top (amount.sec * 1000000000) c.gained_nanos.result _ _
+    (ap (λ n. amount.sec * 1000000000 + n) same ∙ total) c.gained_nanos.ensures.told
