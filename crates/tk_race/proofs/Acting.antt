@@ -4,13 +4,13 @@ use Rattle.std.proofs.lemmas.List.{take_more}
 use Rattle.std.proofs.lemmas.List.Sums.{sum_by_push}
 use Rattle.tk_clock.specs.Journal.{Journal}
 use Rattle.tk_shared.specs.Callers.{Known}
-use Rattle.tk_shared.proofs.Prefixes.{prefix_self, prefix_trans}
+use Rattle.tk_shared.proofs.Prefixes.{prefix_trans}
 use Rattle.tk_shared.proofs.Snapshots.{snapshots_prefix}
 use Rattle.tk_race.specs.declared.action.Action.{Action}
 use Rattle.tk_race.specs.declared.action.RaceReply.{RaceReply}
 use Rattle.tk_race.specs.Actor.{IsAnswer, IsHistoryOf, IsLater, HasActed, Knows, last_front, last_mark}
 use Rattle.tk_race.specs.Replies.{AreReplies, IsReply, front_after, mark_after, done_by}
-use Rattle.tk_race.proofs.Answering.{begins_self, begins_trans}
+use Rattle.tk_race.proofs.Answering.{begins_trans}
 
 -- a history of what a caller knows is one of what it knew before
 history_before : (now next : Known) (done : ℕ) (history : Journal) → IsLater now next done →
@@ -55,18 +55,6 @@ last_mark-push : (mark : ℕ) (replies : List RaceReply) (reply : RaceReply) →
     last_mark mark (replies ++ reply ∷ []) ≡ mark_after (last_mark mark replies) reply
 last_mark-push mark [] reply = refl
 last_mark-push mark (r ∷ rs) reply = last_mark-push (mark_after mark r) rs reply
-
--- an actor that has done nothing
-pub acted_none : (start : Known) → HasActed start start [] []
-acted_none start = record {
-  later = record {
-    id = refl;
-    seen = begins_self start.seen;
-    learnt = prefix_self start.learnt.publications;
-    counted = omega arith;
-  };
-  right = λ history is. (tt, (omega arith, omega arith));
-}
 
 -- one more action
 acted_push : (start now next : Known) (actions : List Action) (replies : List RaceReply)

@@ -4,6 +4,5 @@ pub mod Snapshots
 pub mod Refused
 pub mod Held
 pub mod Told
-pub mod Ready
 pub mod Counts
 pub mod Ends

@@ -1,5 +1,5 @@
 -- Why a shared keeper refuses a command.
-use Rattle.std.proofs.Common.{◌≡◌, ℕ, ◌<◌, ◌≤◌, length, sym, ◌∙◌, arith, true, false}
+use Rattle.std.proofs.Common.{◌≡◌, ℕ, ◌≤◌, length, sym, ◌∙◌, arith, true}
 use Rattle.std.specs.Prelude.{◌||◌, nat_le, Some, None}
 use Rattle.std.proofs.lemmas.Bool.Decides.{nat_tests}
 use Rattle.tk_clock.specs.declared.command.Entry.{Entry}
@@ -11,7 +11,7 @@ use Rattle.tk_clock.specs.Limits.{listed_most, counted_most}
 use Rattle.tk_clock.specs.Refusal.{clock_refusal, first_refusal, IsRefusal}
 use Rattle.tk_shared.specs.Callers.{IsRefusalAfter}
 use Rattle.tk_shared.specs.History.{IsKeptOf}
-use Rattle.tk_clock.proofs.Refusals.{accepts_room, clock_refusal-told, is_full-refused, passes_clock}
+use Rattle.tk_clock.proofs.Refusals.{clock_refusal-told, is_full-refused, passes_clock}
 use Rattle.tk_shared.proofs.Kept.{kept_count, kept_refusal}
 
 -- a journal that is full was preceded by as many entries as one lists
@@ -48,22 +48,10 @@ refused_after history kept entry refusal whole is told = go refusal told
     go Range h = other Range (λ e. absurd (cc e)) h
     go Memory h = sym same ∙ passes_clock kept entry h
 
--- an accepted entry passes the clock's tests after the history, and finds it counted below the most
+-- an accepted entry passes the clock's tests after the history
 pub accepted_after : (history kept : Journal) (entry : Entry) →
     IsWhole history → IsKeptOf history kept → first_refusal kept entry ≡ None →
     clock_refusal history entry ≡ None
 accepted_after history kept entry whole is told =
     sym (kept_refusal history kept whole is entry)
     ∙ passes_clock kept entry told
-
-room : (listed counted all : ℕ) → counted ≡ all →
-    nat_le listed_most listed || nat_le counted_most counted ≡ false → all < counted_most
-room listed counted all same free = grind (arith, nat_tests)
-
-pub accepted_room : (history kept : Journal) (entry : Entry) →
-    IsWhole history → IsKeptOf history kept → first_refusal kept entry ≡ None →
-    length history.entries < counted_most
-accepted_room history kept entry whole is told =
-    room (length kept.entries) (accepted_count kept) (length history.entries)
-    (kept_count history kept whole is)
-    (accepts_room kept entry told)
