@@ -6,3 +6,4 @@ pub mod Running
 pub mod Steps
 pub mod Stretches
 mod Worked
+pub mod Commands

@@ -1,16 +1,15 @@
 //! Commands, and the room that their entries take.
-ghost use Rattle.std.specs.Prelude.{◌≡◌, ◌+◌, ◌-◌, ◌<◌, ◌≤◌, length, min, MatchResult, IfOk, IsErrOf, None, false};
+ghost use Rattle.std.specs.Prelude.{◌≡◌, ◌+◌, ◌-◌, ◌<◌, ◌≤◌, length, min, MatchResult, IfOk, IsErrOf, Some, None, false};
 ghost use Rattle.tk_clock.specs.Journal.{followed_by, accepted_count};
 ghost use Rattle.tk_clock.specs.Life.{NeverFalls};
 ghost use Rattle.tk_clock.specs.Limits.{listed_most};
 ghost use Rattle.tk_clock.specs.Monotonic.{monotonic};
 ghost use Rattle.tk_clock.specs.Refusal.{first_refusal, is_full, IsRefusal};
-ghost use Rattle.tk_clock.specs.State.{state_of};
 ghost use Rattle.tk_clock.specs.declared.command.Entry.{Entry};
 
 use super::{COUNTED_LIMIT, KEPT_EVERY, LISTED_LIMIT, Timekeeper};
 use std::alloc::Allocator;
-use tk_clock::{Clock, Command, Entry, Refusal};
+use tk_clock::{Command, Entry, Refusal};
 
 impl<A: Allocator + Copy> Timekeeper<A> {
     /// Does a command to the clocks and enters it in the journal; the entry's number, counted from
@@ -38,10 +37,27 @@ impl<A: Allocator + Copy> Timekeeper<A> {
         if self.is_full() {
             return Err(Refusal::Full);
         }
+        let entry = Entry { who, reading, cmd };
+        if self.spare() == 0 {
+            return self.apply_growing(entry);
+        }
+        self.enter(entry)
+    }
+
+    /// Does a command for which room must be made first. One that is refused takes no memory.
+    fn apply_growing(&mut self, entry: Entry) -> Result<u64, Refusal>
+        requires none { self.old.spare ≡ 0 }
+        requires free { is_full self.old.journal ≡ false }
+        ensures { MatchResult result
+            (λ number. (first_refusal self.old.journal entry ≡ None)
+            × (self.new.journal ≡ followed_by self.old.journal entry)
+            × (number ≡ accepted_count self.new.journal))
+            (λ refusal. IsRefusal self.old.journal entry refusal × (self.new ≡ self.old)) }
+    {
         let mut next = self.clock;
-        next.apply(reading, cmd)?;
+        next.apply(entry.reading, entry.cmd)?;
         self.make_room()?;
-        Ok(self.enter(Entry { who, reading, cmd }, next))
+        self.enter(entry)
     }
 
     /// Makes room for one more command, where there is none.
@@ -59,23 +75,27 @@ impl<A: Allocator + Copy> Timekeeper<A> {
         Ok(())
     }
 
-    /// Enters an accepted command, after which the clocks are `next`, where there is room; its
-    /// number.
-    fn enter(&mut self, entry: Entry, next: Clock) -> u64
+    /// Does a command and enters it in the journal, where there is room; its number.
+    ///
+    /// The clocks are changed in place: one that they refuse leaves them as they were.
+    fn enter(&mut self, entry: Entry) -> Result<u64, Refusal>
         requires room { 0 < self.old.spare }
-        requires accepted { first_refusal self.old.journal entry ≡ None }
-        requires next { next ≡ state_of (followed_by self.old.journal entry) }
-        ensures journal { self.new.journal ≡ followed_by self.old.journal entry }
-        ensures number { result ≡ accepted_count self.new.journal }
-        ensures spare { self.new.spare + 1 ≡ self.old.spare }
+        requires free { is_full self.old.journal ≡ false }
+        ensures answer { MatchResult result
+            (λ number. (first_refusal self.old.journal entry ≡ None)
+            × (self.new.journal ≡ followed_by self.old.journal entry)
+            × (number ≡ accepted_count self.new.journal))
+            (λ refusal. (first_refusal self.old.journal entry ≡ Some refusal)
+            × (self.new ≡ self.old)) }
+        ensures spare { IfOk result (λ _. self.new.spare + 1 ≡ self.old.spare) }
     {
+        self.clock.apply(entry.reading, entry.cmd)?;
         self.entries.push_reserved(entry);
         let number = self.folded + self.entries.len() as u64;
         if number % KEPT_EVERY as u64 == 0 {
-            self.kept.push_reserved(next);
+            self.kept.push_reserved(self.clock);
         }
-        self.clock = next;
-        number
+        Ok(number)
     }
 
     /// Makes room for so many more commands, or for as many as the journal may still list.

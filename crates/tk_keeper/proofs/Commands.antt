@@ -1,0 +1,86 @@
+-- What a command comes to, told of the journal that it found.
+use Rattle.std.proofs.Common.{◌≡◌, ◌∙◌, ℕ, sym, ap, false}
+use Rattle.std.specs.Prelude.{Option, Some, None, Result, Ok, Err, MatchResult, IfOk, IsErrOf}
+use Rattle.tk_clock.specs.declared.command.Entry.{Entry}
+use Rattle.tk_clock.specs.declared.refusal.Refusal.{Refusal}
+use Rattle.tk_clock.specs.declared.refusal.Refusal.TheVariants.{Memory}
+use Rattle.tk_clock.specs.Journal.{Journal, followed_by, accepted_count}
+use Rattle.tk_clock.specs.Monotonic.{monotonic}
+use Rattle.tk_clock.specs.Refusal.{is_full, first_refusal, state_refusal, IsRefusal}
+use Rattle.tk_clock.specs.State.{State, state_of, effect}
+use Rattle.tk_clock.proofs.Monotone.{agrees}
+use Rattle.tk_clock.proofs.Legal.{state_of-followed_by}
+use Rattle.tk_clock.proofs.Refusals.{IsRefusal-told}
+use Rattle.tk_keeper.specs.Keeper.{Keeper}
+
+-- a journal accepted an entry, and became another
+abbrev pub IsAccepted : Journal → Journal → Entry → ℕ → Type 0
+IsAccepted before after entry number =
+    (first_refusal before entry ≡ None) × (after ≡ followed_by before entry)
+    × (number ≡ accepted_count after)
+
+-- what a keeper with room answers
+abbrev pub IsEntered : Keeper → Keeper → Entry → Result ℕ Refusal → Type 0
+IsEntered before after entry result =
+    MatchResult result (IsAccepted before.journal after.journal entry)
+    (λ refusal. (first_refusal before.journal entry ≡ Some refusal) × (after ≡ before))
+
+-- and what any keeper does
+abbrev pub IsApplied : Keeper → Keeper → Entry → Result ℕ Refusal → Type 0
+IsApplied before after entry result =
+    MatchResult result (IsAccepted before.journal after.journal entry)
+    (λ refusal. IsRefusal before.journal entry refusal × (after ≡ before))
+
+-- the tests of the clock never tell of want of memory
+pub not_told : (journal : Journal) (entry : Entry) (refusal : Refusal) → is_full journal ≡ false →
+    first_refusal journal entry ≡ Some refusal → refusal ≡ Memory → ⊥
+not_told journal entry refusal room told e =
+    let memory : first_refusal journal entry ≡ Some Memory = told ∙ ap (λ (r : Refusal). Some r) e
+    in
+    let none = IsRefusal-told journal entry Memory room memory in
+    cc (none, memory)
+
+pub IsApplied-entered : (before after : Keeper) (entry : Entry) (result : Result ℕ Refusal) →
+    is_full before.journal ≡ false → IsEntered before after entry result →
+    IsApplied before after entry result
+IsApplied-entered before after entry (Ok number) free told = told
+IsApplied-entered before after entry (Err refusal) free told =
+    (IsRefusal-told before.journal entry refusal free told.0, told.1)
+
+pub not_memory-entered : (before after : Keeper) (entry : Entry) (result : Result ℕ Refusal) →
+    is_full before.journal ≡ false → IsEntered before after entry result →
+    IsErrOf result Memory → ⊥
+not_memory-entered before after entry (Ok number) free told e = cc
+not_memory-entered before after entry (Err refusal) free told e =
+    not_told before.journal entry refusal free told.0 cc
+
+-- room that was made for an accepted command changes none of this
+pub IsApplied-grown : (before grown after : Keeper) (entry : Entry) (result : Result ℕ Refusal) →
+    grown.journal ≡ before.journal → first_refusal before.journal entry ≡ None →
+    IsEntered grown after entry result →
+    IsApplied before after entry result
+IsApplied-grown before grown after entry (Ok number) same accepted told =
+    (accepted, told.1 ∙ ap (λ (j : Journal). followed_by j entry) same, told.2)
+IsApplied-grown before grown after entry (Err refusal) same accepted told =
+    let refused : first_refusal before.journal entry ≡ Some refusal =
+    ap (λ (j : Journal). first_refusal j entry) (sym same) ∙ told.0 in
+    absurd (cc (sym accepted ∙ refused))
+
+-- MONOTONIC at the command's reading is the same before and after
+pub agrees-accepted : (before after : Journal) (entry : Entry) (Refused : Refusal → Type 0)
+    (result : Result ℕ Refusal) →
+    MatchResult result (IsAccepted before after entry) Refused →
+    IfOk result (λ _. monotonic before entry.reading ≡ monotonic after entry.reading)
+agrees-accepted before after entry Refused (Ok number) told =
+    agrees before entry told.0
+    ∙ ap (λ (j : Journal). monotonic j entry.reading) (sym told.1)
+agrees-accepted before after entry Refused (Err refusal) told = tt
+
+-- the clocks after a command that they accepted are those of the journal with its entry
+pub running-accepted : (journal : Journal) (before after : State) (entry : Entry) →
+    before ≡ state_of journal →
+    (state_refusal before entry.reading entry.cmd ≡ None)
+    × (after ≡ effect before entry.reading entry.cmd) →
+    after ≡ state_of (followed_by journal entry)
+running-accepted journal before after entry running told =
+    told.1 ∙ state_of-followed_by journal before entry.who entry.reading entry.cmd running told.0
