@@ -77,15 +77,26 @@ def script(rng):
         last = at % 2**bits
     if rng.random() < 0.05:
         spoil(rng, lines)
-    ending = rng.choice(["\n", "\n", "\r\n", "\r"])
-    return ending.join(",".join(map(str, line)) for line in lines).encode()
+    return bytes_of(rng, lines)
+
+
+def bytes_of(rng, lines):
+    """The bytes of records: half of them plain lines, and else with quotes, carriage returns, or a byte order mark."""
+    is_plain, gaps = rng.random() < 0.5, rng.choice([1, 1, 3])
+    ending = "\n" if is_plain else rng.choice(["\n", "\r\n", "\r"])
+    quoted = 0 if is_plain else rng.choice([0, 0.02, 0.5])
+    text = "\ufeff" if not is_plain and rng.random() < 0.1 else ""
+    for line in lines:
+        fields = [f'"{field}"' if rng.random() < quoted else str(field) for field in line]
+        text += ",".join(fields) + ending * rng.randrange(1, gaps + 1)
+    return (text.rstrip("\r\n") if rng.random() < 0.3 else ending * rng.randrange(gaps) + text).encode()
 
 
 def spoil(rng, lines):
     """Puts one fault into a script."""
     line = rng.choice(lines)
     place = rng.randrange(len(line))
-    line[place] = rng.choice(["", "+1", "x", " 1", "-", "--1", "1x", "openhz", "opn", 2**70])
+    line[place] = rng.choice(["", "+1", "x", " 1", "-", "--1", "1x", '1"', "openhz", "opn", 2**70])
     if rng.random() < 0.3:
         line.append(rng.choice(["", 1]))
 
@@ -134,8 +145,7 @@ def stamps(rng, journal):
         rng.choice(lines)[0] = rng.choice([last + 1, 2**63, 2**64 - 1])
     if lines and rng.random() < 0.05:
         spoil(rng, lines)
-    ending = rng.choice(["\n", "\n", "\r\n", "\r"])
-    return "".join(",".join(map(str, line)) + ending for line in lines).encode()
+    return bytes_of(rng, lines)
 
 
 def wanted(make, *given):

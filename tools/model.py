@@ -270,7 +270,7 @@ def records_of(text):
     """The records of a file's bytes, as the csv module has them."""
     if len(text) > 2**24:
         raise Fault("larger than 16777216 bytes")
-    return [r for r in csv.reader(io.StringIO(text.decode(), newline="")) if r]
+    return [r for r in csv.reader(io.StringIO(text.decode("utf-8-sig"), newline="")) if r]
 
 
 def parsed(text):

@@ -9,6 +9,7 @@ mod names;
 mod refused;
 mod scripts;
 mod stamps;
+mod ways;
 
 use crate::{Row, ScriptError};
 use std::test::Fail;
