@@ -28,12 +28,13 @@ struct Batch {
 
 impl Job for Batch {
     fn turn<R: Threads + Sync>(&mut self, _rt: &R) -> Result<()> {
+        let snapshot = self.snapshot;
         let (stamps, out) = (self.stamps.as_slice(), self.out.as_mut_slice());
         ensure!(stamps.len() == out.len(), "lists of two lengths");
         for _ in 0..self.times {
             match self.form {
-                Form::Lanes => lane_batch(&self.snapshot, ClockId::Realtime, stamps, out)?,
-                Form::Plain => plain_batch(&self.snapshot, ClockId::Realtime, stamps, out)?,
+                Form::Lanes => lane_batch(&snapshot, ClockId::Realtime, stamps, out)?,
+                Form::Plain => plain_batch(&snapshot, ClockId::Realtime, stamps, out)?,
             }
         }
         Ok(())
