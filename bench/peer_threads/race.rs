@@ -1,7 +1,7 @@
 //! A race: actors in threads of their own on one shared keeper, and what each was answered.
 use crate::clock::{weighed, Command, Refusal};
 use crate::shared::{Caller, Locked, SharedKeeper};
-use crate::{Effort, Turn};
+use crate::turns::{Effort, Turn};
 use std::hint::black_box;
 use std::thread;
 use std::time::Instant;
@@ -43,7 +43,10 @@ fn replied(keeper: &SharedKeeper, caller: &mut Caller, action: Action) -> Reply 
 
 fn orders(actors: &[Vec<Action>]) -> usize {
     let is_order = |action: &&Action| matches!(action, Action::Order(_));
-    actors.iter().map(|a| a.iter().filter(is_order).count()).sum()
+    actors
+        .iter()
+        .map(|a| a.iter().filter(is_order).count())
+        .sum()
 }
 
 fn race(actors: &[Vec<Action>]) -> (Locked, Vec<Vec<Reply>>) {

@@ -3,7 +3,7 @@
 use crate::clock::{weighed, weight, Clock, Command, Refusal, Words, STEP};
 use crate::latch::Latch;
 use crate::page::Page;
-use crate::{Effort, Turn};
+use crate::turns::{Effort, Turn};
 use std::hint::black_box;
 use std::sync::atomic::{AtomicU64, Ordering};
 use std::sync::Mutex;

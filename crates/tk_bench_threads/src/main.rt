@@ -1,28 +1,20 @@
-//! Times what several threads do at once: reads and publications of page and latch, commands of a
-//! shared keeper and reads beside them, reports of many scripts, and a race.
+//! Times what several threads do at once: commands of a shared keeper and reads beside them,
+//! reports of many scripts, and a race.
 //!
 //! | Words | What it tells of each job, a line each |
 //! |---|---|
-//! | none | `JOB`, `CHECK`, after a few short turns: the same each time |
+//! | none | `JOB`, `CHECK`, after short turns: the same each time |
 //! | `time` | `JOB`, `NUMBER`, `UNIT`, `CHECK`: the least time of its turns |
 //! | `time JOB..` | the same of these jobs alone |
 //!
-//! Columns stand apart by tabs. A job's check is worked out of its results, and each of its turns
-//! has to come to the same one. Status 1: a job failed, or its turns differ. Status 2: other words.
+//! Columns stand apart by tabs. Status 1: a job failed, or its turns came to different checks.
+//! Status 2: other words.
 #![tactic(auto)]
 
-mod clocks;
-mod job;
-mod latch;
-mod latch_desk;
 mod many;
-mod page;
-mod page_desk;
 mod race;
 mod shared;
-mod turn;
 
-use job::{Effort, JOBS, Job};
 use shared::Work;
 use std::alloc::Global;
 use std::process::ExitCode;
@@ -30,10 +22,58 @@ use std::sync::Wait;
 use std::thread::Threads;
 use std::time::Clock as Hours;
 use std::{env, io};
-use turn::Turn;
+use tk_bench_turns::{Effort, TURNS, Turn, effort_of, is_asked, is_told};
 
-/// How many turns of a job are made.
-const TURNS: u32 = 2;
+/// What is timed.
+#[derive(Clone, Copy)]
+enum ThreadsJob {
+    /// Commands of a shared keeper, by one thread and by four.
+    SharedCommand1,
+    SharedCommand4,
+    /// Reads of its page, and of its latch, by one thread beside four that give commands.
+    SharedReadBeside,
+    SharedFastReadBeside,
+    /// Reports of eight scripts, by one worker and by four.
+    Many1,
+    Many4,
+    /// A race of four actors, a command each.
+    Race4,
+}
+
+/// All jobs, in the order in which they are done.
+const JOBS: [ThreadsJob; 7] = [
+    ThreadsJob::SharedCommand1,
+    ThreadsJob::SharedCommand4,
+    ThreadsJob::SharedReadBeside,
+    ThreadsJob::SharedFastReadBeside,
+    ThreadsJob::Many1,
+    ThreadsJob::Many4,
+    ThreadsJob::Race4,
+];
+
+impl ThreadsJob {
+    /// Its name, as on the command line.
+    fn name(self) -> &'static str {
+        match self {
+            ThreadsJob::SharedCommand1 => "shared_command_1",
+            ThreadsJob::SharedCommand4 => "shared_command_4",
+            ThreadsJob::SharedReadBeside => "shared_read_beside",
+            ThreadsJob::SharedFastReadBeside => "shared_fast_read_beside",
+            ThreadsJob::Many1 => "many_1",
+            ThreadsJob::Many4 => "many_4",
+            ThreadsJob::Race4 => "race_4",
+        }
+    }
+
+    /// What its time is told in.
+    fn unit(self) -> &'static str {
+        match self {
+            ThreadsJob::SharedReadBeside | ThreadsJob::SharedFastReadBeside => "ns/read",
+            ThreadsJob::Many1 | ThreadsJob::Many4 => "ms",
+            _ => "ns/command",
+        }
+    }
+}
 
 fn main(rt: HostRuntime) -> ExitCode {
     let Ok(words) = words_of(&rt) else {
@@ -44,9 +84,11 @@ fn main(rt: HostRuntime) -> ExitCode {
     };
     let mut status = 0;
     for job in JOBS {
-        let is_asked = is_asked(words.as_slice(), job.name());
-        if is_asked && !told(&rt, rt.alloc(), job, effort) {
-            status = 1;
+        if is_asked(words.as_slice(), job.name()) {
+            let turn = fastest(&rt, rt.alloc(), job, effort);
+            if !is_told(&rt, job.name(), job.unit(), effort, turn) {
+                status = 1;
+            }
         }
     }
     ExitCode::from(status)
@@ -57,63 +99,16 @@ fn words_of(rt: &HostRuntime) -> io::Result<Vec<String>> {
     Ok(env::args(rt)?.collect(rt.alloc())?)
 }
 
-/// How long the turns are that the words ask for; none where the words are refused.
-fn effort_of(words: &[String]) -> Option<Effort> {
-    match words.get(1) {
-        None => Some(Effort::Short),
-        Some(word) if word.as_str() == "time" => Some(Effort::Full),
-        Some(_) => None,
-    }
-}
-
-/// Whether a job is to be done: all are where the words have no names behind `time`.
-fn is_asked(words: &[String], name: &str) -> bool {
-    for asked in words.iter().skip(2) {
-        if asked.as_str() == name {
-            return true;
-        }
-    }
-    words.len() <= 2
-}
-
-/// Does a job and prints its line. Whether that went well.
-fn told<R: Threads + Wait + Hours + Print + Sync>(
+/// The fastest turn of a job; None where one fails or comes to another check than the others.
+fn fastest<R: Threads + Wait + Hours + Sync>(
     rt: &R,
     alloc: Global,
-    job: Job,
-    effort: Effort,
-) -> bool {
-    let Some(turn) = least(rt, alloc, job, effort) else {
-        return false;
-    };
-    let (name, check) = (job.name(), turn.check);
-    let printed = match effort {
-        Effort::Short => println!(rt; "{name}\t{check}"),
-        Effort::Full => {
-            let thousandths = turn.thousandths();
-            let (whole, part) = (thousandths / 1_000, thousandths % 1_000);
-            println!(rt; "{name}\t{whole}.{part:03}\t{}\t{check}", job.unit())
-        }
-    };
-    printed.is_ok()
-}
-
-/// The fastest of some turns; none where one fails or comes to another check than the others.
-fn least<R: Threads + Wait + Hours + Sync>(
-    rt: &R,
-    alloc: Global,
-    job: Job,
+    job: ThreadsJob,
     effort: Effort,
 ) -> Option<Turn> {
     let mut best = turn_of(rt, alloc, job, effort)?;
     for _ in 1..TURNS {
-        let turn = turn_of(rt, alloc, job, effort)?;
-        if turn.check != best.check {
-            return None;
-        }
-        if turn.thousandths() < best.thousandths() {
-            best = turn;
-        }
+        best = best.faster(turn_of(rt, alloc, job, effort)?)?;
     }
     Some(best)
 }
@@ -122,23 +117,18 @@ fn least<R: Threads + Wait + Hours + Sync>(
 fn turn_of<R: Threads + Wait + Hours + Sync>(
     rt: &R,
     alloc: Global,
-    job: Job,
+    job: ThreadsJob,
     effort: Effort,
 ) -> Option<Turn> {
     match job {
-        Job::PageRead => page::quiet(rt, alloc, effort),
-        Job::PageReadBeside => page::beside(rt, alloc, effort),
-        Job::PagePublish => page::publishing(rt, alloc, effort),
-        Job::LatchRead => latch::quiet(rt, alloc, effort),
-        Job::LatchReadBeside => latch::beside(rt, alloc, effort),
-        Job::LatchPublish => latch::publishing(rt, alloc, effort),
-        Job::UpdateUnpublished => clocks::unpublished(rt, effort),
-        Job::SharedCommand1 => shared::turn(rt, alloc, Work::OneThread, effort),
-        Job::SharedCommand4 => shared::turn(rt, alloc, Work::FourThreads, effort),
-        Job::SharedReadBeside => shared::turn(rt, alloc, Work::ReadsBeside, effort),
-        Job::SharedFastReadBeside => shared::turn(rt, alloc, Work::FastReadsBeside, effort),
-        Job::Many1 => many::turn(rt, alloc, 1, effort),
-        Job::Many4 => many::turn(rt, alloc, 4, effort),
-        Job::Race4 => race::turn(rt, alloc, effort),
+        ThreadsJob::SharedCommand1 => shared::turn(rt, alloc, Work::OneThread, effort),
+        ThreadsJob::SharedCommand4 => shared::turn(rt, alloc, Work::FourThreads, effort),
+        ThreadsJob::SharedReadBeside => shared::turn(rt, alloc, Work::ReadsBeside, effort),
+        ThreadsJob::SharedFastReadBeside => {
+            shared::turn(rt, alloc, Work::FastReadsBeside, effort)
+        }
+        ThreadsJob::Many1 => many::turn(rt, alloc, 1, effort),
+        ThreadsJob::Many4 => many::turn(rt, alloc, 4, effort),
+        ThreadsJob::Race4 => race::turn(rt, alloc, effort),
     }
 }

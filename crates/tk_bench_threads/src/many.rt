@@ -1,11 +1,10 @@
 //! Reports of many scripts, by one worker and by four.
-use crate::job::Effort;
-use crate::turn::{IN_MILLISECONDS, Turn};
 use std::alloc::{AllocError, Global};
 use std::fmt::Write;
 use std::sync::Wait;
 use std::thread::Threads;
 use std::time::{Clock as Hours, Instant};
+use tk_bench_turns::{Effort, IN_MILLISECONDS, Turn};
 use tk_gate::NoGate;
 use tk_replay::replay_all;
 

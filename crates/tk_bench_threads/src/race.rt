@@ -1,11 +1,9 @@
 //! A race of four actors.
-use crate::clocks::{OPENED_TIME, STEP, nanosecond_counter, weighed};
-use crate::job::Effort;
-use crate::turn::Turn;
 use std::alloc::{AllocError, Global};
 use std::sync::Wait;
 use std::thread::Threads;
 use std::time::{Clock as Hours, Instant};
+use tk_bench_turns::{Effort, OPENED_TIME, STEP, Turn, nanosecond_counter, weighed};
 use tk_clock::Command;
 use tk_gate::NoGate;
 use tk_race::{Action, race};

@@ -1,15 +1,13 @@
 //! Commands of a shared keeper by one thread and by four, and reads beside them.
 ghost use Rattle.tk_shared.specs.Opening.{IsNamed};
 
-use crate::clocks::{OPENED_TIME, STEP, nanosecond_counter, weighed, weight};
-use crate::job::Effort;
-use crate::turn::Turn;
 use std::alloc::Global;
 use std::marker::Brand;
 use std::sync::Wait;
 use std::sync::atomic::{AtomicU64, Ordering};
 use std::thread::{self, Threads};
 use std::time::{Clock as Hours, Instant};
+use tk_bench_turns::{Effort, OPENED_TIME, STEP, Turn, nanosecond_counter, weighed, weight};
 use tk_clock::Command;
 use tk_shared::{Caller, Named, Prepared, SharedKeeper, Ticker, prepare};
 
@@ -87,7 +85,8 @@ impl Done {
         }
     }
 
-    /// How far the sum is from that of so many snapshots of the usual weight: 0 where each was whole.
+    /// How far the sum is from that of so many snapshots of the usual weight: 0 where each was
+    /// whole.
     fn off(&self, usual: u64) -> u64 {
         self.sum.wrapping_sub(self.read.wrapping_mul(usual))
     }

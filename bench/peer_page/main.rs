@@ -1,0 +1,27 @@
+//! The jobs of `crates/tk_bench_page` in plain Rust, by std alone: reads and publications of a page
+//! and of a latch.
+//!
+//! Words are published in the weakest order that is right by the memory model of the language,
+//! where Jomrezal's are sequentially consistent: on x86-64 a store is a plain one here, and an
+//! exchange there.
+mod clock;
+mod latch;
+mod page;
+mod turns;
+
+use std::process::ExitCode;
+use turns::{run_jobs, Job};
+
+const JOBS: [Job; 7] = [
+    ("page_read", "ns/read", page::quiet),
+    ("page_read_beside", "ns/read", page::beside),
+    ("page_publish", "ns/publication", page::publishing),
+    ("latch_read", "ns/read", latch::quiet),
+    ("latch_read_beside", "ns/read", latch::beside),
+    ("latch_publish", "ns/publication", latch::publishing),
+    ("update_unpublished", "ns/command", clock::unpublished),
+];
+
+fn main() -> ExitCode {
+    run_jobs(&JOBS)
+}

@@ -1,0 +1,126 @@
+//! Reads and publications of a latch.
+ghost use Rattle.std.specs.Prelude.{◌≡◌};
+ghost use Rattle.std.specs.Thread.{IsSync};
+
+use crate::latch_desk::{LatchDesk, opened};
+use std::alloc::Global;
+use std::sync::atomic::{AtomicBool, Ordering};
+use std::thread::{self, Threads};
+use std::time::{Clock as Hours, Duration, Instant};
+use tk_bench_turns::{Effort, Turn, weight};
+use tk_latch::{Latch, LatchReader};
+
+/// How many reads a full turn makes, and how many publications.
+const READS: u64 = 10_000_000;
+
+const PUBLICATIONS: u64 = 1_000_000;
+
+/// Reads so often: the sum of the weights, with `usual` in the place of one that wasn't read since
+/// a publication came between.
+fn reads(latch: &Latch, reader: &mut LatchReader, usual: u64, count: u64) -> u64
+    requires { reader.old.latch ≡ latch.now }
+    ensures { reader.new.latch ≡ reader.old.latch }
+{
+    let mut sum = 0u64;
+    for _ in 0..count {
+        let read = match reader.try_read(latch) {
+            Ok(snapshot) => weight(&snapshot),
+            Err(_) => usual,
+        };
+        sum = sum.wrapping_add(read);
+    }
+    sum
+}
+
+fn timed_reads<R: Hours>(
+    rt: &R,
+    latch: &Latch,
+    reader: &mut LatchReader,
+    usual: u64,
+    count: u64,
+) -> Option<Turn>
+    requires { reader.old.latch ≡ latch.now }
+{
+    let start = Instant::now(rt).ok()?;
+    let check = reads(latch, reader, usual, count);
+    let time = start.elapsed(rt).ok()?;
+    Some(Turn { time, count, check })
+}
+
+/// Times reads while nobody publishes.
+pub fn quiet<R: Hours>(rt: &R, alloc: Global, effort: Effort) -> Option<Turn> {
+    let (latch, mut desk, mut reader) = opened(alloc)?;
+    desk.update(&latch)?;
+    timed_reads(rt, &latch, &mut reader, 0, effort.of(READS))
+}
+
+/// Publishes a thousand times a second until it is told that this is enough.
+fn publishes_slowly<R: Hours>(rt: &R, latch: &Latch, desk: &mut LatchDesk, enough: &AtomicBool)
+    requires { desk.old.latch ≡ latch.now }
+{
+    for _ in 0..PUBLICATIONS {
+        if enough.load(Ordering::SeqCst) || desk.update(latch).is_none() {
+            return;
+        }
+        thread::sleep(rt, Duration::from_millis(1));
+    }
+}
+
+/// Reads in one thread, and publications in another until the reads are done.
+fn both<R: Threads + Hours + Sync>(
+    rt: &R,
+    latch: &Latch,
+    mut desk: LatchDesk,
+    mut reader: LatchReader,
+    usual: u64,
+    count: u64,
+) -> Option<Turn>
+    requires desk { desk.latch ≡ latch.now }
+    requires reader { reader.latch ≡ latch.now }
+{
+    let enough = AtomicBool::new(false);
+    let told = &enough;
+    let (_, turn) = thread::join(
+        rt,
+        move || -> ()
+            requires { IsSync R.row × (desk.latch ≡ latch.now) }
+        { publishes_slowly(rt, latch, &mut desk, told) },
+        move || -> Option<Turn>
+            requires { IsSync R.row × (reader.latch ≡ latch.now) }
+        {
+            let turn = timed_reads(rt, latch, &mut reader, usual, count);
+            told.store(true, Ordering::SeqCst);
+            turn
+        },
+    );
+    turn
+}
+
+/// Times reads beside a writer that publishes a thousand times a second.
+pub fn beside<R: Threads + Hours + Sync>(rt: &R, alloc: Global, effort: Effort) -> Option<Turn> {
+    let (latch, desk, mut reader) = opened(alloc)?;
+    let usual = reads(&latch, &mut reader, 0, 1);
+    both(rt, &latch, desk, reader, usual, effort.of(READS))
+}
+
+/// Publishes so often.
+fn publications(latch: &Latch, desk: &mut LatchDesk, count: u64) -> Option<()>
+    requires { desk.old.latch ≡ latch.now }
+{
+    for _ in 0..count {
+        desk.update(latch)?;
+    }
+    Some(())
+}
+
+/// Times updates of clocks, each published.
+pub fn publishing<R: Hours>(rt: &R, alloc: Global, effort: Effort) -> Option<Turn> {
+    let (latch, mut desk, mut reader) = opened(alloc)?;
+    let count = effort.of(PUBLICATIONS);
+    let start = Instant::now(rt).ok()?;
+    publications(&latch, &mut desk, count)?;
+    let time = start.elapsed(rt).ok()?;
+    let read = reads(&latch, &mut reader, 0, 1);
+    let check = read.wrapping_mul(31).wrapping_add(reader.mark());
+    Some(Turn { time, count, check })
+}

@@ -1,0 +1,62 @@
+ghost use Rattle.std.specs.Prelude.{◌≡◌, IfSome};
+
+use std::alloc::Global;
+use std::marker::Model;
+use tk_bench_turns::{OPENED_TIME, nanosecond_counter, reading_of};
+use tk_clock::{Clock, Command};
+use tk_latch::{Latch, LatchReader, LatchWriter};
+
+/// Clocks whose updates are published in a latch.
+///
+/// Contracts see it as its writer: the latch, and what was published in it.
+#[derive(Drop)]
+pub struct LatchDesk {
+    clock: Clock,
+    writer: LatchWriter,
+    front: u64,
+}
+
+impl Model for LatchDesk {
+    ghost use Rattle.std.specs.Prelude.{◌≡◌, ◌+◌, length};
+    ghost use Rattle.tk_latch.specs.Latch.{Published};
+
+    ghost Value = { Published };
+
+    ghost view = { λ d. d.writer };
+
+    ghost invariant = { λ d.
+        (d.clock.base.counter ≡ d.writer.latch.counter)
+        × (d.front + 1 ≡ length d.writer.publications) };
+}
+
+/// A latch over clocks that were just opened, and one who reads it.
+pub fn opened(alloc: Global) -> Option<(Latch, LatchDesk, LatchReader)>
+    ensures desk { IfSome result (λ opened. opened.1.latch ≡ opened.0) }
+    ensures reader { IfSome result (λ opened. opened.2.latch ≡ opened.0) }
+{
+    let clock = Clock::open(nanosecond_counter()?, 0, OPENED_TIME).ok()?;
+    let (latch, writer, mut readers) = Latch::open(alloc, clock.snapshot(0), 1).ok()?;
+    let reader = readers.pop()?;
+    let desk = LatchDesk {
+        clock,
+        writer,
+        front: 0,
+    };
+    Some((latch, desk, reader))
+}
+
+impl LatchDesk {
+    /// Updates the clocks, a step after the last time, and publishes them.
+    ///
+    /// None where either is refused.
+    pub fn update(&mut self, latch: &Latch) -> Option<()>
+        requires latch { self.old.latch ≡ latch.now }
+        ensures latch { self.new.latch ≡ self.old.latch }
+    {
+        let front = self.front.checked_add(1)?;
+        self.clock.apply(reading_of(front), Command::Update).ok()?;
+        self.writer.publish(latch, self.clock.snapshot(front)).ok()?;
+        self.front = front;
+        Some(())
+    }
+}

@@ -1,0 +1,123 @@
+//! Reads and publications of a page.
+ghost use Rattle.std.specs.Prelude.{◌≡◌};
+ghost use Rattle.std.specs.Thread.{IsSync};
+
+use crate::page_desk::{PageDesk, opened};
+use std::alloc::Global;
+use std::sync::Wait;
+use std::sync::atomic::{AtomicBool, Ordering};
+use std::thread::{self, Threads};
+use std::time::{Clock as Hours, Duration, Instant};
+use tk_bench_turns::{Effort, Turn, weight};
+use tk_page::{Page, Viewer};
+
+/// How many reads a full turn makes, and how many publications.
+const READS: u64 = 10_000_000;
+
+const PUBLICATIONS: u64 = 1_000_000;
+
+/// Reads so often: the sum of the weights.
+fn reads<R: Wait>(rt: &R, page: &Page, viewer: &mut Viewer, count: u64) -> u64
+    requires { viewer.old.page ≡ page.now }
+    ensures { viewer.new.page ≡ viewer.old.page }
+{
+    let mut sum = 0u64;
+    for _ in 0..count {
+        sum = sum.wrapping_add(weight(&viewer.read(rt, page)));
+    }
+    sum
+}
+
+fn timed_reads<R: Wait + Hours>(
+    rt: &R,
+    page: &Page,
+    viewer: &mut Viewer,
+    count: u64,
+) -> Option<Turn>
+    requires { viewer.old.page ≡ page.now }
+{
+    let start = Instant::now(rt).ok()?;
+    let check = reads(rt, page, viewer, count);
+    let time = start.elapsed(rt).ok()?;
+    Some(Turn { time, count, check })
+}
+
+/// Times reads while nobody publishes.
+pub fn quiet<R: Wait + Hours>(rt: &R, alloc: Global, effort: Effort) -> Option<Turn> {
+    let (page, mut desk, mut viewer) = opened(rt, alloc)?;
+    desk.update(rt, &page).ok()?;
+    timed_reads(rt, &page, &mut viewer, effort.of(READS))
+}
+
+/// Publishes a thousand times a second until it is told that this is enough.
+fn publishes_slowly<R: Wait + Hours>(rt: &R, page: &Page, desk: &mut PageDesk, enough: &AtomicBool)
+    requires { desk.old.page ≡ page.now }
+{
+    for _ in 0..PUBLICATIONS {
+        if enough.load(Ordering::SeqCst) || desk.update(rt, page).is_err() {
+            return;
+        }
+        thread::sleep(rt, Duration::from_millis(1));
+    }
+}
+
+/// Reads in one thread, and publications in another until the reads are done.
+fn both<R: Threads + Wait + Hours + Sync>(
+    rt: &R,
+    page: &Page,
+    mut desk: PageDesk,
+    mut viewer: Viewer,
+    count: u64,
+) -> Option<Turn>
+    requires desk { desk.page ≡ page.now }
+    requires viewer { viewer.page ≡ page.now }
+{
+    let enough = AtomicBool::new(false);
+    let told = &enough;
+    let (_, turn) = thread::join(
+        rt,
+        move || -> ()
+            requires { IsSync R.row × (desk.page ≡ page.now) }
+        { publishes_slowly(rt, page, &mut desk, told) },
+        move || -> Option<Turn>
+            requires { IsSync R.row × (viewer.page ≡ page.now) }
+        {
+            let turn = timed_reads(rt, page, &mut viewer, count);
+            told.store(true, Ordering::SeqCst);
+            turn
+        },
+    );
+    turn
+}
+
+/// Times reads beside a writer that publishes a thousand times a second.
+pub fn beside<R: Threads + Wait + Hours + Sync>(
+    rt: &R,
+    alloc: Global,
+    effort: Effort,
+) -> Option<Turn> {
+    let (page, desk, viewer) = opened(rt, alloc)?;
+    both(rt, &page, desk, viewer, effort.of(READS))
+}
+
+/// Publishes so often.
+fn publications<R: Wait>(rt: &R, page: &Page, desk: &mut PageDesk, count: u64) -> Option<()>
+    requires { desk.old.page ≡ page.now }
+{
+    for _ in 0..count {
+        desk.update(rt, page).ok()?;
+    }
+    Some(())
+}
+
+/// Times updates of clocks, each published.
+pub fn publishing<R: Wait + Hours>(rt: &R, alloc: Global, effort: Effort) -> Option<Turn> {
+    let (page, mut desk, mut viewer) = opened(rt, alloc)?;
+    let count = effort.of(PUBLICATIONS);
+    let start = Instant::now(rt).ok()?;
+    publications(rt, &page, &mut desk, count)?;
+    let time = start.elapsed(rt).ok()?;
+    let read = reads(rt, &page, &mut viewer, 1);
+    let check = read.wrapping_mul(31).wrapping_add(viewer.front());
+    Some(Turn { time, count, check })
+}

@@ -1,0 +1,71 @@
+ghost use Rattle.std.specs.Prelude.{◌≡◌, IfSome};
+
+use std::alloc::Global;
+use std::marker::Model;
+use std::sync::Wait;
+use tk_bench_turns::{OPENED_TIME, nanosecond_counter, reading_of};
+use tk_clock::{Clock, Command, Entry, Refusal};
+use tk_page::{Page, Publisher, Viewer};
+
+/// Clocks whose updates are published on a page.
+///
+/// Contracts see it as its publisher: the page, and what was published on it.
+#[derive(Drop)]
+pub struct PageDesk {
+    clock: Clock,
+    publisher: Publisher,
+    front: u64,
+}
+
+impl Model for PageDesk {
+    ghost use Rattle.std.specs.Prelude.{◌≡◌};
+    ghost use Rattle.tk_clock.specs.Journal.{accepted_count};
+    ghost use Rattle.tk_clock.specs.State.{state_of};
+    ghost use Rattle.tk_page.specs.History.{History};
+
+    ghost Value = { History };
+
+    ghost view = { λ d. d.publisher };
+
+    ghost invariant = { λ d.
+        (d.clock ≡ state_of d.publisher.journal) × (d.front ≡ accepted_count d.publisher.journal) };
+}
+
+/// A page over clocks that were just opened, and one who views it.
+pub fn opened<R: Wait>(rt: &R, alloc: Global) -> Option<(Page, PageDesk, Viewer)>
+    ensures desk { IfSome result (λ opened. opened.1.page ≡ opened.0) }
+    ensures viewer { IfSome result (λ opened. opened.2.page ≡ opened.0) }
+{
+    let clock = Clock::open(nanosecond_counter()?, 0, OPENED_TIME).ok()?;
+    let (page, publisher, viewer) = Page::open(rt, alloc, clock.snapshot(0)).ok()?;
+    let desk = PageDesk {
+        clock,
+        publisher,
+        front: 0,
+    };
+    Some((page, desk, viewer))
+}
+
+impl PageDesk {
+    /// Updates the clocks, a step after the last time, and publishes them.
+    pub fn update<R: Wait>(&mut self, rt: &R, page: &Page) -> Result<(), Refusal>
+        requires page { self.old.page ≡ page.now }
+        ensures page { self.new.page ≡ self.old.page }
+    {
+        let Some(front) = self.front.checked_add(1) else {
+            return Err(Refusal::Full);
+        };
+        let reading = reading_of(front);
+        let cmd = Command::Update;
+        self.clock.apply(reading, cmd)?;
+        let entry = Entry {
+            who: 0,
+            reading,
+            cmd,
+        };
+        self.front = front;
+        let snapshot = self.clock.snapshot(front);
+        self.publisher.publish(rt, page, entry, snapshot);
+        Ok(())
+    }
+}

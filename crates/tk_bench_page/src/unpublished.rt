@@ -1,0 +1,35 @@
+//! Updates of clocks, published nowhere.
+use std::time::{Clock as Hours, Instant};
+use tk_bench_turns::{Effort, OPENED_TIME, Turn, nanosecond_counter, reading_of, weight};
+use tk_clock::{Clock, Command};
+
+/// How many updates a full turn makes.
+const UPDATES: u64 = 10_000_000;
+
+/// How many of them are made in one opening: the counter doesn't wrap.
+const UPDATES_LIMIT: u64 = 1_000_000;
+
+/// Updates clocks so often, each with its snapshot: the sum of the weights.
+fn updates(clock: &mut Clock, count: u64) -> Option<u64> {
+    let mut sum = 0u64;
+    for number in 1..=count {
+        clock.apply(reading_of(number), Command::Update).ok()?;
+        sum = sum.wrapping_add(weight(&clock.snapshot(number)));
+    }
+    Some(sum)
+}
+
+/// Times updates with their snapshots.
+pub fn turn<R: Hours>(rt: &R, effort: Effort) -> Option<Turn> {
+    let count = effort.of(UPDATES);
+    let each = count.min(UPDATES_LIMIT);
+    let opened = Clock::open(nanosecond_counter()?, 0, OPENED_TIME).ok()?;
+    let mut check = 0u64;
+    let start = Instant::now(rt).ok()?;
+    for _ in 0..count / each.max(1) {
+        let mut clock = opened;
+        check = check.wrapping_add(updates(&mut clock, each)?);
+    }
+    let time = start.elapsed(rt).ok()?;
+    Some(Turn { time, count, check })
+}
