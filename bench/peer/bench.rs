@@ -51,7 +51,9 @@ impl Bench {
             return;
         }
         let nanos = least(if self.is_timed { turns } else { CHECKED_TURNS }, job);
-        let check = job.check().map_or("-".to_string(), |check| check.to_string());
+        let check = job
+            .check()
+            .map_or("-".to_string(), |check| check.to_string());
         if !self.is_timed {
             println!("{name}\t{check}");
             return;

@@ -67,20 +67,33 @@ pub fn run(bench: &Bench) {
         ("clock_get_12h", wide, 0xff_ffff_ffff),
     ] {
         let clock = black_box(ClockId::Realtime);
-        let mut job = Gets { base: opened.base, clock, mask, sum: 0 };
+        let mut job = Gets {
+            base: opened.base,
+            clock,
+            mask,
+            sum: 0,
+        };
         bench.run(name, Unit::Each(CALLS, "read"), TURNS, &mut job);
     }
     for (name, opened, step, mask) in [
         ("clock_apply_1us", fine, 1_000, 0xffff_ffff),
         ("clock_apply_700ms", wide, 16_777_216, u64::MAX),
     ] {
-        let mut job = Updates { opened, step, mask, words: [0; 10] };
+        let mut job = Updates {
+            opened,
+            step,
+            mask,
+            words: [0; 10],
+        };
         bench.run(name, Unit::Each(CALLS, "command"), TURNS, &mut job);
     }
 }
 
 fn opened(bits: u32, mult: u32) -> Clock {
     let desc = Desc::new(black_box(bits), black_box(mult), black_box(24)).expect("a counter");
-    let real = Timespec { sec: 1_700_000_000, nsec: 0 };
+    let real = Timespec {
+        sec: 1_700_000_000,
+        nsec: 0,
+    };
     Clock::open(desc, 0, real).expect("clocks")
 }

@@ -32,7 +32,11 @@ impl Desc {
         let shift = (1..=32).rev().find(|shift| rounded(*shift) >> room == 0)?;
         let mult = rounded(shift) as u32;
         if fastest(mult) > u64::from(u32::MAX) {
-            return Some(Desc { bits, mult: mult / 2, shift: shift - 1 });
+            return Some(Desc {
+                bits,
+                mult: mult / 2,
+                shift: shift - 1,
+            });
         }
         Some(Desc { bits, mult, shift })
     }
@@ -124,6 +128,22 @@ impl Command {
             Command::Tai(seconds) => (0..=100_000).contains(&seconds),
             Command::Resume(away) => away.is_suspension(),
             Command::Update | Command::Freq(_) | Command::Suspend => true,
+        }
+    }
+
+    /// How long a suspension lasted, in ns.
+    fn away(self) -> u64 {
+        match self {
+            Command::Resume(away) => away.nanos(),
+            _ => 0,
+        }
+    }
+
+    /// The offset of TAI that it sets.
+    fn tai(self) -> Option<u32> {
+        match self {
+            Command::Tai(seconds) => Some(seconds as u32),
+            _ => None,
         }
     }
 
@@ -328,20 +348,14 @@ impl Clock {
             _ => base.grown(reading).ok_or(Refusal::Range)?,
         };
         let now = monotonic.nanos(&base.desc);
-        let away = match cmd {
-            Command::Resume(away) => away.nanos(),
-            _ => 0,
-        };
-        let tai = match cmd {
-            Command::Tai(seconds) => seconds as u32,
-            _ => base.tai,
-        };
+        let tai = cmd.tai().unwrap_or(base.tai);
+        let away = cmd.away();
         let boot_offset = base.boot_offset.saturating_add(away);
         let mut real_offset = base.real_offset.saturating_add(away);
-        let furthest = now
-            .saturating_add(real_offset)
-            .saturating_add(u64::from(tai) * NANOS);
-        if now.saturating_add(boot_offset) >= LIMIT || (!cmd.sets_real() && furthest >= LIMIT) {
+        let tai_offset = real_offset.saturating_add(u64::from(tai) * NANOS);
+        if now.saturating_add(boot_offset) >= LIMIT
+            || (!cmd.sets_real() && now.saturating_add(tai_offset) >= LIMIT)
+        {
             return Err(Refusal::Range);
         }
         match cmd {
@@ -353,8 +367,7 @@ impl Clock {
             }
             Command::Freq(frequency) => self.frequency = frequency,
             Command::Tick(tick) => self.tick = tick,
-            Command::Suspend => base.asleep = true,
-            Command::Resume(_) => base.asleep = false,
+            Command::Suspend | Command::Resume(_) => base.asleep = !base.asleep,
             Command::Update | Command::Tai(_) => (),
         }
         if matches!(cmd, Command::Freq(_) | Command::Tick(_)) {
@@ -375,5 +388,7 @@ fn stepped(now: u64, real_offset: u64, by: Timespec) -> Option<u64> {
     let moved = i128::from(by.sec) * i128::from(NANOS) + i128::from(by.nsec);
     let real = i128::from(now) + i128::from(real_offset) + moved;
     let settable = i128::from(now)..i128::from(SETTABLE_SEC_LIMIT) * i128::from(NANOS);
-    settable.contains(&real).then_some((real - i128::from(now)) as u64)
+    settable
+        .contains(&real)
+        .then_some((real - i128::from(now)) as u64)
 }

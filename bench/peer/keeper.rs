@@ -50,7 +50,11 @@ impl Keeper {
             return Err(Refusal::Full);
         }
         self.clock.apply(reading, cmd)?;
-        self.entries.push(Entry { _who: who, reading, cmd });
+        self.entries.push(Entry {
+            _who: who,
+            reading,
+            cmd,
+        });
         if self.len() % KEPT_EVERY == 0 {
             self.kept.push(self.clock);
         }
@@ -81,7 +85,8 @@ impl Keeper {
             self.start = start;
         }
         self.entries.drain(..places);
-        self.kept.drain(..folded / KEPT_EVERY - self.folded / KEPT_EVERY);
+        self.kept
+            .drain(..folded / KEPT_EVERY - self.folded / KEPT_EVERY);
         self.folded = folded;
     }
 }

@@ -60,16 +60,30 @@ pub fn run(bench: &Bench) {
     if !bench.wants_any("keeper_") {
         return;
     }
-    let mut job = Commands { count: COMMANDS, keeper: opened() };
-    bench.run("keeper_commands_10000000", Unit::Each(COMMANDS, "command"), 1, &mut job);
+    let mut job = Commands {
+        count: COMMANDS,
+        keeper: opened(),
+    };
+    bench.run(
+        "keeper_commands_10000000",
+        Unit::Each(COMMANDS, "command"),
+        1,
+        &mut job,
+    );
     job.count = LISTED_LIMIT as u64;
     job.turn();
-    let mut job = Past { keeper: job.keeper, sum: 0 };
+    let mut job = Past {
+        keeper: job.keeper,
+        sum: 0,
+    };
     bench.run("keeper_snapshot_at", Unit::Each(READS, "read"), 2, &mut job);
 }
 
 fn opened() -> Keeper {
     let desc = Desc::new(32, black_box(16_777_216), 24).expect("a counter");
-    let real = Timespec { sec: 1_700_000_000, nsec: 0 };
+    let real = Timespec {
+        sec: 1_700_000_000,
+        nsec: 0,
+    };
     Keeper::open(desc, 0, real).expect("clocks")
 }

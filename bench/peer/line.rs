@@ -68,7 +68,9 @@ impl Line {
     pub fn untested(&self, stamp: u64) -> u64 {
         let gap = stamp.wrapping_sub(self.last) & self.mask;
         let cycles = if gap > self.half { 0 } else { gap };
-        let units = cycles.wrapping_mul(u64::from(self.mult)).wrapping_add(self.frac);
+        let units = cycles
+            .wrapping_mul(u64::from(self.mult))
+            .wrapping_add(self.frac);
         (units >> self.shift).wrapping_add(self.base)
     }
 }

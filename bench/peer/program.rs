@@ -11,9 +11,9 @@ use std::process::ExitCode;
 /// The report of the script on standard input.
 pub fn replay() -> ExitCode {
     let told = whole(io::stdin().lock()).map_err(|_| "cannot read".to_string());
-    finish(told.and_then(|script| {
-        report::report(&script).map_err(|error| format!("script: {error}"))
-    }))
+    finish(
+        told.and_then(|script| report::report(&script).map_err(|error| format!("script: {error}"))),
+    )
 }
 
 /// The clock at each stamp of a file.

@@ -1,6 +1,6 @@
 //! The report of a script.
 
-use crate::clocks::{Base, Clock, Command, NANOS, Refusal, Timespec};
+use crate::clocks::{Base, Clock, Command, Refusal, Timespec, NANOS};
 use crate::keeper::LISTED_LIMIT;
 use crate::lines::{add_at, add_no, add_ok, add_open};
 use crate::script::{self, Row, ScriptError};
@@ -30,12 +30,7 @@ pub fn report(script: &[u8]) -> Result<Vec<u8>, ScriptError> {
 }
 
 /// Does a command, unless so many were accepted that a journal would be full.
-pub fn act(
-    clock: &mut Clock,
-    accepted: u64,
-    reading: u64,
-    cmd: Command,
-) -> Result<(), Refusal> {
+pub fn act(clock: &mut Clock, accepted: u64, reading: u64, cmd: Command) -> Result<(), Refusal> {
     if accepted >= LISTED_LIMIT as u64 {
         return Err(Refusal::Full);
     }

@@ -73,7 +73,11 @@ impl Rows<'_> {
     pub fn next_row(&mut self) -> Result<Option<Row>, ScriptError> {
         self.row += 1;
         match self.records.next_record() {
-            Some(fields) => read_row(&Fields { row: self.row, fields }).map(Some),
+            Some(fields) => read_row(&Fields {
+                row: self.row,
+                fields,
+            })
+            .map(Some),
             None => Ok(None),
         }
     }
@@ -195,5 +199,7 @@ fn number(field: &[u8]) -> Option<u64> {
     if field.len() <= 19 {
         return Some(digits.fold(0, |value, digit| value * 10 + digit));
     }
-    digits.try_fold(0u64, |value, digit| value.checked_mul(10)?.checked_add(digit))
+    digits.try_fold(0u64, |value, digit| {
+        value.checked_mul(10)?.checked_add(digit)
+    })
 }

@@ -33,7 +33,9 @@ pub fn trace(script: &[u8], stamps: &[u8], clock: ClockId) -> Result<Vec<u8>, Tr
     let items = script::stamps(stamps).map_err(TraceError::Stamps)?;
     let mut text = Vec::new();
     for (item, (front, stamp)) in items.into_iter().enumerate() {
-        let base = usize::try_from(front).ok().and_then(|front| bases.get(front));
+        let base = usize::try_from(front)
+            .ok()
+            .and_then(|front| bases.get(front));
         let base = base.ok_or(TraceError::Unknown(item))?;
         let nanos = base.nanos(clock, stamp).map_err(|refusal| match refusal {
             Refusal::Invalid => TraceError::Invalid(item),

@@ -91,14 +91,19 @@ fn shared(
 ) -> Result<(), Fault> {
     let piece = stamps.len().div_ceil(threads).max(1);
     thread::scope(|scope| {
-        let pieces = fronts.chunks(piece).zip(stamps.chunks(piece)).zip(out.chunks_mut(piece));
+        let pieces = fronts
+            .chunks(piece)
+            .zip(stamps.chunks(piece))
+            .zip(out.chunks_mut(piece));
         let workers: Vec<_> = pieces
             .enumerate()
             .map(|(place, ((fronts, stamps), out))| {
                 scope.spawn(move || in_place(lines, fronts, stamps, place * piece, out))
             })
             .collect();
-        workers.into_iter().try_for_each(|worker| worker.join().expect("no panic"))
+        workers
+            .into_iter()
+            .try_for_each(|worker| worker.join().expect("no panic"))
     })
 }
 

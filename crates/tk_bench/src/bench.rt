@@ -4,7 +4,6 @@ ghost use Rattle.std.specs.Thread.{IsSync};
 
 use anyhow::{Result, bail};
 use std::alloc::Global;
-use std::env;
 use std::thread::Threads;
 use std::time::Instant;
 
@@ -38,37 +37,29 @@ enum Telling {
 }
 
 /// What is asked for.
-#[derive(Drop)]
+#[derive(Clone, Copy)]
 pub(crate) struct Bench<'a> {
     rt: &'a HostRuntime,
     telling: Telling,
     /// The names of the jobs, or none for all jobs.
-    names: Vec<String>,
+    names: &'a [String],
     /// 0, which the compiler can't know: what is worked out with it is worked out at run time.
     unknown: u32,
 }
 
 impl<'a> Bench<'a> {
-    /// What the program's words ask for.
-    pub(crate) fn of_words(rt: &'a HostRuntime) -> Result<Bench<'a>> {
-        let mut names = Vec::new(rt.alloc());
-        let mut telling = Telling::Checks;
-        for (place, word) in env::args(rt)?.enumerate() {
-            if place == 1 && word.as_str() != "time" {
-                bail!("words refused");
-            }
-            if place == 1 {
-                telling = Telling::Times;
-            } else if place > 1 {
-                names.push(word)?;
-            }
-        }
-        let unknown = (names.len() as u64 >> 40) as u32;
+    /// What the program's words ask for, of which the first is its own name.
+    pub(crate) fn of_words(rt: &'a HostRuntime, words: &'a [String]) -> Result<Bench<'a>> {
+        let (telling, names) = match words {
+            [_, word, names @ ..] if word.as_str() == "time" => (Telling::Times, names),
+            [] | [_] => (Telling::Checks, &words[..0]),
+            _ => bail!("words refused"),
+        };
         Ok(Bench {
             rt,
             telling,
             names,
-            unknown,
+            unknown: (words.len() as u64 >> 40) as u32,
         })
     }
 
@@ -84,7 +75,7 @@ impl<'a> Bench<'a> {
 
     /// Is a job asked for whose name begins so?
     pub(crate) fn wants_any(&self, beginning: &str) -> bool {
-        for name in &self.names {
+        for name in self.names {
             if name.as_str().starts_with(beginning) {
                 return true;
             }
@@ -94,7 +85,7 @@ impl<'a> Bench<'a> {
 
     /// Is the job of this name asked for?
     fn wants(&self, name: &str) -> bool {
-        for wanted in &self.names {
+        for wanted in self.names {
             if wanted.as_str() == name {
                 return true;
             }

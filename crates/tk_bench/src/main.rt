@@ -25,11 +25,13 @@ use batches::run_batches;
 use bench::Bench;
 use clocks::run_clocks;
 use keepers::run_keepers;
+use std::env;
 use texts::run_texts;
 use traces::run_traces;
 
 fn main(rt: HostRuntime) -> Result<()> {
-    let bench = Bench::of_words(&rt)?;
+    let words: Vec<String> = env::args(&rt)?.collect(rt.alloc())?;
+    let bench = Bench::of_words(&rt, words.as_slice())?;
     run_clocks(&rt, &bench)?;
     run_keepers(&rt, &bench)?;
     run_batches(&rt, &bench)?;
