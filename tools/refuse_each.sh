@@ -1,7 +1,7 @@
 #!/usr/bin/env bash
-# Refuses each request for memory of the program in turn: of reports of three scripts, with and
-# without `--keep 1`; of traces, a short one and one that several threads convert; of races, with one
-# actor and with two; and of the reports of two scripts by `many`. Each time it must be `out of
+# Refuses each request for memory of the program in turn: of reports of four scripts, with and
+# without `--keep 1`; of traces, short ones and one that several threads convert; of races of one, two
+# and three actors; and of the reports of two scripts by `many`. Each time it must be `out of
 # memory` with nothing written, or the whole output. Of a race and of many scripts a thread that
 # isn't started may be told too, never of a trace. Want of memory may stand in the place of a report
 # by `many`. It ends with status 1 where it was something else.
@@ -61,7 +61,8 @@ each() {
 }
 
 { echo open,32,16777216,24,0,1700000000,0 && yes update,0 | head -n 600; } >3.csv
-for script in 1 2 3; do
+printf '%s\n' open,32,16777216,24,0,1700000000,0 '"update",5' get,5,realtime '"tai",9,"37"' >quoted.csv
+for script in 1 2 3 quoted; do
     each 'out of memory' $script.csv
     each 'out of memory' $script.csv replay --keep 1
 done
@@ -71,6 +72,8 @@ seq 0 99 | sed 's/.*/1,&\n3,&/' >short
 seq 0 199999 | sed 's/.*/2,&/' >long
 each 'out of memory' /dev/null trace tai 4.csv short
 each 'out of memory' /dev/null trace realtime 3.csv short
+seq 0 99 | sed 's/.*/"2",&/' >quoted
+each 'out of memory' /dev/null trace tai quoted.csv quoted
 each 'out of memory' /dev/null trace tai 4.csv long
 
 # each order is accepted or refused whatever the actors' order is

@@ -20,8 +20,8 @@ const SHARED: usize = 2 * PIECE;
 /// The first word of a piece with a fault. No clock tells it: all end before.
 const REFUSED: u64 = u64::MAX;
 
-/// A clock at each stamp, in ns, as the journal was at the front beside it, from as many threads as
-/// there are processors.
+/// A clock at each stamp, in ns, as the journal was at the front beside it, from several threads: two
+/// for each processor at most.
 ///
 /// It answers as `Timekeeper::trace`. Room for the answer is asked of `alloc`, before all else.
 pub fn trace_all<R: Threads + Sync, A: Allocator + Copy + Sync, B: Allocator>(

@@ -21,8 +21,8 @@ use tk_clock::ClockId;
 /// Trace, by the first item that has a fault. Memory may stand in the place of any answer before
 /// the first byte is written. No call is tried again, as in `replay`.
 ///
-/// From 131,072 stamps on they are converted by as many threads as there are processors, and by the
-/// calling thread where none can be started. All else is done by the calling thread.
+/// From 131,072 stamps on they are converted by several threads, two for each processor at most, and
+/// by the calling thread where none can be started. All else is done by the calling thread.
 pub fn trace<E: Threads + Sync, R: Source, S: Source, W: Sink>(
     rt: &E,
     alloc: Global,
