@@ -38,7 +38,9 @@ pub(crate) fn apply<A: Allocator + Copy>(
     }
 }
 
-/// Does a command to clocks whose journal is folded where it is full.
+/// Does a command to clocks whose journal is folded where it is full. It stands apart so that a
+/// command without a fold takes few steps.
+#[inline(never)]
 fn apply_folding<A: Allocator + Copy>(
     keeper: &mut Timekeeper<A>,
     keep: u64,
