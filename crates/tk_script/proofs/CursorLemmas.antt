@@ -20,7 +20,8 @@ pub takes-front : {A : Type 0} (tell : ℕ → List (List ℕ) → Result A Scri
 takes-front tell None old new plain front = tt
 takes-front tell (Some item) old new plain (line, front, tells) =
     let read = front-record old.rest.now line new.rest.now plain front in
-    let split = records_after-some StartRecord old.rest.now (record_of_line line new.rest.now) read.0 in (
+    let split = records_after-some StartRecord old.rest.now (record_of_line line new.rest.now)
+    read.0 in (
       read.1,
       λ records e.
           let same : records ≡ records_after StartRecord old.rest.now = cc e in

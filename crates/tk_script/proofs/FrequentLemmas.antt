@@ -65,7 +65,8 @@ update-row n reading digits e = rw e refl
 update-cut : (digits : List ℕ) → Lacks (is_byte 44) digits →
     cut_at_commas (codes "update," ++ digits) ≡ codes "update" ∷ digits ∷ []
 unfolding cut_behind
-update-cut digits whole = ap (λ (fs : List (List ℕ)). codes "update" ∷ fs) (cut-whole [] digits whole)
+update-cut digits whole = ap (λ (fs : List (List ℕ)). codes "update" ∷ fs)
+    (cut-whole [] digits whole)
 
 pub front-update : (text rest end digits : List ℕ) (reading : ℕ)
     → text ≡ codes "update," ++ (digits ++ end) → number_of digits ≡ Some reading →
@@ -89,7 +90,8 @@ look-cut : (digits word : List ℕ) → Lacks (is_byte 44) digits → Lacks (is_
 unfolding cut_behind
 look-cut digits word whole whole' =
     ap (λ (fs : List (List ℕ)). codes "get" ∷ fs)
-    (cut-first [] digits word whole ∙ ap (λ (fs : List (List ℕ)). digits ∷ fs) (cut-whole [] word whole'))
+    (cut-first [] digits word whole
+    ∙ ap (λ (fs : List (List ℕ)). digits ∷ fs) (cut-whole [] word whole'))
 
 pub front-look : (text rest end digits word : List ℕ) (reading : ℕ) (clock : ClockId)
     → text ≡ codes "get," ++ (digits ++ (codes "," ++ (word ++ end))) →

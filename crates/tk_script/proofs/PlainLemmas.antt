@@ -1,5 +1,5 @@
 -- The first record of a plain text is its first line that is not empty, cut at its commas.
-use Rattle.std.proofs.Common.{◌≡◌, ◌∙◌, ◌++◌, ◌+◌, ◌<◌, ◌≤◌, ℕ, zero, suc, List, [], ◌∷◌, length, take, drop, Bool, true, false, Option, Some, None, unwrap_or, refl, sym, ap, inl, inr, arith, append_assoc, drop-cons, length-drop, add-one}
+use Rattle.std.proofs.Common.{◌≡◌, ◌∙◌, ◌++◌, ◌+◌, ◌<◌, ◌≤◌, ℕ, zero, suc, List, [], ◌∷◌, length, take, drop, Bool, true, false, Option, Some, None, refl, sym, ap, inl, inr, arith, append_assoc, drop-cons, length-drop, add-one}
 use Rattle.std.specs.Prelude.{◌==◌, ◌||◌, ◌-◌, slice_index, is_some, not}
 use Rattle.std.specs.List.{list_any}
 use Rattle.std.proofs.lemmas.Bool.{cases_Bool, eqb-true}
@@ -25,6 +25,17 @@ or-none false b e = (refl, e)
 pub not-true : (b : Bool) → (b ≡ true → ⊥) → b ≡ false
 not-true true wrong = absurd (wrong refl)
 not-true false wrong = refl
+
+-- one more byte, which is neither of two
+pub lacks-more : (a b : ℕ) (text : List ℕ) (i : ℕ) → i < length text
+    → Lacks (is_byte2 a b) (take i text) → (slice_index text i ≡ a → ⊥) →
+    (slice_index text i ≡ b → ⊥) → Lacks (is_byte2 a b) (take (i + 1) text)
+lacks-more a b text i inside front other other' =
+    let byte = slice_index text i in
+    let first : (byte == a) ≡ false = not-true (byte == a) (λ same. other (eqb-true byte a same)) in
+    let second : (byte == b) ≡ false =
+    not-true (byte == b) (λ same. other' (eqb-true byte b same)) in
+    list_any_more (is_byte2 a b) text i 0 inside ∙ rw (front, first, second) refl
 
 -- the first byte of a plain text, and the others
 plain-byte : (c : ℕ) (rest : List ℕ) → IsPlain (c ∷ rest) →
@@ -253,14 +264,6 @@ pub cut-end : (line : List ℕ) (i : ℕ) → length line ≤ i →
     length (cut_behind [] (drop i line)) ≡ 1
 unfolding cut_behind
 cut-end line i past = rw (drop_all i line past) refl
-
--- what comes before the first byte that passes a test lacks such bytes
-pub lacks-before : (test : ℕ → Bool) (text : List ℕ) (found : Option ℕ) →
-    IsFirstByte test text found → Lacks test (take (unwrap_or found (length text)) text)
-lacks-before test text None first = rw (take-length text) (found-none test text first)
-lacks-before test text (Some end) (before, at) =
-    let inside : end < length text = before.high in
-    lacks-take test text end (omega arith) (λ k less passes. before.before k (omega arith) less passes)
 
 -- one more empty line
 pub empty-more : (text : List ℕ) (i : ℕ) → i < length text → slice_index text i ≡ 10 →

@@ -9,7 +9,6 @@ use crate::names::clock_word;
 use crate::numbers::number_in_front;
 use crate::plain::behind_line;
 use crate::row::Row;
-use memchr::memchr2;
 use tk_clock::Command;
 
 /// The row of an update or of a read at the front of a text, and what follows its line. None of
@@ -54,13 +53,17 @@ pub(crate) fn stamp_in_front(text: &[u8]) -> Option<((u64, u64), &[u8])>
     Some(((front, stamp), rest))
 }
 
-/// The field at the front of a text, and what follows it.
+/// The field at the front of a text, and what follows it. It is mostly short.
 fn field_in_front(text: &[u8]) -> (&[u8], &[u8])
     ensures split { text.now ≡ result.0.now ++ result.1.now }
     ensures whole { Lacks (is_byte2 44 10) result.0.now }
 {
-    let end = memchr2(b',', b'\n', text).unwrap_or(text.len());
-    text.split_at(end)
+    for i in 0..text.len() {
+        if text[i] == b',' || text[i] == b'\n' {
+            return text.split_at(i);
+        }
+    }
+    (text, &[])
 }
 
 /// What follows these bytes at the front of a text.

@@ -64,7 +64,8 @@ impl<'a> Lines<'a> {
 
     /// Takes the row of the next line, where it is of a frequent form and has no fault.
     pub(crate) fn take_row(&mut self) -> Option<Row>
-        ensures some { IfSome result (λ row. FrontTells row_of self.old.rest.now row self.new.rest.now) }
+        ensures some { IfSome result
+            (λ row. FrontTells row_of self.old.rest.now row self.new.rest.now) }
         ensures none { IfNone result (self.new ≡ self.old) }
     {
         let (row, rest) = row_in_front(self.rest)?;
@@ -74,7 +75,8 @@ impl<'a> Lines<'a> {
 
     /// Takes the item of the next line of a stamp file, where it has no fault.
     pub(crate) fn take_stamp(&mut self) -> Option<(u64, u64)>
-        ensures some { IfSome result (λ item. FrontTells stamp_of self.old.rest.now item self.new.rest.now) }
+        ensures some { IfSome result
+            (λ item. FrontTells stamp_of self.old.rest.now item self.new.rest.now) }
         ensures none { IfNone result (self.new ≡ self.old) }
     {
         let (item, rest) = stamp_in_front(self.rest)?;

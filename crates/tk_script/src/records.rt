@@ -53,7 +53,8 @@ impl<'a> Records<'a> {
     pub(crate) fn advance(&mut self) -> Result<bool, ScriptError>
         requires { IsCursor self.old }
         ensures reading { IfOk result (λ found. found ≡ true → IsCursor self.new) }
-        ensures takes { IfOk result (λ found. (rs : List (List (List ℕ))) → left_in self.old ≡ Some rs
+        ensures takes { IfOk result (λ found. (rs : List (List (List ℕ)))
+            → left_in self.old ≡ Some rs
             → Takes found (fields_of self.new) rs (left_in self.new)) }
         ensures err { IfErr result (λ e. e ≡ ScriptError.Memory) }
     {

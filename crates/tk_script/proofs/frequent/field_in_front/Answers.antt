@@ -1,8 +1,7 @@
-use Rattle.memchr.specs.Find.{is_byte2}
-use Rattle.tk_script.proofs.PlainLemmas.{lacks-before}
+use Rattle.tk_script.proofs.PlainLemmas.{lacks-more}
 use Rattle.tk_script.proofs.frequent.field_in_front.Goals as goal
 
-pub returns-clause-whole : goal.returns-clause-whole
-returns-clause-whole c =
-    rw (c.split_at.ensures.front, c.unwrap_or-end.ensures)
-    (lacks-before (is_byte2 44 10) c.args.text.now c.memchr2.result c.memchr2.ensures)
+pub loop-i-preserved : goal.loop-i-preserved
+loop-i-preserved c =
+    lacks-more 44 10 c.args.text.now c.loop-i.i c.loop-i-test.true c.loop-i.invariant
+    c.if-text-i-eq44.false c.if-text-i-eq10.false
