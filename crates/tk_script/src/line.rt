@@ -1,6 +1,6 @@
 //! A line of a report as it is made: on the stack, from its end to its front, since the front of a
 //! number is known last.
-ghost use Rattle.std.specs.Prelude.{◌≡◌, ◌+◌, ◌≤◌, ℕ, List, [], ◌++◌, OnOk, OnErr, IfErr, codes, length, decimal, drop};
+ghost use Rattle.std.specs.Prelude.{◌≡◌, ◌+◌, ◌≤◌, ℕ, List, ◌++◌, OnOk, OnErr, IfErr, codes, length, decimal, drop};
 ghost use Rattle.tk_script.specs.Line.{HasRoom};
 ghost use Rattle.tk_script.specs.Lines.{IsWritable, time_text};
 
@@ -11,7 +11,7 @@ use std::alloc::Allocator;
 use std::marker::Model;
 use tk_clock::Timespec;
 
-/// The most bytes of a line. The longest that is made has 85.
+/// The most bytes of a line. None that is made comes to more than 85.
 const ROOM: usize = 96;
 
 /// What there is of a line, up to its end.
