@@ -61,7 +61,8 @@ def opening(rng):
     return bits, ["open", bits, mult, shift, rng.randrange(2**bits)] + start
 
 
-def script(rng):
+def records(rng):
+    """The records of a script, some of them with a fault."""
     bits, first = opening(rng)
     lines, last, asleep = [first], first[4], False
     words = ["update", "set", "step", "freq", "tick", "tai", "suspend", "resume"]
@@ -77,7 +78,17 @@ def script(rng):
         last = at % 2**bits
     if rng.random() < 0.05:
         spoil(rng, lines)
-    return bytes_of(rng, lines)
+    return lines
+
+
+def script(rng):
+    return bytes_of(rng, records(rng))
+
+
+def unquoted_script(rng):
+    """A script without quotes and byte order marks, for a program that knows no more of csv than lines and commas."""
+    ending = rng.choice(["\n", "\n", "\r\n", "\r"])
+    return ending.join(",".join(map(str, line)) for line in records(rng)).encode()
 
 
 def bytes_of(rng, lines):

@@ -34,7 +34,7 @@ def main():
     seed = int(sys.argv[3]) if len(sys.argv) > 3 else 1
     rng = random.Random(seed)
     for number in range(count):
-        text = compare.script(rng)
+        text = compare.unquoted_script(rng)
         if told(program, text) != wanted(text):
             print(f"script {number} of seed {seed} differs:\n{text.decode()}")
             print(f"program: {told(program, text)}\nmodel: {wanted(text)}")
