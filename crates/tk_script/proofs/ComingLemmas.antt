@@ -1,6 +1,5 @@
 -- What a reader of rows has still to read, from one record to the next.
 use Rattle.std.proofs.Common.{◌≡◌, ◌∙◌, ◌≤◌, ◌+◌, ◌^◌, ℕ, zero, suc, List, [], ◌∷◌, length, Option, Some, None, IsSome, Bool, true, false, Result, Ok, Err, refl, sym, ap, arith, cond, ◌++◌, append_assoc}
-use Rattle.std.proofs.lemmas.List.{append-nil}
 use Rattle.csv.specs.Machine.{Read, next_record}
 use Rattle.csv.specs.Reading.{default_config, is_bom, records_from, records_next, strip_bom}
 use Rattle.csv.specs.declared.parser.Config.{Config}
@@ -172,14 +171,6 @@ opened-row whole start front front' row old new told step e = told ∙ rw (step,
         ap (λ (all : List Row). opened_with start (Ok all))
         (sym (append_assoc front (row ∷ []) rows))
     by (Err fault) = refl
-
--- no row is left
-pub opened-end : (whole : Result Parse ScriptError) (start : Start) (front : List Row)
-    (reader : RowReader)
-    → whole ≡ opened_with start (rows_and front (coming reader)) → coming reader ≡ Ok []
-    → whole ≡ opened_with start (Ok front)
-opened-end whole start front reader told none =
-    told ∙ rw none (ap (λ (all : List Row). opened_with start (Ok all)) (append-nil front))
 
 -- a fault of what is to come is that of the whole
 pub opened-fault : (whole : Result Parse ScriptError) (start : Start) (front : List Row)

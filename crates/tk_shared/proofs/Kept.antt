@@ -1,5 +1,5 @@
 -- What a timekeeper keeps of a whole history.
-use Rattle.std.proofs.Common.{◌≡◌, ℕ, ◌≤◌, [], ◌∷◌, length, sym, ap, ◌∙◌, arith, length-drop, length-append}
+use Rattle.std.proofs.Common.{◌≡◌, ℕ, ◌≤◌, [], ◌∷◌, length, ap, ◌∙◌, arith, length-drop, length-append}
 use Rattle.tk_clock.specs.declared.command.Entry.{Entry}
 use Rattle.tk_clock.specs.Folding.{folded_by}
 use Rattle.tk_clock.specs.Journal.{Opening, Journal, followed_by, accepted_count}
@@ -8,23 +8,12 @@ use Rattle.tk_clock.specs.Monotonic.{monotonic}
 use Rattle.tk_clock.specs.Refusal.{clock_refusal}
 use Rattle.tk_clock.specs.Snapshot.{snapshot_of}
 use Rattle.tk_clock.proofs.Alike.{monotonic-alike}
-use Rattle.tk_clock.proofs.Folding.{folded_by-nothing, folded_by-folded, followed_by-folded, snapshot_of-folded, clock_refusal-folded, state_of-whole}
-use Rattle.tk_clock.proofs.Legal.{IsLegal-whole}
+use Rattle.tk_clock.proofs.Folding.{folded_by-folded, followed_by-folded, snapshot_of-folded, clock_refusal-folded, state_of-whole}
 use Rattle.tk_shared.specs.History.{IsKeptOf}
 
 -- before the first entry of a whole history nothing was accepted
 pub whole_count : (history : Journal) → IsWhole history → history.opening.count ≡ 0
 whole_count history whole = ap (λ (o : Opening). o.count) whole.opens.3
-
--- a whole journal is all that it keeps
-pub kept_whole : (history : Journal) → IsWhole history → IsKeptOf history history
-kept_whole history whole =
-    let none = whole_count history whole in
-    record {
-      within = omega (arith, none);
-      folded = sym (folded_by-nothing history (IsLegal-whole history whole))
-          ∙ sym (ap (λ n. folded_by n history) none);
-    }
 
 -- one more entry
 pub kept_followed_by : (history kept : Journal) (entry : Entry) → IsKeptOf history kept →

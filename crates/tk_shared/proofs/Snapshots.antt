@@ -1,5 +1,5 @@
 -- Publications that are snapshots of one history.
-use Rattle.std.proofs.Common.{◌≡◌, ℕ, zero, suc, ◌+◌, ◌<◌, ◌≤◌, List, [], ◌∷◌, ◌++◌, length, sym, ap, ◌∙◌, arith, inl, inr}
+use Rattle.std.proofs.Common.{◌≡◌, ℕ, ◌+◌, ◌<◌, ◌≤◌, List, [], ◌∷◌, ◌++◌, length, sym, ap, ◌∙◌, arith, inl, inr}
 use Rattle.std.specs.Prelude.{Some, slice_get}
 use Rattle.std.proofs.lemmas.Bool.{cases_lt}
 use Rattle.std.proofs.lemmas.List.{take_all, length_push}
@@ -14,17 +14,6 @@ use Rattle.tk_shared.proofs.Prefixes.{prefix_length}
 prefix-whole : (history : Journal) (k : ℕ) → length history.entries ≤ k → prefix k history ≡ history
 prefix-whole history k within =
     ap (λ (es : List Entry). record history { entries = es }) (take_all k history.entries within)
-
--- the opening alone
-pub snapshots_opened : (history : Journal) → length history.entries ≡ 0 →
-    AreSnapshots history (snapshot_of history ∷ [])
-snapshots_opened history none = record { within = omega (arith, none); each = first }
-  where
-    first : (k : ℕ) → k < 1 →
-        slice_get (snapshot_of history ∷ []) k ≡ Some (snapshot_of (prefix k history))
-    first zero low =
-        sym (ap (λ (j : Journal). Some (snapshot_of j)) (prefix-whole history 0 (omega (arith, none))))
-    first (suc k) low = absurd (omega arith)
 
 -- one publication more
 pub snapshots_followed_by : (history : Journal) (publications : List Snapshot) (entry : Entry) →
