@@ -51,6 +51,7 @@ impl LatchReader {
     ///
     /// Moved tells the two sequence numbers that this call found; the mark becomes half the
     /// second, rounded down. It waits for nobody, not even for the writer, and takes no memory.
+    #[inline(always)]
     pub fn try_read<A: Allocator>(&mut self, latch: &Latch<A>) -> Result<Snapshot, Moved>
         requires latch { self.old.latch ≡ latch.now }
         ensures latch { self.new.latch ≡ self.old.latch }
