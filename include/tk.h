@@ -45,10 +45,10 @@
  *   test them, so that later calls need no test.
  *
  * Pointers
- *   None may be NULL, also where a count or a room is 0: then any other address does, as that of a
- *   variable of the type, and nothing is read or written there (docs/C.md says why). Each is
- *   aligned for its type. What a call writes overlaps nothing else that it is handed. What `out`
- *   holds before the call doesn't matter.
+ *   None may be NULL, but a list of no numbers: where `room` is 0 `out` of tk_snapshot_convert may
+ *   be anything, NULL too, and where `count` is 0 so may `stamps`. Each other is aligned for its
+ *   type. What a call writes overlaps nothing else that it is handed. What `out` holds before the
+ *   call doesn't matter.
  *
  * Where they may be called
  *   No call waits, takes a lock, allocates, calls back, ends the process, or keeps anything of its
@@ -86,9 +86,12 @@ extern "C" {
 #if defined(__GNUC__)
 #define TK_NONNULL __attribute__((nonnull))
 #define TK_MUST_CHECK __attribute__((nonnull, warn_unused_result))
+/* but its lists may be NULL */
+#define TK_MUST_CHECK_LISTS __attribute__((nonnull(3, 4), warn_unused_result))
 #else
 #define TK_NONNULL
 #define TK_MUST_CHECK
+#define TK_MUST_CHECK_LISTS
 #endif
 
 /* The version of this header: major, minor and patch. tk_version() answers that of the archive. */
@@ -291,11 +294,11 @@ TK_MUST_CHECK uint32_t tk_snapshot_get(struct tk_time *out, const struct tk_snap
  * TK_INVALID or TK_RANGE it is the place of the first stamp that tk_snapshot_get refuses so, those
  * before it are written, and the others stay as they were. TK_BAD_CLOCK first, then TK_BAD_ROOM
  * where room is below count: then neither out nor *done is written. A count of 0 is done, with
- * *done 0.
+ * *done 0. Where room is 0 `out` may be anything, NULL too, and where count is 0 so may `stamps`.
  */
-TK_MUST_CHECK uint32_t tk_snapshot_convert(uint64_t *out, size_t room, size_t *done,
-					   const struct tk_snapshot *snapshot, uint32_t clock,
-					   const uint64_t *stamps, size_t count);
+TK_MUST_CHECK_LISTS uint32_t tk_snapshot_convert(uint64_t *out, size_t room, size_t *done,
+						 const struct tk_snapshot *snapshot, uint32_t clock,
+						 const uint64_t *stamps, size_t count);
 
 /*
  * A snapshot as ten words, for a shared page or a file (update_vsyscall writes the like into struct

@@ -273,6 +273,12 @@ static void check_converted(const struct tk_snapshot *snapshot, uint32_t clock,
 		check(get(&time, snapshot, clock, stamps[done]) == code);
 }
 
+/* The list, or as often NULL where it is of no numbers. */
+static uint64_t *or_null(uint64_t *list, size_t count)
+{
+	return count || one_in(2) ? list : NULL;
+}
+
 static void try_convert(const struct tk_snapshot *snapshot, uint32_t clock,
 			uint64_t last)
 {
@@ -280,7 +286,7 @@ static void try_convert(const struct tk_snapshot *snapshot, uint32_t clock,
 	size_t count = below(STAMPS_MOST), room = count, *done;
 	size_t was_done = SIZE_MAX;
 	uint64_t *stamps = place(rooms.stamps, count * sizeof(*stamps));
-	uint64_t *out;
+	uint64_t *out, *handed_out, *handed_stamps;
 	uint32_t code;
 
 	if (one_in(8))
@@ -289,8 +295,10 @@ static void try_convert(const struct tk_snapshot *snapshot, uint32_t clock,
 		stamps[i] = one_in(20) ? some() : last + (any() >> below(64));
 	out = fill(rooms.out, before, room * sizeof(*out));
 	done = put(rooms.done, &was_done, sizeof(was_done));
-	code = saw(tk_snapshot_convert(out, room, done, snapshot, clock, stamps,
-				   count));
+	handed_out = or_null(out, room);
+	handed_stamps = or_null(stamps, count);
+	code = saw(tk_snapshot_convert(handed_out, room, done, snapshot, clock,
+				       handed_stamps, count));
 	if (code == TK_BAD_CLOCK || code == TK_BAD_ROOM) {
 		check(code == TK_BAD_CLOCK || room < count);
 		check(*done == SIZE_MAX);

@@ -86,6 +86,31 @@ static void ends(struct tk_clock *clock, const struct tk_counter *counter)
 					       frequency, tick));
 }
 
+/* A list of no numbers may be NULL. What is written stays, but for *done. */
+static void empty_lists(const struct tk_snapshot *snapshot, uint64_t out[3],
+			const uint64_t stamps[3])
+{
+	uint64_t first = out[0];
+	size_t done = 9;
+
+	MEET(TK_BAD_CLOCK,
+	     tk_snapshot_convert(NULL, 0, &done, snapshot, 2, NULL, 0));
+	MEET(TK_BAD_ROOM, tk_snapshot_convert(NULL, 0, &done, snapshot,
+					      TK_CLOCK_TAI, stamps, 3));
+	need(done == 9, "how many is not told where there is no room");
+	MEET(TK_OK, tk_snapshot_convert(NULL, 0, &done, snapshot, TK_CLOCK_TAI,
+					NULL, 0));
+	need(done == 0, "no stamp is converted of NULL into NULL");
+	done = 9;
+	MEET(TK_OK, tk_snapshot_convert(out, 3, &done, snapshot, TK_CLOCK_TAI,
+					NULL, 0));
+	need(done == 0 && out[0] == first, "no stamp is converted of NULL");
+	done = 9;
+	MEET(TK_OK, tk_snapshot_convert(NULL, 0, &done, snapshot, TK_CLOCK_TAI,
+					stamps, 0));
+	need(done == 0, "no stamp is converted into NULL");
+}
+
 static void reads(const struct tk_clock *clock, const struct tk_counter *counter)
 {
 	static const uint64_t stamps[] = { 7, 8, 2000000000 };
@@ -108,6 +133,7 @@ static void reads(const struct tk_clock *clock, const struct tk_counter *counter
 	MEET(TK_OK, tk_snapshot_convert(out, 0, &done, &snapshot,
 					TK_CLOCK_MONOTONIC, stamps, 0));
 	need(done == 0, "no stamp is converted of none");
+	empty_lists(&snapshot, out, stamps);
 	tk_snapshot_words(words, &snapshot);
 	MEET(TK_OK, tk_snapshot_from_words(&other, counter, words));
 	words[7] = 200002;

@@ -54,6 +54,9 @@ static void read(const struct tk_snapshot *snapshot)
 	check(tk_snapshot_convert(out, 9, &done, snapshot, TK_CLOCK_MONOTONIC,
 				  stamps, 9) == TK_OK);
 	check(done == 9 && out[0] == 1000000000 && out[2] == 1500000001);
+	check(tk_snapshot_convert(NULL, 0, &done, snapshot, TK_CLOCK_MONOTONIC,
+				  NULL, 0) == TK_OK);
+	check(done == 0);
 }
 
 /* The words of clocks and of a snapshot give them back. */

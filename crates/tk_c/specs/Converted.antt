@@ -1,13 +1,14 @@
 -- What a list of stamps is converted to, as C is told it.
-use Rattle.std.specs.Prelude.{◌≡◌, ℕ, ⊤, List, length, Result, Ok, Err}
+use Rattle.std.specs.Prelude.{◌≡◌, ◌<◌, ◌≤◌, ◌⊎◌, ℕ, ⊤, List, length, MatchOption, Result, Ok, Err}
 use Rattle.tk_clock.specs.declared.clock_id.ClockId.{ClockId}
 use Rattle.tk_clock.specs.State.{ReadBase}
 use Rattle.tk_lanes.specs.Batch.{IsBatch}
 use Rattle.tk_lanes.specs.declared.batch_error.BatchError.{BatchError}
 use Rattle.tk_lanes.specs.declared.batch_error.BatchError.TheVariants as errors
 use Rattle.tk_c.specs.Codes.{number_of}
+use Rattle.tk_c.specs.Named.{clock_named}
 use Rattle.tk_c.specs.declared.code.Code.{Code}
-use Rattle.tk_c.specs.declared.code.Code.TheVariants.{Done, Invalid, Range}
+use Rattle.tk_c.specs.declared.code.Code.TheVariants.{Done, Invalid, Range, BadClock, BadRoom}
 
 -- the code of an answer
 abbrev pub code_of_answer : Result ⊤ BatchError → Code
@@ -29,3 +30,12 @@ pub record IsConverted (base : ReadBase) (clock : ClockId) (stamps old new : Lis
   pub batch : IsBatch base clock stamps old new answer
   pub count : converted ≡ converted_of (length stamps) answer
   pub told : code ≡ number_of (code_of_answer answer)
+
+-- the answer to a clock's number, a list and a list of stamps, and what it leaves of the list and of
+-- how many were converted
+abbrev pub IsAnswered : ReadBase → ℕ → List ℕ → List ℕ → List ℕ → ℕ → ℕ → ℕ → Type 0
+IsAnswered base clock stamps old new before after code = MatchOption (clock_named clock)
+    ((code ≡ number_of BadClock) × (new ≡ old) × (after ≡ before))
+    (λ named. ((length old < length stamps)
+    × (code ≡ number_of BadRoom) × (new ≡ old) × (after ≡ before))
+    ⊎ ((length stamps ≤ length old) × IsConverted base named stamps old new after code))

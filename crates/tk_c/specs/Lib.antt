@@ -5,3 +5,4 @@ pub mod Counted
 pub mod Converted
 pub mod Restored
 pub mod Version
+pub mod Lists

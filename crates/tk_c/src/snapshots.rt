@@ -1,14 +1,17 @@
-ghost use Rattle.std.specs.Prelude.{◌≡◌, ◌^◌, ◌<◌, ◌≤◌, pos, ◌≤ℤ◌, length, MatchOption, ◌⊎◌};
+ghost use Rattle.std.specs.Prelude.{◌≡◌, ◌^◌, ◌*◌, ◌<◌, ℕ, pos, ◌≤ℤ◌, List, [], length, MatchOption};
+ghost use types.Logic.{sem};
 ghost use Rattle.tk_clock.specs.Refusal.{read_refusal};
-ghost use Rattle.tk_clock.specs.State.{base_value};
+ghost use Rattle.tk_clock.specs.State.{ReadBase, base_value};
 ghost use Rattle.tk_clock.specs.Time.{nanoseconds};
 ghost use Rattle.tk_c.specs.Codes.{number_of, code_of_read};
-ghost use Rattle.tk_c.specs.declared.code.Code.TheVariants.{Done, BadClock, BadRoom};
-ghost use Rattle.tk_c.specs.Converted.{IsConverted};
+ghost use Rattle.tk_c.specs.declared.code.Code.TheVariants.{Done, BadClock};
+ghost use Rattle.tk_c.specs.Converted.{IsAnswered};
+ghost use Rattle.tk_c.specs.Lists.{owned_at, shared_at, Lists};
 ghost use Rattle.tk_c.specs.Named.{clock_named};
 
 use crate::code::Code;
 use crate::named::clock_named;
+use std::slice::{from_raw_parts, from_raw_parts_mut};
 use tk_clock::{Snapshot, Timespec};
 use tk_lanes::{BatchError, lane_batch};
 
@@ -43,21 +46,76 @@ pub extern "C" fn tk_snapshot_get(
 }
 
 /// Writes a clock at each of a list of stamps, in ns, and how many were converted: all, or those
-/// before the first that is refused, and why (`lane_batch`).
+/// before the first that is refused, and why (`lane_batch`). A list of no numbers may lie anywhere,
+/// at NULL too.
 #[unsafe(no_mangle)]
-pub extern "C" fn tk_snapshot_convert(
+pub unsafe extern "C" fn tk_snapshot_convert(
+    out: *mut u64,
+    room: usize,
+    done: &mut usize,
+    snapshot: &Snapshot,
+    clock: u32,
+    stamps: *const u64,
+    count: usize,
+) -> u32
+    ghost lists: { Lists }
+    requires* { sem 𝓛 (owned_at out room lists.old)
+        ∗ sem 𝓛 (shared_at stamps count lists.alive lists.share lists.stamps)
+        ∗ ⌜ (length lists.stamps ≡ count) × (room * 8 < 2 ^ 63) ⌝ }
+    ensures* { ∃ₛ (λ (new : List ℕ). sem 𝓛 (owned_at out room new)
+        ∗ sem 𝓛 (shared_at stamps count lists.alive lists.share lists.stamps)
+        ∗ ⌜ IsAnswered snapshot.now.base clock lists.stamps lists.old new done.old done.new
+        result ⌝) }
+{
+    if count == 0 {
+        return convert_none(done, clock);
+    }
+    if room == 0 {
+        return convert_into_none(clock);
+    }
+    convert(
+        from_raw_parts_mut(out, room),
+        done,
+        snapshot,
+        clock,
+        from_raw_parts(stamps, count),
+    )
+}
+
+/// What there is to do for no stamps.
+fn convert_none(done: &mut usize, clock: u32) -> u32
+    ensures { MatchOption (clock_named clock)
+        ((result ≡ number_of BadClock) × (done.new ≡ done.old))
+        (λ named. (result ≡ number_of Done) × (done.new ≡ 0)) }
+{
+    if clock_named(clock).is_none() {
+        return Code::BadClock.number();
+    }
+    *done = 0;
+    Code::Done.number()
+}
+
+/// Why stamps can't be converted where there is room for none.
+fn convert_into_none(clock: u32) -> u32
+    ensures { (base : ReadBase) (stamps : List ℕ) (done : ℕ) → 0 < length stamps →
+        IsAnswered base clock stamps [] [] done done result }
+{
+    match clock_named(clock) {
+        Some(_) => Code::BadRoom.number(),
+        None => Code::BadClock.number(),
+    }
+}
+
+/// The same for lists that lie at an address.
+pub(crate) fn convert(
     out: &mut [u64],
     done: &mut usize,
     snapshot: &Snapshot,
     clock: u32,
     stamps: &[u64],
 ) -> u32
-    ensures { MatchOption (clock_named clock)
-        ((result ≡ number_of BadClock) × (out.new ≡ out.old) × (done.new ≡ done.old))
-        (λ named. ((length out.old < length stamps.now)
-        × (result ≡ number_of BadRoom) × (out.new ≡ out.old) × (done.new ≡ done.old))
-        ⊎ ((length stamps.now ≤ length out.old)
-        × IsConverted snapshot.now.base named stamps.now out.old out.new done.new result)) }
+    ensures { IsAnswered snapshot.now.base clock stamps.now out.old out.new done.old done.new
+        result }
 {
     let Some(named) = clock_named(clock) else {
         return Code::BadClock.number();

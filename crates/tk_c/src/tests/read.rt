@@ -2,7 +2,8 @@ use super::{
     BOOTTIME, MONOTONIC, MONOTONIC_COARSE, MONOTONIC_RAW, REALTIME, REALTIME_COARSE, TAI,
     commanded, opened, wide_counter,
 };
-use crate::{tk_snapshot_convert, tk_snapshot_get};
+use crate::snapshots::convert;
+use crate::tk_snapshot_get;
 use std::test::Fail;
 use tk_clock::Timespec;
 
@@ -65,13 +66,13 @@ fn stamps_are_converted_up_to_the_first_that_is_refused(rt: HostRuntime) -> Resu
     let mut out = [7; 5];
     let mut done = 9;
     let stamps = [9_000, 9_100, 4_294_967_296, 9_200];
-    let answer = tk_snapshot_convert(&mut out, &mut done, &snapshot, MONOTONIC, &stamps);
+    let answer = convert(&mut out, &mut done, &snapshot, MONOTONIC, &stamps);
     assert_eq!(rt; (answer, done, out), (4, 2, [7_000, 7_100, 7, 7, 7]));
-    let answer = tk_snapshot_convert(&mut out, &mut done, &snapshot, MONOTONIC_RAW, &[9_300; 3]);
+    let answer = convert(&mut out, &mut done, &snapshot, MONOTONIC_RAW, &[9_300; 3]);
     assert_eq!(rt; (answer, done, out), (0, 3, [7_300, 7_300, 7_300, 7, 7]));
     let wide = opened(wide_counter()?)?.clock.snapshot(0);
     let stamps = [1, 225_563_049_317];
-    let answer = tk_snapshot_convert(&mut out, &mut done, &wide, MONOTONIC, &stamps);
+    let answer = convert(&mut out, &mut done, &wide, MONOTONIC, &stamps);
     assert_eq!(rt;
         (answer, done, out),
         (6, 1, [4_194_304, 7_300, 7_300, 7, 7])
@@ -87,10 +88,10 @@ fn stamps_without_a_clock_or_room_change_nothing(rt: HostRuntime) -> Result<(), 
     let mut done = 9;
     let stamps = [9_000, 9_100, 9_200];
     for (id, code) in [(MONOTONIC, 19), (2, 17)] {
-        let answer = tk_snapshot_convert(&mut out, &mut done, &snapshot, id, &stamps);
+        let answer = convert(&mut out, &mut done, &snapshot, id, &stamps);
         assert_eq!(rt; (answer, done, out), (code, 9, [7, 7]));
     }
-    let answer = tk_snapshot_convert(&mut out, &mut done, &snapshot, MONOTONIC, &[]);
+    let answer = convert(&mut out, &mut done, &snapshot, MONOTONIC, &[]);
     assert_eq!(rt; (answer, done, out), (0, 0, [7, 7]));
     Ok(())
 }
