@@ -1,7 +1,6 @@
 -- Journals that come to the same clocks after as many commands tell the same.
-use Rattle.std.proofs.Common.{◌≡◌, ◌∙◌, ℕ, ◌+◌, List, refl, sym, ap, subst, arith, Bool, true, false}
+use Rattle.std.proofs.Common.{◌≡◌, ◌∙◌, ℕ, ◌+◌, List, refl, sym, ap, subst, Bool, true, false}
 use Rattle.std.specs.Prelude.{ℤ, Option, Some, None, Ok, not, nat_le, nat_lt, int_lt, if◌then◌else◌}
-use Rattle.std.proofs.lemmas.List.{length_push}
 use Rattle.tk_counter.specs.Counter.{mask}
 use Rattle.tk_clock.specs.declared.clock_id.ClockId.{ClockId}
 use Rattle.tk_clock.specs.declared.command.Entry.{Entry}
@@ -13,11 +12,11 @@ use Rattle.tk_clock.specs.Clocks.{clock_value}
 use Rattle.tk_clock.specs.Journal.{Journal, followed_by, accepted_count}
 use Rattle.tk_clock.specs.Limits.{limit, listed_most}
 use Rattle.tk_clock.specs.Monotonic.{monotonic}
-use Rattle.tk_clock.specs.Refusal.{clock_refusal, state_refusal}
+use Rattle.tk_clock.specs.Refusal.{clock_refusal}
 use Rattle.tk_clock.specs.Run.{reply_if}
-use Rattle.tk_clock.specs.State.{State, state_of, base_value, base_monotonic}
+use Rattle.tk_clock.specs.State.{State, state_of}
 use Rattle.tk_clock.specs.Time.{timespec_of}
-use Rattle.tk_clock.proofs.Alike.{IsAlike-followed_by, IsAlike-self, IsAlike-trans, clock_refusal-alike, clock_value-alike, monotonic-alike}
+use Rattle.tk_clock.proofs.Alike.{IsAlike-followed_by, IsAlike-trans, clock_refusal-alike, clock_value-alike, monotonic-alike}
 use Rattle.tk_keeper.specs.Read.{read_fault}
 use Rattle.tk_script.specs.declared.row.Row.{Row}
 use Rattle.tk_script.specs.declared.row.Row.TheVariants.{Act, Look}

@@ -1,5 +1,5 @@
 -- A journal that lists every command is full where so many were accepted as a journal lists.
-use Rattle.std.proofs.Common.{◌≡◌, ◌∙◌, ℕ, ◌+◌, List, [], ◌∷◌, refl, sym, ap, subst, arith, Bool, true, false}
+use Rattle.std.proofs.Common.{◌≡◌, ◌∙◌, ℕ, List, [], ◌∷◌, refl, sym, ap, subst, arith, Bool, true, false}
 use Rattle.std.specs.Prelude.{Option, Some, None, nat_le, length, ◌||◌, if◌then◌else◌}
 use Rattle.std.proofs.lemmas.Grind.{common_steps}
 use Rattle.tk_clock.specs.declared.command.Entry.{Entry}

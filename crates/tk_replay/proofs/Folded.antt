@@ -1,5 +1,5 @@
 -- A journal that was folded replies as the whole one does.
-use Rattle.std.proofs.Common.{◌≡◌, ◌∙◌, ℕ, ◌-◌, ◌<◌, ◌≤◌, List, length, refl, sym, ap, subst, arith, Bool, true, false}
+use Rattle.std.proofs.Common.{◌≡◌, ◌∙◌, ℕ, ◌-◌, ◌<◌, ◌≤◌, List, length, sym, ap, subst, arith, Bool, false}
 use Rattle.std.specs.Prelude.{Option, Some, Result, Ok, Err, max, nat_le, if◌then◌else◌}
 use Rattle.std.proofs.lemmas.Grind.{common_steps}
 use Rattle.std.proofs.lemmas.List.{take_all}
@@ -16,7 +16,7 @@ use Rattle.tk_keeper.proofs.Running.{IsAnswer, reply-answer}
 use Rattle.tk_clock.specs.Folding.{IsAlike}
 use Rattle.tk_replay.specs.Folding.{IsReplied, counted_refusal, greatest_keep}
 use Rattle.tk_replay.specs.Report.{reply_by}
-use Rattle.tk_clock.proofs.Alike.{IsAlike-self, clock_refusal-alike}
+use Rattle.tk_clock.proofs.Alike.{clock_refusal-alike}
 use Rattle.tk_clock.proofs.Refusals.{first_refusal-room}
 use Rattle.tk_replay.proofs.Alike.{answer-alike, reply-alike}
 use Rattle.tk_clock.specs.Limits.{listed_most, counted_most}

@@ -1,5 +1,4 @@
 use Rattle.std.proofs.Common.{◌≡◌, ◌∙◌, ◌<◌, ◌-◌, ◌^◌, length, sym, ap, subst}
-use Rattle.std.specs.Prelude.{Some}
 use Rattle.tk_clock.specs.Journal.{accepted_count}
 use Rattle.tk_clock.specs.Refusal.{clock_refusal}
 use Rattle.tk_keeper.specs.Keeper.{Keeper}

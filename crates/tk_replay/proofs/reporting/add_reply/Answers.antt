@@ -1,6 +1,5 @@
-use Rattle.std.proofs.Common.{◌≡◌, ◌∙◌, ◌++◌, ℕ, List, sym, subst, refl}
-use Rattle.std.specs.Prelude.{None, Result, Ok, Err, IsOk, OnOk}
-use Rattle.std.specs.Result.{result_err}
+use Rattle.std.proofs.Common.{◌≡◌, ◌++◌, ℕ, List, sym, subst}
+use Rattle.std.specs.Prelude.{OnOk}
 use Rattle.tk_clock.specs.declared.clock_id.ClockId.TheVariants.{Monotonic}
 use Rattle.tk_script.specs.Lines.{ok_line}
 use Rattle.tk_replay.specs.Folding.{counting_rule_of}
