@@ -1,39 +1,52 @@
 -- Journals that come to the same clocks after as many commands tell the same.
-use Rattle.std.proofs.Common.{◌≡◌, ◌∙◌, ℕ, ◌+◌, List, refl, sym, ap, subst, arith}
-use Rattle.std.specs.Prelude.{ℤ, Option, Some, None, Ok, not, nat_lt, int_lt, if◌then◌else◌}
-use Rattle.std.proofs.lemmas.List.{length_push}
+use Rattle.std.proofs.Common.{◌≡◌, ◌∙◌, ℕ, ◌+◌, List, refl, sym, ap, subst, Bool, true, false}
+use Rattle.std.specs.Prelude.{ℤ, Option, Some, None, Ok, not, nat_le, nat_lt, int_lt, if◌then◌else◌}
 use Rattle.tk_counter.specs.Counter.{mask}
 use Rattle.tk_clock.specs.declared.clock_id.ClockId.{ClockId}
 use Rattle.tk_clock.specs.declared.command.Entry.{Entry}
 use Rattle.tk_clock.specs.declared.refusal.Refusal.{Refusal}
 use Rattle.tk_clock.specs.declared.refusal.ReadError.{ReadError}
 use Rattle.tk_clock.specs.declared.refusal.ReadError.TheVariants.{Invalid, Range}
+use Rattle.tk_clock.specs.declared.refusal.Refusal.TheVariants.{Full}
 use Rattle.tk_clock.specs.Clocks.{clock_value}
 use Rattle.tk_clock.specs.Journal.{Journal, followed_by, accepted_count}
-use Rattle.tk_clock.specs.Limits.{limit}
+use Rattle.tk_clock.specs.Limits.{limit, listed_most}
 use Rattle.tk_clock.specs.Monotonic.{monotonic}
-use Rattle.tk_clock.specs.Refusal.{clock_refusal, state_refusal}
+use Rattle.tk_clock.specs.Refusal.{clock_refusal}
 use Rattle.tk_clock.specs.Run.{reply_if}
-use Rattle.tk_clock.specs.State.{State, state_of, base_value, base_monotonic}
+use Rattle.tk_clock.specs.State.{State, state_of}
 use Rattle.tk_clock.specs.Time.{timespec_of}
-use Rattle.tk_clock.proofs.Alike.{IsAlike-followed_by, IsAlike-self, IsAlike-trans, clock_refusal-alike, clock_value-alike, monotonic-alike}
+use Rattle.tk_clock.proofs.Alike.{IsAlike-followed_by, IsAlike-trans, clock_refusal-alike, clock_value-alike, monotonic-alike}
 use Rattle.tk_keeper.specs.Read.{read_fault}
 use Rattle.tk_script.specs.declared.row.Row.{Row}
 use Rattle.tk_script.specs.declared.row.Row.TheVariants.{Act, Look}
 use Rattle.tk_script.specs.Lines.{ok_line}
 use Rattle.tk_clock.specs.Folding.{IsAlike}
-use Rattle.tk_replay.specs.Folding.{StandsFor, rule_of}
+use Rattle.tk_replay.specs.Folding.{counting_rule_of}
 use Rattle.tk_replay.specs.Report.{IsLine, IsLookLine, after, event, reply_by, reply_line}
 
--- a journal that stands for a whole one is like it
-pub IsAlike-stands : (keep : Option ℕ) (journal whole : Journal) → StandsFor keep journal whole →
-    IsAlike journal whole
-IsAlike-stands None journal whole same = subst (IsAlike journal) same (IsAlike-self journal)
-IsAlike-stands (Some keep) journal whole alike = alike
+-- what a rule lets through passes the clocks' tests
+room_or_told : (full : Bool) (told : Option Refusal) → (if full then Some Full else told) ≡ None →
+    told ≡ None
+room_or_told true told passed = cc passed
+room_or_told false told passed = passed
 
-pub StandsFor-self : (keep : Option ℕ) (journal : Journal) → StandsFor keep journal journal
-StandsFor-self None journal = refl
-StandsFor-self (Some keep) journal = IsAlike-self journal
+pub passes_clock : (keep : Option ℕ) (journal : Journal) (entry : Entry) →
+    counting_rule_of keep journal entry ≡ None → clock_refusal journal entry ≡ None
+passes_clock None journal entry passed =
+    room_or_told (nat_le listed_most (accepted_count journal)) (clock_refusal journal entry) passed
+passes_clock (Some keep) journal entry passed = passed
+
+-- a command is refused alike
+rule-alike : (keep : Option ℕ) (journal whole : Journal) → IsAlike journal whole →
+    (entry : Entry) → counting_rule_of keep journal entry ≡ counting_rule_of keep whole entry
+rule-alike None journal whole alike entry =
+    let told : ℕ → Option Refusal → Option Refusal = λ n r.
+    if nat_le listed_most n then Some Full else r in
+    ap (λ n. told n (clock_refusal journal entry)) alike.count
+    ∙ ap (told (accepted_count whole)) (clock_refusal-alike journal whole alike.state entry)
+rule-alike (Some keep) journal whole alike entry =
+    clock_refusal-alike journal whole alike.state entry
 
 -- a clock is refused alike
 pub read_fault-alike : (journal whole : Journal) → IsAlike journal whole →
@@ -50,10 +63,10 @@ read_fault-alike journal whole alike clock reading =
 -- a reply leaves them alike, its answer is the same, and so is its line
 pub reply-alike : (journal whole : Journal) → IsAlike journal whole →
     (entry : Entry) (told : Option Refusal) →
-    clock_refusal journal entry ≡ told →
+    (told ≡ None → clock_refusal journal entry ≡ None) →
     IsAlike (reply_if journal entry told).journal (reply_if whole entry told).journal
 reply-alike journal whole alike entry None accepted =
-    IsAlike-followed_by journal whole alike entry accepted
+    IsAlike-followed_by journal whole alike entry (accepted refl)
 reply-alike journal whole alike entry (Some refusal) refused = alike
 
 pub answer-alike : (journal whole : Journal) → IsAlike journal whole →
@@ -64,11 +77,11 @@ answer-alike journal whole alike entry (Some refusal) = refl
 
 line-alike : (journal whole : Journal) → IsAlike journal whole →
     (entry : Entry) (told : Option Refusal) →
-    clock_refusal journal entry ≡ told →
+    (told ≡ None → clock_refusal journal entry ≡ None) →
     reply_line entry.reading (reply_if journal entry told)
     ≡ reply_line entry.reading (reply_if whole entry told)
 line-alike journal whole alike entry None accepted =
-    let next = IsAlike-followed_by journal whole alike entry accepted in
+    let next = IsAlike-followed_by journal whole alike entry (accepted refl) in
     ap (λ n. ok_line (n + 1) (timespec_of (monotonic (followed_by journal entry) entry.reading)))
     alike.count
     ∙ ap (λ n. ok_line (accepted_count whole + 1) (timespec_of n))
@@ -86,45 +99,38 @@ IsLookLine-alike journal whole alike clock reading None line (time, (nanos, valu
 )
 IsLookLine-alike journal whole alike clock reading (Some error) line text = text
 
-is_line-alike : (journal whole : Journal) → IsAlike journal whole → (row : Row) (line : List ℕ) →
-    IsLine clock_refusal journal row line → IsLine clock_refusal whole row line
-is_line-alike journal whole alike (Act reading cmd) line told =
+-- the line of a record on a journal is that on one like it
+pub IsLine-alike : (keep : Option ℕ) (journal whole : Journal) → IsAlike journal whole →
+    (row : Row) (line : List ℕ) → IsLine (counting_rule_of keep) journal row line →
+    IsLine (counting_rule_of keep) whole row line
+IsLine-alike keep journal whole alike (Act reading cmd) line told =
     let entry = event reading cmd in
-    told ∙ line-alike journal whole alike entry (clock_refusal journal entry) refl
+    told
+    ∙ line-alike journal whole alike entry (counting_rule_of keep journal entry)
+    (passes_clock keep journal entry)
     ∙ ap (λ r. reply_line reading (reply_if whole entry r))
-    (clock_refusal-alike journal whole alike.state entry)
-is_line-alike journal whole alike (Look reading clock) line told =
+    (rule-alike keep journal whole alike entry)
+IsLine-alike keep journal whole alike (Look reading clock) line told =
     subst (λ (r : Option ReadError). IsLookLine whole clock reading r line)
     (read_fault-alike journal whole alike clock reading)
     (IsLookLine-alike journal whole alike clock reading (read_fault journal clock reading) line
     told)
 
-after-alike : (journal whole : Journal) → IsAlike journal whole → (row : Row) →
-    IsAlike (after clock_refusal journal row) (after clock_refusal whole row)
-after-alike journal whole alike (Act reading cmd) =
+after-alike : (keep : Option ℕ) (journal whole : Journal) → IsAlike journal whole → (row : Row) →
+    IsAlike (after (counting_rule_of keep) journal row) (after (counting_rule_of keep) whole row)
+after-alike keep journal whole alike (Act reading cmd) =
     let entry = event reading cmd in
-    let next = (reply_by clock_refusal journal entry).journal in
+    let next = (reply_by (counting_rule_of keep) journal entry).journal in
     subst (λ (r : Option Refusal). IsAlike next (reply_if whole entry r).journal)
-    (clock_refusal-alike journal whole alike.state entry)
-    (reply-alike journal whole alike entry (clock_refusal journal entry) refl)
-after-alike journal whole alike (Look reading clock) = alike
-
--- the line of a record on a journal is that on the one that it stands for
-pub IsLine-stands : (keep : Option ℕ) (journal whole : Journal) → StandsFor keep journal whole →
-    (row : Row) (line : List ℕ) → IsLine (rule_of keep) journal row line →
-    IsLine (rule_of keep) whole row line
-IsLine-stands None journal whole same row line told =
-    subst (λ (j : Journal). IsLine (rule_of None) j row line) same told
-IsLine-stands (Some keep) journal whole alike row line told =
-    is_line-alike journal whole alike row line told
+    (rule-alike keep journal whole alike entry)
+    (reply-alike journal whole alike entry (counting_rule_of keep journal entry)
+    (passes_clock keep journal entry))
+after-alike keep journal whole alike (Look reading clock) = alike
 
 -- and so is the journal after it
-pub StandsFor-after : (keep : Option ℕ) (journal whole next : Journal) →
-    StandsFor keep journal whole → (row : Row) →
-    StandsFor keep next (after (rule_of keep) journal row) →
-    StandsFor keep next (after (rule_of keep) whole row)
-StandsFor-after None journal whole next same row told =
-    told ∙ ap (λ (j : Journal). after (rule_of None) j row) same
-StandsFor-after (Some keep) journal whole next alike row told =
-    IsAlike-trans next (after clock_refusal journal row) (after clock_refusal whole row) told
-    (after-alike journal whole alike row)
+pub IsAlike-after : (keep : Option ℕ) (journal whole next : Journal) → IsAlike journal whole →
+    (row : Row) → IsAlike next (after (counting_rule_of keep) journal row) →
+    IsAlike next (after (counting_rule_of keep) whole row)
+IsAlike-after keep journal whole next alike row told =
+    IsAlike-trans next (after (counting_rule_of keep) journal row)
+    (after (counting_rule_of keep) whole row) told (after-alike keep journal whole alike row)

@@ -1,6 +1,6 @@
 -- A journal that was folded replies as the whole one does.
-use Rattle.std.proofs.Common.{◌≡◌, ◌∙◌, ℕ, ◌-◌, ◌<◌, ◌≤◌, List, length, refl, sym, ap, subst, arith, false}
-use Rattle.std.specs.Prelude.{Option, Some, Result, Ok, Err, max}
+use Rattle.std.proofs.Common.{◌≡◌, ◌∙◌, ℕ, ◌-◌, ◌<◌, ◌≤◌, List, length, sym, ap, subst, arith, Bool, false}
+use Rattle.std.specs.Prelude.{Option, Some, Result, Ok, Err, max, nat_le, if◌then◌else◌}
 use Rattle.std.proofs.lemmas.Grind.{common_steps}
 use Rattle.std.proofs.lemmas.List.{take_all}
 use Rattle.tk_clock.specs.declared.command.Entry.{Entry}
@@ -14,7 +14,7 @@ use Rattle.tk_keeper.specs.Keeper.{Keeper}
 use Rattle.tk_keeper.specs.Past.{IsFolded, at_front}
 use Rattle.tk_keeper.proofs.Running.{IsAnswer, reply-answer}
 use Rattle.tk_clock.specs.Folding.{IsAlike}
-use Rattle.tk_replay.specs.Folding.{IsReplied, greatest_keep}
+use Rattle.tk_replay.specs.Folding.{IsReplied, counted_refusal, greatest_keep}
 use Rattle.tk_replay.specs.Report.{reply_by}
 use Rattle.tk_clock.proofs.Alike.{clock_refusal-alike}
 use Rattle.tk_clock.proofs.Refusals.{first_refusal-room}
@@ -75,25 +75,49 @@ replied whole kept after entry result alike room answered enough =
           ∙ ap (λ (r : Reply). r.answer) same,
       subst (λ (r : Reply).
           IsAlike r.journal (reply_if whole entry (clock_refusal kept.journal entry)).journal) same
-          (reply-alike kept.journal whole alike entry (clock_refusal kept.journal entry) refl),
+          (reply-alike kept.journal whole alike entry (clock_refusal kept.journal entry)
+          (λ none. none)),
     )
 
-pub IsReplied-folded : (keep : ℕ) (whole : Journal) (kept after : Keeper) (entry : Entry)
+pub IsReplied-folded : (whole : Journal) (kept after : Keeper) (entry : Entry)
     (result : Result ℕ Refusal) →
     IsAlike kept.journal whole → is_full kept.journal ≡ false → IsAnswer kept entry result after →
-    IsReplied (Some keep) (reply_by clock_refusal whole entry) result after.journal
-IsReplied-folded keep whole kept after entry (Ok number) alike room answered =
+    IsReplied (reply_by clock_refusal whole entry) result after.journal
+IsReplied-folded whole kept after entry (Ok number) alike room answered =
     replied whole kept after entry (Ok number) alike room answered (λ e. cc e)
-IsReplied-folded keep whole kept after entry (Err Full) alike room answered =
+IsReplied-folded whole kept after entry (Err Full) alike room answered =
     replied whole kept after entry (Err Full) alike room answered (λ e. cc e)
-IsReplied-folded keep whole kept after entry (Err Asleep) alike room answered =
+IsReplied-folded whole kept after entry (Err Asleep) alike room answered =
     replied whole kept after entry (Err Asleep) alike room answered (λ e. cc e)
-IsReplied-folded keep whole kept after entry (Err Awake) alike room answered =
+IsReplied-folded whole kept after entry (Err Awake) alike room answered =
     replied whole kept after entry (Err Awake) alike room answered (λ e. cc e)
-IsReplied-folded keep whole kept after entry (Err Invalid) alike room answered =
+IsReplied-folded whole kept after entry (Err Invalid) alike room answered =
     replied whole kept after entry (Err Invalid) alike room answered (λ e. cc e)
-IsReplied-folded keep whole kept after entry (Err Behind) alike room answered =
+IsReplied-folded whole kept after entry (Err Behind) alike room answered =
     replied whole kept after entry (Err Behind) alike room answered (λ e. cc e)
-IsReplied-folded keep whole kept after entry (Err Range) alike room answered =
+IsReplied-folded whole kept after entry (Err Range) alike room answered =
     replied whole kept after entry (Err Range) alike room answered (λ e. cc e)
-IsReplied-folded keep whole kept after entry (Err Memory) alike room answered = tt
+IsReplied-folded whole kept after entry (Err Memory) alike room answered = tt
+
+-- where fewer commands were accepted than a journal lists, there is room, and the count alone
+-- refuses nothing
+counted_room : (journal : Journal) → accepted_count journal < listed_most →
+    is_full journal ≡ false
+counted_room journal few = grind (arith, common_steps)
+
+counted_clock : (journal : Journal) (entry : Entry) → accepted_count journal < listed_most →
+    reply_by clock_refusal journal entry ≡ reply_by counted_refusal journal entry
+counted_clock journal entry few =
+    let below : nat_le listed_most (accepted_count journal) ≡ false = grind (arith, common_steps) in
+    ap (λ (b : Bool).
+    reply_if journal entry (if b then Some Full else clock_refusal journal entry)) (sym below)
+
+pub IsReplied-counted : (whole : Journal) (kept after : Keeper) (entry : Entry)
+    (result : Result ℕ Refusal) →
+    IsAlike kept.journal whole → accepted_count whole < listed_most →
+    IsAnswer kept entry result after →
+    IsReplied (reply_by counted_refusal whole entry) result after.journal
+IsReplied-counted whole kept after entry result alike few answered =
+    let room = counted_room kept.journal (omega (arith, few, alike.count)) in
+    subst (λ (r : Reply). IsReplied r result after.journal) (counted_clock whole entry few)
+    (IsReplied-folded whole kept after entry result alike room answered)

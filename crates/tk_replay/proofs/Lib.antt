@@ -3,6 +3,7 @@ pub mod Times
 pub mod Refusals
 pub mod Lines
 pub mod Alike
+pub mod Counted
 pub mod Folded
 pub mod Listed
 pub mod Journals

@@ -18,18 +18,20 @@ use Rattle.tk_script.specs.Lines.{ok_line, open_line}
 use Rattle.tk_script.specs.declared.opening.Start.{Start}
 use Rattle.tk_script.specs.declared.script_error.ScriptError.{ScriptError}
 use Rattle.tk_script.specs.declared.script_error.ScriptError.TheVariants as errors
-use Rattle.tk_replay.specs.Folding.{IsReplied, StandsFor, rule_of}
+use Rattle.tk_replay.specs.Folding.{IsReplied, counting_rule_of, rule_of}
 use Rattle.tk_replay.specs.Report.{Rule, IsLine, IsLines, IsReportBy, IsReportOfRows, IsTimeAt, after, answer_line, event, reply_line}
-use Rattle.tk_clock.proofs.Alike.{clock_value-alike}
-use Rattle.tk_replay.proofs.Alike.{IsAlike-stands, IsLine-stands, StandsFor-after, StandsFor-self}
+use Rattle.tk_clock.specs.Folding.{IsAlike}
+use Rattle.tk_clock.proofs.Alike.{IsAlike-self, clock_value-alike}
+use Rattle.tk_replay.proofs.Alike.{IsAlike-after, IsLine-alike}
+use Rattle.tk_replay.proofs.Counted.{IsReportOf-counted}
 
 -- the line of an accepted command, by the time that the journal tells which is kept
-pub reply_line-accepted : (keep : Option ℕ) (reply : Reply) (kept : Journal) (reading number : ℕ)
+pub reply_line-accepted : (reply : Reply) (kept : Journal) (reading number : ℕ)
     (time : Timespec) →
-    IsReplied keep reply (Ok number) kept → IsTimeAt kept Monotonic reading time →
+    IsReplied reply (Ok number) kept → IsTimeAt kept Monotonic reading time →
     reply_line reading reply ≡ ok_line number time
-reply_line-accepted keep reply kept reading number time replied (nanos, value, split) =
-    let alike = IsAlike-stands keep kept reply.journal replied.1 in
+reply_line-accepted reply kept reading number time replied (nanos, value, split) =
+    let alike = replied.1 in
     let same : pos (monotonic reply.journal reading) ≡ pos nanos =
     sym (clock_value-alike kept reply.journal alike.state Monotonic reading) ∙ value in
     let count : monotonic reply.journal reading ≡ nanos = cc in
@@ -80,20 +82,20 @@ IsBegun-end rule start all journal to_come text begun none =
     let R : List ℕ → Type 0 = λ whole. IsReportOfRows rule start all whole in
     subst R (append-nil text) (begun.told [] [] none refl)
 
--- the same by a journal that stands for one that lists every command
+-- the same by a journal that is like one that lists every command
 pub record IsBegunBy (keep : Option ℕ) (start : Start) (all : Rows) (kept : Journal)
     (to_come : Rows) (text : List ℕ) :
     Type 0 where
   pub whole : Journal
-  pub stands : StandsFor keep kept whole
-  pub begun : IsBegun (rule_of keep) start all whole to_come text
+  pub alike : IsAlike kept whole
+  pub begun : IsBegun (counting_rule_of keep) start all whole to_come text
 
 -- after the opening's line all rows are to come
 pub IsBegunBy-start : (keep : Option ℕ) (start : Start) (all : Rows) →
     IsBegunBy keep start all (opened start.desc start.reading start.real) all (open_line start.desc)
 IsBegunBy-start keep start all = record {
   whole = opened start.desc start.reading start.real;
-  stands = StandsFor-self keep (opened start.desc start.reading start.real);
+  alike = IsAlike-self (opened start.desc start.reading start.real);
   begun = record {
     told = λ rows rest e lines. (_, ap (opened_with start) e, (rest, lines, refl));
     fails = λ fault e. e;
@@ -104,24 +106,24 @@ pub IsBegunBy-next : (keep : Option ℕ) (start : Start) (all : Rows) (kept kept
     (row : Row)
     (to_come later : Rows) (text line : List ℕ) →
     IsBegunBy keep start all kept to_come text → to_come ≡ row_and row later →
-    IsLine (rule_of keep) kept row line →
-    StandsFor keep kept' (after (rule_of keep) kept row) →
+    IsLine (counting_rule_of keep) kept row line →
+    IsAlike kept' (after (counting_rule_of keep) kept row) →
     IsBegunBy keep start all kept' later (text ++ line)
 IsBegunBy-next keep start all kept kept' row to_come later text line begun step isLine moved =
     record {
-      whole = after (rule_of keep) begun.whole row;
-      stands = StandsFor-after keep kept begun.whole kept' begun.stands row moved;
-      begun = IsBegun-next (rule_of keep) start all begun.whole row to_come later text line begun.begun
+      whole = after (counting_rule_of keep) begun.whole row;
+      alike = IsAlike-after keep kept begun.whole kept' begun.alike row moved;
+      begun = IsBegun-next (counting_rule_of keep) start all begun.whole row to_come later text line begun.begun
           step
-          (IsLine-stands keep kept begun.whole begun.stands row line isLine);
+          (IsLine-alike keep kept begun.whole begun.alike row line isLine);
     }
 
 pub IsBegunBy-end : (keep : Option ℕ) (start : Start) (all : Rows) (kept : Journal) (to_come : Rows)
     (text : List ℕ) →
     IsBegunBy keep start all kept to_come text → to_come ≡ Ok [] →
-    IsReportOfRows (rule_of keep) start all text
+    IsReportOfRows (counting_rule_of keep) start all text
 IsBegunBy-end keep start all kept to_come text begun none =
-    IsBegun-end (rule_of keep) start all begun.whole to_come text begun.begun none
+    IsBegun-end (counting_rule_of keep) start all begun.whole to_come text begun.begun none
 
 -- a reading's fault is that of another one which fails where it does
 pub Fails-from : (from to : Rows) (fault : ScriptError) →
@@ -154,16 +156,16 @@ fails-opened bytes start all (errors.Fields row) opens fails = opens ∙ ap (ope
 fails-opened bytes start all (errors.Number row) opens fails = opens ∙ ap (opened_with start) fails
 
 -- the report of the rows, or their fault, is that of the bytes which tell the opening and them
-pub report-opened : {A : Type 0} (rule : Rule) (bytes : List ℕ) (start : Start) (all : Rows)
+pub report-opened : {A : Type 0} (keep : Option ℕ) (bytes : List ℕ) (start : Start) (all : Rows)
     (text_of : A → List ℕ)
     (result : Result A ScriptError) → parse_of bytes ≡ opened_with start all →
-    MatchResult result (λ text. IsReportOfRows rule start all (text_of text))
+    MatchResult result (λ text. IsReportOfRows (counting_rule_of keep) start all (text_of text))
     (λ fault. Fails fault all) →
-    MatchResult result (λ text. IsReportBy rule bytes (text_of text))
+    MatchResult result (λ text. IsReportBy (rule_of keep) bytes (text_of text))
     (λ fault. Fails fault (parse_of bytes))
-report-opened rule bytes start all text_of (Ok text) opens (parse, told, report) =
-    (parse, opens ∙ told, report)
-report-opened rule bytes start all text_of (Err fault) opens fails =
+report-opened keep bytes start all text_of (Ok text) opens (parse, told, report) =
+    (parse, opens ∙ told, IsReportOf-counted keep parse (text_of text) report)
+report-opened keep bytes start all text_of (Err fault) opens fails =
     fails-opened bytes start all fault opens fails
 
 -- a record is one command at most
@@ -172,18 +174,14 @@ counted : (journal : Journal) (entry : Entry) (told : Option Refusal) →
 counted journal entry None = omega (arith, length_push journal.entries entry)
 counted journal entry (Some refusal) = omega arith
 
-counted_after : (rule : Rule) (journal : Journal) (row : Row) →
+pub counted_after : (rule : Rule) (journal : Journal) (row : Row) →
     accepted_count (after rule journal row) ≤ accepted_count journal + 1
 counted_after rule journal (Act reading cmd) =
     counted journal (event reading cmd) (rule journal (event reading cmd))
 counted_after rule journal (Look reading clock) = omega arith
 
 pub count_after : (keep : Option ℕ) (kept kept' : Journal) (row : Row) →
-    StandsFor keep kept' (after (rule_of keep) kept row) →
+    IsAlike kept' (after (counting_rule_of keep) kept row) →
     accepted_count kept' ≤ accepted_count kept + 1
 count_after keep kept kept' row moved =
-    omega (
-      arith,
-      counted_after (rule_of keep) kept row,
-      (IsAlike-stands keep kept' (after (rule_of keep) kept row) moved).count,
-    )
+    omega (arith, counted_after (counting_rule_of keep) kept row, moved.count)

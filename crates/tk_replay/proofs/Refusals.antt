@@ -14,10 +14,10 @@ use Rattle.tk_clock.specs.Limits.{limit, is_past_limit}
 use Rattle.tk_clock.specs.Refusal.{first_of, clock_refusal}
 use Rattle.tk_clock.specs.Run.{reply_if}
 use Rattle.tk_clock.specs.Folding.{IsAlike}
-use Rattle.tk_replay.specs.Folding.{IsReplied, rule_of}
+use Rattle.tk_replay.specs.Folding.{IsReplied, counting_rule_of}
 use Rattle.tk_replay.specs.Report.{reply_by}
 use Rattle.tk_keeper.specs.Read.{read_fault}
-use Rattle.tk_replay.proofs.Alike.{IsAlike-stands, read_fault-alike}
+use Rattle.tk_replay.proofs.Alike.{passes_clock, read_fault-alike}
 
 passed : (test : Bool) (refusal : Refusal) (later : Option Refusal) →
     (if test then Some refusal else later) ≡ None →
@@ -58,27 +58,20 @@ read_fault-accepted journal entry accepted =
     let not_past : past ≡ false = below_limits _ _ (passed _ _ _ tests.1).0 in
     neither_test above past not_above not_past
 
--- what a rule lets through passes the clocks' tests
-accepted_by : (keep : Option ℕ) (journal : Journal) (entry : Entry) →
-    rule_of keep journal entry ≡ None →
-    clock_refusal journal entry ≡ None
-accepted_by None journal entry told = (passed _ _ _ told).1
-accepted_by (Some keep) journal entry told = told
-
 told_after : (keep : Option ℕ) (journal kept : Journal) (entry : Entry) (number : ℕ)
     (told : Option Refusal) →
-    rule_of keep journal entry ≡ told → (reply_if journal entry told).answer ≡ Ok number →
+    counting_rule_of keep journal entry ≡ told → (reply_if journal entry told).answer ≡ Ok number →
     IsAlike kept (reply_if journal entry told).journal →
     read_fault kept Monotonic entry.reading ≡ None
 told_after keep journal kept entry number None accepted answered alike =
     read_fault-alike kept (followed_by journal entry) alike Monotonic entry.reading
-    ∙ read_fault-accepted journal entry (accepted_by keep journal entry accepted)
+    ∙ read_fault-accepted journal entry (passes_clock keep journal entry accepted)
 told_after keep journal kept entry number (Some refusal) refused answered alike = cc answered
 
 -- so the time of an accepted command's line can be told by the journal that is kept
 pub read_fault-replied : (keep : Option ℕ) (journal kept : Journal) (entry : Entry) (number : ℕ) →
-    IsReplied keep (reply_by (rule_of keep) journal entry) (Ok number) kept →
+    IsReplied (reply_by (counting_rule_of keep) journal entry) (Ok number) kept →
     read_fault kept Monotonic entry.reading ≡ None
 read_fault-replied keep journal kept entry number replied =
-    told_after keep journal kept entry number (rule_of keep journal entry) refl replied.0
-    (IsAlike-stands keep kept (reply_by (rule_of keep) journal entry).journal replied.1)
+    told_after keep journal kept entry number (counting_rule_of keep journal entry) refl replied.0
+    replied.1

@@ -1,10 +1,10 @@
--- How a report reads a journal that is folded where it is full, in place of one that lists every
--- command.
-use Rattle.std.specs.Prelude.{◌≡◌, ℕ, ◌+◌, length, Option, Some, None, Result, Ok, Err, if◌then◌else◌}
+-- How a report reads a journal that is folded, in place of one that lists every command.
+use Rattle.std.specs.Prelude.{◌≡◌, ℕ, ◌+◌, length, nat_le, Option, Some, None, Result, Ok, Err, if◌then◌else◌}
 use Rattle.tk_clock.specs.declared.refusal.Refusal.{Refusal}
-use Rattle.tk_clock.specs.declared.refusal.Refusal.TheVariants.{Memory}
+use Rattle.tk_clock.specs.declared.refusal.Refusal.TheVariants.{Full, Memory}
 use Rattle.tk_clock.specs.Folding.{IsAlike}
-use Rattle.tk_clock.specs.Journal.{Journal}
+use Rattle.tk_clock.specs.Journal.{Journal, accepted_count}
+use Rattle.tk_clock.specs.Limits.{listed_most}
 use Rattle.tk_clock.specs.Refusal.{clock_refusal, first_refusal, is_full}
 use Rattle.tk_clock.specs.Run.{Reply}
 use Rattle.tk_replay.specs.Report.{Rule}
@@ -15,17 +15,21 @@ abbrev pub rule_of : Option ℕ → Rule
 rule_of None = first_refusal
 rule_of (Some keep) = clock_refusal
 
--- the journal that is kept stands for one that lists every command: it is that one, or, where it
--- may be folded, alike
-abbrev pub StandsFor : Option ℕ → Journal → Journal → Type 0
-StandsFor None journal whole = journal ≡ whole
-StandsFor (Some keep) journal whole = IsAlike journal whole
+-- the same of a journal that lists every command, told by how many were accepted alone
+abbrev pub counted_refusal : Rule
+counted_refusal journal event =
+    if nat_le listed_most (accepted_count journal) then Some Full else clock_refusal journal event
 
--- an event got the reply's answer and left a journal that stands for the reply's, or memory was
+-- why a command is refused after a journal of which entries may have been folded
+abbrev pub counting_rule_of : Option ℕ → Rule
+counting_rule_of None = counted_refusal
+counting_rule_of (Some keep) = clock_refusal
+
+-- an event got the reply's answer and left a journal that is like the reply's, or memory was
 -- refused
-abbrev pub IsReplied : Option ℕ → Reply → Result ℕ Refusal → Journal → Type 0
-IsReplied keep reply (Err Memory) journal = Unit {0}
-IsReplied keep reply answer journal = (reply.answer ≡ answer) × StandsFor keep journal reply.journal
+abbrev pub IsReplied : Reply → Result ℕ Refusal → Journal → Type 0
+IsReplied reply (Err Memory) journal = Unit {0}
+IsReplied reply answer journal = (reply.answer ≡ answer) × IsAlike journal reply.journal
 
 -- the greatest number of entries that a folded journal keeps: half of what a journal lists
 abbrev pub greatest_keep : ℕ

@@ -1,9 +1,11 @@
 //! Commands of a script, done to the clocks.
-ghost use Rattle.std.specs.Prelude.{◌≡◌, ◌-◌, ◌<◌, ◌≤◌, ◌^◌, length, None, Some};
-ghost use Rattle.tk_clock.specs.Limits.{counted_most};
+ghost use Rattle.std.specs.Prelude.{◌≡◌, ◌<◌, ◌≤◌, length};
 ghost use Rattle.std.specs.Option.{ForSome};
+ghost use Rattle.tk_clock.specs.Folding.{IsAlike};
 ghost use Rattle.tk_clock.specs.Journal.{accepted_count};
-ghost use Rattle.tk_replay.specs.Folding.{IsReplied, greatest_keep, listed_after, listed_then, rule_of};
+ghost use Rattle.tk_clock.specs.Limits.{counted_most};
+ghost use Rattle.tk_clock.specs.Refusal.{clock_refusal};
+ghost use Rattle.tk_replay.specs.Folding.{IsReplied, counted_refusal, counting_rule_of, greatest_keep, listed_after, listed_then};
 ghost use Rattle.tk_replay.specs.Report.{event, reply_by};
 
 use std::alloc::Allocator;
@@ -11,12 +13,19 @@ use tk_clock::{Command, Refusal};
 use tk_keeper::Timekeeper;
 
 /// Who gives a script's commands.
-const CALLER: u32 = 0;
+pub(crate) const CALLER: u32 = 0;
+
+/// The most commands that a journal lists.
+const LISTED_LIMIT: usize = 1_048_576;
+
+/// How many commands a journal that no line shows may list before it is folded: few, so that it
+/// takes little memory.
+const FOLDED_AFTER: usize = 1_024;
 
 /// Does a command to the clocks; its number, or its first refusal.
 ///
 /// Where the journal is full, it is first folded to its last `keep` entries. Without that the
-/// command is refused as Full.
+/// command is refused as Full once so many were accepted as a journal lists.
 pub(crate) fn apply<A: Allocator + Copy>(
     keeper: &mut Timekeeper<A>,
     keep: Option<u64>,
@@ -25,8 +34,8 @@ pub(crate) fn apply<A: Allocator + Copy>(
 ) -> Result<u64, Refusal>
     requires count { accepted_count keeper.old.journal < counted_most }
     requires keep { ForSome keep (λ n. n ≤ greatest_keep) }
-    ensures replied { IsReplied keep
-        (reply_by (rule_of keep) keeper.old.journal (event reading cmd))
+    ensures replied { IsReplied
+        (reply_by (counting_rule_of keep) keeper.old.journal (event reading cmd))
         result keeper.new.journal }
     ensures listed { ForSome keep (λ n.
         length keeper.new.journal.entries
@@ -34,7 +43,33 @@ pub(crate) fn apply<A: Allocator + Copy>(
 {
     match keep {
         Some(keep) => apply_folding(keeper, keep, reading, cmd),
-        None => keeper.apply(CALLER, reading, cmd),
+        None => apply_counting(keeper, reading, cmd),
+    }
+}
+
+/// Does a command to clocks whose journal only has to be counted: that is folded now and then, and
+/// so takes little memory.
+fn apply_counting<A: Allocator + Copy>(
+    keeper: &mut Timekeeper<A>,
+    reading: u64,
+    cmd: Command,
+) -> Result<u64, Refusal>
+    ensures { IsReplied (reply_by counted_refusal keeper.old.journal (event reading cmd))
+        result keeper.new.journal }
+{
+    if keeper.len() >= LISTED_LIMIT {
+        return Err(Refusal::Full);
+    }
+    fold_in_time(keeper);
+    keeper.apply(CALLER, reading, cmd)
+}
+
+/// Folds the journal whole after each so many commands.
+fn fold_in_time<A: Allocator + Copy>(keeper: &mut Timekeeper<A>)
+    ensures { IsAlike keeper.new.journal keeper.old.journal }
+{
+    if keeper.len() % FOLDED_AFTER == 0 {
+        keeper.fold(0);
     }
 }
 
@@ -49,8 +84,7 @@ fn apply_folding<A: Allocator + Copy>(
 ) -> Result<u64, Refusal>
     requires count { accepted_count keeper.old.journal < counted_most }
     requires keep { keep ≤ greatest_keep }
-    ensures replied { IsReplied (Some keep)
-        (reply_by (rule_of (Some keep)) keeper.old.journal (event reading cmd))
+    ensures replied { IsReplied (reply_by clock_refusal keeper.old.journal (event reading cmd))
         result keeper.new.journal }
     ensures listed { length keeper.new.journal.entries
         ≡ listed_after (listed_then keep keeper.old.journal) result }

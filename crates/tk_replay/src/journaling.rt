@@ -8,7 +8,7 @@ ghost use Rattle.tk_script.specs.Grammar.{Gives, parse_of};
 ghost use Rattle.tk_replay.specs.Report.{after};
 ghost use Rattle.tk_replay.specs.Trace.{journal_after, journal_of};
 
-use crate::applying::apply;
+use crate::applying::CALLER;
 use std::alloc::{Allocator, Global};
 use tk_clock::Refusal;
 use tk_keeper::Timekeeper;
@@ -54,7 +54,7 @@ fn obey<A: Allocator + Copy>(keeper: &mut Timekeeper<A>, row: Row) -> Result<(),
     let Row::Act { reading, cmd } = row else {
         return Ok(());
     };
-    match apply(keeper, None, reading, cmd) {
+    match keeper.apply(CALLER, reading, cmd) {
         Err(Refusal::Memory) => Err(ScriptError::Memory),
         _ => Ok(()),
     }

@@ -6,7 +6,8 @@ ghost use Rattle.tk_clock.specs.Limits.{counted_most};
 ghost use Rattle.tk_keeper.specs.Read.{read_fault};
 ghost use Rattle.tk_script.specs.Coming.{IsReady, coming};
 ghost use Rattle.tk_script.specs.Grammar.{Fails, parse_of};
-ghost use Rattle.tk_replay.specs.Folding.{StandsFor, greatest_keep, rule_of};
+ghost use Rattle.tk_clock.specs.Folding.{IsAlike};
+ghost use Rattle.tk_replay.specs.Folding.{counting_rule_of, greatest_keep, rule_of};
 ghost use Rattle.tk_replay.specs.Report.{IsLine, IsLookLine, IsReport, IsReportBy, IsReportOfRows, IsReportUnlimited, after, event, reply_by, reply_line};
 
 use crate::applying::apply;
@@ -69,7 +70,7 @@ pub(crate) fn report_rows<A: Allocator + Copy>(
     requires ready { IsReady rows.old }
     requires keep { ForSome keep (λ n. n ≤ greatest_keep) }
     ensures { MatchResult result
-        (λ text. IsReportOfRows (rule_of keep) start (coming rows.old) text.items)
+        (λ text. IsReportOfRows (counting_rule_of keep) start (coming rows.old) text.items)
         (λ error. Fails error (coming rows.old)) }
 {
     let mut keeper = Timekeeper::open(alloc, start.desc, start.reading, start.real).unwrap();
@@ -92,10 +93,10 @@ fn add_line<A: Allocator + Copy>(
 ) -> Result<(), ScriptError>
     requires count { accepted_count keeper.old.journal < counted_most }
     requires keep { ForSome keep (λ n. n ≤ greatest_keep) }
-    ensures line { OnOk result ((line : List ℕ) × IsLine (rule_of keep) keeper.old.journal row line
+    ensures line { OnOk result ((line : List ℕ) × IsLine (counting_rule_of keep) keeper.old.journal row line
         × (text.new.items ≡ text.old.items ++ line)) }
     ensures after { OnOk result
-        (StandsFor keep keeper.new.journal (after (rule_of keep) keeper.old.journal row)) }
+        (IsAlike keeper.new.journal (after (counting_rule_of keep) keeper.old.journal row)) }
     ensures err { IfErr result (λ error. error ≡ ScriptError.Memory) }
 {
     match row {
@@ -115,9 +116,9 @@ fn add_reply<A: Allocator + Copy>(
     requires count { accepted_count keeper.old.journal < counted_most }
     requires keep { ForSome keep (λ n. n ≤ greatest_keep) }
     ensures line { OnOk result (text.new.items ≡ text.old.items ++ reply_line reading
-        (reply_by (rule_of keep) keeper.old.journal (event reading cmd))) }
-    ensures after { OnOk result (StandsFor keep keeper.new.journal
-        (reply_by (rule_of keep) keeper.old.journal (event reading cmd)).journal) }
+        (reply_by (counting_rule_of keep) keeper.old.journal (event reading cmd))) }
+    ensures after { OnOk result (IsAlike keeper.new.journal
+        (reply_by (counting_rule_of keep) keeper.old.journal (event reading cmd)).journal) }
     ensures err { IfErr result (λ error. error ≡ ScriptError.Memory) }
 {
     match apply(keeper, keep, reading, cmd) {

@@ -39,8 +39,11 @@ impl<R: Read> Source for R {
 /// The most bytes that are read: one more than a script may have.
 const MOST: usize = 16_777_217;
 
-/// The room for the first reads, in bytes.
-const FIRST_ROOM: usize = 65_536;
+/// The least room that is made at once, in bytes.
+const LEAST_ROOM: usize = 65_536;
+
+/// The greatest, so few that they are still in the cache when they are read into.
+const GREATEST_ROOM: usize = 262_144;
 
 /// Reads to the end, or 16,777,217 bytes, whichever comes first.
 ///
@@ -66,7 +69,8 @@ pub fn read_to_end<S: Source>(alloc: Global, source: &mut S) -> Result<Vec<u8>, 
     Ok(bytes)
 }
 
-/// Makes the room greater by a quarter where it is full, up to `MOST`. What is filled stays.
+/// Makes the room greater where it is full, by a quarter within these bounds, and up to `MOST`. What
+/// is filled stays.
 fn make_room(room: &mut Vec<u8>, filled: usize) -> Result<(), AllocError>
     requires within { filled ≤ vec_len room.old }
     requires below { filled < 2 ^ 24 + 1 }
@@ -78,8 +82,8 @@ fn make_room(room: &mut Vec<u8>, filled: usize) -> Result<(), AllocError>
     if filled < room.len() {
         return Ok(());
     }
-    let length = (filled + filled / 4).clamp(FIRST_ROOM, MOST);
-    room.resize(length, 0)
+    let more = (filled / 4).clamp(LEAST_ROOM, GREATEST_ROOM);
+    room.resize((filled + more).min(MOST), 0)
 }
 
 /// Reads once into the room from a place on.

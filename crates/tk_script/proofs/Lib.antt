@@ -10,3 +10,4 @@ pub mod StampLemmas
 pub mod ComingLemmas
 pub mod GrammarLemmas
 pub mod TextLemmas
+pub mod DigitLemmas

@@ -9,11 +9,11 @@ use crate::records::Records;
 use crate::script_error::ScriptError;
 use tk_clock::{ClockId, Timespec};
 
-/// Are these bytes the word?
+/// Are these bytes the word? Most words differ in length.
 pub(crate) fn has_word(bytes: &[u8], word: &[u8]) -> bool
     ensures { result ≡ is_word bytes.now word.now }
 {
-    bytes == word
+    bytes.len() == word.len() && bytes == word
 }
 
 /// The field at a place, or no bytes behind the last one.

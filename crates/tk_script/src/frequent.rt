@@ -66,7 +66,8 @@ fn field_in_front(text: &[u8]) -> (&[u8], &[u8])
     (text, &[])
 }
 
-/// What follows these bytes at the front of a text.
+/// What follows these bytes at the front of a text. They are few, and known where it is called: the
+/// loop is unrolled there.
 #[inline(always)]
 fn behind<'a>(text: &'a [u8], front: &[u8]) -> Option<&'a [u8]>
     ensures { IfSome result (λ rest. text.now ≡ front.now ++ rest.now) }
@@ -74,6 +75,10 @@ fn behind<'a>(text: &'a [u8], front: &[u8]) -> Option<&'a [u8]>
     if text.len() < front.len() {
         return None;
     }
-    let (found, rest) = text.split_at(front.len());
-    if found == front { Some(rest) } else { None }
+    for i in 0..front.len() {
+        if text[i] != front[i] {
+            return None;
+        }
+    }
+    Some(&text[front.len()..])
 }

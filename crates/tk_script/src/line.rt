@@ -1,10 +1,10 @@
 //! A line of a report as it is made: on the stack, from its end to its front, since the front of a
 //! number is known last.
-ghost use Rattle.std.specs.Prelude.{◌≡◌, ◌+◌, ◌≤◌, ℕ, List, ◌++◌, OnOk, OnErr, IfErr, codes, length, decimal, drop};
+ghost use Rattle.std.specs.Prelude.{◌≡◌, ◌+◌, ◌<◌, ◌≤◌, ℕ, List, ◌++◌, OnOk, OnErr, IfErr, codes, length, decimal, drop};
 ghost use Rattle.tk_script.specs.Line.{HasRoom};
 ghost use Rattle.tk_script.specs.Lines.{IsWritable, time_text};
+ghost use Rattle.tk_script.specs.Utc.{nine_digits};
 
-use crate::digits::nine_digits_of;
 use crate::script_error::ScriptError;
 use itoa::write_digits;
 use std::alloc::Allocator;
@@ -72,9 +72,21 @@ impl Line {
         ensures text { self.new ≡ time_text time ++ self.old }
         ensures more { length self.new ≤ 30 + length self.old }
     {
-        self.put(&nine_digits_of(time.nsec));
-        self.put(b".");
+        self.put_fraction(time.nsec);
         self.put_number(time.sec as u64);
+    }
+
+    /// Puts a dot and nine digits in front: the last digits of a number of ten, and the dot in the
+    /// place of the first one.
+    #[inline(always)]
+    fn put_fraction(&mut self, nsec: u32)
+        requires below { nsec < 1000000000 }
+        requires room { HasRoom 20 self.old }
+        ensures text { self.new ≡ codes "." ++ nine_digits nsec ++ self.old }
+        ensures more { length self.new ≡ 10 + length self.old }
+    {
+        self.put_number(1_000_000_000 + u64::from(nsec));
+        self.bytes[self.start] = b'.';
     }
 
     /// Appends the line to a report, or nothing.

@@ -1,5 +1,4 @@
 use Rattle.std.proofs.Common.{◌≡◌, ◌∙◌, ◌<◌, ◌-◌, ◌^◌, length, sym, ap, subst}
-use Rattle.std.specs.Prelude.{Some}
 use Rattle.tk_clock.specs.Journal.{accepted_count}
 use Rattle.tk_clock.specs.Refusal.{clock_refusal}
 use Rattle.tk_keeper.specs.Keeper.{Keeper}
@@ -30,13 +29,13 @@ returns-in-Err-Full g c =
     c.fold.ensures.answer
     c.fold.ensures.folded alike c.requires.keep few (rw same at full) in
     let P : Keeper →
-    Type 0 = λ k. IsReplied (Some keep) (reply_by clock_refusal k.journal entry) answer
+    Type 0 = λ k. IsReplied (reply_by clock_refusal k.journal entry) answer
     after.journal in
     let L : Keeper → Type 0 = λ k.
     length after.journal.entries ≡ listed_after (listed_then keep k.journal) answer in
     record {
       replied = subst P (sym same)
-          (IsReplied-folded keep before.journal folded after entry answer alike room
+          (IsReplied-folded before.journal folded after entry answer alike room
           c.apply-in-Err-Full.ensures.answer);
       listed = subst L (sym same)
           (listed-answered folded after entry answer c.apply-in-Err-Full.ensures.answer

@@ -1,11 +1,11 @@
 use Rattle.std.proofs.Common.{◌≡◌, ◌∙◌, Ok, [], ap, arith, rules, sym}
-use Rattle.std.specs.Prelude.{None}
 use Rattle.std.proofs.lemmas.Result.{err_from_is_err_and}
-use Rattle.tk_clock.specs.Journal.{Journal, opened}
+use Rattle.tk_clock.specs.Journal.{Journal, accepted_count, opened}
+use Rattle.tk_clock.specs.Refusal.{first_refusal}
 use Rattle.tk_script.specs.Coming.{coming}
 use Rattle.tk_replay.specs.Trace.{journal_after}
 use Rattle.tk_replay.proofs.Journals.{Fails-journal_after, journal_after-row}
-use Rattle.tk_replay.proofs.Lines.{count_after}
+use Rattle.tk_replay.proofs.Lines.{counted_after}
 use Rattle.tk_replay.proofs.journaling.keeper_after.Goals as goal
 
 pub rows-init : goal.rows-init
@@ -33,14 +33,20 @@ rows-preserved g c =
     let left = coming c.next_row.new.self in
     let moved = c.in_ok-obey.ensures.after in
     let step = rw c.in-Some.is at c.in_ok-row.ensures in
-    let less = count_after None before after c.in-Some.row moved in
+    let less = counted_after first_refusal before c.in-Some.row in
     record {
       ready = step.0;
       same = c.rows.invariant.same
           ∙ ap (journal_after before) step.2
           ∙ journal_after-row before c.in-Some.row left
           ∙ ap (λ (j : Journal). journal_after j left) (sym moved);
-      count = omega (arith, less, step.1, c.rows.invariant.count);
+      count = omega (
+        arith,
+        less,
+        ap accepted_count moved,
+        step.1,
+        c.rows.invariant.count,
+      );
     }
 
 pub returns : goal.returns

@@ -1,9 +1,8 @@
-use Rattle.std.proofs.Common.{◌≡◌, ◌∙◌, ◌++◌, ℕ, List, sym, subst, refl}
-use Rattle.std.specs.Prelude.{None, Result, Ok, Err, IsOk, OnOk}
-use Rattle.std.specs.Result.{result_err}
+use Rattle.std.proofs.Common.{◌≡◌, ◌++◌, ℕ, List, sym, subst}
+use Rattle.std.specs.Prelude.{OnOk}
 use Rattle.tk_clock.specs.declared.clock_id.ClockId.TheVariants.{Monotonic}
 use Rattle.tk_script.specs.Lines.{ok_line}
-use Rattle.tk_replay.specs.Folding.{rule_of}
+use Rattle.tk_replay.specs.Folding.{counting_rule_of}
 use Rattle.tk_replay.specs.Report.{event, IsTimeAt, reply_by, reply_line}
 use Rattle.tk_replay.proofs.Times.{IsOk-read, IsTimeAt-read, IsWritable-read}
 use Rattle.tk_replay.proofs.Lines.{reply_line-accepted}
@@ -20,7 +19,7 @@ unwrap-time-requires g c =
 
 pub returns-in-Ok-clause-line : goal.returns-in-Ok-clause-line
 returns-in-Ok-clause-line g c =
-    let reply = reply_by (rule_of c.args.keep) c.args.keeper.now.journal
+    let reply = reply_by (counting_rule_of c.args.keep) c.args.keeper.now.journal
     (event c.args.reading c.args.cmd) in
     let number = c.in-Ok.number in
     let time = c.unwrap-time.result in
@@ -28,7 +27,7 @@ returns-in-Ok-clause-line g c =
     IsTimeAt-read c.apply.new.keeper.journal Monotonic c.args.reading time
     (rw c.unwrap-time.ensures at c.get.ensures).1 in
     let line : reply_line c.args.reading reply ≡ ok_line number time =
-    reply_line-accepted c.args.keep reply c.apply.new.keeper.journal c.args.reading number time
+    reply_line-accepted reply c.apply.new.keeper.journal c.args.reading number time
     c.in-Ok.ensures.replied told in
     let R : List ℕ →
     Type 0 = λ text. OnOk c.line_ok.result (c.line_ok.new.out.items
