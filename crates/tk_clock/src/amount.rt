@@ -1,4 +1,4 @@
-ghost use Rattle.std.specs.Prelude.{◌≡◌, ℕ, ◌+◌, ◌*◌, ◌/◌, ◌^◌, ◌<◌, ◌≤◌, ◌⊎◌, MatchOption};
+ghost use Rattle.std.specs.Prelude.{◌≡◌, ℕ, ◌+◌, ◌*◌, ◌/◌, ◌^◌, ◌<◌, ◌≤◌, ◌⊎◌, ⊤, MatchOption};
 ghost use Rattle.tk_counter.specs.Counter.{second};
 ghost use Rattle.tk_clock.specs.Limits.{clock_end, raw_end};
 
@@ -11,7 +11,7 @@ pub(crate) const NANOS_PER_SECOND: u64 = 1_000_000_000;
 const TOO_MANY_NANOS: u64 = 1 << 63;
 
 /// Fewer cycles have less than 2^63 units at any multiplier.
-const NARROW_CYCLES: u64 = 1 << 31;
+pub(crate) const NARROW_CYCLES: u64 = 1 << 31;
 
 /// As many as the lower half of a word can tell apart.
 const HALF_WORD: u64 = 1 << 32;
@@ -52,6 +52,35 @@ impl Amount {
             sec: self.sec + seconds,
             frac,
         })
+    }
+
+    /// As `grown`, for fewer than 2^31 cycles, where no more than one further second is full. None
+    /// tells nothing.
+    pub fn grown_soon(self, desc: &CounterDesc, cycles: u64, mult: u32) -> Option<Amount>
+        requires rest { self.frac < second desc.now }
+        requires few { self.sec ≤ raw_end }
+        requires narrow { cycles < 2 ^ 31 }
+        ensures { let units = units_of desc.now self + cycles * mult in
+            MatchOption result
+            ⊤
+            (λ amount. (units_of desc.now amount ≡ units) × (amount.frac < second desc.now)
+            × (amount.sec < self.sec + clock_end)) }
+    {
+        let second = desc.second();
+        let units = few_units(self.frac, cycles, mult);
+        if units < second {
+            return Some(Amount {
+                sec: self.sec,
+                frac: units,
+            });
+        }
+        if units - second < second {
+            return Some(Amount {
+                sec: self.sec + 1,
+                frac: units - second,
+            });
+        }
+        None
     }
 
     /// The amount in units of `2^-shift` ns.
@@ -96,10 +125,20 @@ fn gained_nanos(frac: u64, cycles: u64, mult: u32, shift: u32) -> u64
     ensures most { result ≤ 139 * 10 ^ 17 }
 {
     if cycles < NARROW_CYCLES {
-        (frac + cycles * u64::from(mult)) >> shift
+        few_units(frac, cycles, mult) >> shift
     } else {
         long_nanos(frac, cycles, mult, shift)
     }
+}
+
+/// `frac` and so few cycles at `mult` that they fit a word.
+fn few_units(frac: u64, cycles: u64, mult: u32) -> u64
+    requires rest { frac < 2 ^ 62 }
+    requires narrow { cycles < 2 ^ 31 }
+    ensures value { result ≡ frac + cycles * mult }
+    ensures low { result < 2 ^ 62 + 2 ^ 63 }
+{
+    frac + cycles * u64::from(mult)
 }
 
 /// As `gained_nanos`, where the units may not fit 64 bits.

@@ -1,4 +1,4 @@
-ghost use Rattle.std.specs.Prelude.{◌≡◌, ◌≤◌, MatchResult, Some, None};
+ghost use Rattle.std.specs.Prelude.{◌≡◌, ◌≤◌, ◌⊎◌, true, false, MatchResult, Some, None};
 
 mod effects;
 mod parts;
@@ -86,7 +86,44 @@ impl Clock {
     /// numbers are out of range; Behind where the reading lies behind the last one; Range where a
     /// clock would be at its limit; Invalid where REALTIME would be set below MONOTONIC or beyond
     /// what may be set. `Command` names the kernel's functions.
+    #[inline(always)]
     pub fn apply(&mut self, reading: u64, cmd: Command) -> Result<(), Refusal>
+        ensures { MatchResult result
+            (λ _. (state_refusal self.old reading cmd ≡ None)
+            × (self.new ≡ effect self.old reading cmd))
+            (λ refusal. (state_refusal self.old reading cmd ≡ Some refusal)
+            × (self.new ≡ self.old)) }
+    {
+        if matches!(cmd, Command::Update) && self.update_soon(reading) {
+            return Ok(());
+        }
+        self.apply_any(reading, cmd)
+    }
+
+    /// Does an update that is as most of them are: fewer than 2^31 cycles after the last command,
+    /// and with no more than one second full since. Tells whether it did; any other is left alone.
+    #[inline(always)]
+    fn update_soon(&mut self, reading: u64) -> bool
+        ensures { ((result ≡ true) × (state_refusal self.old reading Command.Update ≡ None)
+            × (self.new ≡ effect self.old reading Command.Update))
+            ⊎ ((result ≡ false) × (self.new ≡ self.old)) }
+    {
+        let Ok(()) = self.check(reading, Command::Update) else {
+            return false;
+        };
+        let Some(now) = self.base.forwarded_soon(reading) else {
+            return false;
+        };
+        if now.is_past_limit(Command::Update) {
+            return false;
+        }
+        self.base.take_forward(now);
+        true
+    }
+
+    /// `apply` of any command: out of line, so that most updates need none of its room.
+    #[inline(never)]
+    fn apply_any(&mut self, reading: u64, cmd: Command) -> Result<(), Refusal>
         ensures { MatchResult result
             (λ _. (state_refusal self.old reading cmd ≡ None)
             × (self.new ≡ effect self.old reading cmd))
@@ -99,6 +136,7 @@ impl Clock {
     }
 
     /// The tests that need no clock's value, in the order of `apply`.
+    #[inline(always)]
     fn check(&self, reading: u64, cmd: Command) -> Result<(), Refusal>
         ensures { MatchResult result
             (λ _. IsEarly self.now reading cmd)

@@ -94,7 +94,7 @@ impl ReadBase {
         ensures { let counter = self.now.counter in
             result ≡ nat_lt (half counter) (gap counter self.now.last reading) }
     {
-        self.desc.is_behind(self.desc.gap(self.last, reading))
+        self.leads_back(self.desc.gap(self.last, reading))
     }
 
     /// The cycles from the last reading to another: none while asleep, or where it lies behind.

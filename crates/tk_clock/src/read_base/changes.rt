@@ -1,12 +1,13 @@
 //! What commands make of a read base: each function gives another one, and leaves its own as it
-//! was.
-ghost use Rattle.std.specs.Prelude.{◌≡◌, ◌*◌, ◌/◌, ◌^◌, ◌≤◌, MatchOption, pos, ◌≤ℤ◌, ◌+ℤ◌, ◌<ℤ◌, not, int_lt, true, false};
+//! was, but for `take_forward`, which goes on with what another one gave.
+ghost use Rattle.std.specs.Prelude.{◌≡◌, ◌*◌, ◌/◌, ◌^◌, ◌≤◌, ⊤, MatchOption, pos, ◌≤ℤ◌, ◌+ℤ◌, ◌<ℤ◌, not, int_lt, true, false};
 ghost use Rattle.tk_counter.specs.Counter.{mask, fastest};
 ghost use Rattle.tk_clock.specs.Limits.{is_past_limit, clock_end, monotonic_end, greatest_tai};
 ghost use Rattle.tk_clock.specs.State.{base_value, forwarded};
 ghost use Rattle.tk_clock.specs.Running.{IsRated, slowest};
 
 use super::ReadBase;
+use crate::amount::NARROW_CYCLES;
 use crate::clock_id::ClockId;
 use crate::command::Command;
 use crate::limits::{MONOTONIC_SEC_LIMIT, limit, sets_real};
@@ -41,6 +42,47 @@ impl ReadBase {
         })
     }
 
+    /// As `forwarded`, where the cycles are few and no amount has more than one further second
+    /// full. None tells nothing.
+    pub fn forwarded_soon(&self, reading: u64) -> Option<ReadBase>
+        requires reading { reading ≤ mask self.now.counter }
+        requires steered { slowest self.now.counter ≤ self.now.mult }
+        requires rated { IsRated self.now }
+        ensures { MatchOption result
+            ⊤
+            (λ base. (base ≡ forwarded self.now reading) × IsRated base) }
+    {
+        let cycles = self.desc.gap(self.last, reading);
+        if cycles >= NARROW_CYCLES {
+            return None;
+        }
+        let Some(monotonic) = self.monotonic.grown_soon(&self.desc, cycles, self.mult) else {
+            return None;
+        };
+        if monotonic.sec >= MONOTONIC_SEC_LIMIT {
+            return None;
+        }
+        let Some(raw) = self.raw.grown_soon(&self.desc, cycles, self.desc.mult()) else {
+            return None;
+        };
+        Some(ReadBase {
+            last: reading,
+            monotonic,
+            raw,
+            ..*self
+        })
+    }
+
+    /// Becomes what `forwarded` made of it; no more is written than that changes.
+    pub fn take_forward(&mut self, now: ReadBase)
+        requires { now ≡ forwarded self.old now.last }
+        ensures { self.new ≡ now }
+    {
+        self.last = now.last;
+        self.monotonic = now.monotonic;
+        self.raw = now.raw;
+    }
+
     /// Is a clock at its limit at the last reading, as a command left it? REALTIME and TAI are left
     /// out where the command sets REALTIME, which a test of its own bounds.
     #[tactic(auto, unfolding(crate::specs::Limits::is_past_limit))]
@@ -54,7 +96,8 @@ impl ReadBase {
         if sets_real(cmd) {
             return false;
         }
-        is_at_limit(now, self.real_offset) || is_at_limit(now + self.tai_nanos(), self.real_offset)
+        // TAI is never behind REALTIME
+        is_at_limit(now + self.tai_nanos(), self.real_offset)
     }
 
     /// The base with another multiplier from its last reading on.
@@ -124,8 +167,5 @@ impl ReadBase {
 fn is_at_limit(elapsed: u64, offset: u64) -> bool
     ensures { result ≡ not (int_lt (pos elapsed +ℤ pos offset) (pos (clock_end * 10 ^ 9))) }
 {
-    match elapsed.checked_add(offset) {
-        Some(nanos) => nanos >= limit(ClockId::Realtime),
-        None => true,
-    }
+    elapsed.saturating_add(offset) >= limit(ClockId::Realtime)
 }
