@@ -13,7 +13,7 @@ use tk_clock::{ClockId, Snapshot};
 use tk_lanes::lane_batch;
 
 /// How many items of a new list are made at a time. The zeros of so few are still in the nearest
-/// cache when the values go over them, and while they are filled the next stamps come in.
+/// cache when the values go over them.
 const PART: usize = 256;
 
 /// How many fronts are compared at a time.
