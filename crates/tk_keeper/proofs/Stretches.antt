@@ -1,5 +1,5 @@
 -- A trace that is converted up to a place, and a stretch of items with one front more.
-use Rattle.std.proofs.Common.{◌≡◌, ℕ, ◌+◌, ◌-◌, ◌<◌, ◌≤◌, List, length, get_or, take, drop, Ok, Err, Result, refl, sym, ap, ◌∙◌, subst, arith, rules, inl, inr}
+use Rattle.std.proofs.Common.{◌≡◌, ℕ, ◌+◌, ◌-◌, ◌<◌, ◌≤◌, List, ◌++◌, length, get_or, take, drop, Ok, Err, Result, refl, sym, ap, ◌∙◌, subst, arith, rules, inl, inr}
 use Rattle.std.specs.Prelude.{ℤ, pos, IsOk}
 use Rattle.std.proofs.lemmas.Bool.{cases_lt}
 use Rattle.std.proofs.lemmas.List.{get_or-take, get_or-drop, length-take-le, length-drop, places}
@@ -13,8 +13,9 @@ use Rattle.tk_lanes.specs.Batch.{IsFilled, IsRefusedAt, IsBatch}
 use Rattle.tk_lanes.specs.declared.batch_error.BatchError.{BatchError}
 use Rattle.tk_lanes.specs.declared.batch_error.BatchError.TheVariants as batch
 use Rattle.tk_keeper.specs.declared.trace_error.TraceError.{TraceError}
+use Rattle.tk_keeper.specs.declared.trace_error.TraceError.TheVariants as errors
 use Rattle.tk_keeper.specs.Item.{item, fault_of_stamp}
-use Rattle.tk_keeper.specs.Trace.{item_of, IsWritten, IsFirstFault, IsTraced, told, TellsItems, place_of, fault_of_batch}
+use Rattle.tk_keeper.specs.Trace.{item_of, AreValues, IsWritten, IsFirstFault, IsFault, told, TellsItems, place_of, fault_of_batch}
 
 mid_below : (a n : ℕ) (xs ys : List ℕ) (i : ℕ) → a ≤ length xs → i < a →
     get_or (put_mid a n xs ys) i 0 ≡ get_or xs i 0
@@ -44,17 +45,44 @@ part_long from n xs inside =
 ok_is : {v : ℤ} (r : Result ℤ TraceError) → r ≡ Ok v → IsOk r
 ok_is r e = subst IsOk (sym e) refl
 
--- the items that are written are good ones
-pub first_fault : (journal : Journal) (clock : ClockId) (fronts stamps old new : List ℕ)
+-- the fault of an item, where those before have values
+pub first_fault : (journal : Journal) (clock : ClockId) (fronts stamps values : List ℕ)
     (index : ℕ) (error : TraceError) → index < length stamps →
+    AreValues journal clock fronts stamps index values →
     item_of journal clock fronts stamps index ≡ Err error →
-    IsWritten journal clock fronts stamps index old new →
     IsFirstFault journal clock fronts stamps index error
-first_fault journal clock fronts stamps old new index error low fault written = record {
+first_fault journal clock fronts stamps values index error low so_far fault = record {
   within = low;
   fault = fault;
-  before = λ k early. ok_is (item_of journal clock fronts stamps k) (written.values k early);
+  before = λ k early. ok_is (item_of journal clock fronts stamps k) (so_far k early);
 }
+
+pub fault_at : (journal : Journal) (clock : ClockId) (fronts stamps values : List ℕ)
+    (index : ℕ) (error : TraceError) → index < length stamps →
+    AreValues journal clock fronts stamps index values →
+    item_of journal clock fronts stamps index ≡ Err error →
+    IsFault journal clock fronts stamps error
+fault_at journal clock fronts stamps values index errors.Memory low so_far fault = omega arith
+fault_at journal clock fronts stamps values index (errors.Unknown place) low so_far fault =
+    (index, first_fault journal clock fronts stamps values index _ low so_far fault)
+fault_at journal clock fronts stamps values index (errors.Folded place) low so_far fault =
+    (index, first_fault journal clock fronts stamps values index _ low so_far fault)
+fault_at journal clock fronts stamps values index (errors.Invalid place) low so_far fault =
+    (index, first_fault journal clock fronts stamps values index _ low so_far fault)
+fault_at journal clock fronts stamps values index (errors.Range place) low so_far fault =
+    (index, first_fault journal clock fronts stamps values index _ low so_far fault)
+
+-- what is given back to a list whose items are all lent
+pub taken_back : (n k : ℕ) (xs ys : List ℕ) → length xs ≡ n → k < n →
+    get_or (take n (xs ++ ys)) k 0 ≡ get_or xs k 0
+taken_back n k xs ys long low = search (rules, places)
+
+-- the first fault lies from a place on, and all items before it are written
+abbrev pub StopsFrom : Journal → ClockId → List ℕ → List ℕ → ℕ → List ℕ → List ℕ → TraceError →
+    Type 0
+StopsFrom journal clock fronts stamps first old new error =
+    (index : ℕ) × (first ≤ index) × IsFirstFault journal clock fronts stamps index error
+    × IsWritten journal clock fronts stamps index old new
 
 pub place_low : (base : ReadBase) (clock : ClockId) (stamps old new : List ℕ)
     (error : BatchError) → IsBatch base clock stamps old new (Err error) →
@@ -63,11 +91,11 @@ place_low base clock stamps old new (batch.Invalid index) back = back.high
 place_low base clock stamps old new (batch.Range index) back = back.high
 
 -- a stretch from `first` on, of `n` items with one front, whose snapshot has this base
-module _ (journal : Journal) (clock : ClockId) (fronts stamps old out : List ℕ) (first n : ℕ)
+module _ (journal : Journal) (clock : ClockId) (fronts stamps out : List ℕ) (first n : ℕ)
     (base : ReadBase)
-    (written : IsWritten journal clock fronts stamps first old out)
+    (so_far : AreValues journal clock fronts stamps first out)
     (inside : first + n ≤ length stamps)
-    (room : length stamps ≡ length out)
+    (room : first + n ≤ length out)
     (same : (k : ℕ) → first ≤ k → k < first + n → get_or fronts k 0 ≡ get_or fronts first 0)
     (tells : TellsItems journal (get_or fronts first 0) base) where
   abbrev stretch : List ℕ
@@ -85,11 +113,11 @@ module _ (journal : Journal) (clock : ClockId) (fronts stamps old out : List ℕ
   -- the items of the stretch up to a place of it
   pub more_written : (m : ℕ) (part new : List ℕ) → m ≤ n → length new ≡ n →
       part ≡ take n (drop first out) → IsFilled base clock stretch 0 m part new →
-      IsWritten journal clock fronts stamps (first + m) old (put_mid first n out new)
+      IsWritten journal clock fronts stamps (first + m) out (put_mid first n out new)
   more_written m part new few long is_part filled = record {
     values = λ k low. elim (cases_lt k first) [
       | inl early ↦
-          written.values k early
+          so_far k early
           ∙ ap (λ v. Ok (pos v)) (sym (mid_below first n out new k (omega arith) early))
       | inr late ↦
           let j : k - first < m = omega arith in
@@ -104,9 +132,8 @@ module _ (journal : Journal) (clock : ClockId) (fronts stamps old out : List ℕ
           ∙ filled.after (k - first) (omega arith)
           ∙ ap (λ xs. get_or xs (k - first) 0) is_part
           ∙ part_at first n k out (omega arith) (omega arith)
-          ∙ written.others k (omega arith)
       | inr after ↦
-          mid_above first n out new k (omega arith) long after ∙ written.others k (omega arith)
+          mid_above first n out new k (omega arith) long after
     ];
   }
 
@@ -114,7 +141,7 @@ module _ (journal : Journal) (clock : ClockId) (fronts stamps old out : List ℕ
       length new ≡ n → part ≡ take n (drop first out) →
       IsRefusedAt base clock stretch 0 (length stretch) part new index refusal →
       fault_of_stamp (first + index) refusal ≡ error →
-      IsTraced journal clock fronts stamps old (put_mid first n out new) (Err error)
+      StopsFrom journal clock fronts stamps first out (put_mid first n out new) error
   refused_at part new index refusal error long is_part back is_told =
       let here : index < n = omega (arith, back.high, part_long first n stamps inside) in
       let more = more_written index part new (omega arith) long is_part back.filled in
@@ -125,8 +152,9 @@ module _ (journal : Journal) (clock : ClockId) (fronts stamps old out : List ℕ
       ∙ ap (told (first + index)) back.refused
       ∙ ap Err is_told in (
         first + index,
-        first_fault journal clock fronts stamps old (put_mid first n out new) (first + index) error
-            (omega arith) fault more,
+        omega arith,
+        first_fault journal clock fronts stamps (put_mid first n out new) (first + index) error
+            (omega arith) more.values fault,
         more,
       )
 
@@ -134,8 +162,8 @@ module _ (journal : Journal) (clock : ClockId) (fronts stamps old out : List ℕ
   pub batch_refused : (part new : List ℕ) (error : BatchError) →
       length new ≡ n → part ≡ take n (drop first out) →
       IsBatch base clock stretch part new (Err error) →
-      IsTraced journal clock fronts stamps old (put_mid first n out new)
-      (Err (fault_of_batch first error))
+      StopsFrom journal clock fronts stamps first out (put_mid first n out new)
+      (fault_of_batch first error)
   batch_refused part new (batch.Invalid index) long is_part back =
       refused_at part new index _ _ long is_part back refl
   batch_refused part new (batch.Range index) long is_part back =
@@ -143,7 +171,7 @@ module _ (journal : Journal) (clock : ClockId) (fronts stamps old out : List ℕ
 
   pub batch_written : (part new : List ℕ) → length new ≡ n → part ≡ take n (drop first out) →
       IsFilled base clock stretch 0 (length stretch) part new →
-      IsWritten journal clock fronts stamps (first + n) old (put_mid first n out new)
+      IsWritten journal clock fronts stamps (first + n) out (put_mid first n out new)
   batch_written part new long is_part filled =
       more_written n part new (omega arith) long is_part
       (subst (λ m. IsFilled base clock stretch 0 m part new) (part_long first n stamps inside)

@@ -205,6 +205,87 @@ fn a_long_trace_tells_the_place_in_the_whole_list(rt: HostRuntime) -> Result<(),
 }
 
 #[test]
+fn a_fault_in_any_part_of_a_new_list_is_told(rt: HostRuntime) -> Result<(), Fail> {
+    let alloc = rt.alloc();
+    let keeper = opened(alloc)?;
+    let many = 1_000;
+    let mut fronts = repeated(alloc, 0, many)?;
+    let mut stamps = repeated(alloc, 0, many)?;
+    for (place, stamp) in stamps.iter_mut().enumerate() {
+        *stamp = place as u64;
+    }
+    let values = stamps.clone()?;
+    let clock = ClockId::Monotonic;
+    // in the first part, at the edges of parts, and in the last part
+    for index in [0, 5, 255, 256, 300, 511, 512, 999] {
+        let (before, _) = values.as_slice().split_at_checked(index).ok_or("short")?;
+        put(&mut stamps, index, ABOVE);
+        let fault = Err(TraceError::Invalid { index });
+        let (front, stamp) = (fronts.as_slice(), stamps.as_slice());
+        traced(&rt, alloc, &keeper, front, stamp, clock, before, fault)?;
+        put(&mut stamps, index, index as u64);
+        put(&mut fronts, index, 1);
+        let fault = Err(TraceError::Unknown { index });
+        let (front, stamp) = (fronts.as_slice(), stamps.as_slice());
+        traced(&rt, alloc, &keeper, front, stamp, clock, before, fault)?;
+        put(&mut fronts, index, 0);
+    }
+    let (front, stamp) = (fronts.as_slice(), stamps.as_slice());
+    let all = values.as_slice();
+    traced(&rt, alloc, &keeper, front, stamp, clock, all, Ok(()))
+}
+
+#[test]
+fn stretches_of_any_length_are_told_by_their_own_front(rt: HostRuntime) -> Result<(), Fail> {
+    let alloc = rt.alloc();
+    let keeper = steered(alloc)?;
+    let at = 1_000_000_000;
+    for length in [1, 2, 8, 9, 17, 255, 256, 257, 600] {
+        let mut fronts = repeated(alloc, 0, 1_000)?;
+        let mut values = repeated(alloc, at, 1_000)?;
+        for place in 0..1_000 {
+            if place / length % 2 == 1 {
+                put(&mut fronts, place, 1);
+                put(&mut values, place, 1_000_499_963);
+            }
+        }
+        let stamps = repeated(alloc, at, 1_000)?;
+        let (front, stamp, all) = (fronts.as_slice(), stamps.as_slice(), values.as_slice());
+        traced(
+            &rt,
+            alloc,
+            &keeper,
+            front,
+            stamp,
+            ClockId::Monotonic,
+            all,
+            Ok(()),
+        )?;
+    }
+    Ok(())
+}
+
+#[test]
+fn a_long_list_asks_for_memory_once(rt: HostRuntime) -> Result<(), Fail> {
+    let heap = Heap::new(rt.alloc());
+    let keeper = opened(&heap)?;
+    let fronts = repeated(rt.alloc(), 0, 1_000)?;
+    let stamps = repeated(rt.alloc(), 7, 1_000)?;
+    let (fronts, stamps) = (fronts.as_slice(), stamps.as_slice());
+    if fronts.len() != stamps.len() {
+        return Err("lists of two lengths".into());
+    }
+    heap.refuse(1);
+    let answer = keeper.trace(fronts, stamps, ClockId::Monotonic);
+    assert_eq!(rt; answer.map(|_| ()), Err(TraceError::Memory));
+    heap.refuse(2);
+    let answer = keeper.trace(fronts, stamps, ClockId::Monotonic)?;
+    assert_eq!(rt; answer.as_slice(), stamps);
+    assert!(rt; heap.grant_all());
+    Ok(())
+}
+
+#[test]
 fn no_stamps_are_no_values(rt: HostRuntime) -> Result<(), Fail> {
     let heap = Heap::new(rt.alloc());
     let keeper = opened(&heap)?;

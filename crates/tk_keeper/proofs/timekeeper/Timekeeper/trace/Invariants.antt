@@ -1,0 +1,15 @@
+use Rattle.std.proofs.Common.{◌-◌, ◌≤◌, length}
+use Rattle.tk_keeper.specs.Trace.{AreValues, TellsItems}
+use Rattle.tk_keeper.proofs.timekeeper.Timekeeper.trace.Given as goal
+
+abbrev pub invariant-runs : goal.invariant-runs
+invariant-runs g l = record {
+  made : l.first ≤ l.values.len;
+  inside : l.values.len ≤ length l.stamps;
+  room : length l.stamps ≤ l.values.cap;
+  so_far : AreValues l.self.journal l.clock l.fronts l.stamps l.first l.values.items;
+  told : TellsItems l.self.journal l.told.0 l.told.1.base;
+}
+
+abbrev pub decreases-runs : goal.decreases-runs
+decreases-runs g l = length l.stamps - l.first
