@@ -235,6 +235,11 @@ fn a_fault_in_any_part_of_a_new_list_is_told(rt: HostRuntime) -> Result<(), Fail
     traced(&rt, alloc, &keeper, front, stamp, clock, all, Ok(()))
 }
 
+/// Does an item lie in every second stretch, where each has so many?
+fn is_second(place: usize, length: usize) -> bool {
+    place.checked_div(length).unwrap_or(0) % 2 == 1
+}
+
 #[test]
 fn stretches_of_any_length_are_told_by_their_own_front(rt: HostRuntime) -> Result<(), Fail> {
     let alloc = rt.alloc();
@@ -244,7 +249,7 @@ fn stretches_of_any_length_are_told_by_their_own_front(rt: HostRuntime) -> Resul
         let mut fronts = repeated(alloc, 0, 1_000)?;
         let mut values = repeated(alloc, at, 1_000)?;
         for place in 0..1_000 {
-            if place / length % 2 == 1 {
+            if is_second(place, length) {
                 put(&mut fronts, place, 1);
                 put(&mut values, place, 1_000_499_963);
             }
