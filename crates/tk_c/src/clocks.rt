@@ -13,7 +13,7 @@ use crate::code::Code;
 use crate::counted::CountedClock;
 use crate::named::command_named;
 use crate::storage::{ClockStorage, SnapshotStorage};
-use tk_clock::{Clock, Command, Refusal, Timespec};
+use tk_clock::{Clock, Refusal, Timespec};
 use tk_counter::CounterDesc;
 
 /// The most commands that are counted: as many as 63 bits tell.
@@ -60,35 +60,9 @@ pub extern "C" fn tk_clock_apply(
         ((result ≡ number_of Done) × (clock.new ≡ counted_effect clock.old reading cmd))
         (λ refusal. (result ≡ number_of (code_of_refusal refusal)) × (clock.new ≡ clock.old))) }
 {
-    match command {
-        0 => apply_known(clock, reading, Command::Update),
-        _ => apply_named(clock, reading, command, number, nsec),
-    }
-}
-
-/// Does a command by its number, as `tk_clock_apply`, which has a way of its own for updates: out
-/// of line, so that theirs begins with no table of jumps.
-#[inline(never)]
-fn apply_named(clock: &mut CountedClock, reading: u64, command: u32, number: i64, nsec: u32) -> u32
-    ensures { MatchOption (command_named command number nsec)
-        ((result ≡ number_of BadCommand) × (clock.new ≡ clock.old))
-        (λ cmd. MatchOption (counted_refusal clock.old reading cmd)
-        ((result ≡ number_of Done) × (clock.new ≡ counted_effect clock.old reading cmd))
-        (λ refusal. (result ≡ number_of (code_of_refusal refusal)) × (clock.new ≡ clock.old))) }
-{
-    match command_named(command, number, nsec) {
-        Some(cmd) => apply_known(clock, reading, cmd),
-        None => Code::BadCommand.number(),
-    }
-}
-
-/// Does a command and counts it; or answers why not.
-#[inline(always)]
-fn apply_known(clock: &mut CountedClock, reading: u64, cmd: Command) -> u32
-    ensures { MatchOption (counted_refusal clock.old reading cmd)
-        ((result ≡ number_of Done) × (clock.new ≡ counted_effect clock.old reading cmd))
-        (λ refusal. (result ≡ number_of (code_of_refusal refusal)) × (clock.new ≡ clock.old)) }
-{
+    let Some(cmd) = command_named(command, number, nsec) else {
+        return Code::BadCommand.number();
+    };
     if clock.front >= COUNTED_MOST {
         return Code::from(Refusal::Full).number();
     }
