@@ -29,6 +29,3 @@ pub use command::{Command, Entry};
 pub use refusal::{ReadError, Refusal};
 pub use snapshot::Snapshot;
 pub use timespec::Timespec;
-
-#[cfg(test)]
-mod tests;

@@ -17,6 +17,3 @@ mod trace_error;
 pub use front_error::FrontError;
 pub use timekeeper::Timekeeper;
 pub use trace_error::TraceError;
-
-#[cfg(test)]
-mod tests;

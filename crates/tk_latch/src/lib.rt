@@ -22,6 +22,3 @@ pub use errors::{LatchError, Moved, PageFull};
 pub use latch::Latch;
 pub use reader::LatchReader;
 pub use writer::LatchWriter;
-
-#[cfg(test)]
-mod tests;

@@ -23,6 +23,3 @@ pub use page::Page;
 pub use page_error::PageError;
 pub use publisher::Publisher;
 pub use viewer::Viewer;
-
-#[cfg(test)]
-mod tests;

@@ -29,8 +29,6 @@ mod reports_text;
 mod request;
 mod running;
 mod scripts;
-#[cfg(test)]
-mod tests;
 mod tracing;
 
 pub use command_line::{WordsError, asked};

@@ -1,9 +1,6 @@
 ghost use Rattle.std.specs.Prelude.{◌↔◌, IsTrue};
 ghost use Rattle.tk_program.specs.Openings.{AreSameOpenings};
 
-#[cfg(test)]
-mod tests;
-
 use tk_script::Script;
 
 /// Do two scripts open their clocks alike: over the same counter, at the same reading, with the

@@ -3,9 +3,6 @@ ghost use Rattle.tk_clock.specs.Journal.{accepted_count};
 ghost use Rattle.tk_race.specs.Replies.{done_in};
 ghost use Rattle.tk_program.specs.RaceText.{actor_line, refused_in, race_lines};
 
-#[cfg(test)]
-mod tests;
-
 use std::alloc::{AllocError, Global};
 use tk_race::{RaceReply, RaceReport};
 use tk_replay::Fault;

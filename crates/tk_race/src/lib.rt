@@ -24,6 +24,3 @@ pub use action::{Action, RaceReply};
 pub use race_error::RaceError;
 pub use racing::race;
 pub use report::RaceReport;
-
-#[cfg(test)]
-mod tests;

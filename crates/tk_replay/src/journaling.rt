@@ -18,7 +18,7 @@ use tk_script::{Row, RowReader, ScriptError, Start};
 ///
 /// Refused commands and reads of clocks are passed over. `Memory` may stand in the place of any
 /// other answer.
-pub(crate) fn keeper_of(alloc: Global, script: &[u8]) -> Result<Timekeeper, ScriptError>
+pub fn keeper_of(alloc: Global, script: &[u8]) -> Result<Timekeeper, ScriptError>
     ensures { Gives (λ keeper. keeper.journal) result (journal_of (parse_of script.now)) }
 {
     let (start, mut rows) = RowReader::open(alloc, script)?;
@@ -26,8 +26,9 @@ pub(crate) fn keeper_of(alloc: Global, script: &[u8]) -> Result<Timekeeper, Scri
 }
 
 /// The clocks of an opening with the commands that are still to be read, or the fault of these. All
-/// that it takes is from `alloc`, but for what the reader of the rows takes.
-pub(crate) fn keeper_after<A: Allocator + Copy>(
+/// that it takes is from `alloc`, but for what the reader of the rows takes. `Memory` may stand in
+/// the place of any other answer.
+pub fn keeper_after<A: Allocator + Copy>(
     alloc: A,
     start: Start,
     rows: &mut RowReader<'_>,

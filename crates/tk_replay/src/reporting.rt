@@ -59,8 +59,9 @@ pub(crate) fn report_by(
 }
 
 /// The report of an opening and of the rows that are still to be read, or the fault of these. All
-/// that it takes is from `alloc`, but for what the reader of the rows takes.
-pub(crate) fn report_rows<A: Allocator + Copy>(
+/// that it takes is from `alloc`, but for what the reader of the rows takes. `Memory` may stand in
+/// the place of any other answer.
+pub fn report_rows<A: Allocator + Copy>(
     alloc: A,
     start: Start,
     rows: &mut RowReader<'_>,

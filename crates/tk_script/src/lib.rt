@@ -43,6 +43,3 @@ pub use row_reader::RowReader;
 pub use script::Script;
 pub use script_error::ScriptError;
 pub use stamps::Stamps;
-
-#[cfg(test)]
-mod tests;

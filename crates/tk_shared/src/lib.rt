@@ -32,6 +32,3 @@ pub use locked::Locked;
 pub use named::Named;
 pub use prepared::{Prepared, prepare};
 pub use shared_keeper::SharedKeeper;
-
-#[cfg(test)]
-mod tests;

@@ -1,0 +1,64 @@
+use super::{nanosecond_counter, opened, time, wide_counter};
+use std::test::Fail;
+use tk_clock::{Clock, Refusal};
+
+const OPENING: [u64; 10] = [
+    0,
+    0,
+    16_777_216,
+    0,
+    0,
+    1_700_000_000_000_000_000,
+    0,
+    0,
+    0,
+    0,
+];
+
+#[test]
+fn the_clocks_open_awake_at_their_usual_rate(rt: HostRuntime) -> Result<(), Fail> {
+    assert_eq!(rt; opened()?.snapshot(0).words(), OPENING);
+    Ok(())
+}
+
+#[test]
+fn the_readers_tell_the_words(rt: HostRuntime) -> Result<(), Fail> {
+    let snapshot = opened()?.snapshot(0);
+    assert_eq!(rt; snapshot.desc(), nanosecond_counter()?);
+    assert!(rt; !snapshot.asleep());
+    assert_eq!(rt;
+        [
+            snapshot.front(),
+            snapshot.last(),
+            u64::from(snapshot.mult()),
+            snapshot.frac(),
+            snapshot.sec(),
+            snapshot.real_offset(),
+            snapshot.boot_offset(),
+            u64::from(snapshot.tai()),
+            snapshot.raw_frac(),
+            snapshot.raw_sec(),
+        ],
+        OPENING
+    );
+    Ok(())
+}
+
+#[test]
+fn an_opening_has_a_reading_and_a_settable_time(rt: HostRuntime) -> Result<(), Fail> {
+    let desc = nanosecond_counter()?;
+    for (reading, real, opens) in [
+        (4_294_967_295, time(0, 0), true),
+        (4_294_967_296, time(0, 0), false),
+        (0, time(8_277_292_035, 999_999_999), true),
+        (0, time(8_277_292_036, 0), false),
+        (0, time(-1, 0), false),
+        (0, time(0, 1_000_000_000), false),
+    ] {
+        let refusal = Clock::open(desc, reading, real).err();
+        let told = if opens { None } else { Some(Refusal::Invalid) };
+        assert_eq!(rt; refusal, told, "{real:?} at {reading}");
+    }
+    assert!(rt; Clock::open(wide_counter()?, u64::MAX, time(0, 0)).is_ok());
+    Ok(())
+}

@@ -1,0 +1,54 @@
+use super::{nanosecond_counter, opened, time};
+use std::test::Fail;
+use tk_clock::{Clock, Command, Refusal, Snapshot};
+
+/// Does two more commands.
+fn go_on(clock: &mut Clock) -> Result<(), Refusal> {
+    clock.apply(3_000, Command::Step(time(-1, 5)))?;
+    clock.apply(4_000, Command::Freq(0))
+}
+
+#[test]
+fn clocks_come_back_from_their_parts(rt: HostRuntime) -> Result<(), Fail> {
+    let mut clock = opened()?;
+    clock.apply(1_000, Command::Freq(32_768_000))?;
+    clock.apply(2_000, Command::Tick(11_000))?;
+    assert_eq!(rt; (clock.frequency(), clock.tick()), (32_768_000, 11_000));
+    let snapshot = clock.snapshot(2);
+    let mut again = Clock::from_snapshot(snapshot, clock.frequency(), clock.tick()).ok_or(
+        "the clocks are running ones",
+    )?;
+    go_on(&mut clock)?;
+    go_on(&mut again)?;
+    assert_eq!(rt; again.snapshot(4).words(), clock.snapshot(4).words());
+    assert_eq!(rt; (again.frequency(), again.tick()), (0, 11_000));
+    Ok(())
+}
+
+#[test]
+fn no_clocks_have_another_rate_than_their_multiplier(rt: HostRuntime) -> Result<(), Fail> {
+    let desc = nanosecond_counter()?;
+    for (mult, frequency, tick, raw_frac, made) in [
+        (16_777_216, 0, 10_000, 0, true),
+        (18_463_326, 32_768_000, 11_000, 0, true),
+        (18_463_326, i64::MAX, 11_000, 0, true),
+        (16_777_215, 0, 10_000, 0, false),
+        (16_777_216, 32_768_000, 10_000, 0, false),
+        // a tick that can't be set
+        (16_777_216, 0, 8_999, 0, false),
+        (16_777_216, 0, 11_001, 0, false),
+        (16_777_216, 0, i64::MIN, 0, false),
+        // MONOTONIC_RAW runs, where MONOTONIC never did
+        (16_777_216, 0, 10_000, 1, false),
+    ] {
+        let words = [0, 0, mult, 0, 0, 0, 0, 0, raw_frac, 0];
+        let snapshot = Snapshot::from_words(desc, words).ok_or("the words are in range")?;
+        let clock = Clock::from_snapshot(snapshot, frequency, tick);
+        assert_eq!(rt;
+            clock.is_some(),
+            made,
+            "{mult} {frequency} {tick} {raw_frac}"
+        );
+    }
+    Ok(())
+}

@@ -1,0 +1,135 @@
+use super::{nanosecond_counter, opened, time};
+use std::process::Abort;
+use std::test::Fail;
+use tk_clock::{ClockId, Command, ReadError, Snapshot};
+use tk_counter::CounterDesc;
+
+/// The words of clocks that were opened at the beginning of 1970.
+const OPENING: [u64; 10] = [0, 0, 16_777_216, 0, 0, 0, 0, 0, 0, 0];
+
+/// One second below the end of REALTIME, BOOTTIME and TAI, and 1 ns below it, in ns.
+const SECOND_BELOW_END: u64 = 9_223_372_035_000_000_000;
+
+const BELOW_END: u64 = 9_223_372_035_999_999_999;
+
+/// Words are taken, and then given back; or they aren't.
+fn is_taken(rt: &impl Abort, desc: CounterDesc, words: [u64; 10], taken: bool) {
+    let back = Snapshot::from_words(desc, words).map(|snapshot| snapshot.words());
+    let told = if taken { Some(words) } else { None };
+    assert_eq!(rt; back, told);
+}
+
+#[test]
+fn a_word_is_taken_at_its_bound_and_not_past_it(rt: HostRuntime) -> Result<(), Fail> {
+    let desc = nanosecond_counter()?;
+    for (place, most) in [
+        // the last reading, up to the mask
+        (1, 4_294_967_295),
+        // the multiplier, up to 11 percent above the usual one
+        (2, 18_622_709),
+        // MONOTONIC: below a second, and 30 years of seconds
+        (3, 16_777_215_999_999_999),
+        (4, 946_079_999),
+        // REALTIME and BOOTTIME
+        (5, BELOW_END),
+        (6, BELOW_END),
+        // a TAI offset of 100,000 seconds, asleep
+        (7, 200_001),
+        // MONOTONIC_RAW: below a second, and seconds
+        (8, 16_777_215_999_999_999),
+        (9, 1_059_999_999),
+    ] {
+        let past = most.checked_add(1).ok_or("nothing is past the bound")?;
+        for (word, taken) in [(most, true), (past, false), (u64::MAX, false)] {
+            let mut words = OPENING;
+            *words.get_mut(place).ok_or("there are ten words")? = word;
+            is_taken(&rt, desc, words, taken);
+        }
+    }
+    Ok(())
+}
+
+#[test]
+fn a_front_may_be_any_and_a_multiplier_is_not_0(rt: HostRuntime) -> Result<(), Fail> {
+    let desc = nanosecond_counter()?;
+    for (front, mult, taken) in [(u64::MAX, 1, true), (0, 0, false)] {
+        let words = [front, 0, mult, 0, 0, 0, 0, 0, 0, 0];
+        is_taken(&rt, desc, words, taken);
+    }
+    Ok(())
+}
+
+#[test]
+fn a_clock_is_below_its_end_at_the_last_reading(rt: HostRuntime) -> Result<(), Fail> {
+    let desc = nanosecond_counter()?;
+    for (frac, sec, real, boot, tai, taken) in [
+        // a second of MONOTONIC
+        (0, 1, SECOND_BELOW_END - 1, 0, 0, true),
+        (0, 1, SECOND_BELOW_END, 0, 0, false),
+        (0, 1, 0, SECOND_BELOW_END - 1, 0, true),
+        (0, 1, 0, SECOND_BELOW_END, 0, false),
+        // a second of TAI
+        (0, 0, SECOND_BELOW_END - 1, 0, 2, true),
+        (0, 0, SECOND_BELOW_END, 0, 2, false),
+        // what is below a nanosecond doesn't count
+        (16_777_215, 0, BELOW_END, BELOW_END, 1, true),
+        (16_777_216, 0, BELOW_END, 0, 1, false),
+        (16_777_216, 0, 0, BELOW_END, 1, false),
+    ] {
+        let words = [0, 0, 16_777_216, frac, sec, real, boot, tai, 0, 0];
+        is_taken(&rt, desc, words, taken);
+    }
+    Ok(())
+}
+
+#[test]
+fn the_greatest_monotonic_reads_beyond_its_limit_soon(rt: HostRuntime) -> Result<(), Fail> {
+    let desc = nanosecond_counter()?;
+    let mut words = [
+        0,
+        0,
+        18_622_709,
+        16_777_215_999_999_999,
+        946_079_999,
+        0,
+        0,
+        0,
+        0,
+        0,
+    ];
+    let snapshot = Snapshot::from_words(desc, words).ok_or("the words are in range")?;
+    for (id, told) in [
+        (ClockId::Monotonic, Err(ReadError::Range)),
+        (ClockId::Realtime, Ok(time(946_080_002, 383_706_750))),
+    ] {
+        assert_eq!(rt; snapshot.get(id, 2_147_483_647), told, "{id:?}");
+    }
+    words[2] = 18_622_710;
+    is_taken(&rt, desc, words, false);
+    Ok(())
+}
+
+#[test]
+fn known_words_give_their_snapshot_back(rt: HostRuntime) -> Result<(), Fail> {
+    let mut clock = opened()?;
+    clock.apply(1_000, Command::Tai(37))?;
+    clock.apply(2_000, Command::Suspend)?;
+    let snapshot = clock.snapshot(2);
+    let again = Snapshot::from_known_words(snapshot.desc(), snapshot.words());
+    let told = [
+        2,
+        2_000,
+        16_777_216,
+        33_554_432_000,
+        0,
+        1_700_000_000_000_000_000,
+        0,
+        75,
+        33_554_432_000,
+        0,
+    ];
+    assert_eq!(rt; again.words(), told);
+    assert_eq!(rt; (again.front(), again.last(), again.tai()), (2, 2_000, 37));
+    assert!(rt; again.asleep());
+    Ok(())
+}

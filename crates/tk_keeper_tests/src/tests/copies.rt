@@ -1,0 +1,41 @@
+use std::process::Abort;
+use std::test::Fail;
+use tk_keeper::{FrontError, TraceError};
+
+/// Each value is equal to its clone, and to no other one of the list.
+fn are_told_apart<T: Copy + PartialEq>(rt: &impl Abort, values: &[T]) -> Result<(), Fail> {
+    for (place, value) in values.iter().enumerate() {
+        let copy = value.clone()?;
+        for (other_place, other) in values.iter().enumerate() {
+            assert_eq!(rt;
+                copy == *other,
+                place == other_place,
+                "{place} and {other_place}"
+            );
+        }
+    }
+    Ok(())
+}
+
+#[test]
+fn no_fault_of_a_front_is_another(rt: HostRuntime) -> Result<(), Fail> {
+    are_told_apart(&rt, &[FrontError::Unknown, FrontError::Folded])
+}
+
+#[test]
+fn a_fault_of_a_trace_is_its_kind_and_its_item(rt: HostRuntime) -> Result<(), Fail> {
+    are_told_apart(
+        &rt,
+        &[
+            TraceError::Unknown { index: 1 },
+            TraceError::Unknown { index: 2 },
+            TraceError::Folded { index: 1 },
+            TraceError::Folded { index: 2 },
+            TraceError::Invalid { index: 1 },
+            TraceError::Invalid { index: 2 },
+            TraceError::Range { index: 1 },
+            TraceError::Range { index: 2 },
+            TraceError::Memory,
+        ],
+    )
+}

@@ -1,0 +1,120 @@
+use super::{answers, opened, opened_at, reads, time};
+use std::test::Fail;
+use tk_clock::{ClockId, Command, Refusal};
+use tk_counter::CounterDesc;
+use tk_keeper::Timekeeper;
+
+#[test]
+fn half_the_range_is_the_longest_way_ahead(rt: HostRuntime) -> Result<(), Fail> {
+    let mut keeper = opened(rt.alloc())?;
+    answers(
+        &rt,
+        &mut keeper,
+        &[(2_147_483_648, Command::Update, Err(Refusal::Behind))],
+    );
+    assert_eq!(rt; keeper.len(), 0);
+    reads(
+        &rt,
+        &keeper.snapshot(),
+        &[(ClockId::Monotonic, 2_147_483_648, time(0, 0))],
+    );
+    answers(&rt, &mut keeper, &[(2_147_483_647, Command::Update, Ok(1))]);
+    reads(
+        &rt,
+        &keeper.snapshot(),
+        &[(ClockId::Monotonic, 2_147_483_647, time(2, 147_483_647))],
+    );
+    Ok(())
+}
+
+#[test]
+fn readings_wrap_at_the_counters_end(rt: HostRuntime) -> Result<(), Fail> {
+    let mut keeper = opened_at(rt.alloc(), 4_294_967_290)?;
+    answers(&rt, &mut keeper, &[(10, Command::Update, Ok(1))]);
+    reads(
+        &rt,
+        &keeper.snapshot(),
+        &[(ClockId::Monotonic, 10, time(0, 16))],
+    );
+    Ok(())
+}
+
+#[test]
+fn the_first_test_that_fails_is_told(rt: HostRuntime) -> Result<(), Fail> {
+    let mut keeper = opened(rt.alloc())?;
+    let late = Command::SetTime(time(8_277_292_036, 0));
+    let early = Command::SetTime(time(0, 0));
+    answers(
+        &rt,
+        &mut keeper,
+        &[
+            (4_294_967_296, Command::Update, Err(Refusal::Invalid)),
+            (100, Command::Update, Ok(1)),
+            (99, late, Err(Refusal::Invalid)),
+            (99, early, Err(Refusal::Behind)),
+            (100, early, Err(Refusal::Invalid)),
+        ],
+    );
+    Ok(())
+}
+
+#[test]
+fn an_earlier_reading_gets_the_last_value(rt: HostRuntime) -> Result<(), Fail> {
+    let mut keeper = opened(rt.alloc())?;
+    answers(&rt, &mut keeper, &[(100, Command::Update, Ok(1))]);
+    reads(
+        &rt,
+        &keeper.snapshot(),
+        &[
+            (ClockId::Monotonic, 99, time(0, 100)),
+            (ClockId::MonotonicCoarse, 150, time(0, 100)),
+        ],
+    );
+    Ok(())
+}
+
+#[test]
+fn no_clock_passes_its_limit(rt: HostRuntime) -> Result<(), Fail> {
+    let desc = CounterDesc::new(64, 4_194_304, 0)?;
+    let real = time(8_277_292_035, 999_999_999);
+    let mut keeper = Timekeeper::open(rt.alloc(), desc, 0, real)?;
+    let end = 225_563_049_316;
+    answers(
+        &rt,
+        &mut keeper,
+        &[
+            (
+                9_223_372_036_854_775_807,
+                Command::Update,
+                Err(Refusal::Range),
+            ),
+            (end + 1, Command::Update, Err(Refusal::Range)),
+            (end, Command::Update, Ok(1)),
+            (end, Command::Tai(1), Err(Refusal::Range)),
+            (end, Command::Tai(0), Ok(2)),
+        ],
+    );
+    reads(
+        &rt,
+        &keeper.snapshot(),
+        &[
+            (ClockId::Monotonic, end, time(946_079_999, 998_296_064)),
+            (ClockId::Realtime, end, time(9_223_372_035, 998_296_063)),
+        ],
+    );
+    Ok(())
+}
+
+#[test]
+fn only_a_settable_time_opens(rt: HostRuntime) -> Result<(), Fail> {
+    let desc = CounterDesc::new(32, 16_777_216, 24)?;
+    for (reading, real) in [
+        (4_294_967_296, time(0, 0)),
+        (0, time(-1, 0)),
+        (0, time(8_277_292_036, 0)),
+    ] {
+        let refused = Timekeeper::open(rt.alloc(), desc, reading, real).err();
+        assert_eq!(rt; refused, Some(Refusal::Invalid), "{real:?} at {reading}");
+    }
+    Ok(())
+}

@@ -1,0 +1,42 @@
+//! Values from outside the contracts, and threads.
+
+mod desk;
+mod many;
+mod words;
+
+use std::process::Abort;
+use std::test::Fail;
+use tk_clock::{Clock, Timespec};
+use tk_counter::CounterDesc;
+use tk_page::{Page, PageError};
+
+/// REALTIME where the clocks are opened, in nanoseconds.
+const OPENED_REAL: u64 = 1_700_000_000_000_000_000;
+
+/// The same in seconds.
+const OPENED_TIME: Timespec = Timespec {
+    sec: 1_700_000_000,
+    nsec: 0,
+};
+
+/// A counter of 32 bits, one nanosecond a cycle.
+fn nanosecond_counter() -> Result<CounterDesc, Fail> {
+    Ok(CounterDesc::new(32, 16_777_216, 24)?)
+}
+
+#[test]
+fn a_fault_has_a_text(rt: HostRuntime) -> Result<(), Fail> {
+    let text = PageError::Memory.to_string(rt.alloc())?;
+    assert_eq!(rt; text.as_str(), "no memory for the page");
+    Ok(())
+}
+
+/// Under `rt try --test --fail-alloc N`, for each N in turn, it still passes.
+#[test]
+fn a_page_opens_or_tells_of_memory(rt: HostRuntime) -> Result<(), Fail> {
+    let clock = Clock::open(nanosecond_counter()?, 0, OPENED_TIME)?;
+    if let Err(fault) = Page::open(&rt, rt.alloc(), clock.snapshot(0)) {
+        assert_eq!(rt; fault, PageError::Memory);
+    }
+    Ok(())
+}

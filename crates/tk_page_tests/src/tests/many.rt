@@ -1,0 +1,146 @@
+//! One publisher and three viewers, each in a thread.
+ghost use Rattle.std.specs.Prelude.{◌≡◌};
+
+use super::OPENED_REAL;
+use super::desk::{Desk, opened};
+use std::process::Abort;
+use std::sync::Wait;
+use std::test::Fail;
+use std::thread::{self, Threads, join};
+use tk_clock::Command;
+use tk_page::{Page, Viewer};
+
+/// How many publications are made.
+const ALL: u64 = 200_000;
+
+/// The cycles, of a nanosecond each, from one to the next: the counter wraps on the way.
+const STEP: u64 = 100_000;
+
+/// The reading of a publication.
+fn reading_of(number: u64) -> u64 {
+    number.wrapping_mul(STEP) & 0xffff_ffff
+}
+
+/// The words of a publication.
+fn words_of(number: u64) -> [u64; 10] {
+    let nanos = number.wrapping_mul(STEP);
+    let (sec, frac) = (nanos / 1_000_000_000, nanos % 1_000_000_000 * 16_777_216);
+    let reading = reading_of(number);
+    [
+        number,
+        reading,
+        16_777_216,
+        frac,
+        sec,
+        OPENED_REAL,
+        0,
+        0,
+        frac,
+        sec,
+    ]
+}
+
+/// Makes all publications.
+fn publish_all<R: Wait + Abort>(rt: &R, page: &Page, desk: Desk)
+    requires { desk.page ≡ page.now }
+{
+    let mut desk = desk;
+    for number in 1..=ALL {
+        let answer = desk.command(rt, page, reading_of(number), Command::Update);
+        assert_eq!(rt; answer, Ok(number));
+    }
+}
+
+/// Reads until the last publication is seen. Each snapshot is whole, and no older than the one
+/// before.
+fn watch<R: Wait + Abort>(rt: &R, page: &Page, viewer: Viewer) -> Viewer
+    requires { viewer.page ≡ page.now }
+    ensures { result.page ≡ page.now }
+{
+    let mut viewer = viewer;
+    for _ in 0..1_000_000_000u64 {
+        let front = viewer.front();
+        let snapshot = viewer.read(rt, page);
+        assert!(rt; front <= snapshot.front());
+        assert_eq!(rt; snapshot.words(), words_of(snapshot.front()));
+        if snapshot.front() == ALL {
+            break;
+        }
+        if snapshot.front() == front {
+            thread::yield_now();
+        }
+    }
+    viewer
+}
+
+/// Two viewers read at once.
+fn watch_both<R: Threads + Wait + Abort + Sync>(
+    rt: &R,
+    page: &Page,
+    one: Viewer,
+    two: Viewer,
+) -> (Viewer, Viewer)
+    requires one { one.page ≡ page.now }
+    requires two { two.page ≡ page.now }
+    ensures one { result.0.page ≡ page.now }
+    ensures two { result.1.page ≡ page.now }
+{
+    join(
+        rt,
+        move ||
+            requires { one.page ≡ page.now }
+            ensures { result.page ≡ page.entry.now }
+        { watch(rt, page, one) },
+        move ||
+            requires { two.page ≡ page.now }
+            ensures { result.page ≡ page.entry.now }
+        { watch(rt, page, two) },
+    )
+}
+
+/// All publications are made while a viewer reads.
+fn publish_beside<R: Threads + Wait + Abort + Sync>(
+    rt: &R,
+    page: &Page,
+    desk: Desk,
+    viewer: Viewer,
+) -> Viewer
+    requires desk { desk.page ≡ page.now }
+    requires viewer { viewer.page ≡ page.now }
+    ensures { result.page ≡ page.now }
+{
+    join(
+        rt,
+        move ||
+            requires { desk.page ≡ page.now }
+        { publish_all(rt, page, desk) },
+        move ||
+            requires { viewer.page ≡ page.now }
+            ensures { result.page ≡ page.entry.now }
+        { watch(rt, page, viewer) },
+    )
+    .1
+}
+
+#[test]
+fn readers_see_whole_publications_while_they_are_made(rt: HostRuntime) -> Result<(), Fail> {
+    let (page, desk, viewer) = opened(&rt, rt.alloc())?;
+    let (one, others) = viewer.split(&page);
+    let (two, three) = others.split(&page);
+    let (host, shared) = (&rt, &page);
+    let (one, (two, three)) = join(
+        host,
+        move ||
+            requires { (desk.page ≡ shared.now) × (one.page ≡ shared.now) }
+            ensures { result.page ≡ shared.entry.now }
+        { publish_beside(host, shared, desk, one) },
+        move ||
+            requires { (two.page ≡ shared.now) × (three.page ≡ shared.now) }
+            ensures { (result.0.page ≡ shared.entry.now) × (result.1.page ≡ shared.entry.now) }
+        { watch_both(host, shared, two, three) },
+    );
+    assert_eq!(rt; (one.front(), two.front(), three.front()), (ALL, ALL, ALL));
+    let joined = one.join(two, &page).join(three, &page);
+    assert_eq!(rt; joined.front(), ALL);
+    Ok(())
+}

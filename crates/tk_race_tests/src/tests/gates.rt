@@ -1,0 +1,202 @@
+//! When the gate is told, and that actors act at once.
+
+use super::{OPENED_TIME, UPDATE, alike, nanosecond_counter, rise};
+use std::sync::atomic::{AtomicBool, AtomicU64, Ordering};
+use std::test::Fail;
+use std::thread;
+use tk_gate::Gate;
+use tk_race::{Action, RaceReply, race};
+
+/// How often a held piece looks before it gives up.
+const TURNS: u32 = 50_000_000;
+
+/// A flag that one thread sets and others wait for.
+#[derive(Drop)]
+struct Flag(AtomicBool);
+
+impl Flag {
+    fn new() -> Flag {
+        Flag(AtomicBool::new(false))
+    }
+
+    fn set(&self) {
+        self.0.store(true, Ordering::SeqCst);
+    }
+
+    /// Was it set in time?
+    fn is_seen(&self) -> bool {
+        for _ in 0..TURNS {
+            if self.0.load(Ordering::SeqCst) {
+                return true;
+            }
+            thread::yield_now();
+        }
+        false
+    }
+}
+
+/// Holds each of the pieces 0 and 1 until the other has come too.
+#[derive(Drop)]
+struct Meeting {
+    came: [Flag; 2],
+    late: Flag,
+    ended: AtomicU64,
+}
+
+impl Gate for Meeting {
+    fn before(&self, piece: usize) {
+        if piece > 1 {
+            return;
+        }
+        self.came[piece].set();
+        if !self.came[1 - piece].is_seen() {
+            self.late.set();
+        }
+    }
+
+    fn after(&self, _piece: usize) {
+        self.ended.fetch_add(1, Ordering::SeqCst);
+    }
+}
+
+#[test]
+fn actors_act_at_once(rt: HostRuntime) -> Result<(), Fail> {
+    let desc = nanosecond_counter()?;
+    let actors = alike(rt.alloc(), 2, UPDATE, 3)?;
+    let gate = Meeting {
+        came: [Flag::new(), Flag::new()],
+        late: Flag::new(),
+        ended: AtomicU64::new(0),
+    };
+    let report = race(
+        &rt,
+        rt.alloc(),
+        desc,
+        0,
+        OPENED_TIME,
+        1_000,
+        actors.as_slice(),
+        &gate,
+    )
+    .ok()
+    .ok_or("a report")?;
+    assert_eq!(&rt;
+        (report.keeper.len(), gate.ended.load(Ordering::SeqCst)),
+        (6, 2)
+    );
+    assert!(&rt; !gate.late.0.load(Ordering::SeqCst));
+    for replies in report.replies.as_slice() {
+        assert!(&rt; rise(0, replies.as_slice()));
+    }
+    Ok(())
+}
+
+/// Holds piece 1 in `before` until piece 0 has come to `after`, and piece 0 there until piece 1 has.
+#[derive(Drop)]
+struct InTurn {
+    first: Flag,
+    second: Flag,
+    late: Flag,
+}
+
+impl Gate for InTurn {
+    fn before(&self, piece: usize) {
+        if piece == 1 && !self.first.is_seen() {
+            self.late.set();
+        }
+    }
+
+    fn after(&self, piece: usize) {
+        if piece == 1 {
+            return self.second.set();
+        }
+        self.first.set();
+        if !self.second.is_seen() {
+            self.late.set();
+        }
+    }
+}
+
+#[test]
+fn a_gate_is_told_round_all_actions_of_an_actor(rt: HostRuntime) -> Result<(), Fail> {
+    let desc = nanosecond_counter()?;
+    let actors = alike(rt.alloc(), 2, UPDATE, 20_000)?;
+    let gate = InTurn {
+        first: Flag::new(),
+        second: Flag::new(),
+        late: Flag::new(),
+    };
+    let report = race(
+        &rt,
+        rt.alloc(),
+        desc,
+        0,
+        OPENED_TIME,
+        1,
+        actors.as_slice(),
+        &gate,
+    )
+    .ok()
+    .ok_or("a report")?;
+    assert!(&rt; !gate.late.0.load(Ordering::SeqCst));
+    // all entries of actor 0 come before all of actor 1
+    let mut number = 0u64;
+    for replies in report.replies.as_slice() {
+        for reply in replies.as_slice() {
+            number = number.wrapping_add(1);
+            assert_eq!(&rt; *reply, RaceReply::Done(number));
+        }
+    }
+    assert_eq!(&rt; number, 40_000);
+    Ok(())
+}
+
+/// Holds piece 0 ahead of its first action until piece 1 is done.
+#[derive(Drop)]
+struct OtherFirst {
+    done: Flag,
+    late: Flag,
+}
+
+impl Gate for OtherFirst {
+    fn before(&self, piece: usize) {
+        if piece == 0 && !self.done.is_seen() {
+            self.late.set();
+        }
+    }
+
+    fn after(&self, piece: usize) {
+        if piece == 1 {
+            self.done.set();
+        }
+    }
+}
+
+#[test]
+fn an_actor_reads_what_another_did_before_it_began(rt: HostRuntime) -> Result<(), Fail> {
+    let desc = nanosecond_counter()?;
+    let reads = vec![in rt.alloc(); Action::Glance, Action::Look]?;
+    let orders = vec![in rt.alloc(); UPDATE; 4]?;
+    let actors = vec![in rt.alloc(); reads, orders]?;
+    let gate = OtherFirst {
+        done: Flag::new(),
+        late: Flag::new(),
+    };
+    let report = race(
+        &rt,
+        rt.alloc(),
+        desc,
+        0,
+        OPENED_TIME,
+        1,
+        actors.as_slice(),
+        &gate,
+    )
+    .ok()
+    .ok_or("a report")?;
+    assert!(&rt; !gate.late.0.load(Ordering::SeqCst));
+    let replies = report.replies.first().ok_or("replies")?;
+    let expected = [RaceReply::Glanced(4), RaceReply::Saw(4)];
+    assert!(&rt; replies.as_slice() == expected.as_slice());
+    Ok(())
+}

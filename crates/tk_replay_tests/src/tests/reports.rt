@@ -1,0 +1,149 @@
+use super::{REPORT, SCRIPT};
+use std::alloc::Global;
+use std::process::Abort;
+use std::test::Fail;
+use tk_keeper::TraceError;
+use tk_replay::{Fault, report, report_bounded};
+use tk_script::ScriptError;
+
+/// Both reports of the script are this text.
+pub(super) fn assert_report(rt: &impl Abort, alloc: Global, script: &[u8], text: &[u8]) {
+    for told in [report(alloc, script), report_bounded(alloc, script, 1)] {
+        match told {
+            Ok(told) => assert_eq!(rt; told.as_slice(), text),
+            Err(error) => assert_eq!(rt; error, ScriptError::Memory),
+        }
+    }
+}
+
+/// The script has this fault, in both reports.
+fn assert_fault(rt: &impl Abort, alloc: Global, script: &[u8], fault: ScriptError) {
+    for told in [report(alloc, script), report_bounded(alloc, script, 1)] {
+        match told {
+            Ok(_) => assert!(rt; false, "a report in place of {fault}"),
+            Err(error) => assert!(rt; error == fault || error == ScriptError::Memory, "{error}"),
+        }
+    }
+}
+
+#[test]
+fn tells_each_record_in_a_line(rt: HostRuntime) {
+    assert_report(&rt, rt.alloc(), SCRIPT, REPORT);
+}
+
+#[test]
+fn reports_when_memory_is_there(rt: HostRuntime) -> Result<(), Fail> {
+    assert_eq!(rt; report(rt.alloc(), SCRIPT)?.as_slice(), REPORT);
+    assert_eq!(rt;
+        report_bounded(rt.alloc(), SCRIPT, 524_288)?.as_slice(),
+        REPORT
+    );
+    Ok(())
+}
+
+#[test]
+fn takes_records_that_end_with_two_bytes(rt: HostRuntime) {
+    let script = b"open,32,16777216,24,0,1700000000,0\r\nget,0,monotonic\r\nupdate,2147483647\r\n\
+get,2147483648,monotonic\r\nupdate,0\r\n";
+    assert_report(&rt, rt.alloc(), script, REPORT);
+}
+
+#[test]
+fn takes_a_last_record_without_its_end(rt: HostRuntime) {
+    let opening = b"open,32,16777216,24,0,1700000000,0\n";
+    let cut = [
+        (0, ScriptError::Empty),
+        (3, ScriptError::Opening { row: 1 }),
+        (4, ScriptError::Fields { row: 1 }),
+        (32, ScriptError::Fields { row: 1 }),
+        (33, ScriptError::Number { row: 1 }),
+    ];
+    for (length, fault) in cut {
+        assert_fault(&rt, rt.alloc(), &opening[..length], fault);
+    }
+    assert_report(&rt, rt.alloc(), &opening[..34], b"open,32,16777216,24\n");
+}
+
+#[test]
+fn tells_the_first_fault_of_a_script(rt: HostRuntime) {
+    let alloc = rt.alloc();
+    let faults: [(&[u8], ScriptError); 6] = [
+        (b"", ScriptError::Empty),
+        (b"update,0\n", ScriptError::Opening { row: 1 }),
+        (b"\"update,0\n", ScriptError::Opening { row: 1 }),
+        (b"\xff", ScriptError::Opening { row: 1 }),
+        (
+            b"open,32,16777216,24,0,1700000000,0\nset,5,7\n",
+            ScriptError::Fields { row: 2 },
+        ),
+        (
+            b"open,32,16777216,24,0,1700000000,0\nupdat,0\n",
+            ScriptError::Word { row: 2 },
+        ),
+    ];
+    for (script, fault) in faults {
+        assert_fault(&rt, alloc, script, fault);
+    }
+}
+
+#[test]
+fn takes_no_script_above_the_limit(rt: HostRuntime) -> Result<(), Fail> {
+    let script = Vec::from_elem(rt.alloc(), b'\n', 16_777_217)?;
+    assert_fault(&rt, rt.alloc(), script.as_slice(), ScriptError::TooLarge);
+    assert_fault(&rt, rt.alloc(), &script[1..], ScriptError::Empty);
+    Ok(())
+}
+
+#[test]
+fn names_each_fault(rt: HostRuntime) -> Result<(), Fail> {
+    let texts = [
+        (Fault::Read, "cannot read"),
+        (Fault::Memory, "out of memory"),
+        (Fault::Write { written: 30 }, "cannot write"),
+        (
+            Fault::Script(ScriptError::TooLarge),
+            "script: larger than 16777216 bytes",
+        ),
+        (Fault::Script(ScriptError::Empty), "script: no record"),
+        (
+            Fault::Script(ScriptError::Opening { row: 1 }),
+            "script: record 1: not a valid opening",
+        ),
+        (
+            Fault::Script(ScriptError::Word { row: 2 }),
+            "script: record 2: unknown word",
+        ),
+        (
+            Fault::Script(ScriptError::Fields { row: 3 }),
+            "script: record 3: wrong number of fields",
+        ),
+        (
+            Fault::Script(ScriptError::Number { row: 4 }),
+            "script: record 4: not a number in range",
+        ),
+        (
+            Fault::Stamps(ScriptError::Fields { row: 5 }),
+            "stamps: record 5: wrong number of fields",
+        ),
+        (
+            Fault::Trace(TraceError::Unknown { index: 3 }),
+            "item 3: unknown front",
+        ),
+        (
+            Fault::Trace(TraceError::Folded { index: 0 }),
+            "item 0: folded front",
+        ),
+        (
+            Fault::Trace(TraceError::Invalid { index: 1 }),
+            "item 1: stamp above the mask",
+        ),
+        (
+            Fault::Trace(TraceError::Range { index: 2 }),
+            "item 2: value out of range",
+        ),
+    ];
+    for (fault, text) in texts {
+        assert_eq!(rt; format!(in rt.alloc(); "{fault}")?.as_str(), text);
+    }
+    Ok(())
+}

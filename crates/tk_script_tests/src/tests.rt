@@ -1,0 +1,40 @@
+mod bytes;
+mod commands;
+mod dates;
+mod faults;
+mod large;
+mod lines;
+mod memory;
+mod names;
+mod refused;
+mod scripts;
+mod stamps;
+mod ways;
+
+use std::test::Fail;
+use tk_clock::{ClockId, Command, Timespec};
+use tk_script::{Row, ScriptError};
+
+/// A counter of 32 bits at 1 ns a cycle, opened at reading 0.
+const OPENING: &[u8] = b"open,32,16777216,24,0,1700000000,0\n";
+
+/// The fault that was told. Refused memory, or no fault, ends the test by an error of its own.
+fn fault_of<T: Drop>(told: Result<T, ScriptError>) -> Result<ScriptError, Fail> {
+    match told {
+        Ok(_) => Err("no fault")?,
+        Err(ScriptError::Memory) => Err(ScriptError::Memory)?,
+        Err(fault) => Ok(fault),
+    }
+}
+
+fn time(sec: i64, nsec: u32) -> Timespec {
+    Timespec { sec, nsec }
+}
+
+fn act(reading: u64, cmd: Command) -> Row {
+    Row::Act { reading, cmd }
+}
+
+fn look(reading: u64, clock: ClockId) -> Row {
+    Row::Look { reading, clock }
+}

@@ -1,0 +1,40 @@
+//! No count of rows or stamps is too many: the bytes alone have a limit.
+
+use super::{OPENING, act};
+use std::alloc::{AllocError, Global};
+use std::test::Fail;
+use tk_clock::Command;
+use tk_script::{Script, Stamps};
+
+/// More rows than a journal lists.
+const ROWS: usize = 1_500_000;
+
+/// More stamps than a million.
+const STAMPS: usize = 3_000_000;
+
+/// A text, and a record behind it so many times.
+fn repeated(alloc: Global, text: &[u8], record: &[u8], many: usize) -> Result<Vec<u8>, AllocError> {
+    let mut bytes = text.to_vec(alloc)?;
+    for _ in 0..many {
+        bytes.extend_from_slice(record)?;
+    }
+    Ok(bytes)
+}
+
+#[test]
+fn takes_a_script_of_more_rows_than_a_journal_lists(rt: HostRuntime) -> Result<(), Fail> {
+    let bytes = repeated(rt.alloc(), OPENING, b"update,7\n", ROWS)?;
+    let script = Script::from_bytes(rt.alloc(), bytes.as_slice())?;
+    assert_eq!(rt; script.rows.len(), ROWS);
+    assert_eq!(rt; script.rows[ROWS - 1], act(7, Command::Update));
+    Ok(())
+}
+
+#[test]
+fn takes_more_than_a_million_stamps(rt: HostRuntime) -> Result<(), Fail> {
+    let bytes = repeated(rt.alloc(), b"", b"3,5\n", STAMPS)?;
+    let told = Stamps::from_bytes(rt.alloc(), bytes.as_slice())?;
+    assert_eq!(rt; (told.fronts.len(), told.stamps.len()), (STAMPS, STAMPS));
+    assert_eq!(rt; (told.fronts[STAMPS - 1], told.stamps[STAMPS - 1]), (3, 5));
+    Ok(())
+}

@@ -1,0 +1,58 @@
+use std::test::Fail;
+use tk_clock::{ClockId, Refusal, Timespec};
+use tk_counter::CounterDesc;
+use tk_script::{Calendar, line_at, line_no, line_ok, line_open, utc};
+
+#[test]
+fn writes_each_line(rt: HostRuntime) -> Result<(), Fail> {
+    let mut out = Vec::new(rt.alloc());
+    let zero = Timespec { sec: 0, nsec: 0 };
+    let later = Timespec {
+        sec: 2,
+        nsec: 147_483_647,
+    };
+    let day = Timespec {
+        sec: 1_700_000_000,
+        nsec: 0,
+    };
+    line_open(&mut out, &CounterDesc::new(32, 16_777_216, 24)?)?;
+    line_ok(&mut out, 1, later)?;
+    line_no(&mut out, Refusal::Behind)?;
+    line_no(&mut out, Refusal::Memory)?;
+    line_at(&mut out, ClockId::Monotonic, zero)?;
+    line_at(&mut out, ClockId::Realtime, day)?;
+    line_at(&mut out, ClockId::Tai, day)?;
+    let want = b"open,32,16777216,24\n\
+        ok,1,2.147483647\n\
+        no,behind\n\
+        no,memory\n\
+        at,monotonic,0.000000000\n\
+        at,realtime,1700000000.000000000,2023-11-14T22:13:20.000000000Z\n\
+        at,tai,1700000000.000000000\n";
+    assert_eq!(rt; out.as_slice(), want.as_slice());
+    Ok(())
+}
+
+#[test]
+fn tells_the_last_second_in_utc(rt: HostRuntime) -> Result<(), Fail> {
+    let text = utc(rt.alloc(), 9_223_372_035, 999_999_999)?;
+    assert_eq!(rt; text.as_str(), "2262-04-11T23:47:15.999999999Z");
+    Ok(())
+}
+
+#[test]
+fn a_calendar_keeps_no_date_for_another_day(rt: HostRuntime) -> Result<(), Fail> {
+    let mut out = Vec::new(rt.alloc());
+    let mut calendar = Calendar::new(rt.alloc());
+    for sec in [951_782_399, 951_782_400, 951_868_799, 951_868_800, 0] {
+        let time = Timespec { sec, nsec: 0 };
+        calendar.line_at(&mut out, ClockId::RealtimeCoarse, time)?;
+    }
+    let want = b"at,realtime_coarse,951782399.000000000,2000-02-28T23:59:59.000000000Z\n\
+        at,realtime_coarse,951782400.000000000,2000-02-29T00:00:00.000000000Z\n\
+        at,realtime_coarse,951868799.000000000,2000-02-29T23:59:59.000000000Z\n\
+        at,realtime_coarse,951868800.000000000,2000-03-01T00:00:00.000000000Z\n\
+        at,realtime_coarse,0.000000000,1970-01-01T00:00:00.000000000Z\n";
+    assert_eq!(rt; out.as_slice(), want.as_slice());
+    Ok(())
+}

@@ -1,0 +1,65 @@
+//! Scripts and stamps take the process's memory alone, since `csv` does. Where that is refused, by
+//! `rt try --test --fail-alloc N -- refused::`, a test ends by `Memory`; else it gives the answer.
+
+use super::{act, look};
+use std::test::Fail;
+use tk_clock::{ClockId, Command};
+use tk_script::{Script, ScriptError, Stamps};
+
+const SCRIPT: &[u8] = b"openhz,32,24000000,600,0,1700000000,0
+get,18446744073709551615,monotonic_coarse
+freq,18446744073709551615,-9223372036854775808
+update,0
+update,0
+update,0
+update,0
+update,0
+update,0
+update,0
+";
+
+#[test]
+fn reads_a_script_where_memory_is_there(rt: HostRuntime) -> Result<(), Fail> {
+    match Script::from_bytes(rt.alloc(), SCRIPT) {
+        Ok(script) => {
+            let update = act(0, Command::Update);
+            let rows = [
+                look(u64::MAX, ClockId::MonotonicCoarse),
+                act(u64::MAX, Command::Freq(i64::MIN)),
+                update,
+                update,
+                update,
+                update,
+                update,
+                update,
+                update,
+            ];
+            assert_eq!(rt; script.rows.as_slice(), rows.as_slice());
+            Ok(())
+        }
+        Err(error) => {
+            assert_eq!(rt; error, ScriptError::Memory);
+            Err(error)?
+        }
+    }
+}
+
+#[test]
+fn reads_stamps_where_memory_is_there(rt: HostRuntime) -> Result<(), Fail> {
+    let bytes = b"1,18446744073709551615\n2,2\n3,3\n4,4\n5,5\n6,6\n7,7\n8,8\n9,9\n";
+    match Stamps::from_bytes(rt.alloc(), bytes) {
+        Ok(told) => {
+            assert_eq!(rt;
+                told.fronts.as_slice(),
+                [1, 2, 3, 4, 5, 6, 7, 8, 9].as_slice()
+            );
+            let stamps = [u64::MAX, 2, 3, 4, 5, 6, 7, 8, 9];
+            assert_eq!(rt; told.stamps.as_slice(), stamps.as_slice());
+            Ok(())
+        }
+        Err(error) => {
+            assert_eq!(rt; error, ScriptError::Memory);
+            Err(error)?
+        }
+    }
+}

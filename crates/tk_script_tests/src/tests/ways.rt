@@ -1,0 +1,208 @@
+//! A text is read as lines cut at their commas, or by csv's reader where it has a quote, a carriage
+//! return or a byte order mark. Both give the same rows, stamps and faults.
+
+use super::{act, fault_of, look};
+use std::test::Fail;
+use tk_clock::{ClockId, Command};
+use tk_script::{Row, Script, ScriptError, Stamps};
+
+fn update(reading: u64) -> Row {
+    act(reading, Command::Update)
+}
+
+#[test]
+fn both_ways_give_the_same_rows(rt: HostRuntime) -> Result<(), Fail> {
+    let rows = [
+        update(5),
+        look(7, ClockId::Tai),
+        act(9, Command::Freq(-3)),
+        look(u64::MAX, ClockId::MonotonicRaw),
+        update(10_000_000_000_000_000_000),
+        look(3, ClockId::Realtime),
+    ];
+    for text in [
+        b"open,8,256,0,0,0,0\nupdate,5\nget,7,tai\nfreq,9,-3\nget,18446744073709551615,monotonic_raw
+update,10000000000000000000\nget,000000000000000000000003,realtime\n"
+            .as_slice(),
+        // without a last line feed
+        b"open,8,256,0,0,0,0\nupdate,5\nget,7,tai\nfreq,9,-3\nget,18446744073709551615,monotonic_raw
+update,10000000000000000000\nget,000000000000000000000003,realtime"
+            .as_slice(),
+        // with empty lines
+        b"\n\nopen,8,256,0,0,0,0\n\nupdate,5\n\n\nget,7,tai\n\nfreq,9,-3
+get,18446744073709551615,monotonic_raw\nupdate,10000000000000000000
+\nget,000000000000000000000003,realtime\n\n\n"
+            .as_slice(),
+        // with one field in quotes
+        b"open,8,256,0,0,0,0\nupdate,5\nget,7,\"tai\"\nfreq,9,-3
+get,18446744073709551615,monotonic_raw\nupdate,10000000000000000000
+get,000000000000000000000003,realtime\n"
+            .as_slice(),
+        // with carriage returns
+        b"open,8,256,0,0,0,0\r\nupdate,5\r\nget,7,tai\r\nfreq,9,-3\r
+get,18446744073709551615,monotonic_raw\r\nupdate,10000000000000000000\r
+get,000000000000000000000003,realtime\r\n"
+            .as_slice(),
+        // with one of them alone
+        b"open,8,256,0,0,0,0\nupdate,5\rget,7,tai\nfreq,9,-3\nget,18446744073709551615,monotonic_raw
+update,10000000000000000000\nget,000000000000000000000003,realtime\n"
+            .as_slice(),
+        // behind a byte order mark
+        b"\xef\xbb\xbfopen,8,256,0,0,0,0\nupdate,5\nget,7,tai\nfreq,9,-3
+get,18446744073709551615,monotonic_raw\nupdate,10000000000000000000
+get,000000000000000000000003,realtime\n"
+            .as_slice(),
+    ] {
+        let script = Script::from_bytes(rt.alloc(), text)?;
+        assert_eq!(rt; script.rows.as_slice(), rows.as_slice());
+    }
+    Ok(())
+}
+
+#[test]
+fn both_ways_tell_the_same_fault(rt: HostRuntime) -> Result<(), Fail> {
+    for (first, later, want) in [
+        (b"".as_slice(), b"".as_slice(), ScriptError::Empty),
+        (b"\n", b"\n\n", ScriptError::Empty),
+        (b"open,8,256,0,0,0,", b"\n", ScriptError::Number { row: 1 }),
+        (
+            b"open,8,256,0,0,0,0,",
+            b"\n",
+            ScriptError::Fields { row: 1 },
+        ),
+        (
+            b"\xefopen,8,256,0,0,0,0",
+            b"\n",
+            ScriptError::Opening { row: 1 },
+        ),
+        (b"\xef", b"", ScriptError::Opening { row: 1 }),
+        (
+            b"open,8,256,0,0,0,0",
+            b"\nupdate,5,",
+            ScriptError::Fields { row: 2 },
+        ),
+        (
+            b"open,8,256,0,0,0,0",
+            b"\nupdate",
+            ScriptError::Fields { row: 2 },
+        ),
+        (
+            b"open,8,256,0,0,0,0",
+            b"\nupdate,",
+            ScriptError::Number { row: 2 },
+        ),
+        (
+            b"open,8,256,0,0,0,0",
+            b"\nupdate,5 \n",
+            ScriptError::Number { row: 2 },
+        ),
+        (
+            b"open,8,256,0,0,0,0",
+            b"\n,update,5\n",
+            ScriptError::Word { row: 2 },
+        ),
+        (
+            b"open,8,256,0,0,0,0",
+            b"\n,\n",
+            ScriptError::Word { row: 2 },
+        ),
+        (
+            b"open,8,256,0,0,0,0",
+            b"\nupdates,5\n",
+            ScriptError::Word { row: 2 },
+        ),
+        (
+            b"open,8,256,0,0,0,0",
+            b"\nget,5\n",
+            ScriptError::Fields { row: 2 },
+        ),
+        (
+            b"open,8,256,0,0,0,0",
+            b"\nget,5,tai,\n",
+            ScriptError::Fields { row: 2 },
+        ),
+        (
+            b"open,8,256,0,0,0,0",
+            b"\nget,5,\n",
+            ScriptError::Word { row: 2 },
+        ),
+        (
+            b"open,8,256,0,0,0,0",
+            b"\nget,5,ta",
+            ScriptError::Word { row: 2 },
+        ),
+        (
+            b"open,8,256,0,0,0,0",
+            b"\nget,5,\xef\xbb\xbf\n",
+            ScriptError::Word { row: 2 },
+        ),
+        (
+            b"open,8,256,0,0,0,0",
+            b"\nget,x,tai\n",
+            ScriptError::Number { row: 2 },
+        ),
+        (
+            b"open,8,256,0,0,0,0",
+            b"\nupdate,18446744073709551616\n",
+            ScriptError::Number { row: 2 },
+        ),
+        (
+            b"open,8,256,0,0,0,0",
+            b"\nupdate,1\n\nupdate,2\nset,3,4,5,6,7,8,9,10,11,12,13\n",
+            ScriptError::Fields { row: 4 },
+        ),
+    ] {
+        let mut plain = first.to_vec(rt.alloc())?;
+        plain.extend_from_slice(later)?;
+        let told = Script::from_bytes(rt.alloc(), plain.as_slice());
+        assert_eq!(rt; fault_of(told)?, want);
+        // a carriage return in front of a line feed, or at the end, leaves the records as they are
+        let mut other = plain.clone()?;
+        other.extend_from_slice(b"\n\r\n")?;
+        let told = Script::from_bytes(rt.alloc(), other.as_slice());
+        assert_eq!(rt; fault_of(told)?, want);
+    }
+    Ok(())
+}
+
+#[test]
+fn a_quote_within_a_field_is_a_byte(rt: HostRuntime) -> Result<(), Fail> {
+    for (text, want) in [
+        (
+            b"open,8,256,0,0,0,0\nupdate,5\"\nupdate,6".as_slice(),
+            ScriptError::Number { row: 2 },
+        ),
+        (
+            b"open,8,256,0,0,0,0\nget,5,t\"ai\nupdate,6",
+            ScriptError::Word { row: 2 },
+        ),
+    ] {
+        assert_eq!(rt; fault_of(Script::from_bytes(rt.alloc(), text))?, want);
+    }
+    Ok(())
+}
+
+#[test]
+fn both_ways_give_the_same_stamps(rt: HostRuntime) -> Result<(), Fail> {
+    for text in [
+        b"0,1\n2,18446744073709551615\n4,000000000000000000005".as_slice(),
+        b"\n0,1\n\n2,18446744073709551615\n4,000000000000000000005\n\n",
+        b"0,1\n2,\"18446744073709551615\"\n4,000000000000000000005\n",
+        b"0,1\r\n2,18446744073709551615\r\n4,000000000000000000005\r\n",
+        b"\xef\xbb\xbf0,1\n2,18446744073709551615\n4,000000000000000000005\n",
+    ] {
+        let told = Stamps::from_bytes(rt.alloc(), text)?;
+        assert_eq!(rt; told.fronts.as_slice(), [0, 2, 4].as_slice());
+        assert_eq!(rt; told.stamps.as_slice(), [1, u64::MAX, 5].as_slice());
+    }
+    for (text, want) in [
+        (b"0,1\n2,3,\n".as_slice(), ScriptError::Fields { row: 2 }),
+        (b"0,1\r\n2,3,\n", ScriptError::Fields { row: 2 }),
+        (b"0,1\n2,\n", ScriptError::Number { row: 2 }),
+        (b"0,1\n\"2\",\n", ScriptError::Number { row: 2 }),
+        (b"\xef0,1\n", ScriptError::Number { row: 1 }),
+    ] {
+        assert_eq!(rt; fault_of(Stamps::from_bytes(rt.alloc(), text))?, want);
+    }
+    Ok(())
+}

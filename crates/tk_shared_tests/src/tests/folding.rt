@@ -1,0 +1,80 @@
+//! Folding under the lock.
+ghost use Rattle.std.specs.Prelude.{◌≡◌};
+ghost use Rattle.tk_shared.specs.Opening.{IsNamed};
+
+use super::{both, commanded, glanced, open_two, read_by, ready};
+use std::alloc::Global;
+use std::marker::Brand;
+use std::process::Abort;
+use std::sync::Wait;
+use std::test::Fail;
+use tk_clock::{Command, Refusal};
+use tk_shared::{Named, Prepared, SharedKeeper, Ticker};
+
+#[test]
+fn a_fold_makes_room_again(rt: HostRuntime) -> Result<(), Fail> {
+    let prepared = ready(&rt, rt.alloc(), Ticker::new(0, 0), 1)?;
+    fills::<Brand, _>(&rt, rt.alloc(), prepared)
+}
+
+fn fills<L: Named, R: Wait + Abort>(
+    rt: &R,
+    alloc: Global,
+    prepared: Prepared<Ticker>,
+) -> Result<(), Fail>
+    requires named { IsNamed prepared L.page L.latch L.name L.parts L.callers }
+{
+    let (keeper, mut callers) = SharedKeeper::<L, Ticker>::open(alloc, prepared)
+        .ok()
+        .ok_or("opened")?;
+    let mut caller = callers.pop().ok_or("a caller")?;
+    let mut is_good = true;
+    for number in 1..=1_048_576 {
+        let answer = commanded(rt, &keeper, &mut caller, Command::Update);
+        is_good = is_good && answer == Ok(number);
+    }
+    assert!(rt; is_good);
+    let refused = commanded(rt, &keeper, &mut caller, Command::Update);
+    assert_eq!(rt; refused, Err(Refusal::Full));
+    assert_eq!(rt; keeper.fold(rt, 1), 1_048_575);
+    let accepted = commanded(rt, &keeper, &mut caller, Command::Update);
+    assert_eq!(rt; accepted, Ok(1_048_577));
+    Ok(())
+}
+
+#[test]
+fn numbers_and_fronts_go_on_after_a_fold(rt: HostRuntime) -> Result<(), Fail> {
+    let prepared = ready(&rt, rt.alloc(), Ticker::new(0, 1_000), 2)?;
+    folds::<Brand, _>(&rt, rt.alloc(), prepared)
+}
+
+fn folds<L: Named, R: Wait + Abort>(
+    rt: &R,
+    alloc: Global,
+    prepared: Prepared<Ticker>,
+) -> Result<(), Fail>
+    requires named { IsNamed prepared L.page L.latch L.name L.parts L.callers }
+    requires two { prepared.callers ≡ 2 }
+{
+    let (keeper, mut one, mut two) = open_two::<L, Ticker>(alloc, prepared)?;
+    let first = commanded(rt, &keeper, &mut one, Command::Update);
+    let second = commanded(rt, &keeper, &mut two, Command::Update);
+    let third = commanded(rt, &keeper, &mut one, Command::Update);
+    let folded = keeper.fold(rt, 1);
+    let fronts = (one.front(), two.front());
+    let seen = read_by(rt, &keeper, &mut one).front();
+    let fast = glanced(&keeper, &mut two);
+    let fourth = commanded(rt, &keeper, &mut two, Command::Update);
+    let closed = keeper
+        .close(rt, both(alloc, one, two)?)
+        .ok()
+        .ok_or("closed")?;
+    assert_eq!(rt;
+        (first, second, third, fourth),
+        (Ok(1), Ok(2), Ok(3), Ok(4))
+    );
+    assert_eq!(rt; (folded, fronts, seen), (2, (3, 2), 3));
+    assert_eq!(rt; fast.ok().ok_or("a fast read")?.front(), 3);
+    assert_eq!(rt; (closed.keeper.len(), closed.keeper.folded()), (4, 2));
+    Ok(())
+}

@@ -1,0 +1,94 @@
+//! Whatever request for memory is refused: what was handed in comes back, and nothing has changed.
+ghost use Rattle.std.specs.Prelude.{◌≡◌};
+ghost use Rattle.tk_shared.specs.Opening.{IsNamed};
+
+use super::{OPENED_TIME, commanded, nanosecond_counter, read_by};
+use std::alloc::Global;
+use std::marker::Brand;
+use std::process::Abort;
+use std::sync::Wait;
+use std::test::Fail;
+use tk_clock::{Command, Refusal};
+use tk_shared::{
+    Caller, Counter, Named, OpenError, OpenFault, Prepared, SharedKeeper, Ticker, prepare,
+};
+
+/// How many commands are given: room is made again and again.
+const COMMANDS: u64 = 600;
+
+/// The counter came back for want of memory, after it was read once.
+fn came_back<R: Abort>(rt: &R, fault: OpenFault<Ticker>) -> Result<(), Fail> {
+    let OpenFault { error, mut counter } = fault;
+    assert_eq!(rt; (error, counter.read()), (OpenError::Memory, 10));
+    Ok(())
+}
+
+/// Each call that may want memory. Run with each request refused in turn, every answer is as
+/// without it, or Memory.
+#[test]
+fn refused_requests_change_nothing(rt: HostRuntime) -> Result<(), Fail> {
+    let desc = nanosecond_counter()?;
+    match prepare(rt.alloc(), &rt, desc, OPENED_TIME, Ticker::new(0, 10), 2, 3) {
+        Ok(prepared) => opened::<Brand, _>(&rt, rt.alloc(), prepared),
+        Err(fault) => came_back(&rt, fault),
+    }
+}
+
+fn opened<L: Named, R: Wait + Abort>(
+    rt: &R,
+    alloc: Global,
+    prepared: Prepared<Ticker>,
+) -> Result<(), Fail>
+    requires named { IsNamed prepared L.page L.latch L.name L.parts L.callers }
+    requires two { prepared.callers ≡ 2 }
+{
+    let (keeper, mut callers) = match SharedKeeper::<L, Ticker>::open(alloc, prepared) {
+        Ok(opened) => opened,
+        Err(fault) => return came_back(rt, fault),
+    };
+    let Some(two) = callers.pop() else {
+        return Err(Fail::from("no caller"));
+    };
+    let Some(mut one) = callers.pop() else {
+        return Err(Fail::from("no caller"));
+    };
+    gives_all(rt, &keeper, &mut one)?;
+    let accepted = one.accepted();
+    let Ok(mut callers) = Vec::with_capacity(alloc, 2) else {
+        // the request of this test itself was refused
+        assert_eq!(rt; accepted, COMMANDS);
+        return Ok(());
+    };
+    callers.push_reserved(one);
+    callers.push_reserved(two);
+    let closed = keeper.close(rt, callers).ok().ok_or("closed")?;
+    assert_eq!(rt; closed.keeper.len() as u64, accepted);
+    Ok(())
+}
+
+/// Gives all commands: each is the next entry, or is refused for want of memory and leaves journal
+/// and counts as they were.
+fn gives_all<L: Named, R: Wait + Abort>(
+    rt: &R,
+    keeper: &SharedKeeper<L, Ticker>,
+    caller: &mut Caller<L>,
+) -> Result<(), Fail>
+    ensures { caller.new.id ≡ caller.old.id }
+{
+    let mut accepted = 0u64;
+    for _ in 0..COMMANDS {
+        match commanded(rt, keeper, caller, Command::Update) {
+            Ok(number) => {
+                accepted = accepted.wrapping_add(1);
+                assert_eq!(rt; number, accepted);
+            }
+            Err(refusal) => assert_eq!(rt; refusal, Refusal::Memory),
+        }
+        let seen = read_by(rt, keeper, caller).front();
+        let known = (caller.front(), caller.mark(), caller.accepted());
+        assert_eq!(rt; (seen, known), (accepted, (accepted, accepted, accepted)));
+    }
+    // one request at most is refused
+    assert!(rt; accepted >= COMMANDS - 1);
+    Ok(())
+}

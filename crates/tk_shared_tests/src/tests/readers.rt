@@ -1,0 +1,106 @@
+//! One thread commands while another reads the latch.
+ghost use Rattle.tk_shared.specs.Opening.{IsNamed};
+
+use super::{commanded, glanced, read_by, ready};
+use std::alloc::Global;
+use std::marker::Brand;
+use std::process::Abort;
+use std::sync::Wait;
+use std::sync::atomic::{AtomicU64, Ordering};
+use std::test::Fail;
+use std::thread::{self, Threads, join};
+use tk_clock::{Command, Snapshot};
+use tk_shared::{Caller, Named, Prepared, SharedKeeper, Ticker};
+
+/// How many commands are given, and the cycles from one to the next.
+const COMMANDS: u64 = 100_000;
+
+const STEP: u64 = 1_000;
+
+/// Is this the snapshot of so many Updates?
+fn is_whole(seen: &Snapshot) -> bool {
+    seen.last() == seen.front().wrapping_mul(STEP) & 0xffff_ffff
+}
+
+/// Gives all commands: was each accepted in order?
+fn commands<L: Named, R: Wait>(
+    rt: &R,
+    keeper: &SharedKeeper<L, Ticker>,
+    mut caller: Caller<L>,
+    ended: &AtomicU64,
+) -> bool {
+    let mut is_good = true;
+    for number in 1..=COMMANDS {
+        is_good = commanded(rt, keeper, &mut caller, Command::Update) == Ok(number) && is_good;
+    }
+    ended.store(1, Ordering::SeqCst);
+    is_good
+}
+
+/// Reads until all commands are given: was each snapshot whole, and none older than one before?
+fn glances<L: Named, R: Wait>(
+    rt: &R,
+    keeper: &SharedKeeper<L, Ticker>,
+    mut caller: Caller<L>,
+    ended: &AtomicU64,
+) -> bool {
+    let mut is_good = true;
+    let mut front = 0;
+    for _ in 0..u64::MAX {
+        if ended.load(Ordering::SeqCst) == 1 {
+            break;
+        }
+        match glanced(keeper, &mut caller) {
+            Ok(seen) => {
+                is_good = is_good && is_whole(&seen) && front <= seen.front();
+                front = seen.front();
+            }
+            Err(moved) => is_good = is_good && moved.first < moved.last,
+        }
+        thread::yield_now();
+    }
+    is_good && sees_all(rt, keeper, caller)
+}
+
+/// Do both reads find the last command, once all are given?
+fn sees_all<L: Named, R: Wait>(
+    rt: &R,
+    keeper: &SharedKeeper<L, Ticker>,
+    mut caller: Caller<L>,
+) -> bool {
+    let Ok(fast) = glanced(keeper, &mut caller) else {
+        return false;
+    };
+    let seen = read_by(rt, keeper, &mut caller);
+    let all = (COMMANDS, 100_000_000);
+    (fast.front(), fast.last()) == all && (seen.front(), seen.last()) == all
+}
+
+#[test]
+fn fast_reads_are_whole_while_commands_are_given(rt: HostRuntime) -> Result<(), Fail> {
+    let prepared = ready(&rt, rt.alloc(), Ticker::new(0, STEP), 2)?;
+    beside::<Brand, _>(&rt, rt.alloc(), prepared)
+}
+
+fn beside<L: Named + Send + Sync, R: Threads + Wait + Abort + Sync>(
+    rt: &R,
+    alloc: Global,
+    prepared: Prepared<Ticker>,
+) -> Result<(), Fail>
+    requires named { IsNamed prepared L.page L.latch L.name L.parts L.callers }
+{
+    let (keeper, mut callers) = SharedKeeper::<L, Ticker>::open(alloc, prepared)
+        .ok()
+        .ok_or("opened")?;
+    let one = callers.pop().ok_or("a caller")?;
+    let two = callers.pop().ok_or("a caller")?;
+    let ended = AtomicU64::new(0);
+    let (shared, flag) = (&keeper, &ended);
+    let (commanded, read) = join(
+        rt,
+        move || commands(rt, shared, one, flag),
+        move || glances(rt, shared, two, flag),
+    );
+    assert_eq!(rt; (commanded, read), (true, true));
+    Ok(())
+}
