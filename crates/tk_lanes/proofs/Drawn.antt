@@ -2,7 +2,7 @@
 use Rattle.std.proofs.Common.{◌≡◌, ℕ, ◌+◌, ◌-◌, ◌*◌, ◌/◌, ◌%◌, ◌^◌, ◌<◌, ◌≤◌, Bool, true, false, bit_and, Ok, refl, sym, ap, ap₂, ◌∙◌, arith}
 use Rattle.std.specs.Prelude.{ℤ, pos, ◌+ℤ◌, int_lt, nat_lt, ◌||◌, if◌then◌else◌, unsigned_abs}
 use Rattle.std.proofs.lemmas.Bool.{le-ltb, lt-ltb}
-use Rattle.std.proofs.lemmas.Nat.{pow_pos, div_below}
+use Rattle.std.proofs.lemmas.Nat.{pow_pos, div_below, and_mask}
 use Rattle.std.proofs.lemmas.Int.{ints}
 use Rattle.std.proofs.Math.Nat.{mul-add-div, mod-eq_of_lt, mul-le-mul_right}
 use Rattle.tk_counter.specs.Counter.{Counter, IsCounter, mask, half, second}
@@ -50,6 +50,13 @@ cycles_are counter last m h stamp held low p q =
     ap₂ (λ m h. ahead m h (gap_word stamp last)) p q
     ∙ ap (λ g. if nat_lt (half counter) g then 0 else g)
     (word_gap counter.bits last stamp held.bits_high low)
+
+-- a gap up to the mask has no bit beyond it
+pub whole_gap : (counter : Counter) (m gap : ℕ) → m ≡ mask counter → gap ≤ m →
+    bit_and gap m ≡ gap
+whole_gap counter m gap p low =
+    ap (bit_and gap) p ∙ and_mask gap counter.bits
+    ∙ mod-eq_of_lt (omega (arith, p, low, pow_pos counter.bits))
 
 -- a clock that stands still has no units a cycle
 same_units : (asleep coarse : Bool) (counter : Counter) (last stamp u : ℕ) →

@@ -1,11 +1,11 @@
 -- Eight lanes at a time: what is computed of each.
-use Rattle.std.proofs.Common.{◌≡◌, ℕ, ◌+◌, ◌-◌, ◌*◌, ◌/◌, ◌%◌, ◌^◌, ◌<◌, ◌≤◌, Bool, cond, ltb, List, [], ◌∷◌, map, length, bit_and, bit_or, w64, replicate, refl, false, inl, inr, ap, ap₂, ◌∙◌, subst, arith}
+use Rattle.std.proofs.Common.{◌≡◌, ℕ, ◌+◌, ◌-◌, ◌*◌, ◌/◌, ◌%◌, ◌^◌, ◌<◌, ◌≤◌, Bool, cond, ltb, List, [], ◌∷◌, map, length, bit_and, bit_or, w64, replicate, refl, false, inl, inr, sym, ap, ap₂, ◌∙◌, subst, arith}
 use Rattle.std.proofs.lemmas.Nat.{le_or_l, le_or_r}
-use Rattle.std.proofs.lemmas.Simd.{zip2_of_maps, splat_is_map, tops_compared}
+use Rattle.std.proofs.lemmas.Simd.{zip2_of_maps, splat_is_map, tops_compared, Each1-weaker}
 use Rattle.std.specs.Simd.Lanes.{zip2, sel_l, fold_l, Each1}
 use Rattle.std.proofs.lemmas.Bool.{le-ltb, lt-ltb, cases_lt}
 use Rattle.std.proofs.lemmas.List.{length-map}
-use Rattle.std.proofs.Math.Nat.{mod-eq_of_lt}
+use Rattle.std.proofs.Math.Nat.{mod-eq_of_lt, add-mul-mod_self_left}
 use lib.Lanes.{top}
 use Rattle.tk_lanes.specs.declared.line.Line.{Line}
 use Rattle.tk_lanes.specs.Line.{line_cycles, line_nanos, nanos_after, IsNear, IsEachNear}
@@ -114,7 +114,7 @@ nanos-map line counts long mult shift p q =
     (splat counts long line.shift))
     (splat counts long line.base)
 
--- where the or of the gaps is within the span, no stamp lies behind, and each is near
+-- where a gap is within the span, the stamp does not lie behind
 near_gap : (line : Line) → line.span ≤ line.half → (x : ℕ) → gap_of line x ≤ line.span →
     gap_of line x ≡ line_cycles line x
 unfolding gap_of line_cycles
@@ -128,17 +128,6 @@ same_maps : (f g : ℕ → ℕ) (P : ℕ → Type 0) → ((x : ℕ) → P x → 
 same_maps f g P same [] all = refl
 same_maps f g P same (x ∷ xs) all =
     ap₂ (λ y ys. y ∷ ys) (same x all.0) (same_maps f g P same xs all.1)
-
-low_gaps : (line : Line) (v : List ℕ) → length v ≡ 8 → fold_l bit_or 0 (gaps line v) ≤ line.span →
-    Each1 (λ x. gap_of line x ≤ line.span) v
-low_gaps line v long low =
-    let ors : fold_l bit_or 0 (map (gap_of line) v) ≤ line.span =
-    subst (λ l. fold_l bit_or 0 l ≤ line.span) (gaps-map line v long) low in
-    each_of_map (gap_of line) (λ y. y ≤ line.span) (λ x. gap_of line x ≤ line.span) (λ x p. p) v
-    (most_is_or 0 _ line.span ors).1
-
-pub gaps-long : (line : Line) (v : List ℕ) → length v ≡ 8 → length (gaps line v) ≡ 8
-gaps-long line v long = ap length (gaps-map line v long) ∙ length-map v (gap_of line) ∙ long
 
 pub cycles-long : (line : Line) (v : List ℕ) → length v ≡ 8 → length (cycles line v) ≡ 8
 cycles-long line v long = ap length (cycles-map line v long) ∙ length-map v (line_cycles line)
@@ -154,22 +143,81 @@ nanos_at_each line v counts e = ap (map (nanos_after line)) e ∙ fused v
     fused [] = refl
     fused (x ∷ xs) = ap (λ r. line_nanos line x ∷ r) (fused xs)
 
-pub gaps-are_cycles : (line : Line) (v : List ℕ) → length v ≡ 8 → line.span ≤ line.half →
-    fold_l bit_or 0 (gaps line v) ≤ line.span →
-    gaps line v ≡ map (line_cycles line) v
-gaps-are_cycles line v long leads low =
-    gaps-map line v long
-    ∙ same_maps (gap_of line) (line_cycles line) (λ x. gap_of line x ≤ line.span)
-    (near_gap line leads) v (low_gaps line v long low)
+abbrev word_of : Line → ℕ → ℕ
+word_of line x = wrap_sub x line.last
 
-pub near_by_gaps : (line : Line) (v : List ℕ) → length v ≡ 8 → line.span ≤ line.half →
-    fold_l bit_or 0 v ≤ line.mask →
-    fold_l bit_or 0 (gaps line v) ≤ line.span → IsEachNear line v
-near_by_gaps line v long leads read low =
-    both _ _ (IsNear line)
-    (λ x p q. record { near = subst (λ n. n ≤ line.span) (near_gap line leads x p) p; read = q }) v
-    (low_gaps line v long low)
-    (most_is_or 0 v line.mask read).1
+abbrev words : Line → List ℕ → List ℕ
+words line v = zip2 wrap_sub v (replicate 8 line.last)
+
+words-map : (line : Line) (v : List ℕ) → length v ≡ 8 → words line v ≡ map (word_of line) v
+words-map line v long =
+    zip2_of_maps wrap_sub (λ x. x) (λ _. line.last) v (itself v) (splat v long line.last)
+
+pub words-long : (line : Line) (v : List ℕ) → length v ≡ 8 → length (words line v) ≡ 8
+words-long line v long = ap length (words-map line v long) ∙ length-map v (word_of line) ∙ long
+
+-- a stamp no farther ahead of the last reading than the line reaches
+module _ (line : Line) (leads : line.span ≤ line.half) (near : line.ahead ≤ line.span)
+    (read : line.last + line.ahead ≤ line.mask) (masked : line.mask < 18446744073709551616)
+    (whole : (gap : ℕ) → gap ≤ line.mask → bit_and gap line.mask ≡ gap) where
+  word_is : (x : ℕ) → x < 18446744073709551616 → word_of line x ≤ line.ahead →
+      word_of line x + line.last ≡ x
+  word_is x fits low =
+      elim (cases_lt x line.last) [
+        | inl below ↦
+            let e : word_of line x ≡ x + (18446744073709551616 - line.last) =
+            mod-eq_of_lt (omega (arith, below, read, masked)) in
+            omega (arith, e, below, low, read, masked)
+        | inr above ↦
+            let e : x + (18446744073709551616 - line.last)
+            ≡ (x - line.last) + 18446744073709551616 * 1 = omega (arith, above, read, masked) in
+            let w : word_of line x ≡ x - line.last =
+            ap (λ n. n % 18446744073709551616) e
+            ∙ add-mul-mod_self_left (x - line.last) 18446744073709551616 1
+            ∙ mod-eq_of_lt (omega (arith, fits)) in
+            omega (arith, w, above)
+      ]
+
+  abbrev IsAhead : ℕ → Type 0
+  IsAhead x = (word_of line x ≡ line_cycles line x) × IsNear line x
+
+  is_ahead : (x : ℕ) → x < 18446744073709551616 → word_of line x ≤ line.ahead → IsAhead x
+  unfolding gap_of
+  is_ahead x fits low =
+      let at = word_is x fits low in
+      let gap : gap_of line x ≡ word_of line x =
+      whole (word_of line x) (omega (arith, low, read)) in
+      let cycles : word_of line x ≡ line_cycles line x =
+      sym gap ∙ near_gap line leads x (omega (arith, gap, low, near)) in (
+        cycles,
+        record {
+          near = omega (arith, cycles, low, near);
+          read = omega (arith, at, low, read);
+        },
+      )
+
+  each_ahead : (v : List ℕ) → length v ≡ 8 → Each1 (λ x. x < 18446744073709551616) v →
+      fold_l bit_or 0 (words line v) ≤ line.ahead → Each1 IsAhead v
+  each_ahead v long fits low =
+      let ors : fold_l bit_or 0 (map (word_of line) v) ≤ line.ahead =
+      subst (λ l. fold_l bit_or 0 l ≤ line.ahead) (words-map line v long) low in
+      both _ _ IsAhead is_ahead v fits
+      (each_of_map (word_of line) (λ y. y ≤ line.ahead) (λ x. word_of line x ≤ line.ahead)
+      (λ x p. p) v
+      (most_is_or 0 _ line.ahead ors).1)
+
+  pub words-are_cycles : (v : List ℕ) → length v ≡ 8 →
+      Each1 (λ x. x < 18446744073709551616) v →
+      fold_l bit_or 0 (words line v) ≤ line.ahead → words line v ≡ map (line_cycles line) v
+  words-are_cycles v long fits low =
+      words-map line v long
+      ∙ same_maps (word_of line) (line_cycles line) IsAhead (λ x p. p.0) v
+      (each_ahead v long fits low)
+
+  pub near_by_words : (v : List ℕ) → length v ≡ 8 → Each1 (λ x. x < 18446744073709551616) v →
+      fold_l bit_or 0 (words line v) ≤ line.ahead → IsEachNear line v
+  near_by_words v long fits low =
+      Each1-weaker IsAhead (IsNear line) (λ x p. p.1) v (each_ahead v long fits low)
 
 -- a sum with this bias has no top bit, so the cycles are within the span
 within_span : (cycles span bias : ℕ) → cycles < 9223372036854775808 →

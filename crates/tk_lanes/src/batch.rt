@@ -44,14 +44,15 @@ pub fn lane_batch(
     let Some(line) = Line::of(snapshot, clock) else {
         return plain_batch(snapshot, clock, stamps, out);
     };
-    let chunks = stamps.len() / LANES;
-    for chunk in 0..chunks {
-        let at = LANES * chunk;
+    let mut at = 0;
+    'eights: while stamps.len() - at >= LANES {
+        // these eight wherever they lie, and then as many as lie ahead
         if !line.converts(stamps, out, at) {
             plain_from(snapshot, clock, stamps, out, at, at + LANES)?;
         }
+        at = line.convert_ahead(stamps, out, at + LANES);
     }
-    plain_from(snapshot, clock, stamps, out, LANES * chunks, stamps.len())
+    plain_from(snapshot, clock, stamps, out, at, stamps.len())
 }
 
 /// The stamps from the place `first` up to `end`, where those before are converted.

@@ -1,6 +1,6 @@
 //! A clock as a straight line over the cycles since the last command, as far as no sum or product
 //! leaves a word and no value is out of range.
-ghost use Rattle.std.specs.Prelude.{◌≡◌, ◌+◌, ◌*◌, ◌^◌, ◌<◌, ◌≤◌, IfSome};
+ghost use Rattle.std.specs.Prelude.{◌≡◌, ℕ, ◌+◌, ◌*◌, ◌^◌, ◌<◌, ◌≤◌, bit_and, IfSome};
 ghost use Rattle.tk_lanes.specs.Line.{IsLine};
 
 mod lanes;
@@ -33,6 +33,9 @@ pub(crate) struct Line {
     half: u64,
     /// The longest gap up to which the line is the clock.
     span: u64,
+    /// How far ahead of `last` a stamp may lie, in cycles, so that it is no greater than the mask
+    /// and within the span.
+    ahead: u64,
 }
 
 impl Line {
@@ -43,6 +46,10 @@ impl Line {
         ensures shift { IfSome result (λ line. line.shift < 64) }
         ensures leads { IfSome result (λ line. line.span ≤ line.half) }
         ensures half { IfSome result (λ line. line.half < 2 ^ 63) }
+        ensures near { IfSome result (λ line. line.ahead ≤ line.span) }
+        ensures read { IfSome result (λ line. line.last + line.ahead ≤ line.mask) }
+        ensures whole { IfSome result
+            (λ line. (gap : ℕ) → gap ≤ line.mask → bit_and gap line.mask ≡ gap) }
     {
         let desc = snapshot.desc();
         let origin = Origin::of(snapshot, clock);
@@ -52,15 +59,18 @@ impl Line {
             return None;
         }
         let span = span_of((end - base) as u64, origin, desc.shift(), desc.half())?;
+        let (last, mask) = (snapshot.last(), desc.mask());
+        let left = mask.checked_sub(last)?;
         Some(Line {
-            last: snapshot.last(),
+            last,
             mult: origin.mult,
             shift: desc.shift(),
             frac: origin.frac,
             base: base as u64,
-            mask: desc.mask(),
+            mask,
             half: desc.half(),
             span,
+            ahead: left.min(span),
         })
     }
 }

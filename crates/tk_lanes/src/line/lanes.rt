@@ -1,17 +1,68 @@
 //! Eight stamps at a time.
-ghost use Rattle.std.specs.Prelude.{◌≡◌, ◌+◌, ◌^◌, ◌<◌, ◌≤◌, length, MatchBool, map};
+ghost use Rattle.std.specs.Prelude.{◌≡◌, ℕ, ◌+◌, ◌^◌, ◌<◌, ◌≤◌, bit_and, length, MatchBool, map};
 ghost use Rattle.std.specs.Simd.Lanes.{chunk, put_chunk};
-ghost use Rattle.tk_lanes.specs.Line.{lane_count, nanos_after, line_nanos, IsEachNear};
+ghost use Rattle.tk_clock.specs.State.{ReadBase};
+ghost use Rattle.tk_clock.specs.declared.clock_id.ClockId.{ClockId};
+ghost use Rattle.tk_lanes.specs.Batch.{IsFilled};
+ghost use Rattle.tk_lanes.specs.Line.{lane_count, nanos_after, line_nanos, IsEachNear, IsLine};
 
-use super::Line;
+use super::{LANES, Line};
 use std::simd::prelude::*;
 
 impl Line {
+    /// Converts the stamps from the place `first` on, eight at a time, as long as all eight lie
+    /// ahead and within the span; the place where that ends.
+    ///
+    /// Nothing else is done in its loop, so that all that it goes by stays in registers.
+    #[inline(always)]
+    pub(crate) fn convert_ahead(self, stamps: &[u64], out: &mut [u64], first: usize) -> usize
+        requires shift { self.shift < 64 }
+        requires leads { self.span ≤ self.half }
+        requires near { self.ahead ≤ self.span }
+        requires read { self.last + self.ahead ≤ self.mask }
+        requires whole { (gap : ℕ) → gap ≤ self.mask → bit_and gap self.mask ≡ gap }
+        requires same { length stamps.now ≡ length out.old }
+        requires inside { first ≤ length stamps.now }
+        ensures order { first ≤ result }
+        ensures inside { result ≤ length stamps.now }
+        ensures filled { (base : ReadBase) (clock : ClockId) → IsLine base clock self →
+            IsFilled base clock stamps.now first result out.old out.new }
+    {
+        let mut at = first;
+        'eights: while stamps.len() - at >= LANES && self.converts_ahead(stamps, out, at) {
+            at += LANES;
+        }
+        at
+    }
+
+    /// Converts the eight stamps from the place `at` on, unless one lies behind, is above the mask
+    /// or beyond the span.
+    ///
+    /// All lanes are tested by the or of their words, which is at least each of them.
+    #[inline(always)]
+    fn converts_ahead(self, stamps: &[u64], out: &mut [u64], at: usize) -> bool
+        requires shift { self.shift < 64 }
+        requires leads { self.span ≤ self.half }
+        requires near { self.ahead ≤ self.span }
+        requires read { self.last + self.ahead ≤ self.mask }
+        requires whole { (gap : ℕ) → gap ≤ self.mask → bit_and gap self.mask ≡ gap }
+        requires same { length stamps.now ≡ length out.old }
+        requires inside { at + lane_count ≤ length stamps.now }
+        ensures { let lanes = chunk at lane_count stamps.now in
+            MatchBool result
+            (IsEachNear self lanes × (out.new ≡ put_chunk at out.old (map (line_nanos self) lanes)))
+            (out.new ≡ out.old) }
+    {
+        let ahead = u64x8::from_slice(&stamps[at..]) - u64x8::splat(self.last);
+        if ahead.reduce_or() > self.ahead {
+            return false;
+        }
+        self.write(ahead, out, at);
+        true
+    }
+
     /// Converts the eight stamps from the place `at` on, unless one is above the mask or beyond
     /// the span.
-    ///
-    /// What all lanes are tested for is a test of the or of their words, which is at least each of
-    /// them. So eight gaps whose or is within the span need no look for stamps that lie behind.
     #[inline(always)]
     pub(crate) fn converts(self, stamps: &[u64], out: &mut [u64], at: usize) -> bool
         requires shift { self.shift < 64 }
@@ -29,10 +80,6 @@ impl Line {
             return false;
         }
         let gap = (stamp - u64x8::splat(self.last)) & u64x8::splat(self.mask);
-        if gap.reduce_or() <= self.span {
-            self.write(gap, out, at);
-            return true;
-        }
         let behind = gap.simd_gt(u64x8::splat(self.half));
         let cycles = behind.select(u64x8::splat(0), gap);
         // beyond the span a sum has its top bit

@@ -1,7 +1,12 @@
-use Rattle.std.proofs.Common.{◌*◌}
+use Rattle.std.proofs.Common.{◌-◌, ◌≤◌, length}
 use Rattle.tk_lanes.specs.Batch.{IsFilled}
 use Rattle.tk_lanes.proofs.batch.lane_batch.Given as goal
 
-abbrev pub invariant-loop-chunk : goal.invariant-loop-chunk
-invariant-loop-chunk l =
-    IsFilled l.snapshot.base l.clock l.stamps 0 (8 * l.chunk) l.initial.out l.out
+abbrev pub invariant-eights : goal.invariant-eights
+invariant-eights l = record {
+  inside : l.at ≤ length l.stamps;
+  filled : IsFilled l.snapshot.base l.clock l.stamps 0 l.at l.initial.out l.out;
+}
+
+abbrev pub decreases-eights : goal.decreases-eights
+decreases-eights l = length l.stamps - l.at

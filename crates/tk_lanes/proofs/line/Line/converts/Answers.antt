@@ -1,28 +1,11 @@
 use Rattle.std.proofs.Common.{ap, ◌∙◌, arith}
 use Rattle.std.proofs.lemmas.Simd.{length-chunk}
 use Rattle.std.specs.Simd.Lanes.{chunk, put_chunk}
-use Rattle.tk_lanes.proofs.Lanes.{gaps-long, cycles-long, near_by_gaps, near_by_reaches, gaps-are_cycles, cycles-map, nanos_at_each}
+use Rattle.tk_lanes.proofs.Lanes.{cycles-long, near_by_reaches, cycles-map, nanos_at_each}
 use Rattle.tk_lanes.proofs.line.Line.converts.Goals as goal
 
 pub write-requires-clause-lanes : goal.write-requires-clause-lanes
 write-requires-clause-lanes c =
-    let v = chunk c.args.at 8 c.args.stamps.now in
-    gaps-long c.args.self v (length-chunk c.args.at 8 c.args.stamps.now c.requires.inside)
-
-pub returns-then-gap-self : goal.returns-then-gap-self
-returns-then-gap-self c =
-    let line = c.args.self in
-    let v = chunk c.args.at 8 c.args.stamps.now in
-    let long = length-chunk c.args.at 8 c.args.stamps.now c.requires.inside in (
-      near_by_gaps line v long c.requires.leads c.if-stamp-self.false c.if-gap-self.true,
-      c.write.ensures
-          ∙ ap (put_chunk c.args.at c.args.out.now)
-          (nanos_at_each line v _
-          (gaps-are_cycles line v long c.requires.leads c.if-gap-self.true)),
-    )
-
-pub write-requires-2-clause-lanes : goal.write-requires-2-clause-lanes
-write-requires-2-clause-lanes c =
     let v = chunk c.args.at 8 c.args.stamps.now in
     cycles-long c.args.self v (length-chunk c.args.at 8 c.args.stamps.now c.requires.inside)
 
@@ -33,7 +16,7 @@ returns c =
     let long = length-chunk c.args.at 8 c.args.stamps.now c.requires.inside in (
       near_by_reaches line v _ long c.requires.half
           (omega (arith, c.requires.leads, c.requires.half)) c.if-stamp-self.false c.if-reach.false,
-      c.write-2.ensures
+      c.write.ensures
           ∙ ap (put_chunk c.args.at c.args.out.now)
           (nanos_at_each line v _ (cycles-map line v long)),
     )
