@@ -1,6 +1,6 @@
 -- Units that don't fit a word, by halves of 32 bits.
 use Rattle.std.proofs.Common.{◌≡◌, ℕ, ◌+◌, ◌-◌, ◌*◌, ◌/◌, ◌%◌, ◌^◌, ◌<◌, ◌≤◌, sym, ◌∙◌, ap, arith}
-use Rattle.std.proofs.lemmas.Nat.{pow_pos, pow-add}
+use Rattle.std.proofs.lemmas.Nat.{pow_pos, pow-add, div_below}
 use Rattle.std.proofs.Math.Nat.{div-add-mod, mul-add-div, mul-le-mul_left, mul-le-mul_right, mod-lt}
 use Rattle.tk_clock.proofs.Units.{nanos-parts}
 
@@ -82,3 +82,28 @@ pub more_nanos : (sec frac grown shift : ℕ) →
     ≡ (sec * (10 ^ 9 * 2 ^ shift) + frac + grown) / 2 ^ shift
 more_nanos sec frac grown shift =
     nanos-parts sec (frac + grown) shift ∙ ap (λ n. n / 2 ^ shift) (omega arith)
+
+-- cycles that are full 2^shift times, as whole nanoseconds, and the rest
+spread : (frac mult cycles p q r : ℕ) → p * q + r ≡ cycles →
+    p * (q * mult) + (frac + r * mult) ≡ frac + cycles * mult
+spread frac mult cycles p q r e = let grown = ap (λ c. c * mult) e in omega arith
+
+pub far_nanos-parts : (frac cycles mult shift : ℕ) →
+    cycles / 2 ^ shift * mult + (frac + cycles % 2 ^ shift * mult) / 2 ^ shift
+    ≡ (frac + cycles * mult) / 2 ^ shift
+far_nanos-parts frac cycles mult shift =
+    let p = 2 ^ shift in
+    sym (mul-add-div (pow_pos shift) (cycles / p * mult) (frac + cycles % p * mult))
+    ∙ ap (λ n. n / p)
+    (spread frac mult cycles p (cycles / p) (cycles % p) (div-add-mod cycles p))
+
+-- the rest comes to less than a cycle's units and what there was
+pub far_rest-low : (frac cycles mult shift : ℕ) →
+    (frac + cycles % 2 ^ shift * mult) / 2 ^ shift < frac + mult + 1
+far_rest-low frac cycles mult shift =
+    let p = 2 ^ shift in
+    let some = pow_pos shift in
+    let grown : cycles % p * mult ≤ p * mult =
+    mul-le-mul_right mult (omega (arith, mod-lt cycles some)) in
+    let kept : 1 * frac ≤ p * frac = mul-le-mul_right frac some in
+    div_below _ _ _ some (omega (arith, grown, kept, some))

@@ -125,10 +125,26 @@ fn gained_nanos(frac: u64, cycles: u64, mult: u32, shift: u32) -> u64
     ensures most { result ≤ 139 * 10 ^ 17 }
 {
     if cycles < NARROW_CYCLES {
-        few_units(frac, cycles, mult) >> shift
-    } else {
-        long_nanos(frac, cycles, mult, shift)
+        return few_units(frac, cycles, mult) >> shift;
     }
+    if shift < 32 && cycles >> shift < NARROW_CYCLES {
+        return far_nanos(frac, cycles, mult, shift);
+    }
+    long_nanos(frac, cycles, mult, shift)
+}
+
+/// As `gained_nanos`, where `2^shift` cycles, which last `mult` whole nanoseconds, are full fewer
+/// than 2^31 times.
+fn far_nanos(frac: u64, cycles: u64, mult: u32, shift: u32) -> u64
+    requires rest { frac < 2 ^ 62 }
+    requires shift { shift < 32 }
+    requires few { cycles / 2 ^ shift < 2 ^ 31 }
+    ensures value { result ≡ (frac + cycles * mult) / 2 ^ shift }
+    ensures most { result ≤ 139 * 10 ^ 17 }
+{
+    let full = cycles >> shift;
+    let rest = cycles % (1 << shift);
+    full * u64::from(mult) + (few_units(frac, rest, mult) >> shift)
 }
 
 /// `frac` and so few cycles at `mult` that they fit a word.
@@ -144,6 +160,8 @@ fn few_units(frac: u64, cycles: u64, mult: u32) -> u64
 /// As `gained_nanos`, where the units may not fit 64 bits.
 ///
 /// `2^32` units are `2^(32 - shift)` ns, whole ones, so no division is needed.
+#[cold]
+#[inline(never)]
 fn long_nanos(frac: u64, cycles: u64, mult: u32, shift: u32) -> u64
     requires rest { frac < 2 ^ 62 }
     requires shift { shift ≤ 32 }
