@@ -10,10 +10,17 @@ mod steering;
 mod updates;
 mod words;
 
+use std::fmt::Debug;
 use std::process::Abort;
 use std::test::Fail;
 use tk_clock::{Clock, ClockId, Command, Refusal, Timespec};
 use tk_counter::CounterDesc;
+
+/// Stops the test where what was found isn't what was wanted. (A call of its own, so that the proof
+/// of a test is short.)
+fn assert_same<T: PartialEq + Debug>(rt: &impl Abort, found: &T, wanted: &T) {
+    assert_eq!(rt; found, wanted);
+}
 
 /// A counter of one nanosecond a cycle, with readings of 32 bits.
 fn nanosecond_counter() -> Result<CounterDesc, Fail> {

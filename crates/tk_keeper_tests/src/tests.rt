@@ -14,6 +14,7 @@ mod times;
 mod traces;
 
 use std::alloc::Allocator;
+use std::fmt::Debug;
 use std::process::Abort;
 use std::test::Fail;
 use tk_clock::{ClockId, Command, Refusal, Snapshot, Timespec};
@@ -71,6 +72,12 @@ const TICKED_WORDS: [u64; 10] = [
     1,
 ];
 
+/// Stops the test where what was found isn't what was wanted. (A call of its own, so that the proof
+/// of a test is short.)
+fn assert_same<T: PartialEq + Debug>(rt: &impl Abort, found: &T, wanted: &T) {
+    assert_eq!(rt; found, wanted);
+}
+
 /// A timekeeper of one nanosecond a cycle, opened at reading 0, 1,700,000,000 seconds after 1970.
 fn opened<A: Allocator + Copy>(alloc: A) -> Result<Timekeeper<A>, Fail> {
     opened_at(alloc, 0)
@@ -104,7 +111,7 @@ fn applied<A: Allocator + Copy>(
     if answer != Err(Refusal::Memory) {
         return answer;
     }
-    assert_eq!(rt; (told(keeper), keeper.spare()), before);
+    assert_same(rt, &(told(keeper), keeper.spare()), &before);
     keeper.apply(0, reading, cmd)
 }
 

@@ -3,6 +3,8 @@ mod openings;
 mod publications;
 mod threads;
 
+use std::fmt::Debug;
+use std::process::Abort;
 use std::test::Fail;
 use tk_clock::{Clock, Snapshot, Timespec};
 use tk_counter::CounterDesc;
@@ -40,6 +42,12 @@ const TAI_WORDS: [u64; 10] = [
     5_033_164_800,
     0,
 ];
+
+/// Stops the test where what was found isn't what was wanted. (A call of its own, so that the proof
+/// of a test is short.)
+fn assert_same<T: PartialEq + Debug>(rt: &impl Abort, found: &T, wanted: &T) {
+    assert_eq!(rt; found, wanted);
+}
 
 /// A counter of one nanosecond a cycle, with readings of 32 bits.
 fn nanosecond_counter() -> Result<CounterDesc, Fail> {

@@ -4,6 +4,7 @@ mod desk;
 mod many;
 mod words;
 
+use std::fmt::Debug;
 use std::process::Abort;
 use std::test::Fail;
 use tk_clock::{Clock, Timespec};
@@ -19,6 +20,12 @@ const OPENED_TIME: Timespec = Timespec {
     nsec: 0,
 };
 
+/// Stops the test where what was found isn't what was wanted. (A call of its own, so that the proof
+/// of a test is short.)
+fn assert_same<T: PartialEq + Debug>(rt: &impl Abort, found: &T, wanted: &T) {
+    assert_eq!(rt; found, wanted);
+}
+
 /// A counter of 32 bits, one nanosecond a cycle.
 fn nanosecond_counter() -> Result<CounterDesc, Fail> {
     Ok(CounterDesc::new(32, 16_777_216, 24)?)
@@ -27,7 +34,7 @@ fn nanosecond_counter() -> Result<CounterDesc, Fail> {
 #[test]
 fn a_fault_has_a_text(rt: HostRuntime) -> Result<(), Fail> {
     let text = PageError::Memory.to_string(rt.alloc())?;
-    assert_eq!(rt; text.as_str(), "no memory for the page");
+    assert_same(&rt, &text.as_str(), &"no memory for the page");
     Ok(())
 }
 
@@ -36,7 +43,7 @@ fn a_fault_has_a_text(rt: HostRuntime) -> Result<(), Fail> {
 fn a_page_opens_or_tells_of_memory(rt: HostRuntime) -> Result<(), Fail> {
     let clock = Clock::open(nanosecond_counter()?, 0, OPENED_TIME)?;
     if let Err(fault) = Page::open(&rt, rt.alloc(), clock.snapshot(0)) {
-        assert_eq!(rt; fault, PageError::Memory);
+        assert_same(&rt, &fault, &PageError::Memory);
     }
     Ok(())
 }

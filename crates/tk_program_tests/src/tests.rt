@@ -10,6 +10,7 @@ mod races;
 mod traces;
 
 use std::alloc::{AllocError, Global};
+use std::fmt::Debug;
 use std::io::{Error, ErrorKind};
 use std::process::Abort;
 use std::sync::Wait;
@@ -19,6 +20,12 @@ use tk_clock::ClockId;
 use tk_program::{Ending, Folder, Request, WordsError, asked, run};
 use tk_replay::{Fault, ManyError};
 use tk_script::ScriptError;
+
+/// Stops the test where what was found isn't what was wanted. (A call of its own, so that the proof
+/// of a test is short.)
+fn assert_same<T: PartialEq + Debug>(rt: &impl Abort, found: &T, wanted: &T) {
+    assert_eq!(rt; found, wanted);
+}
 
 /// The words of a command line.
 fn line(alloc: Global, words: &[&str]) -> Result<Vec<String>, AllocError> {
@@ -132,12 +139,12 @@ fn takes_the_words_of_races(rt: HostRuntime) -> Result<(), Fail> {
 fn takes_its_words_when_memory_is_there(rt: HostRuntime) -> Result<(), Fail> {
     let bounded = line(rt.alloc(), &["tkcore", "replay", "--keep", "1"])?;
     let found = asked(rt.alloc(), bounded.as_slice());
-    assert_eq!(rt; found, Ok(Request::Replay { keep: Some(1) }));
+    assert_same(&rt, &found, &Ok(Request::Replay { keep: Some(1) }));
     let many = line(rt.alloc(), &["tkcore", "many", "2", "a"])?;
     let names: [&str; 1] = ["a"];
     let files = Vec::from_slice(rt.alloc(), names.as_slice())?;
     let found = asked(rt.alloc(), many.as_slice());
-    assert_eq!(rt; found, Ok(Request::Many { workers: 2, files }));
+    assert_same(&rt, &found, &Ok(Request::Many { workers: 2, files }));
     Ok(())
 }
 
@@ -200,9 +207,9 @@ fn refuses_other_words(rt: HostRuntime) -> Result<(), Fail> {
 #[test]
 fn refuses_words_that_could_not_be_taken(rt: HostRuntime) {
     let refused = WordsError::from(Error::from(ErrorKind::InvalidData));
-    assert_eq!(rt; refused, WordsError::Refused);
+    assert_same(&rt, &refused, &WordsError::Refused);
     let memory = WordsError::from(Error::from(ErrorKind::OutOfMemory));
-    assert_eq!(rt; memory, WordsError::Memory);
+    assert_same(&rt, &memory, &WordsError::Memory);
 }
 
 /// What a run by these words tells of how it ended.
@@ -244,7 +251,7 @@ fn tells_the_fault_of_a_script(rt: HostRuntime) -> Result<(), Fail> {
         (b"open,32,16777216,24,0,1700000000,0\n", b""),
     ];
     for (script, text) in faults {
-        assert_eq!(rt; told(&rt, &["tkcore"], script)?.as_slice(), text);
+        assert_same(&rt, &told(&rt, &["tkcore"], script)?.as_slice(), &text);
     }
     Ok(())
 }
@@ -263,9 +270,9 @@ fn refused_words_leave_the_script_and_the_report(rt: HostRuntime) -> Result<(), 
         &mut reader,
         &mut writer,
     );
-    assert_eq!(rt; ending, Ending::Words);
-    assert_eq!(rt; reader, script);
-    assert_eq!(rt; writer.as_slice(), b"-".as_slice());
+    assert_same(&rt, &ending, &Ending::Words);
+    assert_same(&rt, &reader, &script);
+    assert_same(&rt, &writer.as_slice(), &b"-".as_slice());
     Ok(())
 }
 
@@ -306,8 +313,8 @@ fn tells_each_ending(rt: HostRuntime) -> Result<(), Fail> {
     for (ending, status, text) in endings {
         let mut told = Vec::new(rt.alloc());
         ending.tell(&mut told)?;
-        assert_eq!(rt; told.as_slice(), text);
-        assert_eq!(rt; ending.status(), status);
+        assert_same(&rt, &told.as_slice(), &text);
+        assert_same(&rt, &ending.status(), &status);
     }
     Ok(())
 }

@@ -5,6 +5,8 @@ mod memory;
 mod replies;
 
 use std::alloc::{AllocError, Global};
+use std::fmt::Debug;
+use std::process::Abort;
 use std::test::Fail;
 use tk_clock::{Command, Timespec};
 use tk_counter::CounterDesc;
@@ -18,6 +20,12 @@ const OPENED_TIME: Timespec = Timespec {
 
 /// An order that forwards the clocks, and nothing more.
 const UPDATE: Action = Action::Order(Command::Update);
+
+/// Stops the test where what was found isn't what was wanted. (A call of its own, so that the proof
+/// of a test is short.)
+fn assert_same<T: PartialEq + Debug>(rt: &impl Abort, found: &T, wanted: &T) {
+    assert_eq!(rt; found, wanted);
+}
 
 /// A counter of 32 bits, one nanosecond a cycle.
 fn nanosecond_counter() -> Result<CounterDesc, Fail> {

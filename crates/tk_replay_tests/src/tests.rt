@@ -12,6 +12,9 @@ mod scenarios;
 mod streams;
 mod traces;
 
+use std::fmt::Debug;
+use std::process::Abort;
+
 /// Opens a counter of one nanosecond a cycle, and brings the clocks forward by half of the
 /// counter's range.
 const SCRIPT: &[u8] = b"open,32,16777216,24,0,1700000000,0\nget,0,monotonic\nupdate,2147483647\n\
@@ -20,3 +23,9 @@ get,2147483648,monotonic\nupdate,0\n";
 /// Its report, of 97 bytes.
 const REPORT: &[u8] = b"open,32,16777216,24\nat,monotonic,0.000000000\nok,1,2.147483647\n\
 at,monotonic,2.147483648\nno,behind\n";
+
+/// Stops the test where what was found isn't what was wanted. (A call of its own, so that the proof
+/// of a test is short.)
+fn assert_same<T: PartialEq + Debug>(rt: &impl Abort, found: &T, wanted: &T) {
+    assert_eq!(rt; found, wanted);
+}

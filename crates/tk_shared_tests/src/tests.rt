@@ -12,6 +12,8 @@ mod readings;
 mod turns;
 
 use std::alloc::Global;
+use std::fmt::Debug;
+use std::process::Abort;
 use std::sync::Wait;
 use std::test::Fail;
 use tk_clock::{Command, Refusal, Snapshot, Timespec};
@@ -24,6 +26,12 @@ const OPENED_TIME: Timespec = Timespec {
     sec: 1_700_000_000,
     nsec: 0,
 };
+
+/// Stops the test where what was found isn't what was wanted. (A call of its own, so that the proof
+/// of a test is short.)
+fn assert_same<T: PartialEq + Debug>(rt: &impl Abort, found: &T, wanted: &T) {
+    assert_eq!(rt; found, wanted);
+}
 
 /// A time in seconds and nanoseconds.
 fn time(sec: i64, nsec: u32) -> Timespec {

@@ -1,4 +1,4 @@
-use super::{opened, time};
+use super::{assert_same, opened, time};
 use std::process::Abort;
 use std::test::Fail;
 use tk_clock::{Clock, ClockId, Command, Entry, ReadError, Refusal, Snapshot};
@@ -128,7 +128,7 @@ fn a_clone_of_the_clocks_tells_and_goes_on_as_they_do(rt: HostRuntime) -> Result
     ] {
         let mut copy = clock.clone()?;
         let mut own = clock;
-        assert_eq!(rt; copy.snapshot(9).words(), own.snapshot(9).words());
+        assert_same(&rt, &copy.snapshot(9).words(), &own.snapshot(9).words());
         for cmd in [Command::Resume(time(1, 1)), cmd] {
             copy.apply(reading, cmd)?;
             own.apply(reading, cmd)?;
@@ -146,7 +146,7 @@ fn a_clone_of_the_clocks_tells_and_goes_on_as_they_do(rt: HostRuntime) -> Result
 fn a_clone_of_a_snapshot_has_its_words_and_its_counter(rt: HostRuntime) -> Result<(), Fail> {
     let snapshot: Snapshot = varied()?.snapshot(9);
     let copy = snapshot.clone()?;
-    assert_eq!(rt; copy.words(), snapshot.words());
-    assert_eq!(rt; copy.desc(), snapshot.desc());
+    assert_same(&rt, &copy.words(), &snapshot.words());
+    assert_same(&rt, &copy.desc(), &snapshot.desc());
     Ok(())
 }

@@ -1,4 +1,4 @@
-use super::{nanosecond_counter, opened, time, wide_counter};
+use super::{assert_same, nanosecond_counter, opened, time, wide_counter};
 use std::test::Fail;
 use tk_clock::{Clock, Refusal};
 
@@ -17,17 +17,18 @@ const OPENING: [u64; 10] = [
 
 #[test]
 fn the_clocks_open_awake_at_their_usual_rate(rt: HostRuntime) -> Result<(), Fail> {
-    assert_eq!(rt; opened()?.snapshot(0).words(), OPENING);
+    assert_same(&rt, &opened()?.snapshot(0).words(), &OPENING);
     Ok(())
 }
 
 #[test]
 fn the_readers_tell_the_words(rt: HostRuntime) -> Result<(), Fail> {
     let snapshot = opened()?.snapshot(0);
-    assert_eq!(rt; snapshot.desc(), nanosecond_counter()?);
+    assert_same(&rt, &snapshot.desc(), &nanosecond_counter()?);
     assert!(rt; !snapshot.asleep());
-    assert_eq!(rt;
-        [
+    assert_same(
+        &rt,
+        &[
             snapshot.front(),
             snapshot.last(),
             u64::from(snapshot.mult()),
@@ -39,7 +40,7 @@ fn the_readers_tell_the_words(rt: HostRuntime) -> Result<(), Fail> {
             snapshot.raw_frac(),
             snapshot.raw_sec(),
         ],
-        OPENING
+        &OPENING,
     );
     Ok(())
 }

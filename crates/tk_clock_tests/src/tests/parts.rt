@@ -1,4 +1,4 @@
-use super::{nanosecond_counter, opened, time};
+use super::{assert_same, nanosecond_counter, opened, time};
 use std::test::Fail;
 use tk_clock::{Clock, Command, Refusal, Snapshot};
 
@@ -13,15 +13,19 @@ fn clocks_come_back_from_their_parts(rt: HostRuntime) -> Result<(), Fail> {
     let mut clock = opened()?;
     clock.apply(1_000, Command::Freq(32_768_000))?;
     clock.apply(2_000, Command::Tick(11_000))?;
-    assert_eq!(rt; (clock.frequency(), clock.tick()), (32_768_000, 11_000));
+    assert_same(
+        &rt,
+        &(clock.frequency(), clock.tick()),
+        &(32_768_000, 11_000),
+    );
     let snapshot = clock.snapshot(2);
     let mut again = Clock::from_snapshot(snapshot, clock.frequency(), clock.tick()).ok_or(
         "the clocks are running ones",
     )?;
     go_on(&mut clock)?;
     go_on(&mut again)?;
-    assert_eq!(rt; again.snapshot(4).words(), clock.snapshot(4).words());
-    assert_eq!(rt; (again.frequency(), again.tick()), (0, 11_000));
+    assert_same(&rt, &again.snapshot(4).words(), &clock.snapshot(4).words());
+    assert_same(&rt, &(again.frequency(), again.tick()), &(0, 11_000));
     Ok(())
 }
 

@@ -1,4 +1,4 @@
-use super::{answers, opened, reads, time};
+use super::{answers, assert_same, opened, reads, time};
 use std::test::Fail;
 use tk_clock::{ClockId, Command, Refusal};
 
@@ -6,9 +6,10 @@ use tk_clock::{ClockId, Command, Refusal};
 fn a_suspension_moves_realtime_and_boottime(rt: HostRuntime) -> Result<(), Fail> {
     let mut clock = opened()?;
     answers(&rt, &mut clock, 1_000, Command::Suspend, Ok(()));
-    assert_eq!(rt;
-        clock.snapshot(1).words(),
-        [
+    assert_same(
+        &rt,
+        &clock.snapshot(1).words(),
+        &[
             1,
             1_000,
             16_777_216,
@@ -18,8 +19,8 @@ fn a_suspension_moves_realtime_and_boottime(rt: HostRuntime) -> Result<(), Fail>
             0,
             1,
             16_777_216_000,
-            0
-        ]
+            0,
+        ],
     );
     answers(
         &rt,
@@ -30,9 +31,10 @@ fn a_suspension_moves_realtime_and_boottime(rt: HostRuntime) -> Result<(), Fail>
     );
     let away = Command::Resume(time(5, 500_000_000));
     answers(&rt, &mut clock, 5, away, Ok(()));
-    assert_eq!(rt;
-        clock.snapshot(2).words(),
-        [
+    assert_same(
+        &rt,
+        &clock.snapshot(2).words(),
+        &[
             2,
             5,
             16_777_216,
@@ -42,8 +44,8 @@ fn a_suspension_moves_realtime_and_boottime(rt: HostRuntime) -> Result<(), Fail>
             5_500_000_000,
             0,
             16_777_216_000,
-            0
-        ]
+            0,
+        ],
     );
     for (id, reading, told) in [
         (ClockId::Monotonic, 5, time(0, 1_000)),

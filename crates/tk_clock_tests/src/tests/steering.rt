@@ -1,4 +1,4 @@
-use super::{answers, opened, reads, time};
+use super::{answers, assert_same, opened, reads, time};
 use std::test::Fail;
 use tk_clock::{ClockId, Command, Refusal};
 
@@ -7,10 +7,10 @@ fn a_frequency_holds_from_its_reading_on(rt: HostRuntime) -> Result<(), Fail> {
     let mut clock = opened()?;
     let at = 1_000_000_000;
     answers(&rt, &mut clock, 0, Command::Freq(65_536_000), Ok(()));
-    assert_eq!(rt; clock.snapshot(1).mult(), 16_785_604);
+    assert_same(&rt, &clock.snapshot(1).mult(), &16_785_604);
     reads(&rt, &clock, ClockId::Monotonic, at, time(1, 499_963));
     answers(&rt, &mut clock, at, Command::Freq(-32_768_000), Ok(()));
-    assert_eq!(rt; clock.snapshot(2).mult(), 16_768_827);
+    assert_same(&rt, &clock.snapshot(2).mult(), &16_768_827);
     reads(&rt, &clock, ClockId::Monotonic, at, time(1, 499_963));
     reads(&rt, &clock, ClockId::Monotonic, at + 1, time(1, 499_964));
     Ok(())
@@ -48,14 +48,15 @@ fn a_tick_and_a_frequency_keep_each_other(rt: HostRuntime) -> Result<(), Fail> {
     let mut clock = opened()?;
     let at = 1_000_000_000;
     answers(&rt, &mut clock, 0, Command::Tick(11_000), Ok(()));
-    assert_eq!(rt; clock.snapshot(1).mult(), 18_454_937);
+    assert_same(&rt, &clock.snapshot(1).mult(), &18_454_937);
     reads(&rt, &clock, ClockId::Monotonic, at, time(1, 99_999_964));
     reads(&rt, &clock, ClockId::MonotonicRaw, at, time(1, 0));
     answers(&rt, &mut clock, at, Command::Freq(32_768_000), Ok(()));
     reads(&rt, &clock, ClockId::Monotonic, at, time(1, 99_999_964));
-    assert_eq!(rt;
-        clock.snapshot(2).words(),
-        [
+    assert_same(
+        &rt,
+        &clock.snapshot(2).words(),
+        &[
             2,
             1_000_000_000,
             18_463_326,
@@ -65,8 +66,8 @@ fn a_tick_and_a_frequency_keep_each_other(rt: HostRuntime) -> Result<(), Fail> {
             0,
             0,
             0,
-            1
-        ]
+            1,
+        ],
     );
     reads(&rt, &clock, ClockId::Monotonic, at + 1, time(1, 99_999_965));
     reads(&rt, &clock, ClockId::MonotonicRaw, at + 1, time(1, 1));

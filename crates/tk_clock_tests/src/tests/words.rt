@@ -1,4 +1,4 @@
-use super::{nanosecond_counter, opened, time};
+use super::{assert_same, nanosecond_counter, opened, time};
 use std::process::Abort;
 use std::test::Fail;
 use tk_clock::{ClockId, Command, ReadError, Snapshot};
@@ -16,7 +16,7 @@ const BELOW_END: u64 = 9_223_372_035_999_999_999;
 fn is_taken(rt: &impl Abort, desc: CounterDesc, words: [u64; 10], taken: bool) {
     let back = Snapshot::from_words(desc, words).map(|snapshot| snapshot.words());
     let told = if taken { Some(words) } else { None };
-    assert_eq!(rt; back, told);
+    assert_same(rt, &back, &told);
 }
 
 #[test]
@@ -128,8 +128,12 @@ fn known_words_give_their_snapshot_back(rt: HostRuntime) -> Result<(), Fail> {
         33_554_432_000,
         0,
     ];
-    assert_eq!(rt; again.words(), told);
-    assert_eq!(rt; (again.front(), again.last(), again.tai()), (2, 2_000, 37));
+    assert_same(&rt, &again.words(), &told);
+    assert_same(
+        &rt,
+        &(again.front(), again.last(), again.tai()),
+        &(2, 2_000, 37),
+    );
     assert!(rt; again.asleep());
     Ok(())
 }

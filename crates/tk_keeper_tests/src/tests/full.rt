@@ -1,4 +1,4 @@
-use super::{answers, applied, opened, reads, time};
+use super::{answers, applied, assert_same, opened, reads, time};
 use std::process::Abort;
 use std::test::Fail;
 use tk_clock::{ClockId, Command, Refusal};
@@ -7,7 +7,7 @@ use tk_keeper::Timekeeper;
 /// Brings the clocks forward to 0, so many times.
 fn updates(rt: &impl Abort, keeper: &mut Timekeeper, many: u64) {
     for number in 1..=many {
-        assert_eq!(rt; applied(rt, keeper, 0, Command::Update), Ok(number));
+        assert_same(rt, &applied(rt, keeper, 0, Command::Update), &Ok(number));
     }
 }
 
@@ -24,14 +24,14 @@ fn a_full_journal_refuses_every_command(rt: HostRuntime) -> Result<(), Fail> {
             (4_294_967_296, Command::Update, Err(Refusal::Full)),
         ],
     );
-    assert_eq!(rt; keeper.len(), 1_048_576);
+    assert_same(&rt, &keeper.len(), &1_048_576);
     reads(
         &rt,
         &keeper.snapshot(),
         &[(ClockId::Monotonic, 5, time(0, 0))],
     );
     assert!(rt; keeper.snapshot().asleep());
-    assert_eq!(rt; keeper.reserve(5), Ok(()));
+    assert_same(&rt, &keeper.reserve(5), &Ok(()));
     Ok(())
 }
 
@@ -44,8 +44,8 @@ fn folding_makes_room_again(rt: HostRuntime) -> Result<(), Fail> {
         &mut keeper,
         &[(0, Command::Update, Err(Refusal::Full))],
     );
-    assert_eq!(rt; keeper.fold(1), 1_048_575);
+    assert_same(&rt, &keeper.fold(1), &1_048_575);
     answers(&rt, &mut keeper, &[(0, Command::Update, Ok(1_048_577))]);
-    assert_eq!(rt; keeper.len(), 1_048_577);
+    assert_same(&rt, &keeper.len(), &1_048_577);
     Ok(())
 }

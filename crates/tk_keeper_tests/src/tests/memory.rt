@@ -1,4 +1,4 @@
-use super::{applied, opened, told};
+use super::{applied, assert_same, opened, told};
 use linked_list_allocator::LocalHeap;
 use std::alloc::Allocator;
 use std::process::Abort;
@@ -10,7 +10,7 @@ use tk_keeper::Timekeeper;
 /// Brings the clocks forward by one nanosecond, so many times.
 fn updates<A: Allocator + Copy>(rt: &impl Abort, keeper: &mut Timekeeper<A>, many: u64) {
     for number in 1..=many {
-        assert_eq!(rt; keeper.apply(0, number, Command::Update), Ok(number));
+        assert_same(rt, &keeper.apply(0, number, Command::Update), &Ok(number));
     }
 }
 
@@ -18,27 +18,31 @@ fn updates<A: Allocator + Copy>(rt: &impl Abort, keeper: &mut Timekeeper<A>, man
 fn spare_commands_go_through_while_every_request_is_refused(rt: HostRuntime) -> Result<(), Fail> {
     let heap = Heap::new(rt.alloc());
     let mut keeper = opened(&heap)?;
-    assert_eq!(rt; keeper.spare(), 0);
+    assert_same(&rt, &keeper.spare(), &0);
     keeper.reserve(1_000)?;
     heap.refuse_all();
     let spare = keeper.spare();
     assert!(rt; spare >= 1_000);
     for number in 1..=spare {
         let reading = number as u64;
-        assert_eq!(rt; keeper.apply(0, reading, Command::Update), Ok(reading));
-        assert_eq!(rt; keeper.spare(), spare - number);
+        assert_same(
+            &rt,
+            &keeper.apply(0, reading, Command::Update),
+            &Ok(reading),
+        );
+        assert_same(&rt, &keeper.spare(), &(spare - number));
     }
     let before = told(&keeper);
     let next = keeper.len() as u64 + 1;
     for _ in 0..2 {
         let refused = keeper.apply(0, next, Command::Update);
-        assert_eq!(rt; refused, Err(Refusal::Memory));
-        assert_eq!(rt; (told(&keeper), keeper.spare()), (before, 0));
+        assert_same(&rt, &refused, &Err(Refusal::Memory));
+        assert_same(&rt, &(told(&keeper), keeper.spare()), &(before, 0));
     }
     let wrong = keeper.apply(0, 4_294_967_296, Command::Update);
-    assert_eq!(rt; wrong, Err(Refusal::Invalid));
+    assert_same(&rt, &wrong, &Err(Refusal::Invalid));
     heap.grant_all();
-    assert_eq!(rt; keeper.apply(0, next, Command::Update), Ok(next));
+    assert_same(&rt, &keeper.apply(0, next, Command::Update), &Ok(next));
     Ok(())
 }
 
@@ -73,10 +77,10 @@ fn each_growth_refused_in_turn_leaves_the_journal(rt: HostRuntime) -> Result<(),
         let granted = heap.grant_all();
         if answer == Err(Refusal::Memory) {
             assert!(rt; !granted && keeper.spare() >= spare);
-            assert_eq!(rt; told(&keeper), before);
+            assert_same(&rt, &told(&keeper), &before);
             keeper.reserve(1_000)?;
         }
-        assert_eq!(rt; told(&keeper), before);
+        assert_same(&rt, &told(&keeper), &before);
         assert!(rt; keeper.spare() >= 1_000);
         if granted {
             assert!(rt; request > 2);
@@ -102,15 +106,15 @@ fn each_growth_refused_in_turn_applies_nothing_of_a_run(rt: HostRuntime) -> Resu
         let answers = match keeper.run(&events) {
             Ok(answers) => answers,
             Err(refusal) => {
-                assert_eq!(rt; refusal, Refusal::Memory);
-                assert_eq!(rt; told(&keeper), before);
+                assert_same(&rt, &refusal, &Refusal::Memory);
+                assert_same(&rt, &told(&keeper), &before);
                 keeper.run(&events)?
             }
         };
         for (place, answer) in answers.iter().enumerate() {
-            assert_eq!(rt; *answer, Ok(place as u64 + 1));
+            assert_same(&rt, answer, &Ok(place as u64 + 1));
         }
-        assert_eq!(rt; (answers.len(), keeper.len()), (300, 300));
+        assert_same(&rt, &(answers.len(), keeper.len()), &(300, 300));
         if heap.grant_all() {
             assert!(rt; request > 3);
             return Ok(());
@@ -140,7 +144,7 @@ fn one_event_runs_in_little_memory(rt: HostRuntime) -> Result<(), Fail> {
         cmd: Command::Update,
     };
     let answers = keeper.run(&[event])?;
-    assert_eq!(rt; (answers.len(), answers[0]), (1, Ok(1)));
+    assert_same(&rt, &(answers.len(), answers[0]), &(1, Ok(1)));
     Ok(())
 }
 

@@ -1,4 +1,4 @@
-use super::{OPENED_REAL, OPENED_WORDS, answers, applied, opened, reads, time};
+use super::{OPENED_REAL, OPENED_WORDS, answers, applied, assert_same, opened, reads, time};
 use std::test::Fail;
 use tk_clock::{ClockId, Command};
 use tk_keeper::FrontError;
@@ -15,11 +15,12 @@ fn each_front_keeps_its_own_clocks(rt: HostRuntime) -> Result<(), Fail> {
             (at, Command::Freq(-32_768_000), Ok(2)),
         ],
     );
-    assert_eq!(rt; keeper.snapshot_at(0)?.words(), OPENED_WORDS);
+    assert_same(&rt, &keeper.snapshot_at(0)?.words(), &OPENED_WORDS);
     let first = keeper.snapshot_at(1)?;
-    assert_eq!(rt;
-        (first.front(), first.mult(), first.last()),
-        (1, 16_785_604, 0)
+    assert_same(
+        &rt,
+        &(first.front(), first.mult(), first.last()),
+        &(1, 16_785_604, 0),
     );
     for (front, reading, told) in [
         (0, at, time(1, 0)),
@@ -30,7 +31,11 @@ fn each_front_keeps_its_own_clocks(rt: HostRuntime) -> Result<(), Fail> {
         let snapshot = keeper.snapshot_at(front)?;
         reads(&rt, &snapshot, &[(ClockId::Monotonic, reading, told)]);
     }
-    assert_eq!(rt; keeper.snapshot_at(3).err(), Some(FrontError::Unknown));
+    assert_same(
+        &rt,
+        &keeper.snapshot_at(3).err(),
+        &Some(FrontError::Unknown),
+    );
     Ok(())
 }
 
@@ -39,7 +44,7 @@ fn fronts_round_a_kept_state_are_exact(rt: HostRuntime) -> Result<(), Fail> {
     let mut keeper = opened(rt.alloc())?;
     for number in 1..=600 {
         let told = applied(&rt, &mut keeper, 1_000 * number, Command::Update);
-        assert_eq!(rt; told, Ok(number));
+        assert_same(&rt, &told, &Ok(number));
     }
     for (front, nanos) in [
         (0, 0),
@@ -54,7 +59,7 @@ fn fronts_round_a_kept_state_are_exact(rt: HostRuntime) -> Result<(), Fail> {
     ] {
         let last = time(0, nanos);
         let snapshot = keeper.snapshot_at(front)?;
-        assert_eq!(rt; snapshot.last(), u64::from(nanos));
+        assert_same(&rt, &snapshot.last(), &u64::from(nanos));
         reads(
             &rt,
             &snapshot,
@@ -77,21 +82,26 @@ fn fronts_round_a_kept_state_are_exact(rt: HostRuntime) -> Result<(), Fail> {
         units,
         0,
     ];
-    assert_eq!(rt; keeper.snapshot_at(256)?.words(), at_256);
-    assert_eq!(rt; keeper.snapshot_at(601).err(), Some(FrontError::Unknown));
+    assert_same(&rt, &keeper.snapshot_at(256)?.words(), &at_256);
+    assert_same(
+        &rt,
+        &keeper.snapshot_at(601).err(),
+        &Some(FrontError::Unknown),
+    );
     Ok(())
 }
 
 #[test]
 fn the_entries_are_told_by_their_numbers(rt: HostRuntime) -> Result<(), Fail> {
     let mut keeper = opened(rt.alloc())?;
-    assert_eq!(rt; applied(&rt, &mut keeper, 7, Command::Tai(37)), Ok(1));
+    assert_same(&rt, &applied(&rt, &mut keeper, 7, Command::Tai(37)), &Ok(1));
     let entry = keeper.entry(1).ok_or("no entry")?;
-    assert_eq!(rt;
-        (entry.who, entry.reading, entry.cmd),
-        (0, 7, Command::Tai(37))
+    assert_same(
+        &rt,
+        &(entry.who, entry.reading, entry.cmd),
+        &(0, 7, Command::Tai(37)),
     );
-    assert_eq!(rt; keeper.entry(0), None);
-    assert_eq!(rt; keeper.entry(2), None);
+    assert_same(&rt, &keeper.entry(0), &None);
+    assert_same(&rt, &keeper.entry(2), &None);
     Ok(())
 }

@@ -1,4 +1,4 @@
-use super::{answers, opened, opened_at, reads, time};
+use super::{answers, assert_same, opened, opened_at, reads, time};
 use std::test::Fail;
 use tk_clock::{ClockId, Command, Refusal};
 use tk_counter::CounterDesc;
@@ -12,7 +12,7 @@ fn half_the_range_is_the_longest_way_ahead(rt: HostRuntime) -> Result<(), Fail> 
         &mut keeper,
         &[(2_147_483_648, Command::Update, Err(Refusal::Behind))],
     );
-    assert_eq!(rt; keeper.len(), 0);
+    assert_same(&rt, &keeper.len(), &0);
     reads(
         &rt,
         &keeper.snapshot(),

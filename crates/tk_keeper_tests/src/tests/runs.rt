@@ -1,4 +1,4 @@
-use super::opened;
+use super::{assert_same, opened};
 use std::test::Fail;
 use tk_clock::{Command, Entry, Refusal};
 
@@ -21,15 +21,16 @@ fn a_run_goes_on_after_a_refusal(rt: HostRuntime) -> Result<(), Fail> {
     let answers = match keeper.run(&events) {
         Ok(answers) => answers,
         Err(_) => {
-            assert_eq!(rt; keeper.len(), 0);
+            assert_same(&rt, &keeper.len(), &0);
             keeper.run(&events)?
         }
     };
-    assert_eq!(rt;
-        answers.as_slice(),
-        [Ok(1), Err(Refusal::Behind), Ok(2)].as_slice()
+    assert_same(
+        &rt,
+        &answers.as_slice(),
+        &[Ok(1), Err(Refusal::Behind), Ok(2)].as_slice(),
     );
-    assert_eq!(rt; keeper.len(), 2);
-    assert_eq!(rt; keeper.entry(2), Some(event(200, Command::Tai(37))));
+    assert_same(&rt, &keeper.len(), &2);
+    assert_same(&rt, &keeper.entry(2), &Some(event(200, Command::Tai(37))));
     Ok(())
 }

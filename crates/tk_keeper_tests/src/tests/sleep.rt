@@ -1,4 +1,4 @@
-use super::{ASLEEP_WORDS, AWAKE_WORDS, answers, opened, reads, time};
+use super::{ASLEEP_WORDS, AWAKE_WORDS, answers, assert_same, opened, reads, time};
 use std::test::Fail;
 use tk_clock::{ClockId, Command, Refusal};
 
@@ -6,7 +6,7 @@ use tk_clock::{ClockId, Command, Refusal};
 fn a_suspension_moves_realtime_and_boottime(rt: HostRuntime) -> Result<(), Fail> {
     let mut keeper = opened(rt.alloc())?;
     answers(&rt, &mut keeper, &[(1_000, Command::Suspend, Ok(1))]);
-    assert_eq!(rt; keeper.snapshot().words(), ASLEEP_WORDS);
+    assert_same(&rt, &keeper.snapshot().words(), &ASLEEP_WORDS);
     answers(
         &rt,
         &mut keeper,
@@ -15,7 +15,7 @@ fn a_suspension_moves_realtime_and_boottime(rt: HostRuntime) -> Result<(), Fail>
             (5, Command::Resume(time(5, 500_000_000)), Ok(2)),
         ],
     );
-    assert_eq!(rt; keeper.snapshot().words(), AWAKE_WORDS);
+    assert_same(&rt, &keeper.snapshot().words(), &AWAKE_WORDS);
     reads(
         &rt,
         &keeper.snapshot(),

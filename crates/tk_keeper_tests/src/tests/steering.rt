@@ -1,4 +1,4 @@
-use super::{TICKED_WORDS, answers, opened, reads, time};
+use super::{TICKED_WORDS, answers, assert_same, opened, reads, time};
 use std::test::Fail;
 use tk_clock::{ClockId, Command};
 
@@ -8,14 +8,14 @@ fn a_frequency_holds_from_its_reading_on(rt: HostRuntime) -> Result<(), Fail> {
     let at = 1_000_000_000;
     // 500 ppm at most either way: mult 16785604, then 16768827
     answers(&rt, &mut keeper, &[(0, Command::Freq(65_536_000), Ok(1))]);
-    assert_eq!(rt; keeper.snapshot().mult(), 16_785_604);
+    assert_same(&rt, &keeper.snapshot().mult(), &16_785_604);
     reads(
         &rt,
         &keeper.snapshot(),
         &[(ClockId::Monotonic, at, time(1, 499_963))],
     );
     answers(&rt, &mut keeper, &[(at, Command::Freq(-32_768_000), Ok(2))]);
-    assert_eq!(rt; keeper.snapshot().mult(), 16_768_827);
+    assert_same(&rt, &keeper.snapshot().mult(), &16_768_827);
     reads(
         &rt,
         &keeper.snapshot(),
@@ -47,7 +47,7 @@ fn a_tick_steers_monotonic_and_not_the_raw_clock(rt: HostRuntime) -> Result<(), 
     let mut keeper = opened(rt.alloc())?;
     let at = 1_000_000_000;
     answers(&rt, &mut keeper, &[(0, Command::Tick(11_000), Ok(1))]);
-    assert_eq!(rt; keeper.snapshot().mult(), 18_454_937);
+    assert_same(&rt, &keeper.snapshot().mult(), &18_454_937);
     reads(
         &rt,
         &keeper.snapshot(),
@@ -57,7 +57,7 @@ fn a_tick_steers_monotonic_and_not_the_raw_clock(rt: HostRuntime) -> Result<(), 
         ],
     );
     answers(&rt, &mut keeper, &[(at, Command::Freq(32_768_000), Ok(2))]);
-    assert_eq!(rt; keeper.snapshot().words(), TICKED_WORDS);
+    assert_same(&rt, &keeper.snapshot().words(), &TICKED_WORDS);
     reads(
         &rt,
         &keeper.snapshot(),

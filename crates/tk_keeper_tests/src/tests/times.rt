@@ -1,4 +1,4 @@
-use super::{applied, opened, time};
+use super::{applied, assert_same, opened, time};
 use std::test::Fail;
 use tk_clock::{ClockId, Command, ReadError};
 
@@ -7,10 +7,10 @@ fn reads_are_the_journals_own(rt: HostRuntime) -> Result<(), Fail> {
     let mut keeper = opened(rt.alloc())?;
     let suspend = applied(&rt, &mut keeper, 1_000, Command::Suspend);
     let resume = applied(&rt, &mut keeper, 5, Command::Resume(time(5, 500_000_000)));
-    assert_eq!(rt; (suspend, resume), (Ok(1), Ok(2)));
+    assert_same(&rt, &(suspend, resume), &(Ok(1), Ok(2)));
     for fold in [false, true] {
         if fold {
-            assert_eq!(rt; keeper.fold(0), 2);
+            assert_same(&rt, &keeper.fold(0), &2);
         }
         for (clock, reading, told) in [
             (ClockId::Monotonic, 5, time(0, 1_000)),
@@ -19,7 +19,7 @@ fn reads_are_the_journals_own(rt: HostRuntime) -> Result<(), Fail> {
             (ClockId::Realtime, 5, time(1_700_000_005, 500_001_000)),
             (ClockId::Boottime, 5, time(5, 500_001_000)),
         ] {
-            assert_eq!(rt; keeper.get(clock, reading), Ok(told));
+            assert_same(&rt, &keeper.get(clock, reading), &Ok(told));
         }
     }
     Ok(())
@@ -28,17 +28,27 @@ fn reads_are_the_journals_own(rt: HostRuntime) -> Result<(), Fail> {
 #[test]
 fn a_reading_above_the_mask_is_told_first(rt: HostRuntime) -> Result<(), Fail> {
     let mut keeper = opened(rt.alloc())?;
-    assert_eq!(rt;
-        keeper.get(ClockId::Monotonic, 4_294_967_296),
-        Err(ReadError::Invalid)
+    assert_same(
+        &rt,
+        &keeper.get(ClockId::Monotonic, 4_294_967_296),
+        &Err(ReadError::Invalid),
     );
     let away = time(7_523_372_035, 999_999_999);
-    assert_eq!(rt; applied(&rt, &mut keeper, 0, Command::Suspend), Ok(1));
-    assert_eq!(rt; applied(&rt, &mut keeper, 0, Command::Resume(away)), Ok(2));
-    assert_eq!(rt; keeper.get(ClockId::Realtime, 1), Err(ReadError::Range));
-    assert_eq!(rt;
-        keeper.get(ClockId::Realtime, 4_294_967_296),
-        Err(ReadError::Invalid)
+    assert_same(&rt, &applied(&rt, &mut keeper, 0, Command::Suspend), &Ok(1));
+    assert_same(
+        &rt,
+        &applied(&rt, &mut keeper, 0, Command::Resume(away)),
+        &Ok(2),
+    );
+    assert_same(
+        &rt,
+        &keeper.get(ClockId::Realtime, 1),
+        &Err(ReadError::Range),
+    );
+    assert_same(
+        &rt,
+        &keeper.get(ClockId::Realtime, 4_294_967_296),
+        &Err(ReadError::Invalid),
     );
     Ok(())
 }

@@ -1,4 +1,4 @@
-use super::{applied, opened, time};
+use super::{applied, assert_same, opened, time};
 use std::alloc::{Allocator, Global};
 use std::process::Abort;
 use std::test::Fail;
@@ -59,13 +59,13 @@ fn traced<A: Allocator + Copy>(
         return Err("lists of several lengths".into());
     }
     let done = keeper.trace_into(fronts, stamps, clock, out.as_mut_slice());
-    assert_eq!(rt; done, answer);
+    assert_same(rt, &done, &answer);
     for (place, value) in out.iter().enumerate() {
-        assert_eq!(rt; *value, values.get(place).copied().unwrap_or(OLD));
+        assert_same(rt, value, &values.get(place).copied().unwrap_or(OLD));
     }
     match keeper.trace(fronts, stamps, clock) {
-        Ok(list) => assert_eq!(rt; (list.as_slice(), Ok(())), (values, answer)),
-        Err(error) => assert_eq!(rt; Err(error), answer),
+        Ok(list) => assert_same(rt, &(list.as_slice(), Ok(())), &(values, answer)),
+        Err(error) => assert_same(rt, &Err(error), &answer),
     }
     Ok(())
 }
@@ -162,13 +162,18 @@ fn the_first_fault_decides_by_its_place(rt: HostRuntime) -> Result<(), Fail> {
 fn a_clock_past_its_limit_is_told(rt: HostRuntime) -> Result<(), Fail> {
     let mut keeper = opened(rt.alloc())?;
     let latest = time(8_277_292_035, 999_999_999);
-    assert_eq!(rt;
-        applied(&rt, &mut keeper, 0, Command::SetTime(latest)),
-        Ok(1)
+    assert_same(
+        &rt,
+        &applied(&rt, &mut keeper, 0, Command::SetTime(latest)),
+        &Ok(1),
     );
     let away = time(946_079_999, 999_999_999);
-    assert_eq!(rt; applied(&rt, &mut keeper, 0, Command::Suspend), Ok(2));
-    assert_eq!(rt; applied(&rt, &mut keeper, 0, Command::Resume(away)), Ok(3));
+    assert_same(&rt, &applied(&rt, &mut keeper, 0, Command::Suspend), &Ok(2));
+    assert_same(
+        &rt,
+        &applied(&rt, &mut keeper, 0, Command::Resume(away)),
+        &Ok(3),
+    );
     // 9223372035 s and 999999998 ns at reading 0, so one nanosecond is left
     traced(
         &rt,
@@ -193,14 +198,14 @@ fn a_long_trace_tells_the_place_in_the_whole_list(rt: HostRuntime) -> Result<(),
         *stamp = place as u64;
     }
     let told = last(&keeper, fronts.as_slice(), stamps.as_slice());
-    assert_eq!(rt; told, Ok(Some(99_999)));
+    assert_same(&rt, &told, &Ok(Some(99_999)));
     put(&mut stamps, 9_000, ABOVE);
     put(&mut stamps, 5_000, ABOVE);
     let told = last(&keeper, fronts.as_slice(), stamps.as_slice());
-    assert_eq!(rt; told, Err(TraceError::Invalid { index: 5_000 }));
+    assert_same(&rt, &told, &Err(TraceError::Invalid { index: 5_000 }));
     put(&mut fronts, 4_999, 1);
     let told = last(&keeper, fronts.as_slice(), stamps.as_slice());
-    assert_eq!(rt; told, Err(TraceError::Unknown { index: 4_999 }));
+    assert_same(&rt, &told, &Err(TraceError::Unknown { index: 4_999 }));
     Ok(())
 }
 
@@ -282,10 +287,10 @@ fn a_long_list_asks_for_memory_once(rt: HostRuntime) -> Result<(), Fail> {
     }
     heap.refuse(1);
     let answer = keeper.trace(fronts, stamps, ClockId::Monotonic);
-    assert_eq!(rt; answer.map(|_| ()), Err(TraceError::Memory));
+    assert_same(&rt, &answer.map(|_| ()), &Err(TraceError::Memory));
     heap.refuse(2);
     let answer = keeper.trace(fronts, stamps, ClockId::Monotonic)?;
-    assert_eq!(rt; answer.as_slice(), stamps);
+    assert_same(&rt, &answer.as_slice(), &stamps);
     assert!(rt; heap.grant_all());
     Ok(())
 }
@@ -295,8 +300,12 @@ fn no_stamps_are_no_values(rt: HostRuntime) -> Result<(), Fail> {
     let heap = Heap::new(rt.alloc());
     let keeper = opened(&heap)?;
     heap.refuse_all();
-    assert_eq!(rt; keeper.trace(&[], &[], ClockId::Tai)?.len(), 0);
-    assert_eq!(rt; keeper.trace_into(&[], &[], ClockId::Tai, &mut []), Ok(()));
+    assert_same(&rt, &keeper.trace(&[], &[], ClockId::Tai)?.len(), &0);
+    assert_same(
+        &rt,
+        &keeper.trace_into(&[], &[], ClockId::Tai, &mut []),
+        &Ok(()),
+    );
     Ok(())
 }
 
@@ -310,19 +319,19 @@ fn each_request_refused_in_turn_is_told_first(rt: HostRuntime) -> Result<(), Fai
         heap.refuse(request);
         let answer = keeper.trace(&[0, 1], &[at, at], ClockId::Monotonic);
         if heap.grant_all() {
-            assert_eq!(rt; answer?.as_slice(), [at, 1_000_499_963].as_slice());
+            assert_same(&rt, &answer?.as_slice(), &[at, 1_000_499_963].as_slice());
             assert!(rt; request > 1);
             // before the fault of any item
             heap.refuse_all();
             let fault = keeper.trace(&[3], &[ABOVE], ClockId::Monotonic);
-            assert_eq!(rt; fault.map(|_| ()), memory);
+            assert_same(&rt, &fault.map(|_| ()), &memory);
             // memory that is there serves
             let mut out = [OLD; 2];
             let done = keeper.trace_into(&[0, 1], &[at, at], ClockId::Monotonic, &mut out);
-            assert_eq!(rt; (done, out), (Ok(()), [at, 1_000_499_963]));
+            assert_same(&rt, &(done, out), &(Ok(()), [at, 1_000_499_963]));
             return Ok(());
         }
-        assert_eq!(rt; answer.map(|_| ()), memory);
+        assert_same(&rt, &answer.map(|_| ()), &memory);
     }
     Err("each trace met a refusal".into())
 }

@@ -1,4 +1,4 @@
-use super::{OPENED_WORDS, opened};
+use super::{OPENED_WORDS, assert_same, opened};
 use std::test::Fail;
 use tk_heap::Heap;
 use tk_latch::{Latch, LatchError, Moved, PageFull};
@@ -15,12 +15,12 @@ fn the_opening_is_read_by_each_of_1_to_64_readers(rt: HostRuntime) -> Result<(),
     }
     for count in [1, 64] {
         let (latch, _writer, readers) = Latch::open(rt.alloc(), clock.snapshot(0), count)?;
-        assert_eq!(rt; readers.len(), count);
+        assert_same(&rt, &readers.len(), &count);
         for mut reader in readers {
             let Ok(snapshot) = reader.try_read(&latch) else {
                 return Err("moved while nobody published".into());
             };
-            assert_eq!(rt; (snapshot.words(), reader.mark()), (OPENED_WORDS, 0));
+            assert_same(&rt, &(snapshot.words(), reader.mark()), &(OPENED_WORDS, 0));
         }
     }
     Ok(())
@@ -79,7 +79,7 @@ fn each_error_says_what_it_is(rt: HostRuntime) -> Result<(), Fail> {
         (format!(in rt.alloc(); "{PageFull}")?, "page full"),
         (format!(in rt.alloc(); "{moved}")?, "moved from 3 to 10"),
     ] {
-        assert_eq!(rt; text.as_str(), said);
+        assert_same(&rt, &text.as_str(), &said);
     }
     Ok(())
 }

@@ -1,8 +1,8 @@
 //! One publisher and three viewers, each in a thread.
 ghost use Rattle.std.specs.Prelude.{◌≡◌};
 
-use super::OPENED_REAL;
 use super::desk::{Desk, opened};
+use super::{OPENED_REAL, assert_same};
 use std::process::Abort;
 use std::sync::Wait;
 use std::test::Fail;
@@ -47,7 +47,7 @@ fn publish_all<R: Wait + Abort>(rt: &R, page: &Page, desk: Desk)
     let mut desk = desk;
     for number in 1..=ALL {
         let answer = desk.command(rt, page, reading_of(number), Command::Update);
-        assert_eq!(rt; answer, Ok(number));
+        assert_same(rt, &answer, &Ok(number));
     }
 }
 
@@ -62,7 +62,7 @@ fn watch<R: Wait + Abort>(rt: &R, page: &Page, viewer: Viewer) -> Viewer
         let front = viewer.front();
         let snapshot = viewer.read(rt, page);
         assert!(rt; front <= snapshot.front());
-        assert_eq!(rt; snapshot.words(), words_of(snapshot.front()));
+        assert_same(rt, &snapshot.words(), &words_of(snapshot.front()));
         if snapshot.front() == ALL {
             break;
         }
@@ -139,8 +139,12 @@ fn readers_see_whole_publications_while_they_are_made(rt: HostRuntime) -> Result
             ensures { (result.0.page ≡ shared.entry.now) × (result.1.page ≡ shared.entry.now) }
         { watch_both(host, shared, two, three) },
     );
-    assert_eq!(rt; (one.front(), two.front(), three.front()), (ALL, ALL, ALL));
+    assert_same(
+        &rt,
+        &(one.front(), two.front(), three.front()),
+        &(ALL, ALL, ALL),
+    );
     let joined = one.join(two, &page).join(three, &page);
-    assert_eq!(rt; joined.front(), ALL);
+    assert_same(&rt, &joined.front(), &ALL);
     Ok(())
 }

@@ -1,5 +1,5 @@
-use super::OPENED_REAL;
 use super::desk::opened;
+use super::{OPENED_REAL, assert_same};
 use std::process::Abort;
 use std::test::Fail;
 use tk_clock::Command;
@@ -8,16 +8,16 @@ use tk_clock::Command;
 fn an_update_is_told_and_read(rt: HostRuntime) -> Result<(), Fail> {
     let (page, mut desk, mut viewer) = opened(&rt, rt.alloc())?;
     let words = [0, 0, 16_777_216, 0, 0, OPENED_REAL, 0, 0, 0, 0];
-    assert_eq!(rt; viewer.read(&rt, &page).words(), words);
-    assert_eq!(rt; viewer.front(), 0);
+    assert_same(&rt, &viewer.read(&rt, &page).words(), &words);
+    assert_same(&rt, &viewer.front(), &0);
     let number = desk.command(&rt, &page, 100, Command::Update)?;
-    assert_eq!(rt; number, 1);
+    assert_same(&rt, &number, &1);
     desk.tell(&rt, &page, &mut viewer);
-    assert_eq!(rt; viewer.front(), 1);
+    assert_same(&rt, &viewer.front(), &1);
     let amount = 1_677_721_600;
     let words = [1, 100, 16_777_216, amount, 0, OPENED_REAL, 0, 0, amount, 0];
-    assert_eq!(rt; viewer.read(&rt, &page).words(), words);
-    assert_eq!(rt; viewer.front(), 1);
+    assert_same(&rt, &viewer.read(&rt, &page).words(), &words);
+    assert_same(&rt, &viewer.front(), &1);
     Ok(())
 }
 
@@ -48,7 +48,7 @@ fn each_publication_shows_its_own_words(rt: HostRuntime) -> Result<(), Fail> {
         ),
     ] {
         desk.command(&rt, &page, reading, cmd)?;
-        assert_eq!(rt; viewer.read(&rt, &page).words(), words);
+        assert_same(&rt, &viewer.read(&rt, &page).words(), &words);
     }
     Ok(())
 }
@@ -58,14 +58,14 @@ fn a_split_viewer_knows_as_much_and_a_joined_one_the_more(rt: HostRuntime) -> Re
     let (page, mut desk, viewer) = opened(&rt, rt.alloc())?;
     let (mut early, mut late) = viewer.split(&page);
     desk.command(&rt, &page, 7, Command::Update)?;
-    assert_eq!(rt; early.read(&rt, &page).last(), 7);
-    assert_eq!(rt; (early.front(), late.front()), (1, 0));
+    assert_same(&rt, &early.read(&rt, &page).last(), &7);
+    assert_same(&rt, &(early.front(), late.front()), &(1, 0));
     desk.command(&rt, &page, 9, Command::Suspend)?;
-    assert_eq!(rt; late.read(&rt, &page).asleep(), true);
+    assert_same(&rt, &late.read(&rt, &page).asleep(), &true);
     let (early, again) = early.split(&page);
-    assert_eq!(rt; (early.front(), again.front()), (1, 1));
+    assert_same(&rt, &(early.front(), again.front()), &(1, 1));
     let joined = early.join(late, &page);
-    assert_eq!(rt; joined.front(), 2);
-    assert_eq!(rt; joined.join(again, &page).front(), 2);
+    assert_same(&rt, &joined.front(), &2);
+    assert_same(&rt, &joined.join(again, &page).front(), &2);
     Ok(())
 }

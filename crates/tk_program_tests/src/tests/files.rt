@@ -1,6 +1,6 @@
 //! Files in memory.
 
-use super::line;
+use super::{assert_same, line};
 use std::process::Abort;
 use std::sync::Wait;
 use std::test::Fail;
@@ -41,6 +41,6 @@ pub(super) fn outcome(
     let mut writer = Vec::new(rt.alloc());
     let words = given.as_slice();
     let ending = run(rt, rt.alloc(), words, &folder, &mut reader, &mut writer);
-    assert_eq!(rt; reader, b"never read".as_slice());
+    assert_same(rt, &reader, &b"never read".as_slice());
     Ok((ending, writer))
 }

@@ -1,5 +1,6 @@
 //! The subcommand `many`, over files in memory.
 
+use super::assert_same;
 use super::files::outcome;
 use std::test::Fail;
 use tk_program::Ending;
@@ -15,11 +16,11 @@ fn makes_reports_in_the_order_of_the_words(rt: HostRuntime) -> Result<(), Fail> 
     for workers in ["1", "2", "64"] {
         let words = ["tkcore", "many", workers, "b", "a", "b"];
         let (ending, text) = outcome(&rt, &words, &files)?;
-        assert_eq!(rt; ending, Ending::Done);
+        assert_same(&rt, &ending, &Ending::Done);
         let wanted: &[u8] = b"file,0\nopen,8,256,0\n\
             file,1\nopen,32,16777216,24\nok,1,0.000000007\n\
             file,2\nopen,8,256,0\n";
-        assert_eq!(rt; text.as_slice(), wanted);
+        assert_same(&rt, &text.as_slice(), &wanted);
     }
     Ok(())
 }
@@ -29,11 +30,11 @@ fn tells_the_fault_of_a_script_in_its_place(rt: HostRuntime) -> Result<(), Fail>
     let words = ["tkcore", "many", "2", "b", "a", "c"];
     let files: [(&str, &[u8]); 3] = [("a", GOOD), ("b", BAD), ("c", b"")];
     let (ending, text) = outcome(&rt, &words, &files)?;
-    assert_eq!(rt; ending, Ending::Faulty);
+    assert_same(&rt, &ending, &Ending::Faulty);
     let wanted: &[u8] = b"file,0\nfault,record 2: wrong number of fields\n\
         file,1\nopen,32,16777216,24\nok,1,0.000000007\n\
         file,2\nfault,no record\n";
-    assert_eq!(rt; text.as_slice(), wanted);
+    assert_same(&rt, &text.as_slice(), &wanted);
     Ok(())
 }
 
@@ -47,7 +48,7 @@ fn a_missing_file_ends_all(rt: HostRuntime) -> Result<(), Fail> {
     ];
     for words in orders {
         let (ending, text) = outcome(&rt, words, &files)?;
-        assert_eq!(rt; ending, Ending::Fault(Fault::Read));
+        assert_same(&rt, &ending, &Ending::Fault(Fault::Read));
         assert!(rt; text.is_empty());
     }
     Ok(())

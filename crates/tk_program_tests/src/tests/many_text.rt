@@ -1,5 +1,6 @@
 //! The text of many reports: its lines, the faults' words, and memory that is refused.
 
+use super::assert_same;
 use std::alloc::{AllocError, Global};
 use std::test::Fail;
 use tk_program::many_text;
@@ -20,7 +21,11 @@ at,monotonic,2.147483648\nno,behind\nfile,1\nfault,record 2: wrong number of fie
 fn each_report_stands_under_its_heading(rt: HostRuntime) -> Result<(), Fail> {
     let alloc = rt.alloc();
     let outcomes = vec![in alloc; report(alloc, WHOLE), report(alloc, SHORT)]?;
-    assert_eq!(rt; many_text(alloc, outcomes.as_slice())?.as_slice(), TEXT);
+    assert_same(
+        &rt,
+        &many_text(alloc, outcomes.as_slice())?.as_slice(),
+        &TEXT,
+    );
     assert!(rt; many_text(alloc, &[])?.is_empty());
     Ok(())
 }
@@ -35,9 +40,9 @@ fn text_or_want_of_it(rt: HostRuntime) -> Result<(), AllocError> {
     match many_text(alloc, outcomes.as_slice()) {
         Ok(text) => {
             let wanted: &[u8] = b"file,0\nopen,32,16777216,24\nfile,1\nfault,out of memory\n";
-            assert_eq!(rt; text.as_slice(), wanted);
+            assert_same(&rt, &text.as_slice(), &wanted);
         }
-        Err(fault) => assert_eq!(rt; fault, Fault::Memory),
+        Err(fault) => assert_same(&rt, &fault, &Fault::Memory),
     }
     Ok(())
 }
@@ -61,7 +66,7 @@ fn faults_are_told_in_their_own_words(rt: HostRuntime) -> Result<(), Fail> {
     for error in errors {
         let text = text_of(rt.alloc(), error)?;
         let wanted = format!(in rt.alloc(); "file,0\nfault,{error}\n")?;
-        assert_eq!(rt; text.as_slice(), wanted.as_bytes());
+        assert_same(&rt, &text.as_slice(), &wanted.as_bytes());
     }
     Ok(())
 }

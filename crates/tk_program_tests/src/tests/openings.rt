@@ -1,5 +1,6 @@
 //! A counter by its frequency, and the same by its numbers.
 
+use super::assert_same;
 use std::alloc::Global;
 use std::test::Fail;
 use tk_program::same_opening;
@@ -24,8 +25,8 @@ fn openings_are_compared_by_their_values(rt: HostRuntime) -> Result<(), Fail> {
         (b"open,32,699050667,24,0,1,0\nupdate,5\n", true),
     ];
     for (other, same) in by_numbers {
-        assert_eq!(&rt; alike(rt.alloc(), by_frequency, other), Some(same));
-        assert_eq!(&rt; alike(rt.alloc(), other, by_frequency), Some(same));
+        assert_same(&rt, &alike(rt.alloc(), by_frequency, other), &Some(same));
+        assert_same(&rt, &alike(rt.alloc(), other, by_frequency), &Some(same));
     }
     Ok(())
 }

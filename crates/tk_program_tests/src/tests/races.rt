@@ -1,7 +1,7 @@
 //! The subcommand `race`, over files in memory.
 
 use super::files::{Shelf, outcome};
-use super::line;
+use super::{assert_same, line};
 use std::io;
 use std::io::Write;
 use std::process::Abort;
@@ -49,8 +49,8 @@ fn two_scripts_race(rt: HostRuntime) -> Result<(), Fail> {
     ];
     for (words, wanted) in races {
         let (ending, text) = outcome(&rt, words, &files)?;
-        assert_eq!(rt; ending, Ending::Done);
-        assert_eq!(rt; text.as_slice(), wanted);
+        assert_same(&rt, &ending, &Ending::Done);
+        assert_same(&rt, &text.as_slice(), &wanted);
     }
     Ok(())
 }
@@ -70,7 +70,7 @@ fn assert_stops(
         words.push(*name)?;
     }
     let (ending, text) = outcome(rt, words.as_slice(), files)?;
-    assert_eq!(rt; ending, wanted);
+    assert_same(rt, &ending, &wanted);
     assert!(rt; text.is_empty());
     Ok(())
 }
@@ -137,9 +137,9 @@ fn openings_are_one_by_their_values(rt: HostRuntime) -> Result<(), Fail> {
     ];
     let words = ["tkcore", "race", "1", "a", "b"];
     let (ending, text) = outcome(&rt, &words, &files)?;
-    assert_eq!(rt; ending, Ending::Done);
+    assert_same(&rt, &ending, &Ending::Done);
     let wanted: &[u8] = b"entries,1\nactor,0,1,0\nactor,1,0,0\n";
-    assert_eq!(rt; text.as_slice(), wanted);
+    assert_same(&rt, &text.as_slice(), &wanted);
     Ok(())
 }
 
@@ -176,12 +176,12 @@ fn sixty_four_files_race(rt: HostRuntime) -> Result<(), Fail> {
         words.push("a")?;
     }
     let (ending, text) = outcome(&rt, words.as_slice(), &files)?;
-    assert_eq!(rt; ending, Ending::Done);
+    assert_same(&rt, &ending, &Ending::Done);
     let mut wanted = b"entries,192\n".to_vec(rt.alloc())?;
     for id in 0..64u32 {
         writeln!(wanted, "actor,{id},3,0")?;
     }
-    assert_eq!(rt; text.as_slice(), wanted.as_slice());
+    assert_same(&rt, &text.as_slice(), &wanted.as_slice());
     Ok(())
 }
 
@@ -220,7 +220,7 @@ fn a_full_writer_is_told_with_what_went_out(rt: HostRuntime) -> Result<(), Fail>
         let mut writer = Narrow { room };
         let given = words.as_slice();
         let ending = run(&rt, rt.alloc(), given, &folder, &mut reader, &mut writer);
-        assert_eq!(rt; ending, wanted);
+        assert_same(&rt, &ending, &wanted);
     }
     Ok(())
 }
@@ -260,8 +260,8 @@ fn tells_why_there_is_no_race(rt: HostRuntime) -> Result<(), Fail> {
     for (ending, text) in endings {
         let mut told = Vec::new(rt.alloc());
         ending.tell(&mut told)?;
-        assert_eq!(rt; told.as_slice(), text);
-        assert_eq!(rt; ending.status(), 1);
+        assert_same(&rt, &told.as_slice(), &text);
+        assert_same(&rt, &ending.status(), &1);
     }
     Ok(())
 }

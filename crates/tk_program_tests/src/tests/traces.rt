@@ -1,7 +1,7 @@
 //! The subcommand `trace`, over files in memory.
 
 use super::files::outcome;
-use super::line;
+use super::{assert_same, line};
 use std::fs;
 use std::test::Fail;
 use tk_keeper::TraceError;
@@ -20,12 +20,12 @@ const TRACE: &[u8] = b"1000000000\n1000499963\n1000499964\n";
 fn traces_files_by_their_names(rt: HostRuntime) -> Result<(), Fail> {
     let words = ["tkcore", "trace", "monotonic", "a", "b"];
     let (ending, text) = outcome(&rt, &words, &[("a", SCRIPT), ("b", STAMPS)])?;
-    assert_eq!(rt; ending, Ending::Done);
-    assert_eq!(rt; text.as_slice(), TRACE);
+    assert_same(&rt, &ending, &Ending::Done);
+    assert_same(&rt, &text.as_slice(), &TRACE);
     let swapped = ["tkcore", "trace", "monotonic", "b", "a"];
     let (ending, text) = outcome(&rt, &swapped, &[("b", SCRIPT), ("a", STAMPS)])?;
-    assert_eq!(rt; ending, Ending::Done);
-    assert_eq!(rt; text.as_slice(), TRACE);
+    assert_same(&rt, &ending, &Ending::Done);
+    assert_same(&rt, &text.as_slice(), &TRACE);
     Ok(())
 }
 
@@ -33,7 +33,7 @@ fn traces_files_by_their_names(rt: HostRuntime) -> Result<(), Fail> {
 fn an_empty_stamp_file_writes_nothing(rt: HostRuntime) -> Result<(), Fail> {
     let words = ["tkcore", "trace", "tai", "a", "b"];
     let (ending, text) = outcome(&rt, &words, &[("a", SCRIPT), ("b", b"")])?;
-    assert_eq!(rt; ending, Ending::Done);
+    assert_same(&rt, &ending, &Ending::Done);
     assert!(rt; text.is_empty());
     Ok(())
 }
@@ -68,7 +68,7 @@ fn tells_the_fault_of_a_trace(rt: HostRuntime) -> Result<(), Fail> {
     let words = ["tkcore", "trace", "monotonic", "a", "b"];
     for (script, stamps, fault) in faults {
         let (ending, text) = outcome(&rt, &words, &[("a", script), ("b", stamps)])?;
-        assert_eq!(rt; ending, Ending::Fault(fault));
+        assert_same(&rt, &ending, &Ending::Fault(fault));
         assert!(rt; text.is_empty());
     }
     Ok(())
@@ -80,7 +80,7 @@ fn a_file_that_is_not_there_cannot_be_read(rt: HostRuntime) -> Result<(), Fail> 
     let shelves: [&[(&str, &[u8])]; 3] = [&[], &[("a", b"no script")], &[("b", b"no stamps")]];
     for files in shelves {
         let (ending, text) = outcome(&rt, &words, files)?;
-        assert_eq!(rt; ending, Ending::Fault(Fault::Read));
+        assert_same(&rt, &ending, &Ending::Fault(Fault::Read));
         assert!(rt; text.is_empty());
     }
     Ok(())
@@ -108,8 +108,8 @@ fn traces_files_of_the_system(rt: HostRuntime) -> Result<(), Fail> {
         &mut reader,
         &mut text,
     );
-    assert_eq!(rt; ending, Ending::Done);
-    assert_eq!(rt; text.as_slice(), TRACE);
+    assert_same(&rt, &ending, &Ending::Done);
+    assert_same(&rt, &text.as_slice(), &TRACE);
     fs::remove_file(&rt, "tk_program_stamps")?;
     text.clear();
     let ending = run(
@@ -120,7 +120,7 @@ fn traces_files_of_the_system(rt: HostRuntime) -> Result<(), Fail> {
         &mut reader,
         &mut text,
     );
-    assert_eq!(rt; ending, Ending::Fault(Fault::Read));
+    assert_same(&rt, &ending, &Ending::Fault(Fault::Read));
     assert!(rt; text.is_empty());
     fs::remove_file(&rt, "tk_program_script")?;
     Ok(())

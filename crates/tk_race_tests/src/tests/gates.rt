@@ -1,6 +1,6 @@
 //! When the gate is told, and that actors act at once.
 
-use super::{OPENED_TIME, UPDATE, alike, nanosecond_counter, rise};
+use super::{OPENED_TIME, UPDATE, alike, assert_same, nanosecond_counter, rise};
 use std::sync::atomic::{AtomicBool, AtomicU64, Ordering};
 use std::test::Fail;
 use std::thread;
@@ -80,9 +80,10 @@ fn actors_act_at_once(rt: HostRuntime) -> Result<(), Fail> {
     )
     .ok()
     .ok_or("a report")?;
-    assert_eq!(&rt;
-        (report.keeper.len(), gate.ended.load(Ordering::SeqCst)),
-        (6, 2)
+    assert_same(
+        &rt,
+        &(report.keeper.len(), gate.ended.load(Ordering::SeqCst)),
+        &(6, 2),
     );
     assert!(&rt; !gate.late.0.load(Ordering::SeqCst));
     for replies in report.replies.as_slice() {
@@ -144,10 +145,10 @@ fn a_gate_is_told_round_all_actions_of_an_actor(rt: HostRuntime) -> Result<(), F
     for replies in report.replies.as_slice() {
         for reply in replies.as_slice() {
             number = number.wrapping_add(1);
-            assert_eq!(&rt; *reply, RaceReply::Done(number));
+            assert_same(&rt, reply, &RaceReply::Done(number));
         }
     }
-    assert_eq!(&rt; number, 40_000);
+    assert_same(&rt, &number, &40_000);
     Ok(())
 }
 

@@ -1,6 +1,6 @@
 //! Whatever request for memory is refused: no actor has begun, or none notices.
 
-use super::{OPENED_TIME, UPDATE, alike, nanosecond_counter};
+use super::{OPENED_TIME, UPDATE, alike, assert_same, nanosecond_counter};
 use std::sync::atomic::{AtomicU64, Ordering};
 use std::test::Fail;
 use tk_clock::Refusal;
@@ -39,9 +39,10 @@ fn refused_requests_are_told_before_any_actor_begins(rt: HostRuntime) -> Result<
         &gate,
     ) {
         Ok(report) => {
-            assert_eq!(&rt;
-                (report.keeper.len(), gate.0.load(Ordering::SeqCst)),
-                (1_800, 3)
+            assert_same(
+                &rt,
+                &(report.keeper.len(), gate.0.load(Ordering::SeqCst)),
+                &(1_800, 3),
             );
             for replies in report.replies.as_slice() {
                 let refused = RaceReply::Refused(Refusal::Memory);
@@ -50,9 +51,10 @@ fn refused_requests_are_told_before_any_actor_begins(rt: HostRuntime) -> Result<
         }
         Err(RaceError::Threads) => assert!(&rt; gate.0.load(Ordering::SeqCst) < 3),
         Err(error) => {
-            assert_eq!(&rt;
-                (error, gate.0.load(Ordering::SeqCst)),
-                (RaceError::Memory, 0)
+            assert_same(
+                &rt,
+                &(error, gate.0.load(Ordering::SeqCst)),
+                &(RaceError::Memory, 0),
             );
         }
     }

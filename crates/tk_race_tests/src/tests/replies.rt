@@ -1,6 +1,6 @@
 //! What actors are answered.
 
-use super::{OPENED_TIME, UPDATE, alike, nanosecond_counter, rise};
+use super::{OPENED_TIME, UPDATE, alike, assert_same, nanosecond_counter, rise};
 use std::process::Abort;
 use std::test::Fail;
 use tk_clock::{Command, Refusal, Timespec};
@@ -24,16 +24,17 @@ fn two_actors_of_three_updates_make_six_entries(rt: HostRuntime) -> Result<(), F
     )
     .ok()
     .ok_or("a report")?;
-    assert_eq!(&rt; (report.keeper.len(), report.replies.len()), (6, 2));
+    assert_same(&rt, &(report.keeper.len(), report.replies.len()), &(6, 2));
     for replies in report.replies.as_slice() {
         assert!(&rt; replies.len() == 3 && rise(0, replies.as_slice()));
     }
     // each reading is the counter's next one, whoever gave the command
     for number in 1..=6u64 {
         let entry = report.keeper.entry(number).ok_or("an entry")?;
-        assert_eq!(&rt;
-            (entry.reading, entry.cmd),
-            (1_000 * number, Command::Update)
+        assert_same(
+            &rt,
+            &(entry.reading, entry.cmd),
+            &(1_000 * number, Command::Update),
         );
     }
     Ok(())
@@ -81,7 +82,7 @@ fn one_actor_is_answered_as_on_one_thread(rt: HostRuntime) -> Result<(), Fail> {
     assert!(&rt; replies.as_slice() == expected.as_slice());
     // a refused order has read the counter too
     let resumed = report.keeper.entry(3).ok_or("an entry")?;
-    assert_eq!(&rt; (report.keeper.len(), resumed.reading), (3, 55));
+    assert_same(&rt, &(report.keeper.len(), resumed.reading), &(3, 55));
     Ok(())
 }
 
@@ -118,9 +119,10 @@ fn one_to_64_actors_race(rt: HostRuntime) -> Result<(), Fail> {
         (64, None),
         (65, Some(RaceError::Count)),
     ] {
-        assert_eq!(&rt;
-            error_of(&rt, rt.alloc(), actors, desc, 0, OPENED_TIME)?,
-            error
+        assert_same(
+            &rt,
+            &error_of(&rt, rt.alloc(), actors, desc, 0, OPENED_TIME)?,
+            &error,
         );
     }
     Ok(())
@@ -140,9 +142,10 @@ fn count_comes_before_invalid(rt: HostRuntime) -> Result<(), Fail> {
         (0, 4_294_967_296, late, Some(RaceError::Count)),
         (65, 4_294_967_296, late, Some(RaceError::Count)),
     ] {
-        assert_eq!(&rt;
-            error_of(&rt, rt.alloc(), actors, desc, reading, real)?,
-            error
+        assert_same(
+            &rt,
+            &error_of(&rt, rt.alloc(), actors, desc, reading, real)?,
+            &error,
         );
     }
     Ok(())

@@ -1,7 +1,7 @@
 //! Std's own readers and writers, by the impls that each of them has.
 
 use super::traces::{STAMPS, STEERED, TRACE};
-use super::{REPORT, SCRIPT};
+use super::{REPORT, SCRIPT, assert_same};
 use std::fs::{self, File};
 use std::test::Fail;
 use tk_clock::ClockId;
@@ -11,20 +11,20 @@ use tk_replay::{Fault, Sink, Source, replay, trace};
 fn a_slice_gives_its_bytes_and_then_none(rt: HostRuntime) {
     let mut slice: &[u8] = b"abc";
     let mut room = [0; 2];
-    assert_eq!(rt; slice.read_once(&mut room), Some(2));
-    assert_eq!(rt; room, [b'a', b'b']);
-    assert_eq!(rt; slice.read_once(&mut room), Some(1));
-    assert_eq!(rt; room, [b'c', b'b']);
-    assert_eq!(rt; slice.read_once(&mut room), Some(0));
+    assert_same(&rt, &slice.read_once(&mut room), &Some(2));
+    assert_same(&rt, &room, &[b'a', b'b']);
+    assert_same(&rt, &slice.read_once(&mut room), &Some(1));
+    assert_same(&rt, &room, &[b'c', b'b']);
+    assert_same(&rt, &slice.read_once(&mut room), &Some(0));
 }
 
 #[test]
 fn a_vector_takes_all(rt: HostRuntime) -> Result<(), Fail> {
     let mut taken = Vec::new(rt.alloc());
-    assert_eq!(rt; taken.write_once(b"abc"), Some(3));
-    assert_eq!(rt; taken.write_once(b""), None);
+    assert_same(&rt, &taken.write_once(b"abc"), &Some(3));
+    assert_same(&rt, &taken.write_once(b""), &None);
     assert!(rt; taken.flush_once());
-    assert_eq!(rt; taken.as_slice(), b"abc".as_slice());
+    assert_same(&rt, &taken.as_slice(), &b"abc".as_slice());
     Ok(())
 }
 
@@ -33,9 +33,9 @@ fn replays_a_file_into_a_file(rt: HostRuntime) -> Result<(), Fail> {
     fs::write(&rt, "tk_replay_script", SCRIPT)?;
     let mut script = File::open(&rt, "tk_replay_script")?;
     let mut report = File::create(&rt, "tk_replay_report")?;
-    assert_eq!(rt; replay(rt.alloc(), &mut script, &mut report), Ok(()));
+    assert_same(&rt, &replay(rt.alloc(), &mut script, &mut report), &Ok(()));
     let told = fs::read(&rt, "tk_replay_report")?;
-    assert_eq!(rt; told.as_slice(), REPORT);
+    assert_same(&rt, &told.as_slice(), &REPORT);
     fs::remove_file(&rt, "tk_replay_script")?;
     fs::remove_file(&rt, "tk_replay_report")?;
     Ok(())
@@ -56,9 +56,9 @@ fn traces_two_files_into_a_third(rt: HostRuntime) -> Result<(), Fail> {
         ClockId::Monotonic,
         &mut text,
     );
-    assert_eq!(rt; outcome, Ok(()));
+    assert_same(&rt, &outcome, &Ok(()));
     let told = fs::read(&rt, "tk_replay_trace")?;
-    assert_eq!(rt; told.as_slice(), TRACE);
+    assert_same(&rt, &told.as_slice(), &TRACE);
     for name in ["tk_replay_steered", "tk_replay_stamps", "tk_replay_trace"] {
         fs::remove_file(&rt, name)?;
     }
@@ -70,12 +70,12 @@ fn tells_a_file_that_gives_or_takes_nothing(rt: HostRuntime) -> Result<(), Fail>
     let mut closed = File::create(&rt, "tk_replay_closed")?;
     let mut report = Vec::new(rt.alloc());
     let unread = replay(rt.alloc(), &mut closed, &mut report);
-    assert_eq!(rt; unread, Err(Fault::Read));
-    assert_eq!(rt; report.len(), 0);
+    assert_same(&rt, &unread, &Err(Fault::Read));
+    assert_same(&rt, &report.len(), &0);
     let mut script = SCRIPT;
     let mut closed = File::open(&rt, "tk_replay_closed")?;
     let unwritten = replay(rt.alloc(), &mut script, &mut closed);
-    assert_eq!(rt; unwritten, Err(Fault::Write { written: 0 }));
+    assert_same(&rt, &unwritten, &Err(Fault::Write { written: 0 }));
     fs::remove_file(&rt, "tk_replay_closed")?;
     Ok(())
 }

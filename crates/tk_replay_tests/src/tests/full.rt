@@ -1,3 +1,4 @@
+use super::assert_same;
 use std::alloc::{AllocError, Global};
 use std::test::Fail;
 use tk_clock::{ClockId, Timespec};
@@ -38,7 +39,7 @@ fn refuses_a_command_where_the_journal_is_full(rt: HostRuntime) -> Result<(), Fa
 fn folds_a_full_journal_in_time(rt: HostRuntime) -> Result<(), Fail> {
     let text = report_bounded(rt.alloc(), script(rt.alloc())?.as_slice(), 1)?;
     assert!(rt; text.ends_with(LAST));
-    assert_eq!(rt; text.len(), LENGTH);
+    assert_same(&rt, &text.len(), &LENGTH);
     Ok(())
 }
 
@@ -47,12 +48,13 @@ fn writes_the_report_of_a_folded_journal(rt: HostRuntime) -> Result<(), Fail> {
     let script = script(rt.alloc())?;
     let mut reader = script.as_slice();
     let mut text = Vec::new(rt.alloc());
-    assert_eq!(rt;
-        replay_bounded(rt.alloc(), &mut reader, &mut text, 1),
-        Ok(())
+    assert_same(
+        &rt,
+        &replay_bounded(rt.alloc(), &mut reader, &mut text, 1),
+        &Ok(()),
     );
     assert!(rt; text.ends_with(LAST));
-    assert_eq!(rt; text.len(), LENGTH);
+    assert_same(&rt, &text.len(), &LENGTH);
     Ok(())
 }
 
@@ -71,11 +73,12 @@ fn a_full_journal_has_no_later_front(rt: HostRuntime) -> Result<(), Fail> {
         let mut reader = script.as_slice();
         let mut text = Vec::new(rt.alloc());
         let clock = ClockId::Monotonic;
-        assert_eq!(rt;
-            trace(&rt, rt.alloc(), &mut reader, &mut stamps, clock, &mut text),
-            outcome
+        assert_same(
+            &rt,
+            &trace(&rt, rt.alloc(), &mut reader, &mut stamps, clock, &mut text),
+            &outcome,
         );
-        assert_eq!(rt; text.as_slice(), lines);
+        assert_same(&rt, &text.as_slice(), &lines);
     }
     Ok(())
 }
@@ -96,19 +99,20 @@ fn traces_stamps_by_the_million(rt: HostRuntime) -> Result<(), Fail> {
         stamps.extend_from_slice(stamp.as_bytes())?;
         lines.extend_from_slice(stamp.as_bytes())?;
     }
-    assert_eq!(rt; stamps.len(), STAMPS_LENGTH);
+    assert_same(&rt, &stamps.len(), &STAMPS_LENGTH);
     let (mut script, mut stamps) = (OPENING, stamps.as_slice());
     let mut text = Vec::new(rt.alloc());
-    assert_eq!(rt;
-        trace(
+    assert_same(
+        &rt,
+        &trace(
             &rt,
             rt.alloc(),
             &mut script,
             &mut stamps,
             ClockId::Monotonic,
-            &mut text
+            &mut text,
         ),
-        Ok(())
+        &Ok(()),
     );
     assert!(rt; text.as_slice() == lines.as_slice());
     Ok(())
@@ -121,9 +125,10 @@ fn hands_on_traces_in_pieces(rt: HostRuntime) -> Result<(), Fail> {
     let keeper = Timekeeper::open(rt.alloc(), desc, 0, real)?;
     let clock = ClockId::Realtime;
     let values = trace_all(&rt, rt.alloc(), &keeper, &[0, 0], &[7, 8], clock)?;
-    assert_eq!(rt;
-        values.as_slice(),
-        [1_000_000_007, 1_000_000_008].as_slice()
+    assert_same(
+        &rt,
+        &values.as_slice(),
+        &[1_000_000_007, 1_000_000_008].as_slice(),
     );
     Ok(())
 }

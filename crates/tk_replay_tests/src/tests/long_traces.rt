@@ -1,5 +1,6 @@
 //! Traces that are long enough to be shared out among threads.
 
+use super::assert_same;
 use std::alloc::{AllocError, Global};
 use std::test::Fail;
 use std::thread::Threads;
@@ -71,7 +72,7 @@ fn stamps_of_many_pieces_have_their_values_in_order(rt: HostRuntime) -> Result<(
     let alloc = rt.alloc();
     let file = stamp_file(alloc, NOWHERE, NOWHERE)?;
     let (outcome, text) = traced(&rt, alloc, file.as_slice());
-    assert_eq!(rt; outcome, Ok(()));
+    assert_same(&rt, &outcome, &Ok(()));
     assert!(rt; text.as_slice() == values(alloc)?.as_slice());
     Ok(())
 }
@@ -87,7 +88,7 @@ fn the_first_fault_of_many_pieces_decides(rt: HostRuntime) -> Result<(), Fail> {
     ] {
         let file = stamp_file(alloc, unknown, above)?;
         let (outcome, text) = traced(&rt, alloc, file.as_slice());
-        assert_eq!(rt; outcome, Err(Fault::Trace(error)));
+        assert_same(&rt, &outcome, &Err(Fault::Trace(error)));
         assert!(rt; text.is_empty());
     }
     Ok(())

@@ -1,6 +1,6 @@
 //! Many scripts at once: order, counts, threads and gates.
 
-use super::{REPORT, SCRIPT};
+use super::{REPORT, SCRIPT, assert_same};
 use std::alloc::{AllocError, Global};
 use std::process::Abort;
 use std::sync::atomic::{AtomicU64, Ordering};
@@ -66,8 +66,8 @@ fn two_workers_are_at_work_at_once(rt: HostRuntime) -> Result<(), Fail> {
         late: AtomicU64::new(0),
     };
     let outcomes = replay_all(&rt, alloc, scripts.as_slice(), 2, &gate)?;
-    assert_eq!(rt; outcomes.len(), 2);
-    assert_eq!(rt; gate.late.load(Ordering::SeqCst), 0);
+    assert_same(&rt, &outcomes.len(), &2);
+    assert_same(&rt, &gate.late.load(Ordering::SeqCst), &0);
     Ok(())
 }
 
@@ -81,7 +81,7 @@ fn as_many_workers_as_are_asked_for(rt: HostRuntime) -> Result<(), Fail> {
         let Ok(first) = &outcomes[0] else {
             return Err(Fail::from("the first script has a report"));
         };
-        assert_eq!(rt; first.as_slice(), REPORT);
+        assert_same(&rt, &first.as_slice(), &REPORT);
         assert!(rt; matches!(outcomes[1], Err(ScriptError::Fields { row: 2 })));
     }
     for workers in [0, 65, usize::MAX] {
@@ -108,13 +108,13 @@ fn reports_stand_in_the_order_of_their_scripts(rt: HostRuntime) -> Result<(), Fa
     let scripts = uneven(alloc, 40)?;
     for workers in [1, 3, 4, 64] {
         let outcomes = replay_all(&rt, alloc, scripts.as_slice(), workers, &NoGate)?;
-        assert_eq!(rt; outcomes.len(), scripts.len());
+        assert_same(&rt, &outcomes.len(), &scripts.len());
         for (outcome, script) in outcomes.iter().zip(&scripts) {
             let Ok(text) = outcome else {
                 return Err(Fail::from("each script has a report"));
             };
             let alone = report(alloc, script.as_slice())?;
-            assert_eq!(rt; text.as_slice(), alone.as_slice());
+            assert_same(&rt, &text.as_slice(), &alone.as_slice());
         }
     }
     Ok(())
@@ -173,7 +173,7 @@ impl Gate for Counts {
 
 /// Each piece up to `count` was told of once before and once after it, and no other.
 fn assert_told_once(rt: &impl Abort, gate: &Counts, count: usize) {
-    assert_eq!(rt; gate.wrong.load(Ordering::SeqCst), 0);
+    assert_same(rt, &gate.wrong.load(Ordering::SeqCst), &0);
     for piece in 0..40usize {
         let times = u64::from(piece < count);
         assert!(rt; Counts::has(gate.before.as_slice(), piece, times));
@@ -222,7 +222,7 @@ fn no_more_at_work_than_there_are_workers(rt: HostRuntime) -> Result<(), Fail> {
         };
         replay_all(&rt, alloc, scripts.as_slice(), workers, &gate)?;
         assert!(rt; gate.most.load(Ordering::SeqCst) <= workers as u64);
-        assert_eq!(rt; gate.now.load(Ordering::SeqCst), 0);
+        assert_same(&rt, &gate.now.load(Ordering::SeqCst), &0);
     }
     Ok(())
 }
@@ -256,8 +256,8 @@ fn many_reports_or_want_of_them(rt: HostRuntime) -> Result<(), Fail> {
         Ok(outcomes) => {
             assert_eq!(rt; outcomes.len(), 2);
             match &outcomes[0] {
-                Ok(text) => assert_eq!(rt; text.as_slice(), whole.as_slice()),
-                Err(error) => assert_eq!(rt; *error, ScriptError::Memory),
+                Ok(text) => assert_same(&rt, &text.as_slice(), &whole.as_slice()),
+                Err(error) => assert_same(&rt, error, &ScriptError::Memory),
             }
             match &outcomes[1] {
                 Ok(_) => assert!(rt; false, "a report of what is no script"),
@@ -266,8 +266,8 @@ fn many_reports_or_want_of_them(rt: HostRuntime) -> Result<(), Fail> {
                 ),
             }
         }
-        Err(ManyError::Memory) => assert_eq!(rt; gate.rung.load(Ordering::SeqCst), 0),
-        Err(error) => assert_eq!(rt; error, ManyError::Threads),
+        Err(ManyError::Memory) => assert_same(&rt, &gate.rung.load(Ordering::SeqCst), &0),
+        Err(error) => assert_same(&rt, &error, &ManyError::Threads),
     }
     Ok(())
 }
@@ -280,7 +280,7 @@ fn tells_why_there_are_no_reports(rt: HostRuntime) -> Result<(), Fail> {
         (ManyError::Threads, "cannot start a thread"),
     ];
     for (error, text) in texts {
-        assert_eq!(rt; format!(in rt.alloc(); "{error}")?.as_str(), text);
+        assert_same(&rt, &format!(in rt.alloc(); "{error}")?.as_str(), &text);
     }
     Ok(())
 }

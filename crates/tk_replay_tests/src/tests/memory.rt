@@ -1,5 +1,6 @@
 //! Memory that is refused: the whole report, or `Memory` and nothing written.
 
+use super::assert_same;
 use super::fakes::{Turn, Writer};
 use super::traces::{STAMPS, STEERED, TRACE, traced, willing};
 use std::alloc::Global;
@@ -36,7 +37,7 @@ fn assert_report(rt: &impl Abort, told: Result<Vec<u8>, ScriptError>) {
             assert!(rt; text.starts_with(b"open,32,16777216,24\nok,1,0.000000000\n"));
             assert!(rt; text.ends_with(b"\nok,600,0.000000000\n"));
         }
-        Err(error) => assert_eq!(rt; error, ScriptError::Memory),
+        Err(error) => assert_same(rt, &error, &ScriptError::Memory),
     }
 }
 
@@ -55,8 +56,8 @@ fn assert_written(rt: &impl Abort, outcome: Result<(), Fault>, writer: &Writer) 
     match outcome {
         Ok(()) => assert!(rt; writer.len > 0),
         Err(fault) => {
-            assert_eq!(rt; fault, Fault::Memory);
-            assert_eq!(rt; writer.len, 0);
+            assert_same(rt, &fault, &Fault::Memory);
+            assert_same(rt, &writer.len, &0);
         }
     }
 }
@@ -112,12 +113,12 @@ at,tai,1700086400.000000000\nok,10,0.000000010\n"
             match told {
                 Ok(text) => {
                     assert!(rt; is_whole && request > 5);
-                    assert_eq!(rt; text.as_slice(), whole.as_slice());
+                    assert_same(&rt, &text.as_slice(), &whole.as_slice());
                     break 'requests;
                 }
                 Err(error) => {
                     assert!(rt; !is_whole);
-                    assert_eq!(rt; error, ScriptError::Memory);
+                    assert_same(&rt, &error, &ScriptError::Memory);
                 }
             }
         }
@@ -137,8 +138,8 @@ fn trace_or_want_of_it(rt: HostRuntime) {
 fn there_is_memory_for_a_trace(rt: HostRuntime) {
     let mut writer = willing();
     let outcome = traced(&rt, STEERED, STAMPS, ClockId::Monotonic, &mut writer);
-    assert_eq!(rt; outcome, Ok(()));
-    assert_eq!(rt; writer.text(), TRACE);
+    assert_same(&rt, &outcome, &Ok(()));
+    assert_same(&rt, &writer.text(), &TRACE);
 }
 
 /// The commands of `DATED` out of the heap.
@@ -161,12 +162,12 @@ fn each_growth_of_a_traces_journal_refused_in_turn(rt: HostRuntime) {
         match told {
             Ok(keeper) => {
                 assert!(rt; is_whole && request > 2);
-                assert_eq!(rt; keeper.len(), 10);
+                assert_same(&rt, &keeper.len(), &10);
                 break 'requests;
             }
             Err(error) => {
                 assert!(rt; !is_whole);
-                assert_eq!(rt; error, ScriptError::Memory);
+                assert_same(&rt, &error, &ScriptError::Memory);
             }
         }
     }
@@ -195,12 +196,12 @@ fn each_growth_of_a_traces_lines_refused_in_turn(rt: HostRuntime) {
         match told {
             Ok(text) => {
                 assert!(rt; is_whole && request > 2);
-                assert_eq!(rt; text.as_slice(), b"12\n7\n1000\n".as_slice());
+                assert_same(&rt, &text.as_slice(), &b"12\n7\n1000\n".as_slice());
                 break 'requests;
             }
             Err(fault) => {
                 assert!(rt; !is_whole);
-                assert_eq!(rt; fault, Fault::Memory);
+                assert_same(&rt, &fault, &Fault::Memory);
             }
         }
     }

@@ -1,4 +1,4 @@
-use super::{REPORT, SCRIPT};
+use super::{REPORT, SCRIPT, assert_same};
 use std::alloc::Global;
 use std::process::Abort;
 use std::test::Fail;
@@ -10,8 +10,8 @@ use tk_script::ScriptError;
 pub(super) fn assert_report(rt: &impl Abort, alloc: Global, script: &[u8], text: &[u8]) {
     for told in [report(alloc, script), report_bounded(alloc, script, 1)] {
         match told {
-            Ok(told) => assert_eq!(rt; told.as_slice(), text),
-            Err(error) => assert_eq!(rt; error, ScriptError::Memory),
+            Ok(told) => assert_same(rt, &told.as_slice(), &text),
+            Err(error) => assert_same(rt, &error, &ScriptError::Memory),
         }
     }
 }
@@ -33,10 +33,11 @@ fn tells_each_record_in_a_line(rt: HostRuntime) {
 
 #[test]
 fn reports_when_memory_is_there(rt: HostRuntime) -> Result<(), Fail> {
-    assert_eq!(rt; report(rt.alloc(), SCRIPT)?.as_slice(), REPORT);
-    assert_eq!(rt;
-        report_bounded(rt.alloc(), SCRIPT, 524_288)?.as_slice(),
-        REPORT
+    assert_same(&rt, &report(rt.alloc(), SCRIPT)?.as_slice(), &REPORT);
+    assert_same(
+        &rt,
+        &report_bounded(rt.alloc(), SCRIPT, 524_288)?.as_slice(),
+        &REPORT,
     );
     Ok(())
 }
@@ -143,7 +144,7 @@ fn names_each_fault(rt: HostRuntime) -> Result<(), Fail> {
         ),
     ];
     for (fault, text) in texts {
-        assert_eq!(rt; format!(in rt.alloc(); "{fault}")?.as_str(), text);
+        assert_same(&rt, &format!(in rt.alloc(); "{fault}")?.as_str(), &text);
     }
     Ok(())
 }

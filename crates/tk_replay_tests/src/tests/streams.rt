@@ -1,5 +1,5 @@
 use super::fakes::{Endless, Reader, Turn, Writer};
-use super::{REPORT, SCRIPT};
+use super::{REPORT, SCRIPT, assert_same};
 use std::alloc::Global;
 use std::io::{ErrorKind, Read, Write};
 use tk_replay::{Fault, replay, replay_bounded};
@@ -45,8 +45,8 @@ fn a_read_that_fails_is_not_tried_again(rt: HostRuntime) {
                     return;
                 }
                 assert_eq!(rt; outcome, Err(Fault::Read), "at {read}");
-                assert_eq!(rt; reader.reads, read + 1);
-                assert_eq!(rt; writer.calls, 0);
+                assert_same(&rt, &reader.reads, &(read + 1));
+                assert_same(&rt, &writer.calls, &0);
             }
         }
     }
@@ -58,8 +58,8 @@ fn reads_to_the_end(rt: HostRuntime) {
         let mut reader = Reader::new(SCRIPT, 12, ErrorKind::Other);
         let mut writer = willing();
         let outcome = replayed(rt.alloc(), is_bounded, &mut reader, &mut writer);
-        assert_eq!(rt; outcome, Ok(()));
-        assert_eq!(rt; writer.text(), REPORT);
+        assert_same(&rt, &outcome, &Ok(()));
+        assert_same(&rt, &writer.text(), &REPORT);
     }
 }
 
@@ -69,9 +69,9 @@ fn stops_reading_at_the_limit(rt: HostRuntime) {
         let mut reader = Endless { given: 0 };
         let mut writer = willing();
         let outcome = replayed(rt.alloc(), is_bounded, &mut reader, &mut writer);
-        assert_eq!(rt; outcome, Err(Fault::Script(ScriptError::TooLarge)));
-        assert_eq!(rt; reader.given, 16_777_217);
-        assert_eq!(rt; writer.calls, 0);
+        assert_same(&rt, &outcome, &Err(Fault::Script(ScriptError::TooLarge)));
+        assert_same(&rt, &reader.given, &16_777_217);
+        assert_same(&rt, &writer.calls, &0);
     }
 }
 
@@ -90,8 +90,8 @@ fn a_write_that_fails_is_not_tried_again(rt: HostRuntime) {
                 let outcome = replayed(rt.alloc(), is_bounded, &mut script, &mut writer);
                 let written = u64::from(write) * 10;
                 assert_eq!(rt; outcome, Err(Fault::Write { written }), "{turn:?}");
-                assert_eq!(rt; writer.text(), &REPORT[..write as usize * 10]);
-                assert_eq!(rt; writer.calls, write + 1);
+                assert_same(&rt, &writer.text(), &&REPORT[..write as usize * 10]);
+                assert_same(&rt, &writer.calls, &(write + 1));
             }
         }
     }
@@ -105,9 +105,9 @@ fn a_flush_that_fails_is_not_tried_again(rt: HostRuntime) {
             writer.flush_fault = Some(fault);
             let mut script = SCRIPT;
             let outcome = replayed(rt.alloc(), is_bounded, &mut script, &mut writer);
-            assert_eq!(rt; outcome, Err(Fault::Write { written: 97 }));
-            assert_eq!(rt; writer.text(), REPORT);
-            assert_eq!(rt; writer.calls, 11);
+            assert_same(&rt, &outcome, &Err(Fault::Write { written: 97 }));
+            assert_same(&rt, &writer.text(), &REPORT);
+            assert_same(&rt, &writer.calls, &11);
         }
     }
 }
@@ -118,8 +118,8 @@ fn writes_by_single_bytes(rt: HostRuntime) {
         let mut writer = Writer::new(1, NEVER, Turn::TakesNone);
         let mut script = SCRIPT;
         let outcome = replayed(rt.alloc(), is_bounded, &mut script, &mut writer);
-        assert_eq!(rt; outcome, Ok(()));
-        assert_eq!(rt; writer.text(), REPORT);
-        assert_eq!(rt; writer.calls, 98);
+        assert_same(&rt, &outcome, &Ok(()));
+        assert_same(&rt, &writer.text(), &REPORT);
+        assert_same(&rt, &writer.calls, &98);
     }
 }

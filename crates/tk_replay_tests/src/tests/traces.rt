@@ -1,5 +1,6 @@
 //! Traces of a script and a stamp file, and the faults of both.
 
+use super::assert_same;
 use super::fakes::{Endless, Reader, Turn, Writer};
 use std::io::{ErrorKind, Read};
 use std::process::Abort;
@@ -49,8 +50,8 @@ fn assert_trace(
     text: &[u8],
 ) {
     let mut writer = willing();
-    assert_eq!(rt; traced(rt, script, stamps, clock, &mut writer), Ok(()));
-    assert_eq!(rt; writer.text(), text);
+    assert_same(rt, &traced(rt, script, stamps, clock, &mut writer), &Ok(()));
+    assert_same(rt, &writer.text(), &text);
 }
 
 /// A trace's fault, after which nothing was written.
@@ -62,8 +63,8 @@ fn assert_fault(
 ) {
     let mut writer = willing();
     let outcome = traced(rt, script, stamps, ClockId::Monotonic, &mut writer);
-    assert_eq!(rt; outcome, Err(fault));
-    assert_eq!(rt; writer.calls, 0);
+    assert_same(rt, &outcome, &Err(fault));
+    assert_same(rt, &writer.calls, &0);
 }
 
 #[test]
@@ -122,10 +123,10 @@ fn no_stamps_are_no_byte(rt: HostRuntime) {
     for stamps in [b"".as_slice(), b"\n\r\n\n".as_slice()] {
         let mut writer = willing();
         let outcome = traced(&rt, STEERED, stamps, ClockId::Tai, &mut writer);
-        assert_eq!(rt; outcome, Ok(()));
-        assert_eq!(rt; writer.len, 0);
+        assert_same(&rt, &outcome, &Ok(()));
+        assert_same(&rt, &writer.len, &0);
         // the flush alone
-        assert_eq!(rt; writer.calls, 1);
+        assert_same(&rt, &writer.calls, &1);
     }
 }
 
@@ -220,8 +221,8 @@ fn takes_no_stamps_above_the_limit(rt: HostRuntime) -> Result<(), Fail> {
     assert_fault(&rt, STEERED, stamps.as_slice(), fault);
     let mut writer = willing();
     let outcome = traced(&rt, STEERED, &stamps[1..], ClockId::Tai, &mut writer);
-    assert_eq!(rt; outcome, Ok(()));
-    assert_eq!(rt; writer.len, 0);
+    assert_same(&rt, &outcome, &Ok(()));
+    assert_same(&rt, &writer.len, &0);
     Ok(())
 }
 
@@ -237,8 +238,8 @@ fn assert_unread<R: Read, S: Read>(
     let mut writer = willing();
     let clock = ClockId::Monotonic;
     let outcome = trace(rt, rt.alloc(), script, stamps, clock, &mut writer);
-    assert_eq!(rt; outcome, Err(Fault::Read));
-    assert_eq!(rt; writer.calls, 0);
+    assert_same(rt, &outcome, &Err(Fault::Read));
+    assert_same(rt, &writer.calls, &0);
 }
 
 #[test]
@@ -252,13 +253,13 @@ fn a_read_that_fails_is_told_before_all_other_faults(rt: HostRuntime) {
                 let mut script = Reader::new(text, read, fault);
                 let mut stamps = Reader::new(b"no stamps", NEVER, fault);
                 assert_unread(&rt, &mut script, &mut stamps);
-                assert_eq!(rt; (script.reads, stamps.reads), (read + 1, 0));
+                assert_same(&rt, &(script.reads, stamps.reads), &(read + 1, 0));
             }
             for read in 0..5 {
                 let mut script = Reader::new(text, NEVER, fault);
                 let mut stamps = Reader::new(STAMPS, read, fault);
                 assert_unread(&rt, &mut script, &mut stamps);
-                assert_eq!(rt; stamps.reads, read + 1);
+                assert_same(&rt, &stamps.reads, &(read + 1));
             }
         }
     }
@@ -277,9 +278,13 @@ fn reads_both_inputs_to_the_limit(rt: HostRuntime) {
         ClockId::Tai,
         &mut writer,
     );
-    assert_eq!(rt; outcome, Err(Fault::Script(ScriptError::TooLarge)));
-    assert_eq!(rt; (script.given, stamps.given), (16_777_217, 16_777_217));
-    assert_eq!(rt; writer.calls, 0);
+    assert_same(&rt, &outcome, &Err(Fault::Script(ScriptError::TooLarge)));
+    assert_same(
+        &rt,
+        &(script.given, stamps.given),
+        &(16_777_217, 16_777_217),
+    );
+    assert_same(&rt, &writer.calls, &0);
 }
 
 #[test]
@@ -295,8 +300,8 @@ fn a_write_that_fails_ends_it(rt: HostRuntime) {
             let outcome = traced(&rt, STEERED, STAMPS, ClockId::Monotonic, &mut writer);
             let written = u64::from(write) * 10;
             assert_eq!(rt; outcome, Err(Fault::Write { written }), "{turn:?}");
-            assert_eq!(rt; writer.text(), &TRACE[..write as usize * 10]);
-            assert_eq!(rt; writer.calls, write + 1);
+            assert_same(&rt, &writer.text(), &&TRACE[..write as usize * 10]);
+            assert_same(&rt, &writer.calls, &(write + 1));
         }
     }
 }
@@ -307,9 +312,9 @@ fn a_flush_that_fails_is_told_behind_the_text(rt: HostRuntime) {
         let mut writer = willing();
         writer.flush_fault = Some(fault);
         let outcome = traced(&rt, STEERED, STAMPS, ClockId::Monotonic, &mut writer);
-        assert_eq!(rt; outcome, Err(Fault::Write { written: 33 }));
-        assert_eq!(rt; writer.text(), TRACE);
-        assert_eq!(rt; writer.calls, 5);
+        assert_same(&rt, &outcome, &Err(Fault::Write { written: 33 }));
+        assert_same(&rt, &writer.text(), &TRACE);
+        assert_same(&rt, &writer.calls, &5);
     }
 }
 
@@ -317,7 +322,7 @@ fn a_flush_that_fails_is_told_behind_the_text(rt: HostRuntime) {
 fn writes_a_trace_by_single_bytes(rt: HostRuntime) {
     let mut writer = Writer::new(1, NEVER, Turn::TakesNone);
     let outcome = traced(&rt, STEERED, STAMPS, ClockId::Monotonic, &mut writer);
-    assert_eq!(rt; outcome, Ok(()));
-    assert_eq!(rt; writer.text(), TRACE);
-    assert_eq!(rt; writer.calls, 34);
+    assert_same(&rt, &outcome, &Ok(()));
+    assert_same(&rt, &writer.text(), &TRACE);
+    assert_same(&rt, &writer.calls, &34);
 }

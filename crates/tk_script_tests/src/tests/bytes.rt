@@ -1,4 +1,4 @@
-use super::{act, fault_of, look};
+use super::{act, assert_same, fault_of, look};
 use std::alloc::Global;
 use std::test::Fail;
 use tk_clock::{ClockId, Command};
@@ -26,7 +26,7 @@ fn tells_where_the_first_record_is_cut(rt: HostRuntime) -> Result<(), Fail> {
         );
     }
     let whole = Script::from_bytes(rt.alloc(), FIRST)?;
-    assert_eq!(rt; whole.rows.len(), 0);
+    assert_same(&rt, &whole.rows.len(), &0);
     Ok(())
 }
 
@@ -41,10 +41,10 @@ fn filled(alloc: Global, text: &[u8]) -> Result<Vec<u8>, Fail> {
 fn takes_an_open_quote_to_the_end_of_the_input(rt: HostRuntime) -> Result<(), Fail> {
     let alloc = rt.alloc();
     let opening = ScriptError::Opening { row: 1 };
-    assert_eq!(rt; fault(alloc, b"\"update,0\n")?, opening);
+    assert_same(&rt, &fault(alloc, b"\"update,0\n")?, &opening);
     let long = filled(alloc, b"open,32,16777216,24,0,1700000000,0\n\"update,0")?;
     let word = ScriptError::Word { row: 2 };
-    assert_eq!(rt; fault(alloc, long.as_slice())?, word);
+    assert_same(&rt, &fault(alloc, long.as_slice())?, &word);
     Ok(())
 }
 
@@ -52,24 +52,28 @@ fn takes_an_open_quote_to_the_end_of_the_input(rt: HostRuntime) -> Result<(), Fa
 fn takes_any_byte(rt: HostRuntime) -> Result<(), Fail> {
     let alloc = rt.alloc();
     let opening = ScriptError::Opening { row: 1 };
-    assert_eq!(rt; fault(alloc, b"\xff")?, opening);
-    assert_eq!(rt;
-        fault(alloc, b"\xffopen,32,16777216,24,0,1700000000,0")?,
-        opening
+    assert_same(&rt, &fault(alloc, b"\xff")?, &opening);
+    assert_same(
+        &rt,
+        &fault(alloc, b"\xffopen,32,16777216,24,0,1700000000,0")?,
+        &opening,
     );
-    assert_eq!(rt; fault(alloc, b"\0")?, opening);
-    assert_eq!(rt;
-        fault(alloc, b" open,32,16777216,24,0,1700000000,0")?,
-        opening
+    assert_same(&rt, &fault(alloc, b"\0")?, &opening);
+    assert_same(
+        &rt,
+        &fault(alloc, b" open,32,16777216,24,0,1700000000,0")?,
+        &opening,
     );
     let number = ScriptError::Number { row: 1 };
-    assert_eq!(rt;
-        fault(alloc, b"open,32,16777216,24,0,1700000000,\xff")?,
-        number
+    assert_same(
+        &rt,
+        &fault(alloc, b"open,32,16777216,24,0,1700000000,\xff")?,
+        &number,
     );
-    assert_eq!(rt;
-        fault(alloc, b"open,32,16777216,24,0,1700000000,\0")?,
-        number
+    assert_same(
+        &rt,
+        &fault(alloc, b"open,32,16777216,24,0,1700000000,\0")?,
+        &number,
     );
     Ok(())
 }
@@ -77,9 +81,17 @@ fn takes_any_byte(rt: HostRuntime) -> Result<(), Fail> {
 #[test]
 fn finds_no_record_in_line_feeds(rt: HostRuntime) -> Result<(), Fail> {
     let mut lines = filled(rt.alloc(), b"")?;
-    assert_eq!(rt; fault(rt.alloc(), lines.as_slice())?, ScriptError::Empty);
+    assert_same(
+        &rt,
+        &fault(rt.alloc(), lines.as_slice())?,
+        &ScriptError::Empty,
+    );
     lines.push(b'\n')?;
-    assert_eq!(rt; fault(rt.alloc(), lines.as_slice())?, ScriptError::TooLarge);
+    assert_same(
+        &rt,
+        &fault(rt.alloc(), lines.as_slice())?,
+        &ScriptError::TooLarge,
+    );
     Ok(())
 }
 
@@ -99,7 +111,7 @@ fn takes_carriage_returns_before_line_feeds(rt: HostRuntime) -> Result<(), Fail>
         look(2_147_483_648, ClockId::Monotonic),
         act(0, Command::Update),
     ];
-    assert_eq!(rt; script.rows.as_slice(), rows.as_slice());
+    assert_same(&rt, &script.rows.as_slice(), &rows.as_slice());
     Ok(())
 }
 
@@ -116,10 +128,10 @@ fn repeated(alloc: Global, text: &[u8]) -> Result<Vec<u8>, Fail> {
 #[test]
 fn tells_the_fault_of_records_of_one_byte(rt: HostRuntime) -> Result<(), Fail> {
     let bytes = repeated(rt.alloc(), b"x\n")?;
-    assert_eq!(rt; bytes.len(), 16_777_216);
+    assert_same(&rt, &bytes.len(), &16_777_216);
     let opening = ScriptError::Opening { row: 1 };
-    assert_eq!(rt; fault(rt.alloc(), bytes.as_slice())?, opening);
+    assert_same(&rt, &fault(rt.alloc(), bytes.as_slice())?, &opening);
     let told = Stamps::from_bytes(rt.alloc(), bytes.as_slice());
-    assert_eq!(rt; fault_of(told)?, ScriptError::Fields { row: 1 });
+    assert_same(&rt, &fault_of(told)?, &ScriptError::Fields { row: 1 });
     Ok(())
 }

@@ -1,4 +1,4 @@
-use super::{OPENING, act, look, time};
+use super::{OPENING, act, assert_same, look, time};
 use std::alloc::Global;
 use std::process::Abort;
 use std::test::Fail;
@@ -8,7 +8,7 @@ use tk_script::{Row, Script};
 /// The rows of a script.
 fn assert_rows(rt: &impl Abort, alloc: Global, bytes: &[u8], rows: &[Row]) -> Result<(), Fail> {
     let script = Script::from_bytes(alloc, bytes)?;
-    assert_eq!(rt; script.rows.as_slice(), rows);
+    assert_same(rt, &script.rows.as_slice(), &rows);
     Ok(())
 }
 
@@ -100,11 +100,11 @@ get,7,tai
 #[test]
 fn reads_a_script_over_a_counter_of_24_megahertz(rt: HostRuntime) -> Result<(), Fail> {
     let script = Script::from_bytes(rt.alloc(), FREQUENCY)?;
-    assert_eq!(rt; script.desc.bits(), 32);
-    assert_eq!(rt; script.desc.mult(), 699_050_667);
-    assert_eq!(rt; script.desc.shift(), 24);
-    assert_eq!(rt; script.reading, 0);
-    assert_eq!(rt; script.real, time(1_700_000_000, 0));
+    assert_same(&rt, &script.desc.bits(), &32);
+    assert_same(&rt, &script.desc.mult(), &699_050_667);
+    assert_same(&rt, &script.desc.shift(), &24);
+    assert_same(&rt, &script.reading, &0);
+    assert_same(&rt, &script.real, &time(1_700_000_000, 0));
     let rows = [
         look(24_000_000, ClockId::Monotonic),
         act(24_000_000, Command::Tai(37)),
@@ -115,7 +115,7 @@ fn reads_a_script_over_a_counter_of_24_megahertz(rt: HostRuntime) -> Result<(), 
         look(7, ClockId::Boottime),
         look(7, ClockId::Tai),
     ];
-    assert_eq!(rt; script.rows.as_slice(), rows.as_slice());
+    assert_same(&rt, &script.rows.as_slice(), &rows.as_slice());
     Ok(())
 }
 

@@ -1,3 +1,4 @@
+use super::assert_same;
 use std::test::Fail;
 use tk_script::utc;
 
@@ -12,7 +13,7 @@ fn tells_the_date_of_a_second(rt: HostRuntime) -> Result<(), Fail> {
         (4_107_542_400, 0, "2100-03-01T00:00:00.000000000Z"),
         (9_223_372_035, 999_999_999, "2262-04-11T23:47:15.999999999Z"),
     ] {
-        assert_eq!(rt; utc(rt.alloc(), sec, nsec)?.as_str(), want);
+        assert_same(&rt, &utc(rt.alloc(), sec, nsec)?.as_str(), &want);
     }
     Ok(())
 }

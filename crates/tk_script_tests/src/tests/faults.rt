@@ -1,4 +1,4 @@
-use super::{OPENING, fault_of};
+use super::{OPENING, assert_same, fault_of};
 use std::alloc::Global;
 use std::test::Fail;
 use tk_script::{Script, ScriptError};
@@ -47,7 +47,7 @@ fn tells_the_fault_of_the_first_record(rt: HostRuntime) -> Result<(), Fail> {
         ),
         (b"open,7,16777216,24,0,1700000000,-0".as_slice(), number),
     ] {
-        assert_eq!(rt; fault(rt.alloc(), bytes)?, want);
+        assert_same(&rt, &fault(rt.alloc(), bytes)?, &want);
     }
     Ok(())
 }
@@ -102,7 +102,7 @@ fn tells_the_fault_of_a_later_record(rt: HostRuntime) -> Result<(), Fail> {
         ),
         (b"update\nfoo".as_slice(), fields),
     ] {
-        assert_eq!(rt; fault_after_opening(rt.alloc(), records)?, want);
+        assert_same(&rt, &fault_after_opening(rt.alloc(), records)?, &want);
     }
     Ok(())
 }
@@ -117,10 +117,11 @@ fn fault_of_size(alloc: Global, len: usize) -> Result<ScriptError, Fail> {
 #[test]
 fn refuses_a_script_by_its_length(rt: HostRuntime) -> Result<(), Fail> {
     let opening = ScriptError::Opening { row: 1 };
-    assert_eq!(rt; fault_of_size(rt.alloc(), 16_777_216)?, opening);
-    assert_eq!(rt;
-        fault_of_size(rt.alloc(), 16_777_217)?,
-        ScriptError::TooLarge
+    assert_same(&rt, &fault_of_size(rt.alloc(), 16_777_216)?, &opening);
+    assert_same(
+        &rt,
+        &fault_of_size(rt.alloc(), 16_777_217)?,
+        &ScriptError::TooLarge,
     );
     Ok(())
 }
@@ -133,7 +134,7 @@ fn counts_the_records_before_a_fault(rt: HostRuntime) -> Result<(), Fail> {
     }
     bytes.extend_from_slice(b"update")?;
     let want = ScriptError::Fields { row: 1002 };
-    assert_eq!(rt; fault(rt.alloc(), bytes.as_slice())?, want);
+    assert_same(&rt, &fault(rt.alloc(), bytes.as_slice())?, &want);
     Ok(())
 }
 
@@ -157,7 +158,7 @@ fn shows_each_fault(rt: HostRuntime) -> Result<(), Fail> {
         ),
         (ScriptError::Memory, "out of memory"),
     ] {
-        assert_eq!(rt; fault.to_string(rt.alloc())?.as_str(), want);
+        assert_same(&rt, &fault.to_string(rt.alloc())?.as_str(), &want);
     }
     Ok(())
 }

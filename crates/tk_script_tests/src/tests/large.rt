@@ -1,6 +1,6 @@
 //! No count of rows or stamps is too many: the bytes alone have a limit.
 
-use super::{OPENING, act};
+use super::{OPENING, act, assert_same};
 use std::alloc::{AllocError, Global};
 use std::test::Fail;
 use tk_clock::Command;
@@ -25,8 +25,9 @@ fn repeated(alloc: Global, text: &[u8], record: &[u8], many: usize) -> Result<Ve
 fn takes_a_script_of_more_rows_than_a_journal_lists(rt: HostRuntime) -> Result<(), Fail> {
     let bytes = repeated(rt.alloc(), OPENING, b"update,7\n", ROWS)?;
     let script = Script::from_bytes(rt.alloc(), bytes.as_slice())?;
-    assert_eq!(rt; script.rows.len(), ROWS);
-    assert_eq!(rt; script.rows[ROWS - 1], act(7, Command::Update));
+    assert_same(&rt, &script.rows.len(), &ROWS);
+    let last = script.rows.last();
+    assert_same(&rt, &last, &Some(&act(7, Command::Update)));
     Ok(())
 }
 
@@ -34,7 +35,15 @@ fn takes_a_script_of_more_rows_than_a_journal_lists(rt: HostRuntime) -> Result<(
 fn takes_more_than_a_million_stamps(rt: HostRuntime) -> Result<(), Fail> {
     let bytes = repeated(rt.alloc(), b"", b"3,5\n", STAMPS)?;
     let told = Stamps::from_bytes(rt.alloc(), bytes.as_slice())?;
-    assert_eq!(rt; (told.fronts.len(), told.stamps.len()), (STAMPS, STAMPS));
-    assert_eq!(rt; (told.fronts[STAMPS - 1], told.stamps[STAMPS - 1]), (3, 5));
+    assert_same(
+        &rt,
+        &(told.fronts.len(), told.stamps.len()),
+        &(STAMPS, STAMPS),
+    );
+    assert_same(
+        &rt,
+        &(told.fronts.last(), told.stamps.last()),
+        &(Some(&3), Some(&5)),
+    );
     Ok(())
 }

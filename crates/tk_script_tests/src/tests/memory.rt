@@ -1,5 +1,6 @@
 //! Each growth refused in turn: `Memory`, and nothing changed, or the whole answer.
 
+use super::assert_same;
 use std::alloc::Allocator;
 use std::test::Fail;
 use tk_clock::{ClockId, Refusal, Timespec};
@@ -22,7 +23,7 @@ fn tells_utc_or_nothing(rt: HostRuntime) -> Result<(), Fail> {
         match told {
             Ok(text) => {
                 assert!(rt; granted && request > 1);
-                assert_eq!(rt; text.as_str(), "2023-11-14T22:13:20.000000005Z");
+                assert_same(&rt, &text.as_str(), &"2023-11-14T22:13:20.000000005Z");
                 return Ok(());
             }
             Err(error) => assert!(rt; !granted && error == ScriptError::Memory),
@@ -81,12 +82,12 @@ fn writes_a_line_or_nothing(rt: HostRuntime) -> Result<(), Fail> {
             is_whole = heap.grant_all();
             if is_whole {
                 assert_eq!(rt; written, Ok(()), "{line:?}");
-                assert_eq!(rt; out.as_slice(), whole);
+                assert_same(&rt, &out.as_slice(), &whole);
                 assert!(rt; request > 1, "{line:?}");
                 break 'requests;
             }
             assert_eq!(rt; written, Err(ScriptError::Memory), "{line:?} at {request}");
-            assert_eq!(rt; out.as_slice(), b"-".as_slice());
+            assert_same(&rt, &out.as_slice(), &b"-".as_slice());
         }
         assert!(rt; is_whole, "{line:?}");
     }
@@ -114,11 +115,15 @@ fn a_calendar_that_was_refused_a_date_goes_on(rt: HostRuntime) -> Result<(), Fai
             let before = out.len();
             let written = calendar.line_at(&mut out, ClockId::Realtime, time);
             if written == Err(ScriptError::Memory) {
-                assert_eq!(rt; out.len(), before);
-                assert_eq!(rt; calendar.line_at(&mut out, ClockId::Realtime, time), Ok(()));
+                assert_same(&rt, &out.len(), &before);
+                assert_same(
+                    &rt,
+                    &calendar.line_at(&mut out, ClockId::Realtime, time),
+                    &Ok(()),
+                );
             }
         }
-        assert_eq!(rt; out.len(), LENGTH);
+        assert_same(&rt, &out.len(), &LENGTH);
         assert!(rt; out.ends_with(b"1708553600.000000000,2024-02-21T22:13:20.000000000Z\n"));
         if heap.grant_all() {
             assert!(rt; request > u64::from(DAYS));

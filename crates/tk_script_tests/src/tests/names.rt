@@ -1,3 +1,4 @@
+use super::assert_same;
 use tk_clock::ClockId;
 use tk_script::{clock_word, number};
 
@@ -26,7 +27,7 @@ fn tells_numbers(rt: HostRuntime) {
         (b"/1".as_slice(), None),
         (b"\xd9\xa1".as_slice(), None),
     ] {
-        assert_eq!(rt; number(field), want);
+        assert_same(&rt, &number(field), &want);
     }
 }
 
@@ -49,6 +50,6 @@ fn tells_clock_words(rt: HostRuntime) {
         (b"boottime_coarse".as_slice(), None),
         (b"".as_slice(), None),
     ] {
-        assert_eq!(rt; clock_word(word), want);
+        assert_same(&rt, &clock_word(word), &want);
     }
 }

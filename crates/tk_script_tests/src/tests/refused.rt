@@ -1,7 +1,7 @@
 //! Scripts and stamps take the process's memory alone, since `csv` does. Where that is refused, by
 //! `rt try --test --fail-alloc N -- refused::`, a test ends by `Memory`; else it gives the answer.
 
-use super::{act, look};
+use super::{act, assert_same, look};
 use std::test::Fail;
 use tk_clock::{ClockId, Command};
 use tk_script::{Script, ScriptError, Stamps};
@@ -34,11 +34,11 @@ fn reads_a_script_where_memory_is_there(rt: HostRuntime) -> Result<(), Fail> {
                 update,
                 update,
             ];
-            assert_eq!(rt; script.rows.as_slice(), rows.as_slice());
+            assert_same(&rt, &script.rows.as_slice(), &rows.as_slice());
             Ok(())
         }
         Err(error) => {
-            assert_eq!(rt; error, ScriptError::Memory);
+            assert_same(&rt, &error, &ScriptError::Memory);
             Err(error)?
         }
     }
@@ -49,16 +49,17 @@ fn reads_stamps_where_memory_is_there(rt: HostRuntime) -> Result<(), Fail> {
     let bytes = b"1,18446744073709551615\n2,2\n3,3\n4,4\n5,5\n6,6\n7,7\n8,8\n9,9\n";
     match Stamps::from_bytes(rt.alloc(), bytes) {
         Ok(told) => {
-            assert_eq!(rt;
-                told.fronts.as_slice(),
-                [1, 2, 3, 4, 5, 6, 7, 8, 9].as_slice()
+            assert_same(
+                &rt,
+                &told.fronts.as_slice(),
+                &[1, 2, 3, 4, 5, 6, 7, 8, 9].as_slice(),
             );
             let stamps = [u64::MAX, 2, 3, 4, 5, 6, 7, 8, 9];
-            assert_eq!(rt; told.stamps.as_slice(), stamps.as_slice());
+            assert_same(&rt, &told.stamps.as_slice(), &stamps.as_slice());
             Ok(())
         }
         Err(error) => {
-            assert_eq!(rt; error, ScriptError::Memory);
+            assert_same(&rt, &error, &ScriptError::Memory);
             Err(error)?
         }
     }

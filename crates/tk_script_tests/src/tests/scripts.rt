@@ -1,4 +1,4 @@
-use super::{act, look, time};
+use super::{act, assert_same, look, time};
 use std::test::Fail;
 use tk_clock::{ClockId, Command};
 use tk_script::{Row, Script};
@@ -13,14 +13,13 @@ fn reads_an_opening_and_rows(rt: HostRuntime) -> Result<(), Fail> {
         rt.alloc(),
         b"open,32,16777216,24,5,1700000000,7\nupdate,007\nget,9,monotonic\n",
     )?;
-    assert_eq!(rt; script.desc.bits(), 32);
-    assert_eq!(rt; script.desc.mult(), 16_777_216);
-    assert_eq!(rt; script.desc.shift(), 24);
-    assert_eq!(rt; script.reading, 5);
-    assert_eq!(rt; script.real, time(1_700_000_000, 7));
-    assert_eq!(rt; script.rows.len(), 2);
-    assert_eq!(rt; script.rows[0], update(7));
-    assert_eq!(rt; script.rows[1], look(9, ClockId::Monotonic));
+    assert_same(&rt, &script.desc.bits(), &32);
+    assert_same(&rt, &script.desc.mult(), &16_777_216);
+    assert_same(&rt, &script.desc.shift(), &24);
+    assert_same(&rt, &script.reading, &5);
+    assert_same(&rt, &script.real, &time(1_700_000_000, 7));
+    let rows = [update(7), look(9, ClockId::Monotonic)];
+    assert_same(&rt, &script.rows.as_slice(), &rows.as_slice());
     Ok(())
 }
 
@@ -33,7 +32,7 @@ fn takes_quotes_and_each_line_end(rt: HostRuntime) -> Result<(), Fail> {
         b"open,32,16777216,24,0,1700000000,0\nupdate,\"7".as_slice(),
     ] {
         let script = Script::from_bytes(rt.alloc(), bytes)?;
-        assert_eq!(rt; script.rows.as_slice(), [update(7)].as_slice());
+        assert_same(&rt, &script.rows.as_slice(), &[update(7)].as_slice());
     }
     Ok(())
 }
@@ -45,7 +44,7 @@ fn grows_the_rows(rt: HostRuntime) -> Result<(), Fail> {
         bytes.extend_from_slice(b"update,18446744073709551615\n")?;
     }
     let script = Script::from_bytes(rt.alloc(), bytes.as_slice())?;
-    assert_eq!(rt; script.rows.len(), 100);
-    assert_eq!(rt; script.rows[99], update(u64::MAX));
+    assert_same(&rt, &script.rows.len(), &100);
+    assert_same(&rt, &script.rows.last(), &Some(&update(u64::MAX)));
     Ok(())
 }

@@ -1,7 +1,7 @@
 //! A text is read as lines cut at their commas, or by csv's reader where it has a quote, a carriage
 //! return or a byte order mark. Both give the same rows, stamps and faults.
 
-use super::{act, fault_of, look};
+use super::{act, assert_same, fault_of, look};
 use std::test::Fail;
 use tk_clock::{ClockId, Command};
 use tk_script::{Row, Script, ScriptError, Stamps};
@@ -54,7 +54,7 @@ get,000000000000000000000003,realtime\n"
             .as_slice(),
     ] {
         let script = Script::from_bytes(rt.alloc(), text)?;
-        assert_eq!(rt; script.rows.as_slice(), rows.as_slice());
+        assert_same(&rt, &script.rows.as_slice(), &rows.as_slice());
     }
     Ok(())
 }
@@ -155,12 +155,12 @@ fn both_ways_tell_the_same_fault(rt: HostRuntime) -> Result<(), Fail> {
         let mut plain = first.to_vec(rt.alloc())?;
         plain.extend_from_slice(later)?;
         let told = Script::from_bytes(rt.alloc(), plain.as_slice());
-        assert_eq!(rt; fault_of(told)?, want);
+        assert_same(&rt, &fault_of(told)?, &want);
         // a carriage return in front of a line feed, or at the end, leaves the records as they are
         let mut other = plain.clone()?;
         other.extend_from_slice(b"\n\r\n")?;
         let told = Script::from_bytes(rt.alloc(), other.as_slice());
-        assert_eq!(rt; fault_of(told)?, want);
+        assert_same(&rt, &fault_of(told)?, &want);
     }
     Ok(())
 }
@@ -177,7 +177,7 @@ fn a_quote_within_a_field_is_a_byte(rt: HostRuntime) -> Result<(), Fail> {
             ScriptError::Word { row: 2 },
         ),
     ] {
-        assert_eq!(rt; fault_of(Script::from_bytes(rt.alloc(), text))?, want);
+        assert_same(&rt, &fault_of(Script::from_bytes(rt.alloc(), text))?, &want);
     }
     Ok(())
 }
@@ -192,8 +192,8 @@ fn both_ways_give_the_same_stamps(rt: HostRuntime) -> Result<(), Fail> {
         b"\xef\xbb\xbf0,1\n2,18446744073709551615\n4,000000000000000000005\n",
     ] {
         let told = Stamps::from_bytes(rt.alloc(), text)?;
-        assert_eq!(rt; told.fronts.as_slice(), [0, 2, 4].as_slice());
-        assert_eq!(rt; told.stamps.as_slice(), [1, u64::MAX, 5].as_slice());
+        assert_same(&rt, &told.fronts.as_slice(), &[0, 2, 4].as_slice());
+        assert_same(&rt, &told.stamps.as_slice(), &[1, u64::MAX, 5].as_slice());
     }
     for (text, want) in [
         (b"0,1\n2,3,\n".as_slice(), ScriptError::Fields { row: 2 }),
@@ -202,7 +202,7 @@ fn both_ways_give_the_same_stamps(rt: HostRuntime) -> Result<(), Fail> {
         (b"0,1\n\"2\",\n", ScriptError::Number { row: 2 }),
         (b"\xef0,1\n", ScriptError::Number { row: 1 }),
     ] {
-        assert_eq!(rt; fault_of(Stamps::from_bytes(rt.alloc(), text))?, want);
+        assert_same(&rt, &fault_of(Stamps::from_bytes(rt.alloc(), text))?, &want);
     }
     Ok(())
 }

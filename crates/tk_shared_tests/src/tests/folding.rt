@@ -2,7 +2,7 @@
 ghost use Rattle.std.specs.Prelude.{◌≡◌};
 ghost use Rattle.tk_shared.specs.Opening.{IsNamed};
 
-use super::{both, commanded, glanced, open_two, read_by, ready};
+use super::{assert_same, both, commanded, glanced, open_two, read_by, ready};
 use std::alloc::Global;
 use std::marker::Brand;
 use std::process::Abort;
@@ -35,10 +35,10 @@ fn fills<L: Named, R: Wait + Abort>(
     }
     assert!(rt; is_good);
     let refused = commanded(rt, &keeper, &mut caller, Command::Update);
-    assert_eq!(rt; refused, Err(Refusal::Full));
-    assert_eq!(rt; keeper.fold(rt, 1), 1_048_575);
+    assert_same(rt, &refused, &Err(Refusal::Full));
+    assert_same(rt, &keeper.fold(rt, 1), &1_048_575);
     let accepted = commanded(rt, &keeper, &mut caller, Command::Update);
-    assert_eq!(rt; accepted, Ok(1_048_577));
+    assert_same(rt, &accepted, &Ok(1_048_577));
     Ok(())
 }
 
@@ -69,12 +69,13 @@ fn folds<L: Named, R: Wait + Abort>(
         .close(rt, both(alloc, one, two)?)
         .ok()
         .ok_or("closed")?;
-    assert_eq!(rt;
-        (first, second, third, fourth),
-        (Ok(1), Ok(2), Ok(3), Ok(4))
+    assert_same(
+        rt,
+        &(first, second, third, fourth),
+        &(Ok(1), Ok(2), Ok(3), Ok(4)),
     );
-    assert_eq!(rt; (folded, fronts, seen), (2, (3, 2), 3));
-    assert_eq!(rt; fast.ok().ok_or("a fast read")?.front(), 3);
-    assert_eq!(rt; (closed.keeper.len(), closed.keeper.folded()), (4, 2));
+    assert_same(rt, &(folded, fronts, seen), &(2, (3, 2), 3));
+    assert_same(rt, &fast.ok().ok_or("a fast read")?.front(), &3);
+    assert_same(rt, &(closed.keeper.len(), closed.keeper.folded()), &(4, 2));
     Ok(())
 }

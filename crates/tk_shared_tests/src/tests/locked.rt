@@ -1,7 +1,7 @@
 //! Reads are answered while a command holds the lock.
 ghost use Rattle.tk_shared.specs.Opening.{IsNamed};
 
-use super::{commanded, glanced, read_by, ready};
+use super::{assert_same, commanded, glanced, read_by, ready};
 use std::alloc::Global;
 use std::marker::Brand;
 use std::process::Abort;
@@ -9,8 +9,9 @@ use std::sync::Wait;
 use std::sync::atomic::{AtomicU64, Ordering};
 use std::test::Fail;
 use std::thread::{self, Threads, join};
-use tk_clock::Command;
-use tk_shared::{Counter, Named, Prepared, SharedKeeper};
+use tk_clock::{Command, Refusal, Snapshot};
+use tk_latch::Moved;
+use tk_shared::{Caller, Counter, Named, Prepared, SharedKeeper};
 
 /// How often a thread looks for the other before it gives up.
 const TURNS: u32 = 50_000_000;
@@ -45,6 +46,32 @@ fn is_set(flag: &AtomicU64) -> bool {
     false
 }
 
+/// An Update, and the reading that the clocks then have.
+fn updates<L: Named, C: Counter, R: Wait>(
+    rt: &R,
+    keeper: &SharedKeeper<L, C>,
+    mut caller: Caller<L>,
+) -> (Result<u64, Refusal>, u64) {
+    let done = commanded(rt, keeper, &mut caller, Command::Update);
+    (done, read_by(rt, keeper, &mut caller).last())
+}
+
+/// Both reads while a command holds the lock, which is let go after them: was it held, and what did
+/// they find?
+fn reads<L: Named, C: Counter, R: Wait>(
+    rt: &R,
+    keeper: &SharedKeeper<L, C>,
+    mut caller: Caller<L>,
+    inside: &AtomicU64,
+    answered: &AtomicU64,
+) -> (bool, Result<Snapshot, Moved>, u64) {
+    let entered = is_set(inside);
+    let fast = glanced(keeper, &mut caller);
+    let front = read_by(rt, keeper, &mut caller).front();
+    answered.store(1, Ordering::SeqCst);
+    (entered, fast, front)
+}
+
 #[test]
 fn reads_are_answered_while_a_command_holds_the_lock(rt: HostRuntime) -> Result<(), Fail> {
     let inside = AtomicU64::new(0);
@@ -70,25 +97,16 @@ fn beside<'a, L: Named + Send + Sync, R: Threads + Wait + Abort + Sync>(
     let (keeper, mut callers) = SharedKeeper::<L, Waits<'a>>::open(alloc, prepared)
         .ok()
         .ok_or("opened")?;
-    let mut one = callers.pop().ok_or("a caller")?;
-    let mut two = callers.pop().ok_or("a caller")?;
+    let one = callers.pop().ok_or("a caller")?;
+    let two = callers.pop().ok_or("a caller")?;
     let shared = &keeper;
     let ((done, last), (entered, fast, front)) = join(
         rt,
-        move || {
-            let done = commanded(rt, shared, &mut one, Command::Update);
-            (done, read_by(rt, shared, &mut one).last())
-        },
-        move || {
-            let entered = is_set(inside);
-            let fast = glanced(shared, &mut two);
-            let front = read_by(rt, shared, &mut two).front();
-            answered.store(1, Ordering::SeqCst);
-            (entered, fast, front)
-        },
+        move || updates(rt, shared, one),
+        move || reads(rt, shared, two, inside, answered),
     );
-    assert_eq!(rt; (entered, done, last), (true, Ok(1), 1));
-    assert_eq!(rt; front, 0);
-    assert_eq!(rt; fast.ok().ok_or("a fast read")?.front(), 0);
+    assert_same(rt, &(entered, done, last), &(true, Ok(1), 1));
+    assert_same(rt, &front, &0);
+    assert_same(rt, &fast.ok().ok_or("a fast read")?.front(), &0);
     Ok(())
 }

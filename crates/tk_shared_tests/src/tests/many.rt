@@ -2,7 +2,9 @@
 ghost use Rattle.std.specs.Prelude.{◌≡◌, IfOk};
 ghost use Rattle.tk_shared.specs.Opening.{IsNamed};
 
-use super::{OPENED_TIME, commanded, glanced, nanosecond_counter, read_by, ready, time};
+use super::{
+    OPENED_TIME, assert_same, commanded, glanced, nanosecond_counter, read_by, ready, time,
+};
 use std::alloc::{AllocError, Global};
 use std::marker::Brand;
 use std::process::Abort;
@@ -17,6 +19,9 @@ use tk_shared::{Caller, Named, Prepared, SharedKeeper, Ticker};
 const COMMANDS: u64 = 50_000;
 
 const READ_EVERY: u64 = 250;
+
+/// The cycles from one reading of the ticker to the next.
+const STEP: u64 = 1_000;
 
 /// One of every kind, in turn.
 fn command_of(turn: u64) -> Command {
@@ -122,32 +127,27 @@ fn two_callers<L: Named + Send + Sync, R: Threads + Wait + Sync>(
     )
 }
 
-/// The same journal, entered again command by command: each snapshot that was read is that of the
-/// first entries, as many as its front.
+/// The same journal, entered again command by command, each at one of the ticker's readings: each
+/// snapshot that was read is that of the first entries, as many as its front.
 fn agrees<R: Abort>(rt: &R, alloc: Global, keeper: &Timekeeper, seen: &Seen) -> Result<(), Fail> {
     let mut again = Timekeeper::open(alloc, nanosecond_counter()?, 0, OPENED_TIME)?;
     for number in 1..=keeper.len() as u64 {
         let entry = keeper.entry(number).ok_or("an entry")?;
         let answer = again.apply(entry.who, entry.reading, entry.cmd);
-        assert_eq!(rt; answer, Ok(number));
-        assert_eq!(rt; entry.reading, read_at(entry.reading));
+        assert_same(rt, &answer, &Ok(number));
+        assert_same(rt, &(entry.reading % STEP), &0);
     }
-    assert_eq!(rt; again.snapshot().words(), keeper.snapshot().words());
+    assert_same(rt, &again.snapshot().words(), &keeper.snapshot().words());
     for snapshot in seen.snapshots.iter() {
         let past = again.snapshot_at(snapshot.front()).ok().ok_or("a front")?;
-        assert_eq!(rt; past.words(), snapshot.words());
+        assert_same(rt, &past.words(), &snapshot.words());
     }
     Ok(())
 }
 
-/// A reading that the ticker may have given.
-fn read_at(reading: u64) -> u64 {
-    reading / 1_000 * 1_000
-}
-
 #[test]
 fn four_callers_share_one_history(rt: HostRuntime) -> Result<(), Fail> {
-    let prepared = ready(&rt, rt.alloc(), Ticker::new(0, 1_000), 4)?;
+    let prepared = ready(&rt, rt.alloc(), Ticker::new(0, STEP), 4)?;
     four::<Brand, _>(&rt, rt.alloc(), prepared)
 }
 
@@ -177,7 +177,7 @@ fn four<L: Named + Send + Sync, R: Threads + Wait + Abort + Sync>(
     let (two, three) = (two_saw?, three_saw?);
     let lower = zero.accepted.wrapping_add(one.accepted);
     let upper = two.accepted.wrapping_add(three.accepted);
-    assert_eq!(rt; closed.len() as u64, lower.wrapping_add(upper));
+    assert_same(rt, &(closed.len() as u64), &lower.wrapping_add(upper));
     assert!(rt; zero.is_good && one.is_good && two.is_good && three.is_good);
     agrees(rt, alloc, &closed, &zero)?;
     agrees(rt, alloc, &closed, &one)?;

@@ -2,7 +2,7 @@
 ghost use Rattle.std.specs.Prelude.{◌≡◌};
 ghost use Rattle.tk_shared.specs.Opening.{IsNamed};
 
-use super::{OPENED_TIME, commanded, nanosecond_counter, read_by};
+use super::{OPENED_TIME, assert_same, commanded, nanosecond_counter, read_by};
 use std::alloc::Global;
 use std::marker::Brand;
 use std::process::Abort;
@@ -19,7 +19,7 @@ const COMMANDS: u64 = 600;
 /// The counter came back for want of memory, after it was read once.
 fn came_back<R: Abort>(rt: &R, fault: OpenFault<Ticker>) -> Result<(), Fail> {
     let OpenFault { error, mut counter } = fault;
-    assert_eq!(rt; (error, counter.read()), (OpenError::Memory, 10));
+    assert_same(rt, &(error, counter.read()), &(OpenError::Memory, 10));
     Ok(())
 }
 
@@ -56,13 +56,13 @@ fn opened<L: Named, R: Wait + Abort>(
     let accepted = one.accepted();
     let Ok(mut callers) = Vec::with_capacity(alloc, 2) else {
         // the request of this test itself was refused
-        assert_eq!(rt; accepted, COMMANDS);
+        assert_same(rt, &accepted, &COMMANDS);
         return Ok(());
     };
     callers.push_reserved(one);
     callers.push_reserved(two);
     let closed = keeper.close(rt, callers).ok().ok_or("closed")?;
-    assert_eq!(rt; closed.keeper.len() as u64, accepted);
+    assert_same(rt, &(closed.keeper.len() as u64), &accepted);
     Ok(())
 }
 
@@ -80,13 +80,17 @@ fn gives_all<L: Named, R: Wait + Abort>(
         match commanded(rt, keeper, caller, Command::Update) {
             Ok(number) => {
                 accepted = accepted.wrapping_add(1);
-                assert_eq!(rt; number, accepted);
+                assert_same(rt, &number, &accepted);
             }
-            Err(refusal) => assert_eq!(rt; refusal, Refusal::Memory),
+            Err(refusal) => assert_same(rt, &refusal, &Refusal::Memory),
         }
         let seen = read_by(rt, keeper, caller).front();
         let known = (caller.front(), caller.mark(), caller.accepted());
-        assert_eq!(rt; (seen, known), (accepted, (accepted, accepted, accepted)));
+        assert_same(
+            rt,
+            &(seen, known),
+            &(accepted, (accepted, accepted, accepted)),
+        );
     }
     // one request at most is refused
     assert!(rt; accepted >= COMMANDS - 1);

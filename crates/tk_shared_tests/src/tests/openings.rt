@@ -1,4 +1,4 @@
-use super::{OPENED_TIME, nanosecond_counter, time};
+use super::{OPENED_TIME, assert_same, nanosecond_counter, time};
 use std::alloc::Global;
 use std::process::Abort;
 use std::sync::Wait;
@@ -22,25 +22,30 @@ fn refused<R: Wait>(
 
 #[test]
 fn each_fault_hands_the_counter_back(rt: HostRuntime) -> Result<(), Fail> {
-    assert_eq!(rt;
-        refused(&rt, rt.alloc(), 0, OPENED_TIME)?,
-        (OpenError::Count, 7)
+    assert_same(
+        &rt,
+        &refused(&rt, rt.alloc(), 0, OPENED_TIME)?,
+        &(OpenError::Count, 7),
     );
-    assert_eq!(rt;
-        refused(&rt, rt.alloc(), 65, OPENED_TIME)?,
-        (OpenError::Count, 7)
+    assert_same(
+        &rt,
+        &refused(&rt, rt.alloc(), 65, OPENED_TIME)?,
+        &(OpenError::Count, 7),
     );
-    assert_eq!(rt;
-        refused(&rt, rt.alloc(), 0, time(-1, 0))?,
-        (OpenError::Count, 7)
+    assert_same(
+        &rt,
+        &refused(&rt, rt.alloc(), 0, time(-1, 0))?,
+        &(OpenError::Count, 7),
     );
-    assert_eq!(rt;
-        refused(&rt, rt.alloc(), 1, time(-1, 0))?,
-        (OpenError::Invalid, 8)
+    assert_same(
+        &rt,
+        &refused(&rt, rt.alloc(), 1, time(-1, 0))?,
+        &(OpenError::Invalid, 8),
     );
-    assert_eq!(rt;
-        refused(&rt, rt.alloc(), 64, time(8_277_292_036, 0))?,
-        (OpenError::Invalid, 8)
+    assert_same(
+        &rt,
+        &refused(&rt, rt.alloc(), 64, time(8_277_292_036, 0))?,
+        &(OpenError::Invalid, 8),
     );
     Ok(())
 }

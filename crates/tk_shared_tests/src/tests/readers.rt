@@ -1,7 +1,7 @@
 //! One thread commands while another reads the latch.
 ghost use Rattle.tk_shared.specs.Opening.{IsNamed};
 
-use super::{commanded, glanced, read_by, ready};
+use super::{assert_same, commanded, glanced, read_by, ready};
 use std::alloc::Global;
 use std::marker::Brand;
 use std::process::Abort;
@@ -101,6 +101,6 @@ fn beside<L: Named + Send + Sync, R: Threads + Wait + Abort + Sync>(
         move || commands(rt, shared, one, flag),
         move || glances(rt, shared, two, flag),
     );
-    assert_eq!(rt; (commanded, read), (true, true));
+    assert_same(rt, &(commanded, read), &(true, true));
     Ok(())
 }

@@ -1,7 +1,7 @@
 //! What the counter answers.
 ghost use Rattle.tk_shared.specs.Opening.{IsNamed};
 
-use super::{commanded, read_by, ready, time};
+use super::{assert_same, commanded, read_by, ready, time};
 use std::alloc::Global;
 use std::marker::Brand;
 use std::process::Abort;
@@ -38,15 +38,16 @@ fn updated<L: Named, C: Counter, R: Wait + Abort>(
         .ok()
         .ok_or("opened")?;
     let mut caller = callers.pop().ok_or("a caller")?;
-    assert_eq!(rt;
-        commanded(rt, &keeper, &mut caller, Command::Update),
-        answer
+    assert_same(
+        rt,
+        &commanded(rt, &keeper, &mut caller, Command::Update),
+        &answer,
     );
     let seen = read_by(rt, &keeper, &mut caller);
-    assert_eq!(rt; seen.front(), answer.unwrap_or(0));
-    assert_eq!(rt; caller.accepted(), seen.front());
-    assert_eq!(rt; seen.last(), last);
-    assert_eq!(rt; seen.get(ClockId::Monotonic, last), Ok(time(0, nanos)));
+    assert_same(rt, &seen.front(), &answer.unwrap_or(0));
+    assert_same(rt, &caller.accepted(), &seen.front());
+    assert_same(rt, &seen.last(), &last);
+    assert_same(rt, &seen.get(ClockId::Monotonic, last), &Ok(time(0, nanos)));
     Ok(())
 }
 
@@ -73,7 +74,7 @@ fn answers_above_the_mask_are_masked(rt: HostRuntime) -> Result<(), Fail> {
 #[test]
 fn a_ticker_wraps_at_64_bits(rt: HostRuntime) -> Result<(), Fail> {
     let mut ticker = Ticker::new(u64::MAX - 999, 1_000);
-    assert_eq!(rt; (ticker.read(), ticker.read()), (u64::MAX - 999, 0));
+    assert_same(&rt, &(ticker.read(), ticker.read()), &(u64::MAX - 999, 0));
     let prepared = ready(&rt, rt.alloc(), Ticker::new(u64::MAX - 999, 1_000), 1)?;
     updated::<Brand, _, _>(&rt, rt.alloc(), prepared, Ok(1), 0, 1_000)
 }

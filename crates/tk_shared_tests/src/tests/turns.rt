@@ -2,7 +2,7 @@
 ghost use Rattle.std.specs.Prelude.{◌≡◌};
 ghost use Rattle.tk_shared.specs.Opening.{IsNamed};
 
-use super::{both, commanded, glanced, one_alone, open_two, read_by, ready, time};
+use super::{assert_same, both, commanded, glanced, one_alone, open_two, read_by, ready, time};
 use std::alloc::Global;
 use std::marker::Brand;
 use std::process::Abort;
@@ -51,11 +51,16 @@ fn reads<L: Named, R: Wait + Abort>(
         .close(rt, both(alloc, one, two)?)
         .ok()
         .ok_or("closed")?;
-    assert_eq!(rt; (opened, counts), ((0, 0, 0), (1, 1)));
-    assert_eq!(rt; (first, own.front(), others, second), (Ok(1), 1, 1, Ok(2)));
-    assert_eq!(rt;
-        own.get(ClockId::Realtime, 1_000),
-        Ok(time(2_000_000_000, 0))
+    assert_same(rt, &(opened, counts), &((0, 0, 0), (1, 1)));
+    assert_same(
+        rt,
+        &(first, own.front(), others, second),
+        &(Ok(1), 1, 1, Ok(2)),
+    );
+    assert_same(
+        rt,
+        &own.get(ClockId::Realtime, 1_000),
+        &Ok(time(2_000_000_000, 0)),
     );
     is_journal(rt, &closed.keeper)
 }
@@ -63,13 +68,14 @@ fn reads<L: Named, R: Wait + Abort>(
 /// The set, at the first tick, and the update, at the second.
 fn is_journal<R: Abort>(rt: &R, keeper: &Timekeeper) -> Result<(), Fail> {
     let entry = keeper.entry(1).ok_or("entry 1")?;
-    assert_eq!(rt; (entry.who, entry.reading, entry.cmd), (0, 1_000, SET));
+    assert_same(rt, &(entry.who, entry.reading, entry.cmd), &(0, 1_000, SET));
     let entry = keeper.entry(2).ok_or("entry 2")?;
-    assert_eq!(rt;
-        (entry.who, entry.reading, entry.cmd),
-        (1, 2_000, Command::Update)
+    assert_same(
+        rt,
+        &(entry.who, entry.reading, entry.cmd),
+        &(1, 2_000, Command::Update),
     );
-    assert_eq!(rt; keeper.len(), 2);
+    assert_same(rt, &keeper.len(), &2);
     Ok(())
 }
 
@@ -94,11 +100,16 @@ fn fast_reads<L: Named, R: Wait + Abort>(
     let known = (one.front(), two.front(), two.mark());
     let second = commanded(rt, &keeper, &mut two, Command::Update);
     let marks = (one.mark(), two.mark());
-    assert_eq!(rt; (first, own.front(), others, second), (Ok(1), 1, 1, Ok(2)));
-    assert_eq!(rt;
-        own.get(ClockId::Realtime, 1_000),
-        Ok(time(2_000_000_000, 0))
+    assert_same(
+        rt,
+        &(first, own.front(), others, second),
+        &(Ok(1), 1, 1, Ok(2)),
     );
-    assert_eq!(rt; (known, marks), ((1, 0, 1), (1, 2)));
+    assert_same(
+        rt,
+        &own.get(ClockId::Realtime, 1_000),
+        &Ok(time(2_000_000_000, 0)),
+    );
+    assert_same(rt, &(known, marks), &((1, 0, 1), (1, 2)));
     Ok(())
 }
