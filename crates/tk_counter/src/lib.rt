@@ -15,6 +15,3 @@ mod desc_error;
 
 pub use counter::CounterDesc;
 pub use desc_error::DescError;
-
-#[cfg(test)]
-mod tests;

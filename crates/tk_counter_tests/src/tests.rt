@@ -7,8 +7,16 @@ mod frequencies;
 mod gaps;
 mod multipliers;
 
-use crate::CounterDesc;
+use std::fmt::Debug;
+use std::process::Abort;
 use std::test::Fail;
+use tk_counter::CounterDesc;
+
+/// Stops the test where what was found isn't what was wanted. (A call of its own, so that the proof
+/// of a test is short.)
+fn assert_same<T: PartialEq + Debug>(rt: &impl Abort, found: &T, wanted: &T) {
+    assert_eq!(rt; found, wanted);
+}
 
 /// A counter of 16,777,216 mult and 24 shift, of 32 bits.
 fn usual() -> Result<CounterDesc, Fail> {

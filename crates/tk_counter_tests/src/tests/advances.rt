@@ -1,6 +1,6 @@
 use super::{next, quick, slow, usual};
-use crate::CounterDesc;
 use std::test::Fail;
+use tk_counter::CounterDesc;
 
 const DELTAS: [u64; 16] = [
     0,

@@ -1,6 +1,6 @@
-use crate::{CounterDesc, DescError};
 use std::process::Abort;
 use std::test::Fail;
+use tk_counter::{CounterDesc, DescError};
 
 /// Each value is equal to its clone, and to no other one of the list.
 fn are_told_apart<T: Copy + PartialEq>(rt: &impl Abort, values: &[T]) -> Result<(), Fail> {

@@ -1,6 +1,6 @@
-use super::{quick, slow, usual};
-use crate::{CounterDesc, DescError};
+use super::{assert_same, quick, slow, usual};
 use std::test::Fail;
+use tk_counter::{CounterDesc, DescError};
 
 #[test]
 fn the_first_fault_is_told(rt: HostRuntime) {
@@ -25,9 +25,10 @@ fn the_first_fault_is_told(rt: HostRuntime) {
 fn the_ends_of_the_ranges_are_taken(rt: HostRuntime) -> Result<(), Fail> {
     for (bits, mult, shift) in [(8, 256, 0), (64, 3_869_339_906, 32)] {
         let desc = CounterDesc::new(bits, mult, shift)?;
-        assert_eq!(rt;
-            (desc.bits(), desc.mult(), desc.shift()),
-            (bits, mult, shift)
+        assert_same(
+            &rt,
+            &(desc.bits(), desc.mult(), desc.shift()),
+            &(bits, mult, shift),
         );
     }
     Ok(())
@@ -36,32 +37,38 @@ fn the_ends_of_the_ranges_are_taken(rt: HostRuntime) -> Result<(), Fail> {
 #[test]
 fn a_description_fixes_its_amounts(rt: HostRuntime) -> Result<(), Fail> {
     let desc = usual()?;
-    assert_eq!(rt; (desc.mask(), desc.half()), (4_294_967_295, 2_147_483_647));
-    assert_eq!(rt; desc.max_adj(), 1_845_493);
-    assert_eq!(rt; desc.max_cycles(), 4_294_967_295);
-    assert_eq!(rt; desc.fast_span(), 2_147_483_647);
-    assert_eq!(rt; desc.second(), 16_777_216_000_000_000);
-    assert_eq!(rt; slow()?.second(), 1_000_000_000);
+    assert_same(
+        &rt,
+        &(desc.mask(), desc.half()),
+        &(4_294_967_295, 2_147_483_647),
+    );
+    assert_same(&rt, &desc.max_adj(), &1_845_493);
+    assert_same(&rt, &desc.max_cycles(), &4_294_967_295);
+    assert_same(&rt, &desc.fast_span(), &2_147_483_647);
+    assert_same(&rt, &desc.second(), &16_777_216_000_000_000);
+    assert_same(&rt, &slow()?.second(), &1_000_000_000);
     Ok(())
 }
 
 #[test]
 fn a_wide_counter_is_bounded_by_the_word(rt: HostRuntime) -> Result<(), Fail> {
-    assert_eq!(rt;
-        (quick()?.mask(), quick()?.half()),
-        (u64::MAX, u64::MAX >> 1)
+    assert_same(
+        &rt,
+        &(quick()?.mask(), quick()?.half()),
+        &(u64::MAX, u64::MAX >> 1),
     );
     let wide = CounterDesc::new(48, 16_777_216, 24)?;
-    assert_eq!(rt; wide.fast_span(), 495_275_528_219);
+    assert_same(&rt, &wide.fast_span(), &495_275_528_219);
     Ok(())
 }
 
 #[test]
 fn a_fault_reads_as_a_sentence(rt: HostRuntime) -> Result<(), Fail> {
     let text = format!(in rt.alloc(); "{}", DescError::Adjust)?;
-    assert_eq!(rt;
-        text.as_str(),
-        "the mult and 11 percent of it do not fit 32 bits"
+    assert_same(
+        &rt,
+        &text.as_str(),
+        &"the mult and 11 percent of it do not fit 32 bits",
     );
     Ok(())
 }

@@ -1,6 +1,6 @@
-use super::next;
-use crate::{CounterDesc, DescError};
+use super::{assert_same, next};
 use std::test::Fail;
+use tk_counter::{CounterDesc, DescError};
 
 /// The mult and the shift as kernel/time/clocksource.c finds them: `clocks_calc_mult_shift` at
 /// 10^9, and then the halving of `__clocksource_update_freq_scale`.
@@ -62,8 +62,8 @@ fn a_frequency_is_scaled_as_in_the_kernel(rt: HostRuntime) -> Result<(), Fail> {
 #[test]
 fn a_frequency_fixes_the_amounts(rt: HostRuntime) -> Result<(), Fail> {
     let desc = CounterDesc::from_hz(32, 24_000_000, 600)?;
-    assert_eq!(rt; desc.max_adj(), 76_895_573);
-    assert_eq!(rt; desc.max_cycles(), 4_294_967_295);
+    assert_same(&rt, &desc.max_adj(), &76_895_573);
+    assert_same(&rt, &desc.max_cycles(), &4_294_967_295);
     Ok(())
 }
 

@@ -1,6 +1,6 @@
-use super::{next, usual};
-use crate::CounterDesc;
+use super::{assert_same, next, usual};
 use std::test::Fail;
+use tk_counter::CounterDesc;
 
 /// As `mult_at`, by an integer of 128 bits.
 fn plain_mult_at(desc: &CounterDesc, freq: i64, tick: i64) -> Option<u128> {
@@ -39,8 +39,8 @@ fn a_frequency_is_followed_up_to_500_ppm(rt: HostRuntime) -> Result<(), Fail> {
 #[test]
 fn a_longer_tick_is_faster(rt: HostRuntime) -> Result<(), Fail> {
     let desc = usual()?;
-    assert_eq!(rt; desc.mult_at(0, 11_000), 18_454_937);
-    assert_eq!(rt; desc.mult_at(32_768_000, 11_000), 18_463_326);
+    assert_same(&rt, &desc.mult_at(0, 11_000), &18_454_937);
+    assert_same(&rt, &desc.mult_at(32_768_000, 11_000), &18_463_326);
     Ok(())
 }
 
