@@ -15,6 +15,3 @@ mod line;
 
 pub use batch::{lane_batch, plain_batch};
 pub use batch_error::BatchError;
-
-#[cfg(test)]
-mod tests;

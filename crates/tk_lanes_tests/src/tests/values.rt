@@ -1,7 +1,7 @@
-use super::{agree, converts, opened, sevens};
-use crate::lane_batch;
+use super::{agree, assert_same, converts, opened, sevens};
 use std::test::Fail;
 use tk_clock::{ClockId, Command};
+use tk_lanes::lane_batch;
 
 /// Round the last command, where 63 bits of units end, and where readings begin to lie behind.
 const STAMPS: [u64; 17] = [
@@ -108,10 +108,10 @@ fn a_part_of_a_list_is_written_alone(rt: HostRuntime) -> Result<(), Fail> {
         &STAMPS[3..13],
         &mut out[3..13],
     );
-    assert_eq!(rt; answer, Ok(()));
+    assert_same(&rt, &answer, &Ok(()));
     let mut values = [7; 17];
     values[3..13].copy_from_slice(&VALUES[3..13]);
-    assert_eq!(rt; out, values);
+    assert_same(&rt, &out, &values);
     Ok(())
 }
 
@@ -124,7 +124,7 @@ fn a_million_stamps_are_converted(rt: HostRuntime) -> Result<(), Fail> {
         *stamp = (place as u64).wrapping_mul(1_000);
     }
     let answer = agree(&rt, alloc, &snapshot, ClockId::Monotonic, stamps.as_slice())?;
-    assert_eq!(rt; answer, Ok(()));
+    assert_same(&rt, &answer, &Ok(()));
     let mut out = sevens(alloc, 1_048_576)?;
     lane_batch(
         &snapshot,
@@ -133,6 +133,6 @@ fn a_million_stamps_are_converted(rt: HostRuntime) -> Result<(), Fail> {
         out.as_mut_slice(),
     )?;
     // 1,048,575 times 1000 cycles, less the opening's reading
-    assert_eq!(rt; out.last(), Some(&1_048_574_000));
+    assert_same(&rt, &out.last(), &Some(&1_048_574_000));
     Ok(())
 }

@@ -1,8 +1,8 @@
-use super::{converts, opened, time};
-use crate::BatchError;
+use super::{assert_same, converts, opened, time};
 use std::test::Fail;
 use tk_clock::{Clock, ClockId};
 use tk_counter::CounterDesc;
+use tk_lanes::BatchError;
 
 /// The first reading above a mask of 48 bits.
 const ABOVE: u64 = 281_474_976_710_656;
@@ -122,7 +122,7 @@ fn a_fault_is_told_in_words(rt: HostRuntime) -> Result<(), Fail> {
         ),
         (BatchError::Range { index: 0 }, "item 0: value out of range"),
     ] {
-        assert_eq!(rt; format!(in alloc; "{fault}")?.as_str(), text);
+        assert_same(&rt, &format!(in alloc; "{fault}")?.as_str(), &text);
     }
     Ok(())
 }

@@ -6,12 +6,19 @@ mod values;
 
 ghost use Rattle.std.specs.Prelude.{◌≡◌, vec_len, IfOk};
 
-use crate::{BatchError, lane_batch, plain_batch};
 use std::alloc::{AllocError, Global};
+use std::fmt::Debug;
 use std::process::Abort;
 use std::test::Fail;
 use tk_clock::{Clock, ClockId, Snapshot, Timespec};
 use tk_counter::CounterDesc;
+use tk_lanes::{BatchError, lane_batch, plain_batch};
+
+/// Stops the test where what was found isn't what was wanted. (A call of its own, so that the proof
+/// of a test is short.)
+fn assert_same<T: PartialEq + Debug>(rt: &impl Abort, found: &T, wanted: &T) {
+    assert_eq!(rt; found, wanted);
+}
 
 /// The clocks of a counter of 48 bits and one nanosecond a cycle, opened at reading 1000.
 fn opened() -> Result<Clock, Fail> {
@@ -42,12 +49,12 @@ fn converts(
 ) -> Result<(), Fail> {
     let mut plain = sevens(alloc, stamps.len())?;
     let told = plain_batch(snapshot, clock, stamps, plain.as_mut_slice());
-    assert_eq!(rt; told, answer, "{clock:?}");
-    assert_eq!(rt; plain.as_slice(), values, "{clock:?}");
+    assert_same(rt, &(clock, told), &(clock, answer));
+    assert_same(rt, &(clock, plain.as_slice()), &(clock, values));
     let mut lanes = sevens(alloc, stamps.len())?;
     let told = lane_batch(snapshot, clock, stamps, lanes.as_mut_slice());
-    assert_eq!(rt; told, answer, "{clock:?}");
-    assert_eq!(rt; lanes.as_slice(), values, "{clock:?}");
+    assert_same(rt, &(clock, told), &(clock, answer));
+    assert_same(rt, &(clock, lanes.as_slice()), &(clock, values));
     Ok(())
 }
 
@@ -63,7 +70,7 @@ fn agree(
     let answer = plain_batch(snapshot, clock, stamps, plain.as_mut_slice());
     let mut lanes = sevens(alloc, stamps.len())?;
     let told = lane_batch(snapshot, clock, stamps, lanes.as_mut_slice());
-    assert_eq!(rt; told, answer, "{clock:?}");
-    assert_eq!(rt; lanes.as_slice(), plain.as_slice(), "{clock:?}");
+    assert_same(rt, &(clock, told), &(clock, answer));
+    assert_same(rt, &(clock, lanes.as_slice()), &(clock, plain.as_slice()));
     Ok(answer)
 }
