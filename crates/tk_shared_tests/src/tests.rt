@@ -1,5 +1,6 @@
 //! Values from outside the contracts, and threads.
 ghost use Rattle.std.specs.Prelude.{◌≡◌, [], ◌∷◌, IfOk};
+ghost use Rattle.tk_shared.specs.Callers.{newcomers};
 ghost use Rattle.tk_shared.specs.Opening.{IsNamed};
 
 mod folding;
@@ -59,48 +60,53 @@ fn ready<C: Counter, R: Wait>(
     }
 }
 
+/// A keeper and its callers 0 and 1.
+type Two<L, C> = (SharedKeeper<L, C>, Caller<L>, Caller<L>);
+
 /// Opens what was prepared, for the callers 0 and 1.
-fn open_two<L: Named, C: Counter>(
-    alloc: Global,
-    prepared: Prepared<C>,
-) -> Result<(SharedKeeper<L, C>, Caller<L>, Caller<L>), Fail>
+fn open_two<L: Named, C: Counter>(alloc: Global, prepared: Prepared<C>) -> Result<Two<L, C>, Fail>
     requires named { IsNamed prepared L.page L.latch L.name L.parts L.callers }
     requires two { prepared.callers ≡ 2 }
     ensures { IfOk result (λ opened. (opened.1.id ≡ 0) × (opened.2.id ≡ 1)) }
 {
-    let Ok((keeper, mut callers)) = SharedKeeper::<L, C>::open(alloc, prepared) else {
-        return Err(Fail::from("not opened"));
-    };
-    let Some(two) = callers.pop() else {
-        return Err(Fail::from("no caller"));
-    };
-    let Some(one) = callers.pop() else {
-        return Err(Fail::from("no caller"));
-    };
+    let (keeper, callers) = opened(alloc, prepared)?;
+    let (one, two) = two_of(callers)?;
     Ok((keeper, one, two))
 }
 
-/// One caller in a vector.
-fn one_alone<L: Named>(alloc: Global, one: Caller<L>) -> Result<Vec<Caller<L>>, Fail>
-    ensures { IfOk result (λ callers. callers.items ≡ one ∷ []) }
+/// Opens what was prepared, with all its callers.
+fn opened<L: Named, C: Counter>(
+    alloc: Global,
+    prepared: Prepared<C>,
+) -> Result<(SharedKeeper<L, C>, Vec<Caller<L>>), Fail>
+    requires named { IsNamed prepared L.page L.latch L.name L.parts L.callers }
+    ensures { IfOk result (λ opened. opened.1.items ≡
+        newcomers prepared.latch prepared.journal prepared.callers) }
 {
-    let Ok(mut callers) = Vec::with_capacity(alloc, 1) else {
-        return Err(Fail::from("no memory"));
-    };
-    callers.push_reserved(one);
-    Ok(callers)
+    match SharedKeeper::<L, C>::open(alloc, prepared) {
+        Ok(opened) => Ok(opened),
+        Err(_) => Err(Fail::from("not opened")),
+    }
+}
+
+/// The two callers of a vector.
+fn two_of<L: Named>(mut callers: Vec<Caller<L>>) -> Result<(Caller<L>, Caller<L>), Fail>
+    ensures { IfOk result (λ two. callers.items ≡ two.0 ∷ two.1 ∷ []) }
+{
+    let two = callers.pop().ok_or("a caller")?;
+    let one = callers.pop().ok_or("a caller")?;
+    if callers.is_empty() {
+        Ok((one, two))
+    } else {
+        Err(Fail::from("other callers"))
+    }
 }
 
 /// Two callers in a vector.
 fn both<L: Named>(alloc: Global, one: Caller<L>, two: Caller<L>) -> Result<Vec<Caller<L>>, Fail>
     ensures { IfOk result (λ callers. callers.items ≡ one ∷ two ∷ []) }
 {
-    let Ok(mut callers) = Vec::with_capacity(alloc, 2) else {
-        return Err(Fail::from("no memory"));
-    };
-    callers.push_reserved(one);
-    callers.push_reserved(two);
-    Ok(callers)
+    Ok(vec![in alloc; one, two].ok().ok_or("memory")?)
 }
 
 /// A command, of whose contract the caller's number is all that a test needs.

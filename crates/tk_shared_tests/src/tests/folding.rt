@@ -2,14 +2,14 @@
 ghost use Rattle.std.specs.Prelude.{◌≡◌};
 ghost use Rattle.tk_shared.specs.Opening.{IsNamed};
 
-use super::{assert_same, both, commanded, glanced, open_two, read_by, ready};
+use super::{assert_same, both, commanded, glanced, open_two, opened, read_by, ready};
 use std::alloc::Global;
 use std::marker::Brand;
 use std::process::Abort;
 use std::sync::Wait;
 use std::test::Fail;
 use tk_clock::{Command, Refusal};
-use tk_shared::{Named, Prepared, SharedKeeper, Ticker};
+use tk_shared::{Caller, Named, Prepared, SharedKeeper, Ticker};
 
 #[test]
 fn a_fold_makes_room_again(rt: HostRuntime) -> Result<(), Fail> {
@@ -24,20 +24,26 @@ fn fills<L: Named, R: Wait + Abort>(
 ) -> Result<(), Fail>
     requires named { IsNamed prepared L.page L.latch L.name L.parts L.callers }
 {
-    let (keeper, mut callers) = SharedKeeper::<L, Ticker>::open(alloc, prepared)
-        .ok()
-        .ok_or("opened")?;
-    let mut caller = callers.pop().ok_or("a caller")?;
+    let (keeper, mut callers) = opened::<L, Ticker>(alloc, prepared)?;
+    fills_with(rt, &keeper, callers.as_mut_slice())
+}
+
+fn fills_with<L: Named, R: Wait + Abort>(
+    rt: &R,
+    keeper: &SharedKeeper<L, Ticker>,
+    callers: &mut [Caller<L>],
+) -> Result<(), Fail> {
+    let caller = callers.first_mut().ok_or("a caller")?;
     let mut is_good = true;
     for number in 1..=1_048_576 {
-        let answer = commanded(rt, &keeper, &mut caller, Command::Update);
+        let answer = commanded(rt, keeper, caller, Command::Update);
         is_good = is_good && answer == Ok(number);
     }
     assert!(rt; is_good);
-    let refused = commanded(rt, &keeper, &mut caller, Command::Update);
+    let refused = commanded(rt, keeper, caller, Command::Update);
     assert_same(rt, &refused, &Err(Refusal::Full));
     assert_same(rt, &keeper.fold(rt, 1), &1_048_575);
-    let accepted = commanded(rt, &keeper, &mut caller, Command::Update);
+    let accepted = commanded(rt, keeper, caller, Command::Update);
     assert_same(rt, &accepted, &Ok(1_048_577));
     Ok(())
 }
@@ -63,7 +69,7 @@ fn folds<L: Named, R: Wait + Abort>(
     let folded = keeper.fold(rt, 1);
     let fronts = (one.front(), two.front());
     let seen = read_by(rt, &keeper, &mut one).front();
-    let fast = glanced(&keeper, &mut two);
+    let fast = glanced(&keeper, &mut two).is_ok_and(|seen| seen.front() == 3);
     let fourth = commanded(rt, &keeper, &mut two, Command::Update);
     let closed = keeper
         .close(rt, both(alloc, one, two)?)
@@ -74,8 +80,7 @@ fn folds<L: Named, R: Wait + Abort>(
         &(first, second, third, fourth),
         &(Ok(1), Ok(2), Ok(3), Ok(4)),
     );
-    assert_same(rt, &(folded, fronts, seen), &(2, (3, 2), 3));
-    assert_same(rt, &fast.ok().ok_or("a fast read")?.front(), &3);
+    assert_same(rt, &(folded, fronts, seen, fast), &(2, (3, 2), 3, true));
     assert_same(rt, &(closed.keeper.len(), closed.keeper.folded()), &(4, 2));
     Ok(())
 }

@@ -1,7 +1,8 @@
 //! Reads are answered while a command holds the lock.
+ghost use Rattle.std.specs.Prelude.{◌≡◌};
 ghost use Rattle.tk_shared.specs.Opening.{IsNamed};
 
-use super::{assert_same, commanded, glanced, read_by, ready};
+use super::{assert_same, commanded, glanced, open_two, read_by, ready};
 use std::alloc::Global;
 use std::marker::Brand;
 use std::process::Abort;
@@ -9,8 +10,7 @@ use std::sync::Wait;
 use std::sync::atomic::{AtomicU64, Ordering};
 use std::test::Fail;
 use std::thread::{self, Threads, join};
-use tk_clock::{Command, Refusal, Snapshot};
-use tk_latch::Moved;
+use tk_clock::{Command, Refusal};
 use tk_shared::{Caller, Counter, Named, Prepared, SharedKeeper};
 
 /// How often a thread looks for the other before it gives up.
@@ -50,24 +50,27 @@ fn is_set(flag: &AtomicU64) -> bool {
 fn updates<L: Named, C: Counter, R: Wait>(
     rt: &R,
     keeper: &SharedKeeper<L, C>,
-    mut caller: Caller<L>,
+    caller: &mut Caller<L>,
 ) -> (Result<u64, Refusal>, u64) {
-    let done = commanded(rt, keeper, &mut caller, Command::Update);
-    (done, read_by(rt, keeper, &mut caller).last())
+    let done = commanded(rt, keeper, caller, Command::Update);
+    (done, read_by(rt, keeper, caller).last())
 }
 
-/// Both reads while a command holds the lock, which is let go after them: was it held, and what did
-/// they find?
+/// Both reads while a command holds the lock, which is let go after them: was it held, and how many
+/// commands did they find?
 fn reads<L: Named, C: Counter, R: Wait>(
     rt: &R,
     keeper: &SharedKeeper<L, C>,
-    mut caller: Caller<L>,
+    caller: &mut Caller<L>,
     inside: &AtomicU64,
     answered: &AtomicU64,
-) -> (bool, Result<Snapshot, Moved>, u64) {
+) -> (bool, Option<u64>, u64) {
     let entered = is_set(inside);
-    let fast = glanced(keeper, &mut caller);
-    let front = read_by(rt, keeper, &mut caller).front();
+    let fast = match glanced(keeper, caller) {
+        Ok(seen) => Some(seen.front()),
+        Err(_) => None,
+    };
+    let front = read_by(rt, keeper, caller).front();
     answered.store(1, Ordering::SeqCst);
     (entered, fast, front)
 }
@@ -93,20 +96,16 @@ fn beside<'a, L: Named + Send + Sync, R: Threads + Wait + Abort + Sync>(
     answered: &AtomicU64,
 ) -> Result<(), Fail>
     requires named { IsNamed prepared L.page L.latch L.name L.parts L.callers }
+    requires two { prepared.callers ≡ 2 }
 {
-    let (keeper, mut callers) = SharedKeeper::<L, Waits<'a>>::open(alloc, prepared)
-        .ok()
-        .ok_or("opened")?;
-    let one = callers.pop().ok_or("a caller")?;
-    let two = callers.pop().ok_or("a caller")?;
-    let shared = &keeper;
+    let (keeper, mut one, mut two) = open_two::<L, Waits<'a>>(alloc, prepared)?;
+    let (shared, first, second) = (&keeper, &mut one, &mut two);
     let ((done, last), (entered, fast, front)) = join(
         rt,
-        move || updates(rt, shared, one),
-        move || reads(rt, shared, two, inside, answered),
+        move || updates(rt, shared, first),
+        move || reads(rt, shared, second, inside, answered),
     );
     assert_same(rt, &(entered, done, last), &(true, Ok(1), 1));
-    assert_same(rt, &front, &0);
-    assert_same(rt, &fast.ok().ok_or("a fast read")?.front(), &0);
+    assert_same(rt, &(fast, front), &(Some(0), 0));
     Ok(())
 }

@@ -1,9 +1,10 @@
 //! Four callers, each in a thread of its own, and every kind of command.
-ghost use Rattle.std.specs.Prelude.{◌≡◌, IfOk};
+ghost use Rattle.std.specs.Prelude.{◌≡◌, [], ◌∷◌, length, IfOk};
 ghost use Rattle.tk_shared.specs.Opening.{IsNamed};
 
 use super::{
-    OPENED_TIME, assert_same, commanded, glanced, nanosecond_counter, read_by, ready, time,
+    OPENED_TIME, assert_same, commanded, glanced, nanosecond_counter, opened, read_by, ready, time,
+    two_of,
 };
 use std::alloc::{AllocError, Global};
 use std::marker::Brand;
@@ -172,17 +173,28 @@ fn four<L: Named + Send + Sync, R: Threads + Wait + Abort + Sync>(
     );
     let ((zero, zero_saw), (one, one_saw)) = first;
     let ((two, two_saw), (three, three_saw)) = second;
-    let closed = close_four(rt, alloc, keeper, zero, one, two, three)?;
-    let (zero, one) = (zero_saw?, one_saw?);
-    let (two, three) = (two_saw?, three_saw?);
-    let lower = zero.accepted.wrapping_add(one.accepted);
-    let upper = two.accepted.wrapping_add(three.accepted);
-    assert_same(rt, &(closed.len() as u64), &lower.wrapping_add(upper));
-    assert!(rt; zero.is_good && one.is_good && two.is_good && three.is_good);
-    agrees(rt, alloc, &closed, &zero)?;
-    agrees(rt, alloc, &closed, &one)?;
-    agrees(rt, alloc, &closed, &two)?;
-    agrees(rt, alloc, &closed, &three)
+    let callers = vec![in alloc; zero, one, two, three].ok().ok_or("memory")?;
+    let closed = keeper.close(rt, callers).ok().ok_or("closed")?.keeper;
+    let saw = [zero_saw?, one_saw?, two_saw?, three_saw?];
+    all_agree(rt, alloc, &closed, &saw)
+}
+
+/// All was in order in what the callers saw, and each snapshot is of the journal, which has all
+/// accepted commands and no others.
+fn all_agree<R: Abort>(
+    rt: &R,
+    alloc: Global,
+    keeper: &Timekeeper,
+    saw: &[Seen],
+) -> Result<(), Fail> {
+    let mut accepted = 0u64;
+    for seen in saw {
+        assert!(rt; seen.is_good);
+        accepted = accepted.wrapping_add(seen.accepted);
+        agrees(rt, alloc, keeper, seen)?;
+    }
+    assert_same(rt, &(keeper.len() as u64), &accepted);
+    Ok(())
 }
 
 /// A keeper and its callers 0 to 3.
@@ -200,46 +212,20 @@ fn open_four<L: Named>(alloc: Global, prepared: Prepared<Ticker>) -> Result<Four
     ensures lower { IfOk result (λ four. (four.1.id ≡ 0) × (four.2.id ≡ 1)) }
     ensures upper { IfOk result (λ four. (four.3.id ≡ 2) × (four.4.id ≡ 3)) }
 {
-    let Ok((keeper, mut callers)) = SharedKeeper::<L, Ticker>::open(alloc, prepared) else {
-        return Err(Fail::from("not opened"));
-    };
-    let Some(three) = callers.pop() else {
-        return Err(Fail::from("no caller"));
-    };
-    let Some(two) = callers.pop() else {
-        return Err(Fail::from("no caller"));
-    };
-    let Some(one) = callers.pop() else {
-        return Err(Fail::from("no caller"));
-    };
-    let Some(zero) = callers.pop() else {
-        return Err(Fail::from("no caller"));
-    };
+    let (keeper, callers) = opened::<L, Ticker>(alloc, prepared)?;
+    let (zero, one, two, three) = four_of(callers)?;
     Ok((keeper, zero, one, two, three))
 }
 
-fn close_four<L: Named, R: Wait>(
-    rt: &R,
-    alloc: Global,
-    keeper: SharedKeeper<L, Ticker>,
-    zero: Caller<L>,
-    one: Caller<L>,
-    two: Caller<L>,
-    three: Caller<L>,
-) -> Result<Timekeeper, Fail>
-    requires parts { L.callers ≡ L.parts }
-    requires lower { (zero.id ≡ 0) × (one.id ≡ 1) }
-    requires upper { (two.id ≡ 2) × (three.id ≡ 3) }
+/// The four callers of a vector.
+fn four_of<L: Named>(
+    mut callers: Vec<Caller<L>>,
+) -> Result<(Caller<L>, Caller<L>, Caller<L>, Caller<L>), Fail>
+    requires { length callers.items ≡ 4 }
+    ensures { IfOk result (λ four. callers.items ≡ four.0 ∷ four.1 ∷ four.2 ∷ four.3 ∷ []) }
 {
-    let Ok(mut callers) = Vec::with_capacity(alloc, 4) else {
-        return Err(Fail::from("no memory"));
-    };
-    callers.push_reserved(zero);
-    callers.push_reserved(one);
-    callers.push_reserved(two);
-    callers.push_reserved(three);
-    match keeper.close(rt, callers) {
-        Ok(closed) => Ok(closed.keeper),
-        Err(_) => Err(Fail::from("not closed")),
-    }
+    let upper = callers.split_off(2)?;
+    let (zero, one) = two_of(callers)?;
+    let (two, three) = two_of(upper)?;
+    Ok((zero, one, two, three))
 }

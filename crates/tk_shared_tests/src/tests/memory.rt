@@ -2,7 +2,7 @@
 ghost use Rattle.std.specs.Prelude.{◌≡◌};
 ghost use Rattle.tk_shared.specs.Opening.{IsNamed};
 
-use super::{OPENED_TIME, assert_same, commanded, nanosecond_counter, read_by};
+use super::{OPENED_TIME, assert_same, commanded, nanosecond_counter, read_by, two_of};
 use std::alloc::Global;
 use std::marker::Brand;
 use std::process::Abort;
@@ -42,25 +42,18 @@ fn opened<L: Named, R: Wait + Abort>(
     requires named { IsNamed prepared L.page L.latch L.name L.parts L.callers }
     requires two { prepared.callers ≡ 2 }
 {
-    let (keeper, mut callers) = match SharedKeeper::<L, Ticker>::open(alloc, prepared) {
+    let (keeper, callers) = match SharedKeeper::<L, Ticker>::open(alloc, prepared) {
         Ok(opened) => opened,
         Err(fault) => return came_back(rt, fault),
     };
-    let Some(two) = callers.pop() else {
-        return Err(Fail::from("no caller"));
-    };
-    let Some(mut one) = callers.pop() else {
-        return Err(Fail::from("no caller"));
-    };
-    gives_all(rt, &keeper, &mut one)?;
+    let (mut one, two) = two_of(callers)?;
+    gives_all(rt, &keeper, &mut one);
     let accepted = one.accepted();
-    let Ok(mut callers) = Vec::with_capacity(alloc, 2) else {
+    let Ok(callers) = vec![in alloc; one, two] else {
         // the request of this test itself was refused
         assert_same(rt, &accepted, &COMMANDS);
         return Ok(());
     };
-    callers.push_reserved(one);
-    callers.push_reserved(two);
     let closed = keeper.close(rt, callers).ok().ok_or("closed")?;
     assert_same(rt, &(closed.keeper.len() as u64), &accepted);
     Ok(())
@@ -72,7 +65,7 @@ fn gives_all<L: Named, R: Wait + Abort>(
     rt: &R,
     keeper: &SharedKeeper<L, Ticker>,
     caller: &mut Caller<L>,
-) -> Result<(), Fail>
+)
     ensures { caller.new.id ≡ caller.old.id }
 {
     let mut accepted = 0u64;
@@ -94,5 +87,4 @@ fn gives_all<L: Named, R: Wait + Abort>(
     }
     // one request at most is refused
     assert!(rt; accepted >= COMMANDS - 1);
-    Ok(())
 }

@@ -1,7 +1,8 @@
 //! One thread commands while another reads the latch.
+ghost use Rattle.std.specs.Prelude.{◌≡◌};
 ghost use Rattle.tk_shared.specs.Opening.{IsNamed};
 
-use super::{assert_same, commanded, glanced, read_by, ready};
+use super::{assert_same, commanded, glanced, open_two, read_by, ready};
 use std::alloc::Global;
 use std::marker::Brand;
 use std::process::Abort;
@@ -26,12 +27,12 @@ fn is_whole(seen: &Snapshot) -> bool {
 fn commands<L: Named, R: Wait>(
     rt: &R,
     keeper: &SharedKeeper<L, Ticker>,
-    mut caller: Caller<L>,
+    caller: &mut Caller<L>,
     ended: &AtomicU64,
 ) -> bool {
     let mut is_good = true;
     for number in 1..=COMMANDS {
-        is_good = commanded(rt, keeper, &mut caller, Command::Update) == Ok(number) && is_good;
+        is_good = commanded(rt, keeper, caller, Command::Update) == Ok(number) && is_good;
     }
     ended.store(1, Ordering::SeqCst);
     is_good
@@ -41,7 +42,7 @@ fn commands<L: Named, R: Wait>(
 fn glances<L: Named, R: Wait>(
     rt: &R,
     keeper: &SharedKeeper<L, Ticker>,
-    mut caller: Caller<L>,
+    caller: &mut Caller<L>,
     ended: &AtomicU64,
 ) -> bool {
     let mut is_good = true;
@@ -50,7 +51,7 @@ fn glances<L: Named, R: Wait>(
         if ended.load(Ordering::SeqCst) == 1 {
             break;
         }
-        match glanced(keeper, &mut caller) {
+        match glanced(keeper, caller) {
             Ok(seen) => {
                 is_good = is_good && is_whole(&seen) && front <= seen.front();
                 front = seen.front();
@@ -66,12 +67,12 @@ fn glances<L: Named, R: Wait>(
 fn sees_all<L: Named, R: Wait>(
     rt: &R,
     keeper: &SharedKeeper<L, Ticker>,
-    mut caller: Caller<L>,
+    caller: &mut Caller<L>,
 ) -> bool {
-    let Ok(fast) = glanced(keeper, &mut caller) else {
+    let Ok(fast) = glanced(keeper, caller) else {
         return false;
     };
-    let seen = read_by(rt, keeper, &mut caller);
+    let seen = read_by(rt, keeper, caller);
     let all = (COMMANDS, 100_000_000);
     (fast.front(), fast.last()) == all && (seen.front(), seen.last()) == all
 }
@@ -88,18 +89,16 @@ fn beside<L: Named + Send + Sync, R: Threads + Wait + Abort + Sync>(
     prepared: Prepared<Ticker>,
 ) -> Result<(), Fail>
     requires named { IsNamed prepared L.page L.latch L.name L.parts L.callers }
+    requires two { prepared.callers ≡ 2 }
 {
-    let (keeper, mut callers) = SharedKeeper::<L, Ticker>::open(alloc, prepared)
-        .ok()
-        .ok_or("opened")?;
-    let one = callers.pop().ok_or("a caller")?;
-    let two = callers.pop().ok_or("a caller")?;
+    let (keeper, mut one, mut two) = open_two::<L, Ticker>(alloc, prepared)?;
     let ended = AtomicU64::new(0);
     let (shared, flag) = (&keeper, &ended);
+    let (first, second) = (&mut one, &mut two);
     let (commanded, read) = join(
         rt,
-        move || commands(rt, shared, one, flag),
-        move || glances(rt, shared, two, flag),
+        move || commands(rt, shared, first, flag),
+        move || glances(rt, shared, second, flag),
     );
     assert_same(rt, &(commanded, read), &(true, true));
     Ok(())

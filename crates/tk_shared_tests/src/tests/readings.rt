@@ -1,14 +1,14 @@
 //! What the counter answers.
 ghost use Rattle.tk_shared.specs.Opening.{IsNamed};
 
-use super::{assert_same, commanded, read_by, ready, time};
+use super::{assert_same, commanded, opened, read_by, ready, time};
 use std::alloc::Global;
 use std::marker::Brand;
 use std::process::Abort;
 use std::sync::Wait;
 use std::test::Fail;
 use tk_clock::{ClockId, Command, Refusal};
-use tk_shared::{Counter, Named, Prepared, SharedKeeper, Ticker};
+use tk_shared::{Caller, Counter, Named, Prepared, SharedKeeper, Ticker};
 
 /// Answers one reading, and then others.
 #[derive(Drop)]
@@ -34,16 +34,21 @@ fn updated<L: Named, C: Counter, R: Wait + Abort>(
 ) -> Result<(), Fail>
     requires named { IsNamed prepared L.page L.latch L.name L.parts L.callers }
 {
-    let (keeper, mut callers) = SharedKeeper::<L, C>::open(alloc, prepared)
-        .ok()
-        .ok_or("opened")?;
-    let mut caller = callers.pop().ok_or("a caller")?;
-    assert_same(
-        rt,
-        &commanded(rt, &keeper, &mut caller, Command::Update),
-        &answer,
-    );
-    let seen = read_by(rt, &keeper, &mut caller);
+    let (keeper, mut callers) = opened::<L, C>(alloc, prepared)?;
+    updated_by(rt, &keeper, callers.as_mut_slice(), answer, last, nanos)
+}
+
+fn updated_by<L: Named, C: Counter, R: Wait + Abort>(
+    rt: &R,
+    keeper: &SharedKeeper<L, C>,
+    callers: &mut [Caller<L>],
+    answer: Result<u64, Refusal>,
+    last: u64,
+    nanos: u32,
+) -> Result<(), Fail> {
+    let caller = callers.first_mut().ok_or("a caller")?;
+    assert_same(rt, &commanded(rt, keeper, caller, Command::Update), &answer);
+    let seen = read_by(rt, keeper, caller);
     assert_same(rt, &seen.front(), &answer.unwrap_or(0));
     assert_same(rt, &caller.accepted(), &seen.front());
     assert_same(rt, &seen.last(), &last);

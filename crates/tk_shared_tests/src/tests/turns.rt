@@ -1,8 +1,8 @@
 //! Two callers take turns in one thread.
-ghost use Rattle.std.specs.Prelude.{◌≡◌};
+ghost use Rattle.std.specs.Prelude.{◌≡◌, [], ◌∷◌, IfOk};
 ghost use Rattle.tk_shared.specs.Opening.{IsNamed};
 
-use super::{assert_same, both, commanded, glanced, one_alone, open_two, read_by, ready, time};
+use super::{assert_same, commanded, glanced, open_two, read_by, ready, time};
 use std::alloc::Global;
 use std::marker::Brand;
 use std::process::Abort;
@@ -10,7 +10,7 @@ use std::sync::Wait;
 use std::test::Fail;
 use tk_clock::{ClockId, Command, Timespec};
 use tk_keeper::Timekeeper;
-use tk_shared::{Missing, Named, Prepared, Ticker};
+use tk_shared::{Caller, Missing, Named, Prepared, SharedKeeper, Ticker};
 
 /// What the first caller sets REALTIME to.
 const SET: Command = Command::SetTime(Timespec {
@@ -33,24 +33,26 @@ fn reads<L: Named, R: Wait + Abort>(
     requires two { prepared.callers ≡ 2 }
 {
     let (keeper, mut one, mut two) = open_two::<L, Ticker>(alloc, prepared)?;
+    both_read(rt, &keeper, &mut one, &mut two);
+    is_journal(rt, &closed_late(rt, alloc, keeper, one, two)?)
+}
+
+/// Each caller gives a command, and the first one's is read by both.
+fn both_read<L: Named, R: Wait + Abort>(
+    rt: &R,
+    keeper: &SharedKeeper<L, Ticker>,
+    one: &mut Caller<L>,
+    two: &mut Caller<L>,
+)
+    ensures one { one.new.id ≡ one.old.id }
+    ensures two { two.new.id ≡ two.old.id }
+{
     let opened = (one.front(), one.mark(), one.accepted());
-    let first = commanded(rt, &keeper, &mut one, SET);
-    let own = read_by(rt, &keeper, &mut one);
-    let others = read_by(rt, &keeper, &mut two).front();
-    let second = commanded(rt, &keeper, &mut two, Command::Update);
+    let first = commanded(rt, keeper, one, SET);
+    let own = read_by(rt, keeper, one);
+    let others = read_by(rt, keeper, two).front();
+    let second = commanded(rt, keeper, two, Command::Update);
     let counts = (one.accepted(), two.accepted());
-    let Err(missing) = keeper.close(rt, one_alone(alloc, one)?) else {
-        return Err(Fail::from("a caller is missing"));
-    };
-    let Missing {
-        keeper,
-        mut callers,
-    } = missing;
-    let one = callers.pop().ok_or("a caller")?;
-    let closed = keeper
-        .close(rt, both(alloc, one, two)?)
-        .ok()
-        .ok_or("closed")?;
     assert_same(rt, &(opened, counts), &((0, 0, 0), (1, 1)));
     assert_same(
         rt,
@@ -62,7 +64,38 @@ fn reads<L: Named, R: Wait + Abort>(
         &own.get(ClockId::Realtime, 1_000),
         &Ok(time(2_000_000_000, 0)),
     );
-    is_journal(rt, &closed.keeper)
+}
+
+/// Closes with the first caller alone, which is refused, and then with both.
+fn closed_late<L: Named, R: Wait>(
+    rt: &R,
+    alloc: Global,
+    keeper: SharedKeeper<L, Ticker>,
+    one: Caller<L>,
+    two: Caller<L>,
+) -> Result<Timekeeper, Fail>
+    requires parts { L.callers ≡ L.parts }
+    requires callers { (one.id ≡ 0) × (two.id ≡ 1) }
+{
+    let Err(missing) = keeper.close(rt, alone(alloc, one)?) else {
+        return Err(Fail::from("a caller is missing"));
+    };
+    let Missing {
+        keeper,
+        mut callers,
+    } = missing;
+    callers.push(two).ok().ok_or("memory")?;
+    match keeper.close(rt, callers) {
+        Ok(closed) => Ok(closed.keeper),
+        Err(_) => Err(Fail::from("not closed")),
+    }
+}
+
+/// One caller in a vector.
+fn alone<L: Named>(alloc: Global, one: Caller<L>) -> Result<Vec<Caller<L>>, Fail>
+    ensures { IfOk result (λ callers. callers.items ≡ one ∷ []) }
+{
+    Ok(vec![in alloc; one].ok().ok_or("memory")?)
 }
 
 /// The set, at the first tick, and the update, at the second.
@@ -94,11 +127,20 @@ fn fast_reads<L: Named, R: Wait + Abort>(
     requires two { prepared.callers ≡ 2 }
 {
     let (keeper, mut one, mut two) = open_two::<L, Ticker>(alloc, prepared)?;
-    let first = commanded(rt, &keeper, &mut one, SET);
-    let own = glanced(&keeper, &mut one).ok().ok_or("read")?;
-    let others = glanced(&keeper, &mut two).ok().ok_or("read")?.front();
+    fast_reads_of(rt, &keeper, &mut one, &mut two)
+}
+
+fn fast_reads_of<L: Named, R: Wait + Abort>(
+    rt: &R,
+    keeper: &SharedKeeper<L, Ticker>,
+    one: &mut Caller<L>,
+    two: &mut Caller<L>,
+) -> Result<(), Fail> {
+    let first = commanded(rt, keeper, one, SET);
+    let own = glanced(keeper, one).ok().ok_or("read")?;
+    let others = glanced(keeper, two).ok().ok_or("read")?.front();
     let known = (one.front(), two.front(), two.mark());
-    let second = commanded(rt, &keeper, &mut two, Command::Update);
+    let second = commanded(rt, keeper, two, Command::Update);
     let marks = (one.mark(), two.mark());
     assert_same(
         rt,
