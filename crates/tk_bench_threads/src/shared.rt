@@ -52,11 +52,22 @@ fn worked<L: Named + Send + Sync, R: Threads + Wait + Hours + Sync>(
     requires named { IsNamed prepared L.page L.latch L.name L.parts L.callers }
 {
     let (keeper, mut callers) = SharedKeeper::<L, Ticker>::open(alloc, prepared).ok()?;
-    let caller = callers.pop()?;
+    let mut caller = callers.pop()?;
+    timed(rt, &keeper, &mut caller, callers, work, commands)
+}
+
+fn timed<L: Named + Send + Sync, R: Threads + Wait + Hours + Sync>(
+    rt: &R,
+    keeper: &SharedKeeper<L, Ticker>,
+    caller: &mut Caller<L>,
+    others: Vec<Caller<L>>,
+    work: Work,
+    commands: u64,
+) -> Option<Turn> {
     let start = Instant::now(rt).ok()?;
-    let (done, mut caller) = does(rt, &keeper, caller, callers, work, commands);
+    let done = does(rt, keeper, caller, others, work, commands);
     let time = start.elapsed(rt).ok()?;
-    let last = keeper.read(rt, &mut caller);
+    let last = keeper.read(rt, caller);
     Some(Turn {
         time,
         count: done.count,
@@ -92,24 +103,24 @@ impl Done {
     }
 }
 
-/// Does the work; what was done, and the first caller back.
+/// Does the work, and tells what was done.
 fn does<L: Named + Send + Sync, R: Threads + Wait + Sync>(
     rt: &R,
     keeper: &SharedKeeper<L, Ticker>,
-    mut caller: Caller<L>,
+    caller: &mut Caller<L>,
     others: Vec<Caller<L>>,
     work: Work,
     commands: u64,
-) -> (Done, Caller<L>) {
+) -> Done {
     match work {
         Work::OneThread => {
-            gives(rt, keeper, &mut caller, commands);
-            (Done::commands(commands), caller)
+            gives(rt, keeper, caller, commands);
+            Done::commands(commands)
         }
         Work::FourThreads => {
             let ended = AtomicU64::new(0);
             quarters(rt, keeper, others, commands, &ended);
-            (Done::commands(commands), caller)
+            Done::commands(commands)
         }
         Work::ReadsBeside => beside(rt, keeper, caller, others, commands, false),
         Work::FastReadsBeside => beside(rt, keeper, caller, others, commands, true),
@@ -179,31 +190,29 @@ fn quarters<L: Named + Send + Sync, R: Threads + Wait + Sync>(
     );
 }
 
-/// Reads beside four threads that give the commands, until these have ended; the reads, and the
-/// caller that made them.
+/// Reads beside four threads that give the commands, until these have ended, and tells of the reads.
 fn beside<L: Named + Send + Sync, R: Threads + Wait + Sync>(
     rt: &R,
     keeper: &SharedKeeper<L, Ticker>,
-    mut caller: Caller<L>,
+    caller: &mut Caller<L>,
     others: Vec<Caller<L>>,
     commands: u64,
     is_fast: bool,
-) -> (Done, Caller<L>) {
+) -> Done {
     let ended = AtomicU64::new(0);
     let told = &ended;
-    let (_, read) = thread::join(
+    let (_, done) = thread::join(
         rt,
         move || quarters(rt, keeper, others, commands, told),
         move || {
-            let done = if is_fast {
-                fast_reads(keeper, &mut caller, told)
+            if is_fast {
+                fast_reads(keeper, caller, told)
             } else {
-                reads(rt, keeper, &mut caller, told)
-            };
-            (done, caller)
+                reads(rt, keeper, caller, told)
+            }
         },
     );
-    read
+    done
 }
 
 /// Reads until all four have ended.
