@@ -11,6 +11,3 @@
 mod pieces;
 
 pub use pieces::{trace_all, trace_all_into};
-
-#[cfg(test)]
-mod tests;

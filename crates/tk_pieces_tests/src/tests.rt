@@ -1,13 +1,15 @@
 //! Long lists by pieces, beside the same lists by one thread and worked values.
 
-use crate::{trace_all, trace_all_into};
 use std::alloc::{Allocator, Global};
+use std::fmt::Debug;
+use std::process::Abort;
 use std::test::Fail;
 use std::thread::Threads;
 use tk_clock::{ClockId, Command, Timespec};
 use tk_counter::CounterDesc;
 use tk_heap::Heap;
 use tk_keeper::{Timekeeper, TraceError};
+use tk_pieces::{trace_all, trace_all_into};
 
 /// The first reading above the mask.
 const ABOVE: u64 = 4_294_967_296;
@@ -21,6 +23,12 @@ struct Lists {
     fronts: Vec<u64>,
     stamps: Vec<u64>,
     out: Vec<u64>,
+}
+
+/// Stops the test where what was found isn't what was wanted. (A call of its own, so that the proof
+/// of a test is short.)
+fn assert_same<T: PartialEq + Debug>(rt: &impl Abort, found: &T, wanted: &T) {
+    assert_eq!(rt; found, wanted);
 }
 
 /// A timekeeper of one nanosecond a cycle, with two settings of the frequency.
@@ -108,9 +116,9 @@ fn lists_of_each_length_are_converted(rt: HostRuntime) -> Result<(), Fail> {
     for many in [0, 1, 100_000, 131_071, 131_072, 131_073, 196_608, MANY] {
         let mut lists = counted(alloc, many)?;
         let values = answered(&rt, alloc, &keeper, &mut lists)??;
-        assert_eq!(rt; values.len(), many);
+        assert_same(&rt, &values.len(), &many);
         for (place, value) in values.iter().enumerate() {
-            assert_eq!(rt; *value, place as u64);
+            assert_same(&rt, value, &(place as u64));
         }
     }
     Ok(())
@@ -134,14 +142,14 @@ fn the_first_fault_of_all_pieces_decides(rt: HostRuntime) -> Result<(), Fail> {
         put(&mut lists.fronts, place, front);
         put(&mut lists.stamps, place, stamp);
         let answer = answered(&rt, alloc, &keeper, &mut lists)?;
-        assert_eq!(rt; answer.err(), Some(fault));
+        assert_same(&rt, &answer.err(), &Some(fault));
         for (at, value) in lists.out.iter().take(place).enumerate() {
-            assert_eq!(rt; *value, at as u64);
+            assert_same(&rt, value, &(at as u64));
         }
     }
     keeper.fold(1);
     let answer = answered(&rt, alloc, &keeper, &mut lists)?;
-    assert_eq!(rt; answer.err(), Some(TraceError::Folded { index: 0 }));
+    assert_same(&rt, &answer.err(), &Some(TraceError::Folded { index: 0 }));
     Ok(())
 }
 
@@ -161,10 +169,10 @@ fn fronts_up_and_down_are_told_as_by_one_thread(rt: HostRuntime) -> Result<(), F
     put(&mut lists.fronts, MANY - 1, 2);
     put(&mut lists.stamps, MANY - 1, 1_000_000_001);
     let values = answered(&rt, alloc, &keeper, &mut lists)??;
-    assert_eq!(rt; values.last(), Some(&1_000_499_964));
+    assert_same(&rt, &values.last(), &Some(&1_000_499_964));
     for ((front, stamp), value) in lists.fronts.iter().zip(&lists.stamps).zip(&values) {
         let alone = keeper.trace(&[*front], &[*stamp], ClockId::Monotonic)?;
-        assert_eq!(rt; alone.as_slice(), [*value].as_slice());
+        assert_same(&rt, &alone.as_slice(), &[*value].as_slice());
     }
     Ok(())
 }
@@ -180,11 +188,11 @@ fn room_is_asked_for_first(rt: HostRuntime) -> Result<(), Fail> {
         put(&mut lists.fronts, 2, 7);
         heap.refuse_all();
         let refused = asked(&rt, &heap, &keeper, &lists);
-        assert_eq!(rt; refused.err(), Some(TraceError::Memory));
-        assert_eq!(rt; asked(&rt, &heap, &keeper, &none)?.len(), 0);
+        assert_same(&rt, &refused.err(), &Some(TraceError::Memory));
+        assert_same(&rt, &asked(&rt, &heap, &keeper, &none)?.len(), &0);
         heap.grant_all();
         let fault = asked(&rt, &heap, &keeper, &lists);
-        assert_eq!(rt; fault.err(), Some(TraceError::Unknown { index: 2 }));
+        assert_same(&rt, &fault.err(), &Some(TraceError::Unknown { index: 2 }));
     }
     Ok(())
 }
