@@ -1,5 +1,5 @@
 use std::alloc::{AllocError, Allocator};
-use std::cell::Cell;
+use std::sync::atomic::{AtomicU64, Ordering};
 
 /// Every request is granted.
 const NONE: u64 = u64::MAX;
@@ -11,7 +11,7 @@ const ALL: u64 = 0;
 pub struct Heap<B: Allocator> {
     inner: B,
     /// `NONE`, `ALL`, or which request from now on is refused, counted from 1.
-    refused: Cell<u64>,
+    refused: AtomicU64,
 }
 
 impl<B: Allocator> Heap<B> {
@@ -19,23 +19,23 @@ impl<B: Allocator> Heap<B> {
     pub fn new(inner: B) -> Heap<B> {
         Heap {
             inner,
-            refused: Cell::new(NONE),
+            refused: AtomicU64::new(NONE),
         }
     }
 
     /// Refuses every request from now on.
     pub fn refuse_all(&self) {
-        self.refused.set(ALL);
+        self.refused.store(ALL, Ordering::SeqCst);
     }
 
     /// Refuses one request, the first where it is 1.
     pub fn refuse(&self, number: u64) {
-        self.refused.set(number);
+        self.refused.store(number, Ordering::SeqCst);
     }
 
     /// Grants every request from now on; whether one was still to be refused.
     pub fn grant_all(&self) -> bool {
-        self.refused.replace(NONE) != NONE
+        self.refused.swap(NONE, Ordering::SeqCst) != NONE
     }
 }
 
@@ -49,16 +49,16 @@ impl<B: Allocator> Drop for Heap<B> {
 }
 
 /// Is this request refused? The next one is then another.
-fn refuses(refused: &Cell<u64>) -> bool {
-    match refused.get() {
+fn refuses(refused: &AtomicU64) -> bool {
+    match refused.load(Ordering::SeqCst) {
         NONE => false,
         ALL => true,
         1 => {
-            refused.set(NONE);
+            refused.store(NONE, Ordering::SeqCst);
             true
         }
         number => {
-            refused.set(number - 1);
+            refused.store(number - 1, Ordering::SeqCst);
             false
         }
     }

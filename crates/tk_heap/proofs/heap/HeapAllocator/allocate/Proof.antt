@@ -33,11 +33,11 @@ use denote.Triple.Walked.{Stays, stay_dropped, walk_of, ends_at, walked, Goes-dr
 use types.Kit.{‵, raw, ◌⊛◌, some, later, given, learn, pick, feq_i, feq_l, check, show, updating, at_ret, mean, now as at_once, ◌$◌, ◌∵◌, !, qed, move, keep, use0, use1, use2, split, join, fsplit, fjoin, suffices, await, done}
 use types.ByLocal.{env, alloc_all, pass_all, free_all, look_at, get, through, sets, lands_as}
 use denote.RawPtr.{block_ptr}
-use denote.Builtin.{usize, u64, bool, RefOf}
+use denote.Builtin.{usize, bool, RefOf}
 use denote.Triple.Call.{calls_at}
 use Rattle.std.proofs.Shapes.{after}
 use Rattle.std.proofs.alloc.Calls.{Al, α, seen, Answer, answer_val, Answer-typed, Answer-Ok, Answer-err, takes_key, Takes, at_takes, Answered, Takes-goes, Takes-gives, answers}
-use Rattle.std.specs.contracts.cell.Cell as CE
+use Rattle.std.specs.contracts.sync.atomic.AtomicU64 as CE
 use Rattle.tk_heap.specs.contracts.heap.refuses as RF
 use Rattle.tk_heap.proofs.heap.refuses.Symbol as c_sym
 use Rattle.tk_heap.proofs.heap.refuses.Met as c_met
@@ -48,7 +48,7 @@ use Rattle.tk_heap.proofs.heap.HeapAllocator.allocate.Statement as stated
 use Rattle.tk_heap.proofs.heap.HeapAllocator.allocate.Code as code
 
 abbrev Next : RattleType
-Next = CE.the_row u64
+Next = CE.the_row
 
 -- `refuses` at a call: what it is handed, and what a caller has of it
 module _ {M : Type 1} {𝓤 : Ura M} (𝓛 : Logic 𝓤) (at_mem : Memory → SProp 𝓤) (run : Routine → Fun 𝓤) where
@@ -56,14 +56,14 @@ module _ {M : Type 1} {𝓤 : Ura M} (𝓛 : Logic 𝓤) (at_mem : Memory → SP
   Refuses = triple_of 𝓛 RF.signature (RF.spec 𝓛 at_mem run)
 
   abbrev at_refuses : Lft → Share → ℕ × ℕ → Refuses.Ghost
-  at_refuses κ q c = (((κ, tt), (q, tt), tt, (record { ref_ptr = c; now = record { value = tt } }, tt), (vptr c.0 c.1 ∷ [], tt)), tt)
+  at_refuses κ q c = (((κ, tt), (q, tt), tt, (record { ref_ptr = c; now = tt }, tt), (vptr c.0 c.1 ∷ [], tt)), tt)
 
 module _ {M : Type 1} {𝓤 : Ura M} (𝓛 : Logic 𝓤) (at_mem : Memory → SProp 𝓤) (run : Routine → Fun 𝓤) (κ : Lft) (q : Share) (c : ℕ × ℕ) where
   open 𝓛 use {H, A}
 
-  Refuses-goes : ent 𝓤 (sep 𝓤 (sem 𝓛 (hidden_shr Next κ (record { value = tt }) c.0 c.1)) (A.lft κ q)) ((Refuses 𝓛 at_mem run).pre (at_refuses 𝓛 at_mem run κ q c))
+  Refuses-goes : ent 𝓤 (sep 𝓤 (sem 𝓛 (hidden_shr Next κ (tt) c.0 c.1)) (A.lft κ q)) ((Refuses 𝓛 at_mem run).pre (at_refuses 𝓛 at_mem run κ q c))
   Refuses-goes =
-      qed 𝓛 (‵ (hidden_shr Next κ (record { value = tt }) c.0 c.1) ∷ ‵ (flft κ q) ∷ []) ∵ feq_i ! (List Val) (vptr c.0 c.1 ∷ []) (vptr c.0 c.1 ∷ []) refl $ fjoin ! $
+      qed 𝓛 (‵ (hidden_shr Next κ (tt) c.0 c.1) ∷ ‵ (flft κ q) ∷ []) ∵ feq_i ! (List Val) (vptr c.0 c.1 ∷ []) (vptr c.0 c.1 ∷ []) refl $ fjoin ! $
       nothing ! $ move ! (1 ∷ []) $ fjoin ! $ nothing ! $ move ! (2 ∷ []) $ join ! $ join ! $ nothing ! $ move ! (1 ∷ []) $ done !
 
   Refuses-gives : (v : Val) → ent 𝓤 ((Refuses 𝓛 at_mem run).post (at_refuses 𝓛 at_mem run κ q c) v) (mean 𝓛 (later (some (λ (t : Bool). given (v ≡ vbool t) (‵ (flft κ q))))))
