@@ -2,7 +2,7 @@
 use Rattle.std.proofs.Common.{◌≡◌, ℕ, ◌+◌, ◌-◌, ◌*◌, ◌<◌, ◌≤◌, List, length, get_or, take, drop, ◌++◌, length-take, Some, None, Ok, Err, Result, refl, sym, ap, ap₂, ◌∙◌, subst, arith, rules, inl, inr}
 use Rattle.std.specs.Prelude.{ℤ, pos, IsOk, Option}
 use Rattle.std.proofs.lemmas.Bool.{cases_lt}
-use Rattle.std.proofs.lemmas.List.{get_or-take, get_or-drop, length-drop, places}
+use Rattle.std.proofs.lemmas.List.{get_or-take, get_or-drop, length-drop, length-take-le, places}
 use Rattle.tk_clock.specs.declared.clock_id.ClockId.{ClockId}
 use Rattle.tk_clock.specs.declared.refusal.ReadError.{ReadError}
 use Rattle.tk_clock.specs.declared.refusal.ReadError.TheVariants.{Invalid, Range}
@@ -16,7 +16,7 @@ use Rattle.tk_keeper.specs.Past.{at_front, front_refusal}
 use Rattle.tk_keeper.specs.Read.{read_fault}
 use Rattle.tk_keeper.specs.Trace.{item_of, AreValues, IsWritten, IsTraced}
 use Rattle.tk_keeper.proofs.Stretches.{part_at}
-use Rattle.tk_pieces.specs.Pieces.{ArePieces, IsTracedInPieces, further_on, piece_items, refused_mark}
+use Rattle.tk_pieces.specs.Pieces.{ArePieces, IsFaultFrom, IsTracedInPieces, further_on, piece_items, refused_mark}
 
 -- a value doesn't hang on the place of its item
 same_value : (index place : ℕ) (value v : ℤ) (stamp : Option ReadError)
@@ -160,4 +160,39 @@ module _ (journal : Journal) (clock : ClockId) (fronts stamps : List ℕ) where
           before = λ k early. ok_is (item_of journal clock fronts stamps k) (values k early);
         },
         values,
+      )
+
+  -- an item of a part, by its number in the part
+  item_in : (m n k place : ℕ) → k < n →
+      item journal clock place (get_or (take n (drop m fronts)) k 0)
+      (get_or (take n (drop m stamps)) k 0)
+      ≡ item journal clock place (get_or fronts (m + k) 0) (get_or stamps (m + k) 0)
+  item_in m n k place low =
+      ap₂ (item journal clock place)
+      (get_or-take n (drop m fronts) k 0 low ∙ get_or-drop m fronts k 0)
+      (get_or-take n (drop m stamps) k 0 low ∙ get_or-drop m stamps k 0)
+
+  -- the first fault of a part is that of the list from there on
+  pub part_refused : (m n : ℕ) (old new : List ℕ) (error : TraceError) → m + n ≤ length stamps →
+      IsTraced journal clock (take n (drop m fronts)) (take n (drop m stamps)) old new
+      (Err error) →
+      IsFaultFrom (item_of journal clock fronts stamps) (length stamps) m (further_on error m)
+  part_refused m n old new error inside (index, fault, written) =
+      let long : length (take n (drop m stamps)) ≡ n =
+      length-take-le n (drop m stamps) (omega (arith, length-drop m stamps)) in
+      let low : index < n = subst (λ l. index < l) long fault.within in (
+        m + index,
+        omega arith,
+        omega arith,
+        fault_further journal clock index m (get_or fronts (m + index) 0)
+            (get_or stamps (m + index) 0) error
+            (sym (item_in m n index index low) ∙ fault.fault),
+        λ k from early.
+            let j = k - m in
+            let back : m + j ≡ k = omega arith in
+            ok_is (item_of journal clock fronts stamps k)
+            (ap (item_of journal clock fronts stamps) (sym back)
+            ∙ value_anywhere journal clock j (m + j) (get_or fronts (m + j) 0)
+            (get_or stamps (m + j) 0) _
+            (sym (item_in m n j j (omega arith)) ∙ written.values j (omega arith))),
       )

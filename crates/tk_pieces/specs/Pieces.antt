@@ -1,5 +1,5 @@
 -- What a trace is converted to in pieces, side by side.
-use Rattle.std.specs.Prelude.{◌≡◌, ℕ, ◌+◌, ◌*◌, ◌<◌, ⊤, pos, List, length, slice_index, Result, Ok, Err}
+use Rattle.std.specs.Prelude.{◌≡◌, ℕ, ℤ, ◌+◌, ◌*◌, ◌<◌, ◌≤◌, ⊤, pos, List, length, slice_index, Result, Ok, Err, IsOk}
 use Rattle.std.specs.Fork.{slice_chunk}
 use Rattle.tk_clock.specs.declared.clock_id.ClockId.{ClockId}
 use Rattle.tk_clock.specs.Journal.{Journal}
@@ -17,6 +17,25 @@ IsTracedInPieces journal clock fronts stamps new (Err error) =
     (index : ℕ) × IsFirstFault journal clock fronts stamps index error
     × AreValues journal clock fronts stamps index new
 
+-- what each item of a trace comes to, by its place
+abbrev pub Items : Type 0
+Items = ℕ → Result ℤ TraceError
+
+-- words that hold the value of each item from a place on
+abbrev pub HoldFrom : Items → ℕ → List ℕ → Type 0
+HoldFrom item at words =
+    (k : ℕ) → k < length words → item (at + k) ≡ Ok (pos (slice_index words k))
+
+-- words that hold the value of each item from the first on
+abbrev pub HoldFirst : Items → List ℕ → Type 0
+HoldFirst item words = (k : ℕ) → k < length words → item k ≡ Ok (pos (slice_index words k))
+
+-- the first item from a place on that has a fault, and that is its fault
+abbrev pub IsFaultFrom : Items → ℕ → ℕ → TraceError → Type 0
+IsFaultFrom item count at error =
+    (index : ℕ) × (at ≤ index) × (index < count) × (item index ≡ Err error)
+    × ((k : ℕ) → at ≤ k → k < index → IsOk (item k))
+
 -- the items of a piece
 abbrev pub piece_items : ℕ
 piece_items = 65536
@@ -28,8 +47,7 @@ refused_mark = 18446744073709551615
 -- a piece that begins at a place of the list: unless it is marked, it holds the value of each item
 abbrev pub IsPiece : Journal → ClockId → List ℕ → List ℕ → ℕ → List ℕ → Type 0
 IsPiece journal clock fronts stamps at piece =
-    slice_index piece 0 < refused_mark → (k : ℕ) → k < length piece →
-    item_of journal clock fronts stamps (at + k) ≡ Ok (pos (slice_index piece k))
+    slice_index piece 0 < refused_mark → HoldFrom (item_of journal clock fronts stamps) at piece
 
 -- each piece of the list
 abbrev pub ArePieces : Journal → ClockId → List ℕ → List ℕ → List ℕ → Type 0

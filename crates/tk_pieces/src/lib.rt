@@ -8,6 +8,7 @@
 //! Units are those of `tk_keeper`: stamps are readings, in cycles; clock times in ns.
 #![tactic(auto)]
 
+mod ahead;
 mod pieces;
 
 pub use pieces::{trace_all, trace_all_into};

@@ -1,11 +1,15 @@
 //! A long list is cut into pieces, which threads convert in place. Then the pieces are gone over in
 //! order, and the list is converted once more, item by item, from the first piece with a fault on.
-ghost use Rattle.std.specs.Prelude.{◌≡◌, ◌+◌, ◌<◌, ◌≤◌, ◌^◌, length, MatchResult};
+//! The longest answers are made by `ahead`.
+ghost use Rattle.std.specs.Prelude.{[], ◌≡◌, ◌+◌, ◌<◌, ◌≤◌, ◌^◌, length, MatchResult};
 ghost use Rattle.tk_keeper.specs.Trace.{AreValues, IsConverted, IsFault};
 ghost use Rattle.tk_pieces.specs.Pieces.{ArePieces, IsPiece, IsTracedInPieces, further_on, place_told};
 
+use crate::ahead::trace_ahead;
+use rayon::current_num_threads;
 use rayon::prelude::*;
 use std::alloc::Allocator;
+use std::marker::{Brand, Send, Sync};
 use std::thread::Threads;
 use tk_clock::ClockId;
 use tk_keeper::{Timekeeper, TraceError};
@@ -17,14 +21,20 @@ const PIECE: usize = 65_536;
 /// Fewer items than this, two pieces, are converted by the calling thread.
 const SHARED: usize = 2 * PIECE;
 
+/// From so many items on the words of the answer, 32 MB, are taken from the system anew each time.
+/// To touch them first takes longer than all else.
+const UNTOUCHED: usize = 4_194_304;
+
 /// The first word of a piece with a fault. No clock tells it: all end before.
 const REFUSED: u64 = u64::MAX;
 
 /// A clock at each stamp, in ns, as the journal was at the front beside it, from several threads: two
 /// for each processor at most.
 ///
-/// It answers as `Timekeeper::trace`. Room for the answer is asked of `alloc`, before all else.
-pub fn trace_all<R: Threads + Sync, A: Allocator + Copy + Sync, B: Allocator>(
+/// It answers as `Timekeeper::trace`. Room for the answer is asked of `alloc`, before all else. What
+/// the longest lists want beside it is asked of the keeper's allocator, and they do without it where
+/// that is refused.
+pub fn trace_all<R: Threads + Sync, A: Allocator + Copy + Send + Sync, B: Allocator>(
     rt: &R,
     alloc: B,
     keeper: &Timekeeper<A>,
@@ -40,7 +50,33 @@ pub fn trace_all<R: Threads + Sync, A: Allocator + Copy + Sync, B: Allocator>(
     if stamps.is_empty() {
         return Ok(Vec::new(alloc));
     }
-    let Ok(mut values) = vec![in alloc; 0; stamps.len()] else {
+    let Ok(values) = Vec::with_capacity(alloc, stamps.len()) else {
+        return Err(TraceError::Memory);
+    };
+    if stamps.len() < UNTOUCHED || current_num_threads(rt) < 2 {
+        return convert_at_once(rt, keeper, fronts, stamps, clock, values);
+    }
+    trace_ahead::<Brand, R, A, B>(rt, keeper, fronts, stamps, clock, values)
+}
+
+/// As `trace_all`, into an empty list: it is filled up, and then converted in place.
+pub(crate) fn convert_at_once<R: Threads + Sync, A: Allocator + Copy + Sync, B: Allocator>(
+    rt: &R,
+    keeper: &Timekeeper<A>,
+    fronts: &[u64],
+    stamps: &[u64],
+    clock: ClockId,
+    values: Vec<u64, B>,
+) -> Result<Vec<u64, B>, TraceError>
+    requires beside { length fronts.now ≡ length stamps.now }
+    requires filled { 0 < length stamps.now }
+    requires empty { values.items ≡ [] }
+    ensures { MatchResult result
+        (λ values. IsConverted keeper.now.journal clock fronts.now stamps.now values.items)
+        (λ error. IsFault keeper.now.journal clock fronts.now stamps.now error) }
+{
+    let mut values = values;
+    let Ok(()) = values.resize(stamps.len(), 0) else {
         return Err(TraceError::Memory);
     };
     trace_all_into(rt, keeper, fronts, stamps, clock, values.as_mut_slice())?;
@@ -165,7 +201,7 @@ fn rest<A: Allocator + Copy>(
 }
 
 /// The fault of a part that begins at a place, as one of the whole list.
-fn moved(error: TraceError, by: usize) -> TraceError
+pub(crate) fn moved(error: TraceError, by: usize) -> TraceError
     requires { by + place_told error < 2 ^ 64 }
     ensures { result ≡ further_on error by }
 {

@@ -1,7 +1,9 @@
 //! Long lists by pieces, beside the same lists by one thread and worked values.
 
+use crate::long::LONG;
 use std::alloc::{Allocator, Global};
 use std::fmt::Debug;
+use std::marker::{Send, Sync};
 use std::process::Abort;
 use std::test::Fail;
 use std::thread::Threads;
@@ -12,27 +14,27 @@ use tk_keeper::{Timekeeper, TraceError};
 use tk_pieces::{trace_all, trace_all_into};
 
 /// The first reading above the mask.
-const ABOVE: u64 = 4_294_967_296;
+pub(crate) const ABOVE: u64 = 4_294_967_296;
 
 /// Items that make five pieces, the last of one item.
 const MANY: usize = 262_145;
 
 /// A trace, with the memory that it is converted into.
 #[derive(Drop)]
-struct Lists {
-    fronts: Vec<u64>,
-    stamps: Vec<u64>,
+pub(crate) struct Lists {
+    pub(crate) fronts: Vec<u64>,
+    pub(crate) stamps: Vec<u64>,
     out: Vec<u64>,
 }
 
 /// Stops the test where what was found isn't what was wanted. (A call of its own, so that the proof
 /// of a test is short.)
-fn assert_same<T: PartialEq + Debug>(rt: &impl Abort, found: &T, wanted: &T) {
+pub(crate) fn assert_same<T: PartialEq + Debug>(rt: &impl Abort, found: &T, wanted: &T) {
     assert_eq!(rt; found, wanted);
 }
 
 /// A timekeeper of one nanosecond a cycle, with two settings of the frequency.
-fn steered(alloc: Global) -> Result<Timekeeper, Fail> {
+pub(crate) fn steered<A: Allocator + Copy>(alloc: A) -> Result<Timekeeper<A>, Fail> {
     let desc = CounterDesc::new(32, 16_777_216, 24)?;
     let real = Timespec {
         sec: 1_700_000_000,
@@ -45,7 +47,7 @@ fn steered(alloc: Global) -> Result<Timekeeper, Fail> {
 }
 
 /// So many items as of the opening, each stamp its own number.
-fn counted(alloc: Global, many: usize) -> Result<Lists, Fail> {
+pub(crate) fn counted(alloc: Global, many: usize) -> Result<Lists, Fail> {
     let mut lists = Lists {
         fronts: vec![in alloc; 0; many]?,
         stamps: vec![in alloc; 0; many]?,
@@ -58,17 +60,17 @@ fn counted(alloc: Global, many: usize) -> Result<Lists, Fail> {
 }
 
 /// Writes an item, where the list has that place.
-fn put(list: &mut Vec<u64>, place: usize, number: u64) {
+pub(crate) fn put(list: &mut Vec<u64>, place: usize, number: u64) {
     if let Some(item) = list.get_mut(place) {
         *item = number;
     }
 }
 
 /// What `trace_all` answers, out of another allocator.
-fn asked<B: Allocator>(
+pub(crate) fn asked<A: Allocator + Copy + Send + Sync, B: Allocator>(
     rt: &(impl Threads + Sync),
     alloc: B,
-    keeper: &Timekeeper,
+    keeper: &Timekeeper<A>,
     lists: &Lists,
 ) -> Result<Vec<u64, B>, TraceError> {
     let fronts = lists.fronts.as_slice();
@@ -183,7 +185,7 @@ fn room_is_asked_for_first(rt: HostRuntime) -> Result<(), Fail> {
     let heap = Heap::new(alloc);
     let keeper = steered(alloc)?;
     let none = counted(alloc, 0)?;
-    for many in [3, MANY] {
+    for many in [3, MANY, LONG] {
         let mut lists = counted(alloc, many)?;
         put(&mut lists.fronts, 2, 7);
         heap.refuse_all();

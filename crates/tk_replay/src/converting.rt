@@ -53,7 +53,7 @@ fn items_of(alloc: Global, stamps: &[u8]) -> Result<Stamps, Fault>
 /// The lines of items by the clocks of a keeper, in memory from `alloc`: a clock at each stamp, in
 /// ns; or the fault of the first one that has any. A long list is converted by several threads.
 /// `Memory` may stand in the place of any other answer.
-pub fn convert<E: Threads + Sync, A: Allocator + Copy + Sync, B: Allocator + Copy>(
+pub fn convert<E: Threads + Sync, A: Allocator + Copy + Send + Sync, B: Allocator + Copy>(
     rt: &E,
     alloc: B,
     keeper: &Timekeeper<A>,

@@ -1,0 +1,49 @@
+-- Pieces that are appended one by one: what holds at the end, and where one has a fault.
+use Rattle.std.proofs.Common.{◌≡◌, ℕ, ◌<◌, ◌≤◌, List, refl, length, get_or, Ok, Err, Result, sym, subst, arith, inl, inr}
+use Rattle.std.specs.Prelude.{ℤ, pos, IsOk}
+use Rattle.std.proofs.lemmas.Bool.{cases_lt}
+use Rattle.tk_clock.specs.declared.clock_id.ClockId.{ClockId}
+use Rattle.tk_clock.specs.Journal.{Journal}
+use Rattle.tk_keeper.specs.declared.trace_error.TraceError.{TraceError}
+use Rattle.tk_keeper.specs.declared.trace_error.TraceError.TheVariants as errors
+use Rattle.tk_keeper.specs.Trace.{item_of, IsConverted, IsFault, IsFirstFault}
+use Rattle.tk_pieces.specs.Pieces.{Items, HoldFirst, IsFaultFrom}
+
+module _ (journal : Journal) (clock : ClockId) (fronts stamps : List ℕ) where
+  -- the first fault of a list is why it isn't converted
+  fault_told : (index : ℕ) (error : TraceError) →
+      IsFirstFault journal clock fronts stamps index error →
+      IsFault journal clock fronts stamps error
+  fault_told index errors.Memory first = omega (arith, first.within)
+  fault_told index (errors.Unknown place) first = (index, first)
+  fault_told index (errors.Folded place) first = (index, first)
+  fault_told index (errors.Invalid place) first = (index, first)
+  fault_told index (errors.Range place) first = (index, first)
+
+  is_ok : {v : ℤ} (r : Result ℤ TraceError) → r ≡ Ok v → IsOk r
+  is_ok r e = subst IsOk (sym e) refl
+
+  -- a piece has a fault, and the items before it are appended
+  pub stopped : (item : Items) (count : ℕ) (values : List ℕ) (error : TraceError) →
+      item ≡ item_of journal clock fronts stamps → count ≡ length stamps →
+      HoldFirst item values → IsFaultFrom item count (length values) error →
+      IsFault journal clock fronts stamps error
+  stopped item count values error named counted so_far (index, from, low, fault, before) =
+      fault_told index error (record {
+        within = subst (λ n. index < n) counted low;
+        fault = subst (λ i. i index ≡ Err error) named fault;
+        before = λ k early. subst (λ i. IsOk (i k)) named (elim (cases_lt k (length values)) [
+          | inl appended ↦ is_ok (item k) (so_far k appended)
+          | inr later ↦ before k later early
+        ]);
+      })
+
+  -- all pieces are appended
+  pub ended : (item : Items) (count : ℕ) (values : List ℕ) →
+      item ≡ item_of journal clock fronts stamps → count ≡ length stamps →
+      HoldFirst item values → length values ≤ count → length stamps ≤ length values →
+      IsConverted journal clock fronts stamps values
+  ended item count values named counted so_far inside all = (
+    omega (arith, counted, inside, all),
+    λ k low. subst (λ i. i k ≡ Ok (pos (get_or values k 0))) named (so_far k (omega (arith, all))),
+  )

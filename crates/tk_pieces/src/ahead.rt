@@ -1,0 +1,320 @@
+//! A list so long that its answer lies in memory that nobody has touched yet: whoever writes there
+//! first takes most of the time. So the calling thread does nothing but append pieces to the
+//! answer, while another thread converts them ahead, into words that go back and forth.
+//!
+//! Neither waits for the other. Where the next piece isn't ready, the calling thread converts it
+//! itself; where no words come back, the other thread ends.
+ghost use Rattle.std.specs.Prelude.{◌≡◌, ◌+◌, ◌<◌, ◌≤◌, [], length, MatchResult, OnOk, IfErr, IfSome};
+ghost use Rattle.tk_keeper.specs.Trace.{IsConverted, IsFault, item_of};
+ghost use Rattle.tk_keeper.specs.declared.trace_error.TraceError.TheVariants.{Memory};
+ghost use Rattle.tk_pieces.specs.Pieces.{HoldFirst, HoldFrom, IsFaultFrom};
+
+use crate::pieces::{convert_at_once, moved};
+use rtrb::{Consumer, Producer, RingBuffer};
+use std::alloc::{AllocError, Allocator};
+use std::marker::{Brand, PhantomData, Send, Sync};
+use std::thread;
+use std::thread::Threads;
+use tk_clock::ClockId;
+use tk_keeper::{Timekeeper, TraceError};
+
+/// The items of a piece: its words stay in the caches until they are appended.
+const PIECE: usize = 8_192;
+
+/// The pieces that are on their way at once.
+const PIECES: usize = 4;
+
+/// How often the other thread looks for words that came back before it ends: so often as takes some
+/// hundredths of a second.
+const LOOKS: usize = 100_000;
+
+/// Names the items of a trace. It has no function, and no value of it is made.
+///
+/// What one thread takes from another is known by its type alone: so the type names the items.
+pub(crate) trait NamesTrace {
+    ghost use Rattle.std.specs.Prelude.{ℕ};
+    ghost use Rattle.tk_pieces.specs.Pieces.{Items};
+
+    ghost item: { Items };
+
+    ghost count: { ℕ };
+}
+
+impl NamesTrace for Brand {
+    ghost use Rattle.std.specs.Prelude.{Err};
+    ghost use Rattle.tk_keeper.specs.declared.trace_error.TraceError.TheVariants.{Memory};
+
+    ghost item = { λ _. Err Memory };
+
+    ghost count = { 0 };
+}
+
+/// The values of some items that follow each other.
+#[derive(Drop)]
+pub(crate) struct Piece<N: NamesTrace, A: Allocator> {
+    /// The place of the first item.
+    at: usize,
+    words: Vec<u64, A>,
+    of: PhantomData<N>,
+    ghost inside: { (0 < length words.items) × (at + length words.items ≤ N.count) },
+    ghost values: { HoldFrom N.item at words.items },
+}
+
+/// What the calling thread has: pieces that are ready come in, and their words go back.
+#[derive(Drop)]
+pub(crate) struct Intake<N: NamesTrace, A: Allocator> {
+    ready: Consumer<Piece<N, A>, A>,
+    back: Producer<Vec<u64, A>, A>,
+}
+
+/// What the other thread has.
+#[derive(Drop)]
+pub(crate) struct Supply<N: NamesTrace, A: Allocator> {
+    ready: Producer<Piece<N, A>, A>,
+    back: Consumer<Vec<u64, A>, A>,
+}
+
+impl<N: NamesTrace, A: Allocator> Intake<N, A> {
+    /// The piece that begins at a place, where it is ready. Others come too late.
+    fn take(&mut self, at: usize) -> Option<Piece<N, A>>
+        ensures { IfSome result (λ piece. piece.at ≡ at) }
+    {
+        for _ in 0..PIECES {
+            match self.ready.pop() {
+                Ok(piece) => {
+                    if piece.at == at {
+                        return Some(piece);
+                    }
+                    self.give_back(piece);
+                }
+                Err(_) => return None,
+            }
+        }
+        None
+    }
+
+    /// Gives a piece's words back. There is room for the words of all pieces.
+    fn give_back(&mut self, piece: Piece<N, A>) {
+        let _given = self.back.push(piece.words);
+    }
+}
+
+impl<N: NamesTrace, A: Allocator> Supply<N, A> {
+    /// Words that came back, or none where the calling thread has ended or is held up.
+    fn words(&mut self) -> Option<Vec<u64, A>> {
+        for _ in 0..LOOKS {
+            if let Ok(words) = self.back.pop() {
+                return Some(words);
+            }
+            if self.ready.is_abandoned() {
+                return None;
+            }
+            thread::yield_now();
+        }
+        None
+    }
+}
+
+/// What both threads have, and the words of all pieces.
+fn ends<N: NamesTrace, A: Allocator + Copy>(
+    alloc: A,
+) -> Result<(Supply<N, A>, Intake<N, A>), AllocError> {
+    let (ready_in, ready_out) = RingBuffer::new(alloc, PIECES)?;
+    let (mut back_in, back_out) = RingBuffer::new(alloc, PIECES)?;
+    for _ in 0..PIECES {
+        let words = vec![in alloc; 0; PIECE]?;
+        let _given = back_in.push(words);
+    }
+    let supply = Supply {
+        ready: ready_in,
+        back: back_out,
+    };
+    let intake = Intake {
+        ready: ready_out,
+        back: back_in,
+    };
+    Ok((supply, intake))
+}
+
+/// Converts the piece that begins at a place, as many items as there are words.
+fn convert<N: NamesTrace, A: Allocator + Copy>(
+    keeper: &Timekeeper<A>,
+    fronts: &[u64],
+    stamps: &[u64],
+    clock: ClockId,
+    at: usize,
+    words: Vec<u64, A>,
+) -> Result<Piece<N, A>, TraceError>
+    requires beside { length fronts.now ≡ length stamps.now }
+    requires named { (N.item ≡ item_of keeper.now.journal clock fronts.now stamps.now)
+        × (N.count ≡ length stamps.now) }
+    requires inside { at < length stamps.now }
+    requires filled { 0 < length words.items }
+    ensures { MatchResult result (λ piece. piece.at ≡ at)
+        (λ error. IsFaultFrom N.item N.count at error) }
+{
+    let mut words = words;
+    words.truncate(stamps.len() - at);
+    let end = at + words.len();
+    let out = words.as_mut_slice();
+    match keeper.trace_into(&fronts[at..end], &stamps[at..end], clock, out) {
+        Ok(()) => Ok(Piece {
+            at,
+            words,
+            of: PhantomData,
+        }),
+        Err(error) => Err(moved(error, at)),
+    }
+}
+
+/// Converts pieces from the first on, until the calling thread has ended or a piece has a fault.
+fn convert_ahead<N: NamesTrace, A: Allocator + Copy>(
+    keeper: &Timekeeper<A>,
+    fronts: &[u64],
+    stamps: &[u64],
+    clock: ClockId,
+    supply: Supply<N, A>,
+)
+    requires beside { length fronts.now ≡ length stamps.now }
+    requires named { (N.item ≡ item_of keeper.now.journal clock fronts.now stamps.now)
+        × (N.count ≡ length stamps.now) }
+{
+    let mut supply = supply;
+    let mut at = 0;
+    'pieces: while at < stamps.len() {
+        let Some(words) = supply.words() else {
+            return;
+        };
+        if words.is_empty() {
+            return;
+        }
+        let Ok(piece) = convert(keeper, fronts, stamps, clock, at, words) else {
+            return;
+        };
+        at += piece.words.len();
+        if supply.ready.push(piece).is_err() {
+            return;
+        }
+    }
+}
+
+/// Appends the piece whose turn it is.
+fn append<N: NamesTrace, A: Allocator, B: Allocator>(
+    values: &mut Vec<u64, B>,
+    piece: &Piece<N, A>,
+) -> Result<(), TraceError>
+    requires next { piece.now.at ≡ length values.old.items }
+    requires so_far { HoldFirst N.item values.old.items }
+    ensures ok { OnOk result (HoldFirst N.item values.new.items
+        × (length values.old.items < length values.new.items)
+        × (length values.new.items ≤ N.count)) }
+    ensures refused { IfErr result (λ error. error ≡ Memory) }
+{
+    match values.extend_from_slice(piece.words.as_slice()) {
+        Ok(()) => Ok(()),
+        Err(_) => Err(TraceError::Memory),
+    }
+}
+
+/// Appends piece after piece, those that are ready and those that it converts itself.
+fn append_all<N: NamesTrace, A: Allocator + Copy, B: Allocator>(
+    keeper: &Timekeeper<A>,
+    fronts: &[u64],
+    stamps: &[u64],
+    clock: ClockId,
+    intake: Intake<N, A>,
+    words: Vec<u64, A>,
+    values: Vec<u64, B>,
+) -> Result<Vec<u64, B>, TraceError>
+    requires beside { length fronts.now ≡ length stamps.now }
+    requires named { (N.item ≡ item_of keeper.now.journal clock fronts.now stamps.now)
+        × (N.count ≡ length stamps.now) }
+    requires empty { values.items ≡ [] }
+    requires filled { 0 < length words.items }
+    ensures { MatchResult result
+        (λ values. IsConverted keeper.now.journal clock fronts.now stamps.now values.items)
+        (λ error. IsFault keeper.now.journal clock fronts.now stamps.now error) }
+{
+    let (mut intake, mut own, mut values) = (intake, words, values);
+    'pieces: while values.len() < stamps.len() {
+        let at = values.len();
+        match intake.take(at) {
+            Some(piece) => {
+                append(&mut values, &piece)?;
+                intake.give_back(piece);
+            }
+            None => {
+                let piece: Piece<N, A> = convert(keeper, fronts, stamps, clock, at, own)?;
+                append(&mut values, &piece)?;
+                own = piece.words;
+            }
+        }
+    }
+    Ok(values)
+}
+
+/// The keeper's allocator, which is that of each list that it gives.
+fn heap_of<A: Allocator + Copy>(keeper: &Timekeeper<A>) -> Result<A, TraceError> {
+    let none = keeper.trace(&[], &[], ClockId::Monotonic)?;
+    Ok(*none.allocator())
+}
+
+/// What both threads have, and the words of the pieces that the calling thread converts.
+fn prepared<N: NamesTrace, A: Allocator + Copy>(
+    keeper: &Timekeeper<A>,
+) -> Option<(Supply<N, A>, Intake<N, A>, Vec<u64, A>)>
+    ensures { IfSome result (λ ready. 0 < length ready.2.items) }
+{
+    let heap = heap_of(keeper).ok()?;
+    let words = vec![in heap; 0; PIECE].ok()?;
+    let (supply, intake) = ends(heap).ok()?;
+    Some((supply, intake, words))
+}
+
+/// As `trace_all`, into an empty list, where the type `N` names the items.
+pub(crate) fn trace_ahead<
+    N: NamesTrace + Send + Sync,
+    R: Threads + Sync,
+    A: Allocator + Copy + Send + Sync,
+    B: Allocator,
+>(
+    rt: &R,
+    keeper: &Timekeeper<A>,
+    fronts: &[u64],
+    stamps: &[u64],
+    clock: ClockId,
+    values: Vec<u64, B>,
+) -> Result<Vec<u64, B>, TraceError>
+    requires beside { length fronts.now ≡ length stamps.now }
+    requires named { (N.item ≡ item_of keeper.now.journal clock fronts.now stamps.now)
+        × (N.count ≡ length stamps.now) }
+    requires filled { 0 < length stamps.now }
+    requires empty { values.items ≡ [] }
+    ensures { MatchResult result
+        (λ values. IsConverted keeper.now.journal clock fronts.now stamps.now values.items)
+        (λ error. IsFault keeper.now.journal clock fronts.now stamps.now error) }
+{
+    let Some((supply, intake, words)) = prepared::<N, A>(keeper) else {
+        return convert_at_once(rt, keeper, fronts, stamps, clock, values);
+    };
+    let (_, told) = thread::join(
+        rt,
+        move ||
+            requires { (length fronts.now ≡ length stamps.now)
+                × (N.item ≡ item_of keeper.now.journal clock fronts.now stamps.now)
+                × (N.count ≡ length stamps.now) }
+        { convert_ahead(keeper, fronts, stamps, clock, supply) },
+        move || -> Result<Vec<u64, B>, TraceError>
+            requires { (length fronts.now ≡ length stamps.now)
+                × (N.item ≡ item_of keeper.now.journal clock fronts.now stamps.now)
+                × (N.count ≡ length stamps.now) × (values.items ≡ [])
+                × (0 < length words.items) }
+            ensures { MatchResult result
+                (λ values. IsConverted keeper.entry.now.journal clock fronts.entry.now
+                stamps.entry.now values.items)
+                (λ error. IsFault keeper.entry.now.journal clock fronts.entry.now
+                stamps.entry.now error) }
+        { append_all(keeper, fronts, stamps, clock, intake, words, values) },
+    );
+    told
+}

@@ -1,0 +1,70 @@
+//! Lists so long that another thread converts pieces ahead.
+
+use crate::tests::{ABOVE, asked, assert_same, counted, put, steered};
+use std::test::Fail;
+use tk_clock::ClockId;
+use tk_heap::Heap;
+use tk_keeper::TraceError;
+
+/// Items whose answer is longer than 32 MB by a word.
+pub(crate) const LONG: usize = 4_194_305;
+
+/// The requests for memory beside that of the answer.
+const REQUESTS: u64 = 9;
+
+#[test]
+fn a_long_list_is_told_as_by_one_thread(rt: HostRuntime) -> Result<(), Fail> {
+    let alloc = rt.alloc();
+    let keeper = steered(alloc)?;
+    let mut lists = counted(alloc, LONG)?;
+    for place in 0..LONG as u64 {
+        put(&mut lists.fronts, place as usize, place / 10_000 % 3);
+        put(&mut lists.stamps, place as usize, place.wrapping_mul(1_021) % ABOVE);
+    }
+    let values = asked(&rt, alloc, &keeper, &lists)?;
+    let (fronts, stamps) = (lists.fronts.as_slice(), lists.stamps.as_slice());
+    if fronts.len() != stamps.len() {
+        return Err("lists of two lengths".into());
+    }
+    let alone = keeper.trace(fronts, stamps, ClockId::Monotonic)?;
+    assert_same(&rt, &values.len(), &LONG);
+    assert_same(&rt, &(values.as_slice() == alone.as_slice()), &true);
+    Ok(())
+}
+
+#[test]
+fn the_first_fault_of_a_long_list_decides(rt: HostRuntime) -> Result<(), Fail> {
+    let alloc = rt.alloc();
+    let keeper = steered(alloc)?;
+    let mut lists = counted(alloc, LONG)?;
+    // each fault stands before those that came earlier
+    for (place, front, stamp, fault) in [
+        (4_194_304, 0, ABOVE, TraceError::Invalid { index: 4_194_304 }),
+        (3_000_000, 3, 0, TraceError::Unknown { index: 3_000_000 }),
+        (8_192, 0, ABOVE, TraceError::Invalid { index: 8_192 }),
+        (8_191, 9, ABOVE, TraceError::Unknown { index: 8_191 }),
+        (0, 0, ABOVE, TraceError::Invalid { index: 0 }),
+    ] {
+        put(&mut lists.fronts, place, front);
+        put(&mut lists.stamps, place, stamp);
+        assert_same(&rt, &asked(&rt, alloc, &keeper, &lists).err(), &Some(fault));
+    }
+    Ok(())
+}
+
+#[test]
+fn a_long_list_is_told_where_its_keepers_memory_is_refused(rt: HostRuntime) -> Result<(), Fail> {
+    let heap = Heap::new(rt.alloc());
+    let keeper = steered(&heap)?;
+    let lists = counted(rt.alloc(), LONG)?;
+    for request in 1..=REQUESTS {
+        heap.refuse(request);
+        let values = asked(&rt, rt.alloc(), &keeper, &lists)?;
+        assert_same(&rt, &heap.grant_all(), &false);
+        assert_same(&rt, &(values.as_slice() == lists.stamps.as_slice()), &true);
+    }
+    heap.refuse_all();
+    assert_same(&rt, &asked(&rt, rt.alloc(), &keeper, &lists)?.len(), &LONG);
+    assert_same(&rt, &heap.grant_all(), &true);
+    Ok(())
+}
