@@ -19,7 +19,11 @@ fn a_long_list_is_told_as_by_one_thread(rt: HostRuntime) -> Result<(), Fail> {
     let mut lists = counted(alloc, LONG)?;
     for place in 0..LONG as u64 {
         put(&mut lists.fronts, place as usize, place / 10_000 % 3);
-        put(&mut lists.stamps, place as usize, place.wrapping_mul(1_021) % ABOVE);
+        put(
+            &mut lists.stamps,
+            place as usize,
+            place.wrapping_mul(1_021) % ABOVE,
+        );
     }
     let values = asked(&rt, alloc, &keeper, &lists)?;
     let (fronts, stamps) = (lists.fronts.as_slice(), lists.stamps.as_slice());
@@ -39,7 +43,12 @@ fn the_first_fault_of_a_long_list_decides(rt: HostRuntime) -> Result<(), Fail> {
     let mut lists = counted(alloc, LONG)?;
     // each fault stands before those that came earlier
     for (place, front, stamp, fault) in [
-        (4_194_304, 0, ABOVE, TraceError::Invalid { index: 4_194_304 }),
+        (
+            4_194_304,
+            0,
+            ABOVE,
+            TraceError::Invalid { index: 4_194_304 },
+        ),
         (3_000_000, 3, 0, TraceError::Unknown { index: 3_000_000 }),
         (8_192, 0, ABOVE, TraceError::Invalid { index: 8_192 }),
         (8_191, 9, ABOVE, TraceError::Unknown { index: 8_191 }),
