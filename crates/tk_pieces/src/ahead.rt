@@ -2,8 +2,8 @@
 //! first takes most of the time. So the calling thread does nothing but append pieces to the
 //! answer, while another thread converts them ahead, into words that go back and forth.
 //!
-//! Neither waits for the other. Where the next piece isn't ready, the calling thread converts it
-//! itself; where no words come back, the other thread ends.
+//! Neither waits for a piece: where the next one isn't ready, the calling thread converts it itself;
+//! where no words come back, the other thread ends. Only that end is waited for.
 ghost use Rattle.std.specs.Prelude.{◌≡◌, ◌+◌, ◌<◌, ◌≤◌, [], length, MatchResult, OnOk, IfErr, IfSome};
 ghost use Rattle.tk_keeper.specs.Trace.{IsConverted, IsFault, item_of};
 ghost use Rattle.tk_keeper.specs.declared.trace_error.TraceError.TheVariants.{Memory};
