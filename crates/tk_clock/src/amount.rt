@@ -4,38 +4,42 @@ ghost use Rattle.tk_clock.specs.Limits.{clock_end, raw_end};
 
 use tk_counter::CounterDesc;
 
-/// The nanoseconds of a second.
+/// Counts the nanoseconds of a second.
 pub(crate) const NANOS_PER_SECOND: u64 = 1_000_000_000;
 
-/// So many nanoseconds don't fit 63 bits, and are beyond every clock's limit.
+/// Replaces an amount of ns that doesn't fit 63 bits. Every such amount is beyond every clock's
+/// limit.
 const TOO_MANY_NANOS: u64 = 1 << 63;
 
-/// Fewer cycles have less than 2^63 units at any multiplier.
+/// Bounds the cycles that fit a word at any multiplier: fewer have less than 2^63 units.
 pub(crate) const NARROW_CYCLES: u64 = 1 << 31;
 
-/// As many as the lower half of a word can tell apart.
+/// Counts the values of half a word.
 const HALF_WORD: u64 = 1 << 32;
 
-/// An amount of time: whole seconds, and what is left of them in units of `2^-shift` ns.
+/// Represents an amount of time: whole seconds, and the rest in units of `2^-shift` ns.
 #[repr(C)]
 #[derive(Clone, Copy, Debug, PartialEq, Eq)]
 pub(crate) struct Amount {
+    /// Whole seconds.
     pub sec: u64,
+    /// The rest, below a second, in units of `2^-shift` ns.
     pub frac: u64,
 }
 
 impl Amount {
     ghost use Rattle.tk_clock.specs.Amount.{units_of};
 
-    /// Nothing.
+    /// Returns the amount 0.
     pub fn zero() -> Amount
         ensures { result ≡ record { sec = 0; frac = 0 } }
     {
         Amount { sec: 0, frac: 0 }
     }
 
-    /// The amount with so many cycles at `mult` on top. Nothing below a nanosecond is lost. None
-    /// where the cycles alone come to 9,223,372,036 seconds, which is beyond every clock's limit.
+    /// Returns the amount plus `cycles` at `mult`. Nothing below a nanosecond is lost. Returns
+    /// `None` if `frac` and the cycles last 9,223,372,036 s or longer, which is beyond every
+    /// clock's limit.
     pub fn grown(self, desc: &CounterDesc, cycles: u64, mult: u32) -> Option<Amount>
         requires rest { self.frac < second desc.now }
         requires few { self.sec ≤ raw_end }
@@ -54,8 +58,8 @@ impl Amount {
         })
     }
 
-    /// As `grown`, for fewer than 2^31 cycles, where no more than one further second is full. None
-    /// tells nothing.
+    /// Returns what `grown` returns for fewer than 2^31 cycles, if at most one further second is
+    /// full. Otherwise it returns `None`, about which the contract says nothing.
     pub fn grown_soon(self, desc: &CounterDesc, cycles: u64, mult: u32) -> Option<Amount>
         requires rest { self.frac < second desc.now }
         requires few { self.sec ≤ raw_end }
@@ -83,7 +87,7 @@ impl Amount {
         None
     }
 
-    /// The amount in units of `2^-shift` ns.
+    /// Returns the amount in units of `2^-shift` ns.
     pub fn units(self, desc: &CounterDesc) -> u128
         requires rest { self.frac < second desc.now }
         requires few { self.sec ≤ raw_end }
@@ -93,7 +97,7 @@ impl Amount {
         u128::from(self.sec) * u128::from(desc.second()) + u128::from(self.frac)
     }
 
-    /// The amount in whole nanoseconds.
+    /// Returns the amount in whole nanoseconds, rounded down.
     pub fn nanos(self, desc: &CounterDesc) -> u64
         requires rest { self.frac < second desc.now }
         requires few { self.sec ≤ 2 * clock_end }
@@ -102,8 +106,8 @@ impl Amount {
         self.sec * NANOS_PER_SECOND + (self.frac >> desc.shift())
     }
 
-    /// The amount with so many cycles at `mult` on top, in whole nanoseconds. Where that is beyond
-    /// every clock's limit, it may be another number beyond them.
+    /// Returns the amount plus `cycles` at `mult`, in whole nanoseconds. If that is 2^63 ns or
+    /// more, which is beyond every clock's limit, the result may be another number that is.
     pub fn nanos_after(self, desc: &CounterDesc, cycles: u64, mult: u32) -> u64
         requires rest { self.frac < second desc.now }
         requires few { self.sec ≤ raw_end }
@@ -115,8 +119,8 @@ impl Amount {
     }
 }
 
-/// `frac` and so many cycles at `mult`, in ns. Where these don't fit 63 bits, it may be another
-/// number that doesn't.
+/// Returns `frac` plus `cycles` at `mult`, in whole ns. If that doesn't fit 63 bits, the result may
+/// be another number that doesn't.
 fn gained_nanos(frac: u64, cycles: u64, mult: u32, shift: u32) -> u64
     requires rest { frac < 2 ^ 62 }
     requires shift { shift ≤ 32 }
@@ -133,8 +137,8 @@ fn gained_nanos(frac: u64, cycles: u64, mult: u32, shift: u32) -> u64
     long_nanos(frac, cycles, mult, shift)
 }
 
-/// As `gained_nanos`, where `2^shift` cycles, which last `mult` whole nanoseconds, are full fewer
-/// than 2^31 times.
+/// Computes `gained_nanos` if `cycles / 2^shift` is below 2^31. `2^shift` cycles last exactly
+/// `mult` nanoseconds, so only the remaining cycles need a shift.
 fn far_nanos(frac: u64, cycles: u64, mult: u32, shift: u32) -> u64
     requires rest { frac < 2 ^ 62 }
     requires shift { shift < 32 }
@@ -147,7 +151,7 @@ fn far_nanos(frac: u64, cycles: u64, mult: u32, shift: u32) -> u64
     full * u64::from(mult) + (few_units(frac, rest, mult) >> shift)
 }
 
-/// `frac` and so few cycles at `mult` that they fit a word.
+/// Returns `frac` plus `cycles` at `mult`, in units. Fewer than 2^31 cycles fit a word.
 fn few_units(frac: u64, cycles: u64, mult: u32) -> u64
     requires rest { frac < 2 ^ 62 }
     requires narrow { cycles < 2 ^ 31 }
@@ -157,9 +161,9 @@ fn few_units(frac: u64, cycles: u64, mult: u32) -> u64
     frac + cycles * u64::from(mult)
 }
 
-/// As `gained_nanos`, where the units may not fit 64 bits.
+/// Computes `gained_nanos` if the units may not fit 64 bits.
 ///
-/// `2^32` units are `2^(32 - shift)` ns, whole ones, so no division is needed.
+/// `2^32` units are `2^(32 - shift)` ns, a whole number, so no division is needed.
 #[cold]
 #[inline(never)]
 fn long_nanos(frac: u64, cycles: u64, mult: u32, shift: u32) -> u64
@@ -176,7 +180,7 @@ fn long_nanos(frac: u64, cycles: u64, mult: u32, shift: u32) -> u64
     (upper << (32 - shift)) + (rest >> shift)
 }
 
-/// `frac` and so many cycles at `mult`: how many times `2^32` units, and further units.
+/// Splits `frac` plus `cycles` at `mult` into a number of `2^32` units and further units.
 fn halves(frac: u64, cycles: u64, mult: u32) -> (u64, u64)
     requires { frac < 2 ^ 62 }
     ensures value { 2 ^ 32 * result.0 + result.1 ≡ frac + cycles * mult }

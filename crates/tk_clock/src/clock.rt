@@ -14,15 +14,16 @@ use crate::timespec::{Timespec, nanos_of};
 use std::marker::Model;
 use tk_counter::CounterDesc;
 
-/// The running clocks of a counter, as the kernel's `struct timekeeper`.
+/// Keeps the running clocks of a counter, as the kernel's `struct timekeeper`.
 ///
-/// It knows no time of its own: each command hands in the counter's reading. Commands need no
-/// allocation.
+/// It has no source of time: the caller passes the counter's reading with each command. No command
+/// allocates.
 #[repr(C)]
 #[derive(Clone, Copy, Debug)]
 pub struct Clock {
+    /// The state that a read needs.
     base: ReadBase,
-    /// The frequency in force, in `2^-16` ppm.
+    /// The frequency in force, in `2^-16` ppm, as it was set.
     frequency: i64,
     /// The tick in force, in microseconds.
     tick: i64,
@@ -48,10 +49,13 @@ impl Clock {
     ghost use Rattle.tk_clock.specs.State.{state_of, effect};
     ghost use Rattle.tk_clock.specs.Effect.{IsEarly};
 
-    /// The clocks from this reading on, awake and at their usual rate: MONOTONIC is 0, and REALTIME
-    /// `real`.
+    /// Opens the clocks of the counter `desc` at `reading`, in cycles. They are awake and at their
+    /// usual rate, MONOTONIC is 0 and REALTIME is `real`.
     ///
-    /// Invalid where the reading is above the mask, or where REALTIME may not be set to `real`.
+    /// # Errors
+    ///
+    /// - `Invalid`: `reading` is above the mask, or REALTIME may not be set to `real`. It may be
+    ///   set to times from 0 s to below 8,277,292,036 s, with `nsec` below 10^9.
     pub fn open(desc: CounterDesc, reading: u64, real: Timespec) -> Result<Clock, Refusal>
         ensures answer { MatchResult result
             (λ clock. (opening_refusal desc reading real ≡ None)
@@ -80,12 +84,22 @@ impl Clock {
         })
     }
 
-    /// Does a command to the clocks, or tells why not and leaves them as they were.
+    /// Applies a command at `reading`, in cycles. A refused command leaves the clocks as they were.
     ///
-    /// In this order: Asleep or Awake; Invalid where the reading is above the mask or the command's
-    /// numbers are out of range; Behind where the reading lies behind the last one; Range where a
-    /// clock would be at its limit; Invalid where REALTIME would be set below MONOTONIC or beyond
-    /// what may be set. `Command` names the kernel's functions.
+    /// `Command` names the kernel's functions and the ranges of each command's numbers.
+    ///
+    /// # Errors
+    ///
+    /// The first test that fails, in this order. `Full` and `Memory` are never returned.
+    ///
+    /// - `Asleep`: the clocks are asleep, and the command is not `Resume`.
+    /// - `Awake`: the clocks are awake, and the command is `Resume`.
+    /// - `Invalid`: `reading` is above the mask, or a number of the command is out of its range.
+    /// - `Behind`: `reading` is behind the last one. `Resume` skips this test.
+    /// - `Range`: MONOTONIC or BOOTTIME would be at its limit or beyond it; REALTIME or TAI too,
+    ///   unless the command is `SetTime` or `Step`.
+    /// - `Invalid`: `SetTime` or `Step` would set REALTIME below MONOTONIC, or `Step` would move it
+    ///   to 8,277,292,036 s or beyond.
     #[inline(always)]
     pub fn apply(&mut self, reading: u64, cmd: Command) -> Result<(), Refusal>
         ensures { MatchResult result
@@ -100,8 +114,8 @@ impl Clock {
         self.apply_any(reading, cmd)
     }
 
-    /// Does an update that is as most of them are: fewer than 2^31 cycles after the last command,
-    /// and with no more than one second full since. Tells whether it did; any other is left alone.
+    /// Applies an update of the usual kind: fewer than 2^31 cycles after the last command, and with
+    /// at most one second full since. Returns whether it did; otherwise nothing changes.
     #[inline(always)]
     fn update_soon(&mut self, reading: u64) -> bool
         ensures { ((result ≡ true) × (state_refusal self.old reading Command.Update ≡ None)
@@ -121,7 +135,8 @@ impl Clock {
         true
     }
 
-    /// `apply` of any command: out of line, so that most updates need none of its room.
+    /// Applies any command, as `apply` does. It is out of line, so that most updates need none of
+    /// its stack.
     #[inline(never)]
     fn apply_any(&mut self, reading: u64, cmd: Command) -> Result<(), Refusal>
         ensures { MatchResult result
@@ -135,7 +150,7 @@ impl Clock {
         Ok(())
     }
 
-    /// The tests that need no clock's value, in the order of `apply`.
+    /// Runs the tests that need no clock's value, in the order of `apply`.
     #[inline(always)]
     fn check(&self, reading: u64, cmd: Command) -> Result<(), Refusal>
         ensures { MatchResult result
@@ -159,7 +174,8 @@ impl Clock {
         Ok(())
     }
 
-    /// What a reader is given, once so many commands were accepted.
+    /// Returns the snapshot of the clocks with `front`, the number of commands accepted so far. The
+    /// caller counts them: the clocks don't.
     pub fn snapshot(&self, front: u64) -> Snapshot
         ensures { result ≡ record { front = front; base = self.now.base } }
     {

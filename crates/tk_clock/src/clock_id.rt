@@ -1,20 +1,21 @@
-/// A clock, as clock_gettime(2) names it.
+/// Names a clock, as clock_gettime(2) does.
 ///
-/// A coarse clock stands at its value at the last accepted command.
+/// A coarse clock keeps its value at the last accepted command until the next one.
 #[derive(Clone, Copy, Debug, PartialEq, Eq)]
 pub enum ClockId {
-    /// The time since 1970, which may be set and stepped.
+    /// Counts the time since 1970. It may be set and stepped.
     Realtime,
-    /// The time since opening, which never goes back, and stands still while the clock is asleep.
+    /// Counts the time since opening. No accepted command moves it back, and it doesn't advance
+    /// while the clocks are asleep.
     Monotonic,
-    /// MONOTONIC and all suspensions.
+    /// Counts MONOTONIC plus all suspensions.
     Boottime,
-    /// REALTIME and the TAI offset.
+    /// Counts REALTIME plus the TAI offset.
     Tai,
-    /// REALTIME at the last command.
+    /// Gives REALTIME at the last command.
     RealtimeCoarse,
-    /// MONOTONIC at the last command.
+    /// Gives MONOTONIC at the last command.
     MonotonicCoarse,
-    /// The awake cycles at the counter's own rate, which no frequency or tick steers.
+    /// Counts the awake cycles at the counter's own rate, which no frequency or tick changes.
     MonotonicRaw,
 }

@@ -1,36 +1,40 @@
 use crate::timespec::Timespec;
 
-/// What may be done to the clocks. Each command but `Resume` first brings them forward to its
+/// Changes the clocks at a reading. Each command except `Resume` first brings them forward to its
 /// reading.
 #[derive(Clone, Copy, Debug, PartialEq, Eq)]
 pub enum Command {
-    /// Nothing more (`update_wall_time`).
+    /// Changes nothing more (`update_wall_time`).
     Update,
-    /// REALTIME at the reading is exactly this time (`do_settimeofday64`).
+    /// Sets REALTIME at the reading to exactly this time (`do_settimeofday64`). The time is
+    /// from 0 s to below 8,277,292,036 s, `nsec` is below 10^9, and it may not be below MONOTONIC.
     SetTime(Timespec),
-    /// REALTIME moves by this amount; `sec` may be negative (`timekeeping_inject_offset`).
+    /// Moves REALTIME by this amount (`timekeeping_inject_offset`). `sec` may be negative, and
+    /// `nsec` is below 10^9. REALTIME must stay at or above MONOTONIC and below 8,277,292,036 s.
     Step(Timespec),
-    /// The frequency from the reading on, in `2^-16` ppm, clamped to 500 ppm either way
-    /// (adjtimex(2), ADJ_FREQUENCY).
+    /// Sets the frequency from the reading on, in `2^-16` ppm, and keeps the tick (adjtimex(2),
+    /// ADJ_FREQUENCY). Beyond 500 ppm either way it has the effect of 500 ppm.
     Freq(i64),
-    /// The tick from the reading on, in microseconds, 9,000 to 11,000 (adjtimex(2), ADJ_TICK).
+    /// Sets the tick from the reading on, in microseconds, 9,000 to 11,000, and keeps the frequency
+    /// (adjtimex(2), ADJ_TICK).
     Tick(i64),
-    /// TAI less REALTIME, in seconds, 0 to 100,000 (adjtimex(2), ADJ_TAI).
+    /// Sets TAI less REALTIME, in seconds, 0 to 100,000 (adjtimex(2), ADJ_TAI).
     Tai(i64),
-    /// The clocks fall asleep: MONOTONIC stands still (`timekeeping_suspend`).
+    /// Puts the clocks to sleep: no clock advances until `Resume` (`timekeeping_suspend`).
     Suspend,
-    /// The clocks wake, and count from the reading on; REALTIME and BOOTTIME move by this
-    /// suspension (`timekeeping_resume`).
+    /// Wakes the clocks, which count from the reading on (`timekeeping_resume`). REALTIME and
+    /// BOOTTIME, and so TAI, move by this suspension. It is from 0 s to below 9,223,372,036 s, and
+    /// `nsec` is below 10^9.
     Resume(Timespec),
 }
 
-/// An accepted command in a journal.
+/// Records an accepted command in a journal.
 #[derive(Clone, Copy, Debug, PartialEq, Eq)]
 pub struct Entry {
-    /// The caller that gave it.
+    /// Identifies the caller that gave the command.
     pub who: u32,
-    /// The counter's reading.
+    /// Holds the counter's reading at the command, in cycles.
     pub reading: u64,
-    /// What was done.
+    /// Holds the command itself.
     pub cmd: Command,
 }

@@ -1,12 +1,13 @@
-//! The clocks of a free-running counter: commands, the journal's definitions, the running state and
-//! its snapshots.
+//! Keeps the clocks of a free-running counter: commands, the journal's definitions, the running
+//! state and its snapshots.
 //!
 //! | Item | What it is |
 //! |---|---|
 //! | `Clock` | the running clocks: opened at a reading, changed by commands |
-//! | `Snapshot` | what a reader of the clocks is given: converts readings to times |
-//! | `Command`, `Entry`, `Refusal` | what may be done to the clocks, who did it when, and why not |
-//! | `ClockId`, `ReadError` | which clock is read, and why it can't be |
+//! | `Snapshot` | a reader's copy of the clocks: converts readings to times |
+//! | `Command`, `Entry` | a change to the clocks; an accepted one with its caller and its reading |
+//! | `Refusal` | the first test that a command fails |
+//! | `ClockId`, `ReadError` | the clock that is read; why it can't be read |
 //! | `Timespec` | seconds and nanoseconds |
 //!
 //! Units: readings in cycles; amounts of time inside in `2^-shift` ns; offsets in ns; frequencies

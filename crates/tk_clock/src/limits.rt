@@ -6,18 +6,18 @@ use crate::clock_id::ClockId;
 use crate::command::Command;
 use crate::timespec::Timespec;
 
-/// Where MONOTONIC ends, in seconds: 30 years of 365 days (`TIME_UPTIME_SEC_MAX`).
+/// The end of MONOTONIC, in seconds: 30 years of 365 days (`TIME_UPTIME_SEC_MAX`).
 pub(crate) const MONOTONIC_SEC_LIMIT: u64 = 946_080_000;
 
-/// What MONOTONIC_RAW stays below, in seconds, while MONOTONIC is below its limit: it gains most on
-/// MONOTONIC at the least tick and frequency.
+/// The bound of MONOTONIC_RAW, in seconds: it stays below this while MONOTONIC is below its limit.
+/// It gains most on MONOTONIC at the least tick and frequency.
 pub(crate) const RAW_SEC_LIMIT: u64 = 1_060_000_000;
 
-/// Where the other clocks end, in seconds: as many as 63 bits of nanoseconds hold
+/// The end of the other clocks, in seconds: the most that 63 bits of nanoseconds hold
 /// (`KTIME_SEC_MAX`).
 const CLOCK_SEC_LIMIT: i64 = 9_223_372_036;
 
-/// Where the times end that REALTIME may be set to, in seconds: 30 years before its own end
+/// The end of the times that REALTIME may be set to, in seconds: 30 years before its own end
 /// (`TIME_SETTOD_SEC_MAX`).
 const SETTABLE_SEC_LIMIT: i64 = 8_277_292_036;
 
@@ -27,7 +27,7 @@ pub(crate) const SHORTEST_TICK: i64 = 9_000;
 /// The longest tick that may be set, in microseconds.
 pub(crate) const LONGEST_TICK: i64 = 11_000;
 
-/// The lowest frequency that is followed, in `2^-16` ppm: 500 ppm back (`MAXFREQ_SCALED`).
+/// The lowest frequency that takes effect, in `2^-16` ppm: 500 ppm slow (`MAXFREQ_SCALED`).
 pub(crate) const SLOWEST_FREQUENCY: i64 = -32_768_000;
 
 /// The usual tick, in microseconds: a hundredth of a second (`USER_TICK_USEC`).
@@ -36,7 +36,7 @@ pub(crate) const USUAL_TICK: i64 = 10_000;
 /// The greatest TAI offset, in seconds (`MAX_TAI_OFFSET`).
 pub(crate) const TAI_OFFSET_MOST: i64 = 100_000;
 
-/// The nanoseconds at which a clock ends.
+/// Returns the end of a clock, in ns.
 #[inline(always)]
 pub(crate) fn limit(clock: ClockId) -> u64
     ensures value { pos result ≡ limit clock }
@@ -48,14 +48,14 @@ pub(crate) fn limit(clock: ClockId) -> u64
     }
 }
 
-/// The nanoseconds at which the times end that REALTIME may be set to.
+/// Returns the end of the times that REALTIME may be set to, in ns.
 pub(crate) fn settable_limit() -> u64
     ensures { result ≡ settable_end * 10 ^ 9 }
 {
     SETTABLE_SEC_LIMIT as u64 * NANOS_PER_SECOND
 }
 
-/// May REALTIME be set to this time?
+/// Returns whether REALTIME may be set to this time.
 #[tactic(auto, unfolding(crate::specs::Limits::is_settable))]
 pub(crate) fn is_settable(time: Timespec) -> bool
     ensures { result ≡ is_settable time }
@@ -63,7 +63,7 @@ pub(crate) fn is_settable(time: Timespec) -> bool
     time.sec >= 0 && time.sec < SETTABLE_SEC_LIMIT && time.nsec < 1_000_000_000
 }
 
-/// May a suspension have lasted so long?
+/// Returns whether a suspension may have this length.
 #[tactic(auto, unfolding(crate::specs::Limits::is_suspension))]
 fn is_suspension(away: Timespec) -> bool
     ensures { result ≡ is_suspension away }
@@ -71,7 +71,7 @@ fn is_suspension(away: Timespec) -> bool
     away.sec >= 0 && away.sec < CLOCK_SEC_LIMIT && away.nsec < 1_000_000_000
 }
 
-/// Are a command's numbers in their ranges?
+/// Returns whether a command's numbers are in their ranges.
 #[tactic(auto, unfolding(crate::specs::Limits::is_well_formed))]
 pub(crate) fn is_well_formed(cmd: Command) -> bool
     ensures { result ≡ is_well_formed cmd }
@@ -86,7 +86,7 @@ pub(crate) fn is_well_formed(cmd: Command) -> bool
     }
 }
 
-/// Does the command set REALTIME, so that a test of its own bounds it?
+/// Returns whether the command sets REALTIME. If so, a separate test bounds REALTIME.
 pub(crate) fn sets_real(cmd: Command) -> bool
     ensures { result ≡ sets_real cmd }
 {

@@ -10,7 +10,7 @@ use crate::timespec::{Timespec, timespec_of};
 use std::marker::Model;
 use tk_counter::CounterDesc;
 
-/// What reading the clocks takes, as the kernel's `struct tk_read_base`.
+/// Holds the state that a read of the clocks needs, as the kernel's `struct tk_read_base`.
 #[repr(C)]
 #[derive(Clone, Copy, Debug)]
 pub(crate) struct ReadBase {
@@ -18,7 +18,7 @@ pub(crate) struct ReadBase {
     pub desc: CounterDesc,
     /// The last reading, in cycles.
     pub last: u64,
-    /// What a cycle adds from it on, in `2^-shift` ns.
+    /// What a cycle after it adds, in `2^-shift` ns.
     pub mult: u32,
     /// MONOTONIC at the last reading.
     pub monotonic: Amount,
@@ -30,7 +30,7 @@ pub(crate) struct ReadBase {
     pub boot_offset: u64,
     /// TAI less REALTIME, in seconds.
     pub tai: u32,
-    /// Whether the clocks stand still.
+    /// Whether the clocks are asleep.
     pub asleep: bool,
 }
 
@@ -89,7 +89,7 @@ impl ReadBase {
     ghost use Rattle.tk_clock.specs.Amount.{amount_of};
     ghost use Rattle.tk_clock.specs.Words.{words_of, restored};
 
-    /// Does a reading lie behind the last one?
+    /// Returns whether a reading is behind the last one.
     pub fn is_behind(&self, reading: u64) -> bool
         ensures { let counter = self.now.counter in
             result ≡ nat_lt (half counter) (gap counter self.now.last reading) }
@@ -97,7 +97,7 @@ impl ReadBase {
         self.leads_back(self.desc.gap(self.last, reading))
     }
 
-    /// The cycles from the last reading to another: none while asleep, or where it lies behind.
+    /// Returns the cycles from the last reading to another: 0 while asleep, or if it is behind.
     fn cycles_since(&self, reading: u64) -> u64
         ensures { result ≡ base_cycles self.now reading }
     {
@@ -109,8 +109,8 @@ impl ReadBase {
         }
     }
 
-    /// Does a gap lead back? It does where less than it is left up to the mask, as
-    /// `CounterDesc::is_behind` tells of any number.
+    /// Returns whether a gap leads back. It does if it exceeds its distance to the mask, which
+    /// `CounterDesc::is_behind` tests for any number.
     fn leads_back(&self, gap: u64) -> bool
         requires { gap ≤ mask self.now.counter }
         ensures { result ≡ nat_lt (half self.now.counter) gap }
@@ -118,8 +118,8 @@ impl ReadBase {
         self.desc.mask() - gap < gap
     }
 
-    /// MONOTONIC at a reading, in ns. Where that is beyond every clock's limit, it may be another
-    /// number beyond them.
+    /// Returns MONOTONIC at a reading, in ns. If that is beyond every clock's limit, the result may
+    /// be another number that is.
     fn monotonic_at(&self, reading: u64) -> u64
         ensures told { let nanos = base_monotonic self.now reading in
             (result ≡ nanos) ⊎ ((2 ^ 63 ≤ nanos) × (2 ^ 63 ≤ result)) }
@@ -129,7 +129,7 @@ impl ReadBase {
         self.monotonic.nanos_after(&self.desc, cycles, self.mult)
     }
 
-    /// MONOTONIC_RAW at a reading, in ns, as MONOTONIC.
+    /// Returns MONOTONIC_RAW at a reading, in ns, with the same exception as `monotonic_at`.
     fn raw_at(&self, reading: u64) -> u64
         ensures { let nanos = base_raw self.now reading in
             (result ≡ nanos) ⊎ ((2 ^ 63 ≤ nanos) × (2 ^ 63 ≤ result)) }
@@ -138,14 +138,14 @@ impl ReadBase {
         self.raw.nanos_after(&self.desc, cycles, self.desc.mult())
     }
 
-    /// MONOTONIC at the last reading.
+    /// Returns MONOTONIC at the last reading.
     pub fn monotonic_amount(&self) -> Amount
         ensures { result ≡ amount_of self.now.counter self.now.amount }
     {
         self.monotonic
     }
 
-    /// MONOTONIC_RAW at the last reading.
+    /// Returns MONOTONIC_RAW at the last reading.
     pub fn raw_amount(&self) -> Amount
         ensures value { result ≡ amount_of self.now.counter self.now.raw_amount }
         ensures below { result.sec < raw_end }
@@ -153,7 +153,8 @@ impl ReadBase {
         self.raw
     }
 
-    /// Is MONOTONIC_RAW no further ahead of MONOTONIC than the slowest rate brings it?
+    /// Returns whether MONOTONIC_RAW is no further ahead of MONOTONIC than the slowest rate brings
+    /// it.
     pub fn is_rated(&self) -> bool
         ensures { IsTrue result ↔ IsRated self.now }
     {
@@ -162,7 +163,7 @@ impl ReadBase {
             <= self.monotonic.units(&self.desc) * u128::from(self.desc.mult())
     }
 
-    /// The base and a front as ten words.
+    /// Encodes the base and a front as ten words.
     pub fn words(&self, front: u64) -> [u64; 10]
         ensures value { result ≡ words_of (record { front = front; base = self.now }) }
         ensures back { IsWithin self.now → restored self.now.counter
@@ -183,7 +184,7 @@ impl ReadBase {
         ]
     }
 
-    /// MONOTONIC at the last reading, in ns.
+    /// Returns MONOTONIC at the last reading, in ns.
     pub fn monotonic_now(&self) -> u64
         ensures value { result ≡ base_monotonic self.now self.now.last }
         ensures amount { result ≡ self.now.amount / 2 ^ self.now.counter.shift }
@@ -193,7 +194,7 @@ impl ReadBase {
         self.monotonic.nanos(&self.desc)
     }
 
-    /// TAI less REALTIME, in ns.
+    /// Returns TAI less REALTIME, in ns.
     fn tai_nanos(&self) -> u64
         ensures value { pos result ≡ self.now.tai *ℤ pos (10 ^ 9) }
         ensures low { result ≤ greatest_tai * 10 ^ 9 }
@@ -201,8 +202,8 @@ impl ReadBase {
         u64::from(self.tai) * NANOS_PER_SECOND
     }
 
-    /// A clock at a reading, in ns. Where that is at its limit or beyond, it may be another number
-    /// that is.
+    /// Returns a clock at a reading, in ns. If that is at its limit or beyond, the result may be
+    /// another number that is.
     #[inline(always)]
     fn value(&self, clock: ClockId, reading: u64) -> u64
         ensures { let nanos = base_value self.now clock reading in
@@ -221,9 +222,9 @@ impl ReadBase {
         }
     }
 
-    /// A clock's time at a reading, or the first thing that is wrong.
+    /// Returns a clock's time at a reading, or the first test that fails.
     ///
-    /// Each clock gets the steps for itself, so that which one it is is tested once.
+    /// Each clock has its own copy of the steps, so that the clock is tested only once.
     #[inline(always)]
     pub fn get(&self, clock: ClockId, reading: u64) -> Result<Timespec, ReadError>
         ensures { MatchResult result
@@ -243,7 +244,7 @@ impl ReadBase {
         }
     }
 
-    /// As `get`, where the compiler knows the clock.
+    /// Does what `get` does, for a clock that the compiler knows.
     #[inline(always)]
     fn time_of(&self, clock: ClockId, reading: u64) -> Result<Timespec, ReadError>
         ensures { MatchResult result

@@ -1,30 +1,30 @@
 ghost use Rattle.std.specs.Prelude.{◌≡◌};
 ghost use Rattle.tk_clock.specs.Refusal.{refusal_of};
 
-/// Why a command is refused: the first test that fails. A refused command changes nothing.
+/// Says why a command is refused: the first test that fails. A refused command changes nothing.
 ///
 /// The tests run in this order: `Full`, `Asleep` or `Awake`, `Invalid` for numbers out of range,
 /// `Behind`, `Range`, `Invalid` for a setting that REALTIME can't have, `Memory`.
 #[derive(Clone, Copy, Debug, PartialEq, Eq)]
 pub enum Refusal {
-    /// The journal has no room for another entry.
+    /// The journal has no capacity for another entry.
     Full,
     /// The clocks are asleep, and the command is not `Resume`.
     Asleep,
     /// The clocks are awake, and the command is `Resume`.
     Awake,
     /// The reading is above the mask, a number of the command is out of its range, or REALTIME
-    /// would fall below MONOTONIC or go beyond what may be set.
+    /// would be below MONOTONIC or beyond what may be set.
     Invalid,
-    /// The reading lies behind that of the last accepted command.
+    /// The reading is behind that of the last accepted command.
     Behind,
     /// A clock would be at its limit or beyond it.
     Range,
-    /// The memory for the entry was refused.
+    /// The allocation for the entry failed.
     Memory,
 }
 
-/// Why a clock can't be read: the first test that fails.
+/// Says why a clock can't be read: the first test that fails.
 #[derive(Clone, Copy, Debug, PartialEq, Eq)]
 pub enum ReadError {
     /// The reading is above the mask.
@@ -36,6 +36,7 @@ pub enum ReadError {
 impl From<ReadError> for Refusal {
     ghost from_gives = { λ error refusal. refusal ≡ refusal_of error };
 
+    /// Converts the refusal of a read to that of a command with the same name.
     fn from(error: ReadError) -> Refusal {
         match error {
             ReadError::Invalid => Refusal::Invalid,

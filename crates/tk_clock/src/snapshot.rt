@@ -10,15 +10,17 @@ use crate::timespec::Timespec;
 use std::marker::Model;
 use tk_counter::CounterDesc;
 
-/// What a reader of the clocks is given: how many commands were accepted, and what reading the
-/// clocks takes after them.
+/// Converts readings to times. It holds the number of accepted commands, and the state after them
+/// that a read needs.
 ///
-/// It may be used until the reading of the next accepted command. With a later reading it may give
-/// more than a later snapshot does, as in the kernel.
+/// A snapshot may be used until the reading of the next accepted command. With a later reading it
+/// may give a greater time than a later snapshot does, as in the kernel.
 #[repr(C)]
 #[derive(Clone, Copy, Debug)]
 pub struct Snapshot {
+    /// The number of accepted commands.
     pub(crate) front: u64,
+    /// The state after them that a read needs.
     pub(crate) base: ReadBase,
 }
 
@@ -42,11 +44,18 @@ impl Snapshot {
     ghost use Rattle.tk_clock.specs.Time.{nanoseconds};
     ghost use Rattle.tk_counter.specs.Counter.{second};
 
-    /// A clock's time at a reading (clock_gettime(2)).
+    /// Returns a clock's time at `reading`, in cycles (clock_gettime(2)).
     ///
-    /// Invalid where the reading is above the mask, for every clock; Range where the clock is at
-    /// its limit or beyond. A reading behind the last command gets the value at that command, and
-    /// so does every reading while asleep.
+    /// A reading behind the last command gets the value at that command. So does every reading
+    /// while the clocks are asleep.
+    ///
+    /// # Errors
+    ///
+    /// The first of these that holds:
+    ///
+    /// - `Invalid`: `reading` is above the mask, for every clock.
+    /// - `Range`: the clock is at its limit or beyond it. The limit is 946,080,000 s for MONOTONIC
+    ///   and MONOTONIC_COARSE, and 9,223,372,036 s for the others.
     #[inline(always)]
     pub fn get(&self, clock: ClockId, reading: u64) -> Result<Timespec, ReadError>
         ensures { MatchResult result
@@ -58,84 +67,84 @@ impl Snapshot {
         self.base.get(clock, reading)
     }
 
-    /// The counter that the readings are of.
+    /// Returns the description of the counter that the readings come from.
     pub fn desc(&self) -> CounterDesc
         ensures { result ≡ self.now.base.counter }
     {
         self.base.desc
     }
 
-    /// How many commands were accepted.
+    /// Returns the front: the number of accepted commands.
     pub fn front(&self) -> u64
         ensures { result ≡ self.now.front }
     {
         self.front
     }
 
-    /// The reading of the last accepted command, or of the opening.
+    /// Returns the reading of the last accepted command, or of the opening, in cycles.
     pub fn last(&self) -> u64
         ensures { result ≡ self.now.base.last }
     {
         self.base.last
     }
 
-    /// What a cycle adds to MONOTONIC from there on, in `2^-shift` ns.
+    /// Returns what a cycle after the last reading adds to MONOTONIC, in `2^-shift` ns.
     pub fn mult(&self) -> u32
         ensures { result ≡ self.now.base.mult }
     {
         self.base.mult
     }
 
-    /// MONOTONIC at the last reading: what is below a second, in `2^-shift` ns.
+    /// Returns the part of MONOTONIC below a second at the last reading, in `2^-shift` ns.
     pub fn frac(&self) -> u64
         ensures { result ≡ self.now.base.amount % second self.now.base.counter }
     {
         self.base.monotonic_amount().frac
     }
 
-    /// MONOTONIC at the last reading: whole seconds.
+    /// Returns the whole seconds of MONOTONIC at the last reading.
     pub fn sec(&self) -> u64
         ensures { result ≡ self.now.base.amount / second self.now.base.counter }
     {
         self.base.monotonic_amount().sec
     }
 
-    /// REALTIME less MONOTONIC, in ns. It is never negative.
+    /// Returns REALTIME less MONOTONIC, in ns. It is never negative.
     pub fn real_offset(&self) -> u64
         ensures { pos result ≡ self.now.base.real_offset }
     {
         self.base.real_offset
     }
 
-    /// BOOTTIME less MONOTONIC, in ns: all suspensions.
+    /// Returns BOOTTIME less MONOTONIC, in ns: the sum of all suspensions.
     pub fn boot_offset(&self) -> u64
         ensures { pos result ≡ self.now.base.boot_offset }
     {
         self.base.boot_offset
     }
 
-    /// TAI less REALTIME, in seconds.
+    /// Returns TAI less REALTIME, in seconds, 0 to 100,000.
     pub fn tai(&self) -> u32
         ensures { pos result ≡ self.now.base.tai }
     {
         self.base.tai
     }
 
-    /// Whether the clocks stand still.
+    /// Returns whether the clocks are asleep. They don't advance until they are resumed.
     pub fn asleep(&self) -> bool
         ensures { result ≡ self.now.base.asleep }
     {
         self.base.asleep
     }
 
-    /// MONOTONIC_RAW at the last reading: what is below a second, in `2^-shift` ns.
+    /// Returns the part of MONOTONIC_RAW below a second at the last reading, in `2^-shift` ns.
     pub fn raw_frac(&self) -> u64
         ensures { result ≡ self.now.base.raw_amount % second self.now.base.counter }
     {
         self.base.raw_amount().frac
     }
 
-    /// MONOTONIC_RAW at the last reading: whole seconds. It never comes to 1,060,000,000.
+    /// Returns the whole seconds of MONOTONIC_RAW at the last reading, below 1,060,000,000.
     pub fn raw_sec(&self) -> u64
         ensures value { result ≡ self.now.base.raw_amount / second self.now.base.counter }
         ensures below { result < raw_end }

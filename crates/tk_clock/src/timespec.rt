@@ -4,20 +4,22 @@ ghost use Rattle.tk_clock.specs.Limits.{clock_end};
 
 use crate::amount::NANOS_PER_SECOND;
 
-/// A time or an amount of time: `sec * 10^9 + nsec` nanoseconds.
+/// Represents a time or an amount of time: `sec * 10^9 + nsec` nanoseconds.
 ///
-/// As the kernel's `struct timespec64`: `sec` may be negative, and `nsec` counts upwards from it.
+/// As in the kernel's `struct timespec64`, `sec` may be negative, and `nsec` counts upwards from
+/// it.
 #[repr(C)]
 #[derive(Clone, Copy, Debug, PartialEq, Eq)]
 pub struct Timespec {
-    /// Seconds.
+    /// Counts whole seconds.
     pub sec: i64,
-    /// Nanoseconds on top of them.
+    /// Counts the nanoseconds after `sec`, below 10^9. An opening or a command with 10^9 or more is
+    /// refused with `Invalid`.
     pub nsec: u32,
 }
 
-/// A time or an amount of time in nanoseconds (`timespec64_to_ns`), where it is none before 1970
-/// and no longer than a clock lasts.
+/// Converts a time or an amount of time to nanoseconds (`timespec64_to_ns`). It must be from 0 to
+/// less than 9,223,372,036 s.
 pub(crate) fn nanos_of(time: Timespec) -> u64
     requires since { pos 0 ≤ℤ time.sec }
     requires until { time.sec <ℤ pos clock_end }
@@ -28,7 +30,7 @@ pub(crate) fn nanos_of(time: Timespec) -> u64
     time.sec as u64 * NANOS_PER_SECOND + u64::from(time.nsec)
 }
 
-/// So many nanoseconds, as seconds and nanoseconds (`ns_to_timespec64`).
+/// Converts nanoseconds to seconds and nanoseconds (`ns_to_timespec64`).
 pub(crate) fn timespec_of(nanos: u64) -> Timespec
     requires { nanos < clock_end * 10 ^ 9 }
     ensures { result ≡ timespec_of nanos }

@@ -8,16 +8,18 @@ mod rates;
 use crate::desc_error::DescError;
 use std::marker::Model;
 
-/// The description of a counter: a reading has `bits` bits, and a cycle lasts `mult / 2^shift`
-/// nanoseconds.
+/// Describes a counter: a reading has `bits` bits, and a cycle lasts `mult / 2^shift` nanoseconds.
 ///
 /// It is the kernel's `struct clocksource` without its name and its hooks
 /// (include/linux/clocksource.h).
 #[repr(C)]
 #[derive(Clone, Copy, Debug, PartialEq, Eq)]
 pub struct CounterDesc {
+    /// The bits of a reading.
     bits: u32,
+    /// The length of a cycle, in units of `2^-shift` ns.
     mult: u32,
+    /// How far an amount is shifted right to convert it to ns.
     shift: u32,
 }
 
@@ -33,16 +35,23 @@ impl Model for CounterDesc {
     ghost inverse = { λ c. record { bits = c.bits; mult = c.mult; shift = c.shift } };
 }
 
+/// The nanoseconds of a second.
 const NANOS_PER_SECOND: u64 = 1_000_000_000;
 
 impl CounterDesc {
     ghost use Rattle.tk_counter.specs.Counter.{Counter, IsCounter, mask, half, max_adjustment, max_cycles, fast_span, second};
     ghost use Rattle.tk_counter.specs.Description.{first_fault};
 
-    /// The counter that these numbers describe, or the first thing that is wrong with them.
+    /// Makes the description with these numbers.
     ///
-    /// Bits where a reading has not 8 to 64 bits; Shift where the shift is above 32; Mult where the
-    /// mult is below 256; Adjust where the mult and 11 percent of it don't fit 32 bits.
+    /// # Errors
+    ///
+    /// The first of these that holds:
+    ///
+    /// - `Bits`: `bits` is below 8 or above 64.
+    /// - `Shift`: `shift` is above 32.
+    /// - `Mult`: `mult` is below 256.
+    /// - `Adjust`: `mult` and 11 percent of it don't fit 32 bits.
     pub fn new(bits: u32, mult: u32, shift: u32) -> Result<CounterDesc, DescError>
         ensures { let counter : Counter = record { bits = bits; mult = mult; shift = shift } in
             MatchResult result
@@ -64,7 +73,7 @@ impl CounterDesc {
         Ok(CounterDesc { bits, mult, shift })
     }
 
-    /// How many bits a reading has.
+    /// Returns the number of bits of a reading, 8 to 64.
     pub fn bits(&self) -> u32
         ensures value { result ≡ self.now.bits }
         ensures counter { IsCounter self.now }
@@ -72,7 +81,7 @@ impl CounterDesc {
         self.bits
     }
 
-    /// A cycle, in units of `2^-shift` ns.
+    /// Returns the length of a cycle, in units of `2^-shift` ns.
     pub fn mult(&self) -> u32
         ensures value { result ≡ self.now.mult }
         ensures counter { IsCounter self.now }
@@ -80,7 +89,7 @@ impl CounterDesc {
         self.mult
     }
 
-    /// How far an amount is shifted right to make it nanoseconds.
+    /// Returns how far an amount is shifted right to convert it to nanoseconds, 0 to 32.
     pub fn shift(&self) -> u32
         ensures value { result ≡ self.now.shift }
         ensures counter { IsCounter self.now }
@@ -88,7 +97,7 @@ impl CounterDesc {
         self.shift
     }
 
-    /// The greatest reading: `2^bits - 1`.
+    /// Returns the greatest reading, `2^bits - 1`.
     pub fn mask(&self) -> u64
         ensures value { result ≡ mask self.now }
         ensures counter { IsCounter self.now }
@@ -96,15 +105,15 @@ impl CounterDesc {
         u64::MAX >> (64 - self.bits)
     }
 
-    /// The longest gap, in cycles, that still leads forward; a longer one leads back
-    /// (`clocksource_delta`).
+    /// Returns the longest gap that leads forward, in cycles: half the mask, rounded down. A longer
+    /// one leads back (`clocksource_delta`).
     pub fn half(&self) -> u64
         ensures { result ≡ half self.now }
     {
         self.mask() >> 1
     }
 
-    /// How far the multiplier may be raised above `mult`: 11 percent of it
+    /// Returns how far the multiplier may be raised above `mult`: 11 percent of it, rounded down
     /// (`clocksource_max_adjustment`).
     pub fn max_adj(&self) -> u32
         ensures { result ≡ max_adjustment self.now }
@@ -112,21 +121,23 @@ impl CounterDesc {
         adjustment(self.mult) as u32
     }
 
-    /// The cycles that convert within 64 bits at the fastest multiplier, up to `mask`.
+    /// Returns the most cycles that convert within 64 bits at the fastest multiplier, which is
+    /// `mult + max_adj`. It is at most `mask`.
     pub fn max_cycles(&self) -> u64
         ensures { result ≡ max_cycles self.now }
     {
         (u64::MAX / fastest(self.mult)).min(self.mask())
     }
 
-    /// The cycles that convert within 63 bits at the fastest multiplier, up to `half`.
+    /// Returns the most cycles that convert within 63 bits at the fastest multiplier, which is
+    /// `mult + max_adj`. It is at most `half`.
     pub fn fast_span(&self) -> u64
         ensures { result ≡ fast_span self.now }
     {
         ((u64::MAX >> 1) / fastest(self.mult)).min(self.half())
     }
 
-    /// One second, in units of `2^-shift` ns.
+    /// Returns one second, in units of `2^-shift` ns.
     pub fn second(&self) -> u64
         ensures value { result ≡ second self.now }
         ensures counter { IsCounter self.now }
@@ -135,14 +146,14 @@ impl CounterDesc {
     }
 }
 
-/// The room above a mult.
+/// Returns how far the multiplier may be raised above a mult.
 fn adjustment(mult: u32) -> u64
     ensures { result ≡ mult * 11 / 100 }
 {
     u64::from(mult) * 11 / 100
 }
 
-/// The fastest multiplier over a mult.
+/// Returns the fastest multiplier for a mult.
 fn fastest(mult: u32) -> u64
     ensures value { result ≡ mult + mult * 11 / 100 }
     ensures low { result < 2 ^ 33 }

@@ -4,7 +4,8 @@ ghost use Rattle.tk_counter.specs.DescError.{fault_text};
 use std::error::Error;
 use std::fmt;
 
-/// Why numbers describe no counter. Where more than one holds, the first in this order is told.
+/// Says why numbers describe no counter. If more than one of these holds, the first in this order
+/// is the error.
 #[derive(Clone, Copy, Debug, PartialEq, Eq)]
 pub enum DescError {
     /// A reading would have fewer than 8 bits, or more than 64.
@@ -15,7 +16,7 @@ pub enum DescError {
     Mult,
     /// The mult and 11 percent of it don't fit 32 bits.
     Adjust,
-    /// The frequency is 0 Hz, or the span is not of 1 to 600 seconds.
+    /// The frequency is 0 Hz, or the span is not 1 to 600 seconds.
     Rate,
 }
 

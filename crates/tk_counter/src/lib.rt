@@ -1,9 +1,9 @@
-//! A free-running counter: its description, the gap between two readings, and exact cycle
-//! arithmetic.
+//! Describes free-running counters and computes with their readings: the gap between two readings,
+//! and exact cycle arithmetic.
 //!
 //! | Item | What it is |
 //! |---|---|
-//! | `CounterDesc` | how many bits a reading has, and how long a cycle lasts |
+//! | `CounterDesc` | the bits of a reading, and the length of a cycle |
 //! | `DescError` | why numbers describe no counter |
 //!
 //! Units: readings and gaps in cycles; amounts of time in `2^-shift` ns; a counter's own rate in

@@ -7,12 +7,22 @@ use crate::batch_error::BatchError;
 use crate::line::{LANES, Line};
 use tk_clock::{ClockId, ReadError, Snapshot, Timespec};
 
+/// The nanoseconds of a second.
 const NANOS_PER_SECOND: u64 = 1_000_000_000;
 
-/// A clock at each stamp, in ns, one stamp after the other.
+/// Writes a clock's time at each stamp to `out`, in ns, one stamp after the other. Stamps are in
+/// cycles.
 ///
-/// The first stamp that `Snapshot::get` refuses ends it: the items before are written, the others
-/// stay as they were.
+/// The caller proves that `stamps` and `out` have the same length. The call doesn't allocate or
+/// wait.
+///
+/// # Errors
+///
+/// The first stamp that `Snapshot::get` refuses ends the call. The items before it are written, and
+/// the others are unchanged.
+///
+/// - `Invalid`: the stamp is above the mask.
+/// - `Range`: the clock is at its limit at the stamp, or beyond it.
 pub fn plain_batch(
     snapshot: &Snapshot,
     clock: ClockId,
@@ -25,10 +35,14 @@ pub fn plain_batch(
     plain_from(snapshot, clock, stamps, out, 0, stamps.len())
 }
 
-/// As `plain_batch`, eight stamps at a time.
+/// Does what `plain_batch` does, eight stamps at a time, with the same results.
 ///
-/// Eight of which one is too far from the last command for a line, and those behind the last
-/// eight, are converted one after the other.
+/// Eight stamps are converted one after the other if one of them is above the mask, or too far from
+/// the last command for a line. So are the stamps after the last eight.
+///
+/// # Errors
+///
+/// Those of `plain_batch`, for the same stamp: `Invalid` and `Range`.
 pub fn lane_batch(
     snapshot: &Snapshot,
     clock: ClockId,
@@ -46,7 +60,7 @@ pub fn lane_batch(
     };
     let mut at = 0;
     'eights: while stamps.len() - at >= LANES {
-        // these eight wherever they lie, and then as many as lie ahead
+        // these eight wherever they are, and then as many as are ahead
         if !line.converts(stamps, out, at) {
             plain_from(snapshot, clock, stamps, out, at, at + LANES)?;
         }
@@ -55,7 +69,7 @@ pub fn lane_batch(
     plain_from(snapshot, clock, stamps, out, at, stamps.len())
 }
 
-/// The stamps from the place `first` up to `end`, where those before are converted.
+/// Converts the stamps from `first` up to `end`, after those before `first` were converted.
 fn plain_from(
     snapshot: &Snapshot,
     clock: ClockId,
@@ -78,7 +92,7 @@ fn plain_from(
     Ok(())
 }
 
-/// A clock at a stamp, in ns.
+/// Returns a clock's time at a stamp, in ns.
 fn nanos(snapshot: &Snapshot, clock: ClockId, stamp: u64) -> Result<u64, ReadError>
     ensures { result ≡ read_of snapshot.now.base clock stamp }
 {
@@ -88,7 +102,7 @@ fn nanos(snapshot: &Snapshot, clock: ClockId, stamp: u64) -> Result<u64, ReadErr
     }
 }
 
-/// A time in ns (`timespec64_to_ns`).
+/// Converts a time to ns (`timespec64_to_ns`).
 fn nanos_of(time: Timespec) -> u64
     requires since { pos 0 ≤ℤ time.sec }
     requires until { nanoseconds time <ℤ pos (2 ^ 64) }

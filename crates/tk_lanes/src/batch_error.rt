@@ -5,17 +5,18 @@ use std::error::Error;
 use std::fmt;
 use tk_clock::ReadError;
 
-/// Why a list of stamps isn't converted whole: its first stamp that is refused, counted from 0.
+/// Names the first stamp of a list that is refused, by its index from 0, and says why. The stamps
+/// before it were converted.
 #[derive(Clone, Copy, Debug, PartialEq, Eq)]
 pub enum BatchError {
-    /// The stamp is above the mask.
+    /// The stamp at `index` is above the mask.
     Invalid { index: usize },
-    /// The clock's value at the stamp isn't below its limit.
+    /// The clock's value at the stamp at `index` is at its limit or beyond it.
     Range { index: usize },
 }
 
 impl BatchError {
-    /// The fault of a stamp at this place of the list.
+    /// Returns the error of the stamp at `index`.
     pub(crate) fn at(index: usize, refusal: ReadError) -> BatchError
         ensures { result ≡ refused_at index refusal }
     {

@@ -1,9 +1,9 @@
-//! Whole lists of stamps, converted to clock time by one snapshot: one by one, or eight at a time.
+//! Converts whole lists of stamps to clock time by one snapshot: one by one, or eight at a time.
 //!
 //! | Item | What it is |
 //! |---|---|
-//! | `plain_batch` | a clock at each stamp, one after the other |
-//! | `lane_batch` | the same, eight stamps at a time |
+//! | `plain_batch` | converts a list, one stamp after the other |
+//! | `lane_batch` | converts a list, eight stamps at a time |
 //! | `BatchError` | the first stamp that is refused, and why |
 //!
 //! Units: stamps are readings, in cycles; clock times in ns.

@@ -1,5 +1,5 @@
-//! A clock as a straight line over the cycles since the last command, as far as no sum or product
-//! leaves a word and no value is out of range.
+//! Describes a clock as a straight line over the cycles since the last command, as far as no sum or
+//! product exceeds a word and no value is out of range.
 ghost use Rattle.std.specs.Prelude.{◌≡◌, ℕ, ◌+◌, ◌*◌, ◌^◌, ◌<◌, ◌≤◌, bit_and, IfSome};
 ghost use Rattle.tk_lanes.specs.Line.{IsLine};
 
@@ -12,16 +12,16 @@ use tk_clock::{ClockId, Snapshot};
 /// The number of stamps that are converted at a time.
 pub(crate) const LANES: usize = 8;
 
-/// At a stamp within its span the clock is `((cycles * mult + frac) >> shift) + base`, in ns.
+/// Gives the clock at a stamp within its span: `((cycles * mult + frac) >> shift) + base`, in ns.
 ///
-/// `cycles` is what the counter counted since the last command, or 0 where the stamp lies behind.
+/// `cycles` is what the counter counted since the last command, or 0 if the stamp is behind.
 #[derive(Clone, Copy)]
 pub(crate) struct Line {
     /// The reading of the last command.
     last: u64,
     /// The units of `2^-shift` ns that a cycle adds.
     mult: u32,
-    /// How far units are shifted right to make them ns.
+    /// How far units are shifted right to convert them to ns.
     shift: u32,
     /// The units at the last command that make no whole second.
     frac: u64,
@@ -31,16 +31,15 @@ pub(crate) struct Line {
     mask: u64,
     /// The longest gap that leads forward, in cycles.
     half: u64,
-    /// The longest gap up to which the line is the clock.
+    /// The longest gap up to which the line is the clock, in cycles.
     span: u64,
-    /// How far ahead of `last` a stamp may lie, in cycles, so that it is no greater than the mask
-    /// and within the span.
+    /// How far ahead of `last` a stamp may be, in cycles, without exceeding the mask or the span.
     ahead: u64,
 }
 
 impl Line {
-    /// The line of a snapshot's clock; None where the clock is out of range even at the last
-    /// command.
+    /// Makes the line of a snapshot's clock. Returns `None` if the clock is out of range at the
+    /// last command.
     pub(crate) fn of(snapshot: &Snapshot, clock: ClockId) -> Option<Line>
         ensures drawn { IfSome result (λ line. IsLine snapshot.now.base clock line) }
         ensures shift { IfSome result (λ line. line.shift < 64) }
@@ -75,8 +74,8 @@ impl Line {
     }
 }
 
-/// The longest gap, up to `half`, at which the units stay in a word and the clock gains less than
-/// `room` ns.
+/// Returns the longest gap, up to `half`, at which the units fit a word and the clock gains less
+/// than `room` ns. Returns `None` if there is no such gap.
 fn span_of(room: u64, origin: Origin, shift: u32, half: u64) -> Option<u64>
     requires { shift ≤ 32 }
     ensures inside { IfSome result (λ span. span ≤ half) }

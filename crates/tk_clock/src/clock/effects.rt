@@ -1,4 +1,4 @@
-//! What each command does to the clocks, and the tests of values that go with it.
+//! Applies each command to the clocks, and tests the values that it leads to.
 ghost use Rattle.std.specs.Prelude.{◌≡◌, ◌+◌, ◌*◌, ◌/◌, ◌^◌, ◌<◌, ◌≤◌, MatchResult, MatchOption, Some, None, pos, ◌≤ℤ◌, ◌<ℤ◌, ◌+ℤ◌, true, false, ◌⊎◌};
 ghost use Rattle.tk_clock.specs.State.{base_value, forwarded};
 ghost use Rattle.tk_clock.specs.Limits.{limit, sets_real};
@@ -16,10 +16,10 @@ use crate::refusal::Refusal;
 use crate::timespec::{Timespec, nanos_of};
 
 impl Clock {
-    /// The clocks after a command that the tests before those of values let pass.
+    /// Returns the clocks after a command that passed the tests which need no value.
     ///
-    /// Range where a clock would be at its limit; then Invalid where REALTIME would be set below
-    /// MONOTONIC, or to a time that it may not be set to.
+    /// The errors are Range if a clock would be at its limit, and then Invalid if REALTIME would be
+    /// set below MONOTONIC or to a time that it may not be set to.
     pub(super) fn effect(&self, reading: u64, cmd: Command) -> Result<Clock, Refusal>
         requires { IsEarly self.now reading cmd }
         ensures { IsEffect self.now reading cmd result }
@@ -30,7 +30,8 @@ impl Clock {
         }
     }
 
-    /// The clocks after a command that is no resume, with the base that is brought forward to it.
+    /// Returns the clocks after a command other than `Resume`. `now` is the base brought forward to
+    /// it.
     fn change(&self, now: ReadBase, cmd: Command) -> Result<Clock, Refusal>
         requires forwarded { IsForwarded self.now now }
         requires early { IsEarly self.now now.last cmd }
@@ -49,8 +50,8 @@ impl Clock {
         }
     }
 
-    /// The base brought forward to the reading of a command, which is no resume. Range where
-    /// MONOTONIC would be at its limit.
+    /// Returns the base brought forward to the reading of a command other than `Resume`. The error
+    /// is Range if MONOTONIC would be at its limit.
     fn forwarded(&self, reading: u64, cmd: Command) -> Result<ReadBase, Refusal>
         requires early { IsEarly self.now reading cmd }
         requires awake { is_resume cmd ≡ false }
@@ -64,7 +65,7 @@ impl Clock {
         Ok(now)
     }
 
-    /// Nothing more than being brought forward.
+    /// Returns the clocks brought forward, with no other change.
     fn update(&self, now: ReadBase) -> Result<Clock, Refusal>
         requires forwarded { IsForwarded self.now now }
         ensures { IsEffect self.now now.last Command.Update result }
@@ -72,7 +73,8 @@ impl Clock {
         self.settled(now, Command::Update)
     }
 
-    /// Another frequency from the base's last reading on; the tick stays.
+    /// Returns the clocks with another frequency from the base's last reading on. The tick is
+    /// unchanged.
     fn set_frequency(&self, now: ReadBase, frequency: i64) -> Result<Clock, Refusal>
         requires forwarded { IsForwarded self.now now }
         ensures { IsEffect self.now now.last (Command.Freq frequency) result }
@@ -80,7 +82,8 @@ impl Clock {
         Clock::steered(now, frequency, self.tick, Command::Freq(frequency))
     }
 
-    /// Another tick from the base's last reading on; the frequency stays.
+    /// Returns the clocks with another tick from the base's last reading on. The frequency is
+    /// unchanged.
     fn set_tick(&self, now: ReadBase, tick: i64) -> Result<Clock, Refusal>
         requires forwarded { IsForwarded self.now now }
         requires early { IsEarly self.now now.last (Command.Tick tick) }
@@ -89,7 +92,7 @@ impl Clock {
         Clock::steered(now, self.frequency, tick, Command::Tick(tick))
     }
 
-    /// Another TAI offset.
+    /// Returns the clocks with another TAI offset.
     fn set_tai(&self, now: ReadBase, seconds: i64) -> Result<Clock, Refusal>
         requires forwarded { IsForwarded self.now now }
         requires early { IsEarly self.now now.last (Command.Tai seconds) }
@@ -101,7 +104,7 @@ impl Clock {
         )
     }
 
-    /// The clocks asleep from the base's last reading on.
+    /// Returns the clocks asleep from the base's last reading on.
     fn suspend(&self, now: ReadBase) -> Result<Clock, Refusal>
         requires forwarded { IsForwarded self.now now }
         ensures { IsEffect self.now now.last Command.Suspend result }
@@ -109,7 +112,7 @@ impl Clock {
         self.settled(now.fallen_asleep(), Command::Suspend)
     }
 
-    /// The clocks awake again after a suspension, counting from the reading on.
+    /// Returns the clocks awake after a suspension, counting from `reading` on.
     fn resume(&self, reading: u64, away: Timespec) -> Result<Clock, Refusal>
         requires { IsEarly self.now reading (Command.Resume away) }
         ensures { IsEffect self.now reading (Command.Resume away) result }
@@ -120,7 +123,8 @@ impl Clock {
         )
     }
 
-    /// The clocks with another rate from the base's last reading on, unless one is at its limit.
+    /// Returns the clocks with another rate from the base's last reading on. The error is Range if
+    /// one is at its limit.
     fn steered(now: ReadBase, frequency: i64, tick: i64, cmd: Command) -> Result<Clock, Refusal>
         requires slowest { least_tick ≤ℤ tick }
         requires fastest { tick ≤ℤ greatest_tick }
@@ -143,7 +147,8 @@ impl Clock {
         })
     }
 
-    /// The clocks with a base that runs at their rate, unless one is at its limit.
+    /// Returns the clocks with a base that runs at their rate. The error is Range if one is at its
+    /// limit.
     fn settled(&self, base: ReadBase, cmd: Command) -> Result<Clock, Refusal>
         requires steered { base.mult ≡ self.now.base.mult }
         requires counter { base.counter ≡ self.now.base.counter }

@@ -1,4 +1,4 @@
-//! Clocks made of a snapshot and their rate, and taken apart again.
+//! Makes clocks of a snapshot and their rate, and takes them apart again.
 ghost use Rattle.std.specs.Prelude.{◌≡◌, SomeIff};
 ghost use Rattle.tk_clock.specs.Running.{IsRunning};
 
@@ -7,12 +7,14 @@ use crate::limits::{LONGEST_TICK, SHORTEST_TICK};
 use crate::snapshot::Snapshot;
 
 impl Clock {
-    /// The clocks that a snapshot tells, with a frequency in `2^-16` ppm and a tick in microseconds
-    /// in force; None where running clocks are never so.
+    /// Makes the clocks of a snapshot, with `frequency`, in `2^-16` ppm, and `tick`, in
+    /// microseconds, in force. The front is not kept.
     ///
-    /// So it is where the tick is out of its range, where the snapshot's multiplier is not that of
-    /// the frequency and the tick, and where MONOTONIC_RAW is further ahead of MONOTONIC than the
-    /// slowest rate brings it.
+    /// Returns `None` if running clocks can't be in this state (`IsRunning`, specs/Running.antt):
+    ///
+    /// - `tick` is below 9,000 or above 11,000;
+    /// - the snapshot's multiplier is not that of `frequency` and `tick`;
+    /// - MONOTONIC_RAW is further ahead of MONOTONIC than the slowest rate brings it.
     pub fn from_snapshot(snapshot: Snapshot, frequency: i64, tick: i64) -> Option<Clock>
         ensures { SomeIff result (IsRunning snapshot.base frequency tick)
             (record { base = snapshot.base; frequency = frequency; tick = tick }) }
@@ -31,14 +33,15 @@ impl Clock {
         })
     }
 
-    /// The frequency in force, in `2^-16` ppm.
+    /// Returns the frequency in force, in `2^-16` ppm, as it was set. Beyond 500 ppm either way the
+    /// clocks run at 500 ppm.
     pub fn frequency(&self) -> i64
         ensures { result ≡ self.now.frequency }
     {
         self.frequency
     }
 
-    /// The tick in force, in microseconds.
+    /// Returns the tick in force, in microseconds, 9,000 to 11,000.
     pub fn tick(&self) -> i64
         ensures value { result ≡ self.now.tick }
         ensures running { IsRunning self.now.base self.now.frequency self.now.tick }

@@ -1,4 +1,4 @@
-//! REALTIME set to a time, and moved by an amount.
+//! Sets REALTIME to a time, and moves it by an amount.
 ghost use Rattle.std.specs.Prelude.{◌≡◌, ◌+◌, ◌*◌, ◌/◌, ◌^◌, ◌<◌, ◌≤◌, MatchOption, pos, ◌≤ℤ◌, ◌<ℤ◌, ◌+ℤ◌, ◌⊎◌};
 ghost use Rattle.tk_clock.specs.State.{base_value, forwarded};
 ghost use Rattle.tk_clock.specs.Limits.{limit, clock_end, monotonic_end, settable_end, greatest_tai};
@@ -16,7 +16,7 @@ use crate::refusal::Refusal;
 use crate::timespec::{Timespec, nanos_of};
 
 impl Clock {
-    /// REALTIME set to a time (`do_settimeofday64`).
+    /// Returns the clocks with REALTIME set to a time (`do_settimeofday64`).
     pub(super) fn set_time(&self, now: ReadBase, time: Timespec) -> Result<Clock, Refusal>
         requires forwarded { IsForwarded self.now now }
         requires early { IsEarly self.now now.last (Command.SetTime time) }
@@ -31,7 +31,7 @@ impl Clock {
         Ok(self.set_to(now, offset))
     }
 
-    /// REALTIME moved by an amount (`timekeeping_inject_offset`).
+    /// Returns the clocks with REALTIME moved by an amount (`timekeeping_inject_offset`).
     pub(super) fn step(&self, now: ReadBase, by: Timespec) -> Result<Clock, Refusal>
         requires forwarded { IsForwarded self.now now }
         requires early { IsEarly self.now now.last (Command.Step by) }
@@ -50,7 +50,7 @@ impl Clock {
         Ok(self.set_to(now, real - monotonic))
     }
 
-    /// The clocks brought forward, with REALTIME so far from MONOTONIC, in ns.
+    /// Returns the clocks brought forward, with REALTIME `offset` ns after MONOTONIC.
     fn set_to(&self, now: ReadBase, offset: u64) -> Clock
         requires forwarded { IsForwarded self.now now }
         requires settable { now.amount / 2 ^ now.counter.shift + offset < settable_end * 10 ^ 9 }
@@ -63,8 +63,8 @@ impl Clock {
     }
 }
 
-/// A time in ns moved by an amount. None where it would come before 1970, or beyond what a word of
-/// ns holds.
+/// Returns a time in ns, moved by an amount. Returns `None` if the result is before 1970 or doesn't
+/// fit a word.
 fn moved(real: u64, by: Timespec) -> Option<u64>
     requires real { real < (clock_end + monotonic_end) * 10 ^ 9 }
     requires rest { by.nsec < 10 ^ 9 }

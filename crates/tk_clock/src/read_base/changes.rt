@@ -1,5 +1,5 @@
-//! What commands make of a read base: each function gives another one, and leaves its own as it
-//! was, but for `take_forward`, which goes on with what another one gave.
+//! Makes the read base that a command leads to. Each function returns another base and leaves its
+//! own unchanged, except for `take_forward`, which takes over what another one returned.
 ghost use Rattle.std.specs.Prelude.{◌≡◌, ◌*◌, ◌/◌, ◌^◌, ◌≤◌, ⊤, MatchOption, pos, ◌≤ℤ◌, ◌+ℤ◌, ◌<ℤ◌, not, int_lt, true, false};
 ghost use Rattle.tk_counter.specs.Counter.{mask, fastest};
 ghost use Rattle.tk_clock.specs.Limits.{is_past_limit, clock_end, monotonic_end, greatest_tai};
@@ -13,8 +13,8 @@ use crate::command::Command;
 use crate::limits::{MONOTONIC_SEC_LIMIT, limit, sets_real};
 
 impl ReadBase {
-    /// The base with its amounts brought forward to a reading (`timekeeping_forward_now`). Nothing
-    /// below a nanosecond is lost. None where MONOTONIC would be at its limit.
+    /// Returns the base with its amounts brought forward to a reading (`timekeeping_forward_now`).
+    /// Nothing below a nanosecond is lost. Returns `None` if MONOTONIC would be at its limit.
     pub fn forwarded(&self, reading: u64) -> Option<ReadBase>
         requires reading { reading ≤ mask self.now.counter }
         requires steered { slowest self.now.counter ≤ self.now.mult }
@@ -42,8 +42,8 @@ impl ReadBase {
         })
     }
 
-    /// As `forwarded`, where the cycles are few and no amount has more than one further second
-    /// full. None tells nothing.
+    /// Returns what `forwarded` returns, if the cycles are few and no amount has more than one
+    /// further second full. Otherwise it returns `None`, about which the contract says nothing.
     pub fn forwarded_soon(&self, reading: u64) -> Option<ReadBase>
         requires reading { reading ≤ mask self.now.counter }
         requires steered { slowest self.now.counter ≤ self.now.mult }
@@ -73,7 +73,7 @@ impl ReadBase {
         })
     }
 
-    /// Becomes what `forwarded` made of it; no more is written than that changes.
+    /// Takes over what `forwarded` returned, and writes only what that changes.
     pub fn take_forward(&mut self, now: ReadBase)
         requires { now ≡ forwarded self.old now.last }
         ensures { self.new ≡ now }
@@ -83,8 +83,8 @@ impl ReadBase {
         self.raw = now.raw;
     }
 
-    /// Is a clock at its limit at the last reading, as a command left it? REALTIME and TAI are left
-    /// out where the command sets REALTIME, which a test of its own bounds.
+    /// Returns whether a clock is at its limit at the last reading, after a command. REALTIME and
+    /// TAI are left out if the command sets REALTIME, which a separate test bounds.
     #[tactic(auto, unfolding(crate::specs::Limits::is_past_limit))]
     pub fn is_past_limit(&self, cmd: Command) -> bool
         ensures { result ≡ is_past_limit (λ clock. base_value self.now clock self.now.last) cmd }
@@ -96,11 +96,11 @@ impl ReadBase {
         if sets_real(cmd) {
             return false;
         }
-        // TAI is never behind REALTIME
+        // TAI is never less than REALTIME
         is_at_limit(now + self.tai_nanos(), self.real_offset)
     }
 
-    /// The base with another multiplier from its last reading on.
+    /// Returns the base with another multiplier from its last reading on.
     pub fn with_mult(self, mult: u32) -> ReadBase
         requires some { 1 ≤ mult }
         requires most { mult ≤ fastest self.counter }
@@ -109,7 +109,7 @@ impl ReadBase {
         ReadBase { mult, ..self }
     }
 
-    /// The base with REALTIME so far from MONOTONIC, in ns.
+    /// Returns the base with REALTIME `offset` ns after MONOTONIC.
     pub fn with_real_offset(self, offset: u64) -> ReadBase
         ensures { result ≡ record self { real_offset = pos offset } }
     {
@@ -119,7 +119,7 @@ impl ReadBase {
         }
     }
 
-    /// The base with TAI so far from REALTIME, in seconds.
+    /// Returns the base with TAI `seconds` after REALTIME.
     pub fn with_tai(self, seconds: u32) -> ReadBase
         requires { seconds ≤ greatest_tai }
         ensures { result ≡ record self { tai = pos seconds } }
@@ -130,7 +130,7 @@ impl ReadBase {
         }
     }
 
-    /// The base asleep.
+    /// Returns the base asleep.
     pub fn fallen_asleep(self) -> ReadBase
         ensures { result ≡ record self { asleep = true } }
     {
@@ -140,7 +140,7 @@ impl ReadBase {
         }
     }
 
-    /// The base awake, counting from another reading on, after a suspension of so many ns.
+    /// Returns the base awake, counting from another reading on, after a suspension of `away` ns.
     pub fn woken(self, reading: u64, away: u64) -> ReadBase
         requires reading { reading ≤ mask self.counter }
         requires real { (self.real_offset +ℤ pos away) <ℤ pos (2 ^ 64) }
@@ -162,8 +162,8 @@ impl ReadBase {
     }
 }
 
-/// Is an offset from MONOTONIC, or from TAI less REALTIME, at the limit of the clocks but
-/// MONOTONIC?
+/// Returns whether `elapsed` plus `offset`, in ns, is at the limit of the clocks other than
+/// MONOTONIC.
 fn is_at_limit(elapsed: u64, offset: u64) -> bool
     ensures { result ≡ not (int_lt (pos elapsed +ℤ pos offset) (pos (clock_end * 10 ^ 9))) }
 {

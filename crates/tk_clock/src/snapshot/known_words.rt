@@ -8,9 +8,10 @@ use crate::read_base::ReadBase;
 use tk_counter::CounterDesc;
 
 impl Snapshot {
-    /// The snapshot of a counter that ten words tell, where it is known that they tell one.
+    /// Restores a snapshot from ten words that are known to describe one, without a test.
     ///
-    /// It is `from_words` without its tests, for words that a page's rule already vouches for.
+    /// It returns the same snapshot as `from_words`. The caller proves that the words describe a
+    /// snapshot, as the rule of a page does.
     pub fn from_known_words(desc: CounterDesc, words: [u64; 10]) -> Snapshot
         requires known { IsSome (restored desc words) }
         ensures value { restored desc words ≡ Some result }
@@ -24,14 +25,15 @@ impl Snapshot {
     }
 }
 
-/// A description describes a counter. It does nothing: its contract alone is wanted.
+/// Gives the fact that a description describes a counter. It does nothing: only its contract is
+/// used.
 fn describes(desc: &CounterDesc)
     ensures { IsCounter desc.now }
 {
     let _ = desc.bits();
 }
 
-/// What the words behind the front tell of the clocks.
+/// Returns the clocks that the words after the front describe.
 pub(super) fn base_told(desc: CounterDesc, words: &[u64; 10]) -> ReadBase
     requires range { are_in_range desc words.now ≡ true }
     requires counter { IsCounter desc }

@@ -9,12 +9,18 @@ use crate::limits::{MONOTONIC_SEC_LIMIT, RAW_SEC_LIMIT, TAI_OFFSET_MOST};
 use tk_counter::CounterDesc;
 
 impl Snapshot {
-    /// The snapshot as ten words.
+    /// Encodes the snapshot as ten words, from which `from_words` restores it.
     ///
-    /// The front; the last reading; the multiplier; MONOTONIC there below a second, in `2^-shift`
-    /// ns, and in whole seconds; REALTIME and BOOTTIME less MONOTONIC, in ns; the TAI offset times
-    /// 2, plus 1 while asleep; and MONOTONIC_RAW as MONOTONIC. With the description they give the
-    /// snapshot back.
+    /// - 0: the front
+    /// - 1: the last reading, in cycles
+    /// - 2: the multiplier, in `2^-shift` ns a cycle
+    /// - 3 and 4: MONOTONIC at the last reading: the part below a second, in `2^-shift` ns, and
+    ///   whole seconds
+    /// - 5 and 6: REALTIME less MONOTONIC and BOOTTIME less MONOTONIC, in ns
+    /// - 7: the TAI offset in seconds times 2, plus 1 while asleep
+    /// - 8 and 9: MONOTONIC_RAW, as words 3 and 4
+    ///
+    /// The words don't contain the counter's description: restoring them needs it as well.
     pub fn words(&self) -> [u64; 10]
         ensures value { result ≡ words_of self.now }
         ensures back { restored self.now.base.counter (words_of self.now) ≡ Some self.now }
@@ -22,8 +28,17 @@ impl Snapshot {
         self.base.words(self.front)
     }
 
-    /// The snapshot of a counter that ten words tell; None where a word is out of its range, or a
-    /// clock would be at its limit at the last reading.
+    /// Restores a snapshot of the counter `desc` from ten words, encoded as by `words`.
+    ///
+    /// Returns `None` if REALTIME, BOOTTIME or TAI would be at its limit at the last reading, or if
+    /// a word is out of its range. Words 0, 5 and 6 may be any. The other ranges are:
+    ///
+    /// - 1: up to the mask
+    /// - 2: 1 to the fastest multiplier, `mult + max_adj`
+    /// - 3 and 8: below a second
+    /// - 4: below 946,080,000
+    /// - 7: up to 200,001, which is a TAI offset of 100,000 s
+    /// - 9: below 1,060,000,000
     pub fn from_words(desc: CounterDesc, words: [u64; 10]) -> Option<Snapshot>
         ensures value { result ≡ restored desc words }
         ensures again { IfSome result (λ snapshot. words_of snapshot ≡ words) }
@@ -42,7 +57,7 @@ impl Snapshot {
     }
 }
 
-/// Does each word lie in its range?
+/// Returns whether each word is in its range.
 #[tactic(auto, unfolding(crate::specs::Words::are_in_range))]
 fn are_in_range(desc: &CounterDesc, words: &[u64; 10]) -> bool
     ensures value { result ≡ are_in_range desc.now words.now }

@@ -2,17 +2,18 @@ ghost use Rattle.std.specs.Prelude.{◌≡◌, ℕ, ◌+◌, ◌*◌, ◌/◌, �
 
 use super::{CounterDesc, NANOS_PER_SECOND};
 
-/// The quotient at which `advance` gives up: no clock reaches so many seconds.
+/// The seconds at which `advance` returns `None`: no clock reaches them.
 const SECONDS_LIMIT: u64 = 9_223_372_036;
 
 impl CounterDesc {
     ghost use Rattle.tk_counter.specs.Counter.{second, seconds_end};
 
-    /// The whole seconds of `frac` and `delta` cycles at `mult`, and what is left, in units of
-    /// `2^-shift` ns.
+    /// Splits `frac` plus `delta` cycles at `mult` into whole seconds and the rest, which is below
+    /// a second, in units of `2^-shift` ns. `frac` must be below a second in these units.
     ///
-    /// Nothing is lost for any `delta`; None exactly from 9,223,372,036 seconds on. A product that
-    /// fits a word takes no more than one division, and none at all below two seconds.
+    /// The result is exact for every `delta`. It is `None` exactly if there would be 9,223,372,036
+    /// seconds or more. If the product fits a word, at most one division is needed, and none below
+    /// two seconds.
     pub fn advance(&self, frac: u64, delta: u64, mult: u32) -> Option<(u64, u64)>
         requires { frac < second self.now }
         ensures { let units = frac + delta * mult in
@@ -29,7 +30,7 @@ impl CounterDesc {
         Some((seconds, rest))
     }
 
-    /// Whole seconds and what is left of an amount.
+    /// Splits an amount into whole seconds and the rest.
     fn split(&self, units: u64) -> (u64, u64)
         ensures value { result ≡ (units / second self.now, units % second self.now) }
         ensures few { result.0 ≤ 18446744073 }
@@ -45,18 +46,18 @@ impl CounterDesc {
         (seconds, units - seconds * second)
     }
 
-    /// Whole seconds of an amount.
+    /// Returns the whole seconds of an amount.
     fn seconds_of(&self, units: u64) -> u64
         ensures { result ≡ units / second self.now }
     {
         (units >> self.shift) / NANOS_PER_SECOND
     }
 
-    /// As `advance`, where the units don't fit 64 bits: the upper half of `delta`, its lower half,
-    /// and what both leave are divided in turn.
+    /// Computes `advance` for units that don't fit 64 bits. It divides the upper half of `delta`,
+    /// its lower half, and then what both leave.
     ///
     /// A second is `10^9 * 2^shift` units, and `2^32` units of the upper half are `2^(32 - shift)`
-    /// seconds a nanosecond:
+    /// seconds per nanosecond:
     ///
     /// ```text
     /// upper * 2^32 = (upper / 10^9) * 2^(32 - shift) * second + (upper % 10^9) * 2^32
@@ -84,7 +85,7 @@ impl CounterDesc {
     }
 }
 
-/// `frac` and `delta` cycles at `mult`, where they fit 64 bits.
+/// Returns `frac` plus `delta` cycles at `mult`, if they fit 64 bits.
 fn narrow_units(frac: u64, delta: u64, mult: u32) -> Option<u64>
     ensures { SomeIff result (frac + delta * mult < 2 ^ 64) (frac + delta * mult) }
 {

@@ -5,11 +5,19 @@ use super::{CounterDesc, NANOS_PER_SECOND, fastest};
 use crate::desc_error::DescError;
 
 impl CounterDesc {
-    /// The counter that runs at `hz` cycles a second, for gaps of up to `maxsec` seconds.
+    /// Makes the description of a counter that runs at `hz` cycles a second, for gaps of up to
+    /// `maxsec` seconds.
     ///
-    /// The shift is the highest whose mult has no more bits than the cycles of `maxsec` seconds
-    /// leave free in a word (`clocks_calc_mult_shift`, kernel/time/clocksource.c). A mult with no
-    /// room for 11 percent more is then halved. Refused with Bits first, and then with Rate.
+    /// The shift is the highest, from 32 down to 1, whose mult fits the bits that the cycles of
+    /// `maxsec` seconds leave free in a word (`clocks_calc_mult_shift`, kernel/time/clocksource.c).
+    /// A mult with no room for 11 percent more is then halved (`__clocksource_update_freq_scale`).
+    ///
+    /// # Errors
+    ///
+    /// The first of these that holds:
+    ///
+    /// - `Bits`: `bits` is below 8 or above 64.
+    /// - `Rate`: `hz` is 0, or `maxsec` is below 1 or above 600.
     pub fn from_hz(bits: u32, hz: u32, maxsec: u32) -> Result<CounterDesc, DescError>
         ensures value { MatchResult result
             (λ desc. (from_frequency bits hz maxsec ≡ Some desc)
@@ -36,7 +44,7 @@ impl CounterDesc {
     }
 }
 
-/// The first shift from 32 down whose mult is below the limit; at 1 it always is.
+/// Returns the first shift, from 32 down, whose mult is below the limit. At 1 it always is.
 fn chosen_shift(hz: u32, maxsec: u32) -> u32
     requires runs { 0 < hz }
     requires lasts { 0 < maxsec }
@@ -57,14 +65,15 @@ fn chosen_shift(hz: u32, maxsec: u32) -> u32
     1
 }
 
-/// One more than the greatest mult with which `maxsec` seconds of cycles convert within 64 bits.
+/// Returns one more than the greatest mult at which the cycles of `maxsec` seconds convert within
+/// 64 bits.
 fn mult_limit(hz: u32, maxsec: u32) -> u64
     ensures { result ≡ 2 ^ mult_bits hz maxsec }
 {
     1 << (u64::from(maxsec) * u64::from(hz)).leading_zeros().min(32)
 }
 
-/// A cycle, in units of `2^-shift` ns, to the nearest.
+/// Returns the length of a cycle, in units of `2^-shift` ns, rounded to the nearest.
 fn rounded_mult(hz: u32, shift: u32) -> u64
     requires runs { 0 < hz }
     requires low { shift ≤ 32 }

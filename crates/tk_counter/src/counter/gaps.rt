@@ -5,10 +5,11 @@ use super::CounterDesc;
 impl CounterDesc {
     ghost use Rattle.tk_counter.specs.Counter.{half, gap};
 
-    /// The cycles from one reading to a later one: `(now - last) & mask`, in wrapping words.
+    /// Returns the cycles from one reading to a later one: `(now - last) & mask`, in wrapping
+    /// words.
     ///
-    /// Both readings may be any word. While the counter has counted no more than `half` cycles,
-    /// they are its true number.
+    /// Both readings may be any word. If the counter has counted no more than `half` cycles between
+    /// them, the gap is their true number.
     pub fn gap(&self, last: u64, now: u64) -> u64
         ensures value { result ≡ gap self.now last now }
         ensures counted { (t t' : ℕ) → t ≤ t' → t' - t ≤ half self.now →
@@ -17,7 +18,7 @@ impl CounterDesc {
         now.wrapping_sub(last) & self.mask()
     }
 
-    /// Does a gap lead back? It does above `half`.
+    /// Returns whether a gap of any number of cycles leads back: whether it is above `half`.
     pub fn is_behind(&self, gap: u64) -> bool
         ensures { IsTrue result ↔ (half self.now < gap) }
     {

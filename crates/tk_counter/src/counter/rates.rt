@@ -6,9 +6,10 @@ use super::CounterDesc;
 impl CounterDesc {
     ghost use Rattle.tk_counter.specs.Counter.{fastest, multiplier, usual_tick};
 
-    /// The multiplier at a frequency, in `2^-16` ppm, and the usual tick of 10,000 microseconds.
+    /// Returns the multiplier at a frequency, in `2^-16` ppm, and the usual tick of 10,000
+    /// microseconds.
     ///
-    /// Beyond 32,768,000 either way the frequency counts as that, as in adjtimex(2).
+    /// A frequency beyond 32,768,000 either way counts as that, as in adjtimex(2).
     pub fn mult_for(&self, freq: i64) -> u32
         ensures value { result ≡ multiplier self.now freq usual_tick }
         ensures most { result ≤ fastest self.now }
@@ -16,7 +17,11 @@ impl CounterDesc {
         self.mult_at(freq, 10_000)
     }
 
-    /// The multiplier at a frequency, in `2^-16` ppm, and a tick, in microseconds, 9,000 to 11,000.
+    /// Returns the multiplier at a frequency, in `2^-16` ppm, and a tick, in microseconds, 9,000 to
+    /// 11,000.
+    ///
+    /// It is rounded down. A frequency beyond 32,768,000 either way counts as that, as in
+    /// adjtimex(2).
     pub fn mult_at(&self, freq: i64, tick: i64) -> u32
         requires slowest { least_tick ≤ℤ tick }
         requires fastest { tick ≤ℤ greatest_tick }
@@ -31,7 +36,7 @@ impl CounterDesc {
     }
 }
 
-/// The speed at a frequency and a tick, where 65,536,000,000 is the usual one.
+/// Returns the rate at a frequency and a tick. The usual rate is 65,536,000,000.
 fn rate(freq: i64, tick: i64) -> u64
     requires slowest { least_tick ≤ℤ tick }
     requires fastest { tick ≤ℤ greatest_tick }
@@ -41,7 +46,7 @@ fn rate(freq: i64, tick: i64) -> u64
     (rate_of_tick(tick) + freq.clamp(-32_768_000, 32_768_000)) as u64
 }
 
-/// The speed at a tick alone.
+/// Returns the rate at a tick alone.
 fn rate_of_tick(tick: i64) -> i64
     requires slowest { least_tick ≤ℤ tick }
     requires fastest { tick ≤ℤ greatest_tick }

@@ -1,4 +1,4 @@
-//! Eight stamps at a time.
+//! Converts eight stamps at a time.
 ghost use Rattle.std.specs.Prelude.{◌≡◌, ℕ, ◌+◌, ◌^◌, ◌<◌, ◌≤◌, bit_and, length, MatchBool, map};
 ghost use Rattle.std.specs.Simd.Lanes.{chunk, put_chunk};
 ghost use Rattle.tk_clock.specs.State.{ReadBase};
@@ -10,10 +10,12 @@ use super::{LANES, Line};
 use std::simd::prelude::*;
 
 impl Line {
-    /// Converts the stamps from the place `first` on, eight at a time, as long as all eight lie
-    /// ahead and within the span; the place where that ends.
+    /// Converts the stamps from `first` on, eight at a time, as long as all eight are ahead and
+    /// within the span. Returns the index at which that ends.
     ///
-    /// Nothing else is done in its loop, so that all that it goes by stays in registers.
+    /// The loop does nothing else, so that all its values stay in registers. In a list that is
+    /// longer than the caches, fewer instructions let the processor wait for more lines of memory
+    /// at a time.
     #[inline(always)]
     pub(crate) fn convert_ahead(self, stamps: &[u64], out: &mut [u64], first: usize) -> usize
         requires shift { self.shift < 64 }
@@ -35,10 +37,10 @@ impl Line {
         at
     }
 
-    /// Converts the eight stamps from the place `at` on, unless one lies behind, is above the mask
-    /// or beyond the span.
+    /// Converts the eight stamps from `at` on, unless one is behind, above the mask or beyond the
+    /// span.
     ///
-    /// All lanes are tested by the or of their words, which is at least each of them.
+    /// One test of the OR of the lanes covers all of them: the OR is at least each lane.
     #[inline(always)]
     fn converts_ahead(self, stamps: &[u64], out: &mut [u64], at: usize) -> bool
         requires shift { self.shift < 64 }
@@ -61,8 +63,7 @@ impl Line {
         true
     }
 
-    /// Converts the eight stamps from the place `at` on, unless one is above the mask or beyond
-    /// the span.
+    /// Converts the eight stamps from `at` on, unless one is above the mask or beyond the span.
     #[inline(always)]
     pub(crate) fn converts(self, stamps: &[u64], out: &mut [u64], at: usize) -> bool
         requires shift { self.shift < 64 }
@@ -82,7 +83,7 @@ impl Line {
         let gap = (stamp - u64x8::splat(self.last)) & u64x8::splat(self.mask);
         let behind = gap.simd_gt(u64x8::splat(self.half));
         let cycles = behind.select(u64x8::splat(0), gap);
-        // beyond the span a sum has its top bit
+        // beyond the span a sum has its top bit set
         let reach = cycles + u64x8::splat((1 << 63) - 1 - self.span);
         if reach.reduce_or() >= 1 << 63 {
             return false;
@@ -91,7 +92,7 @@ impl Line {
         true
     }
 
-    /// Writes the clock after so many cycles each, from the place `at` on.
+    /// Writes the clock after `cycles`, one number of cycles for each lane, from `at` on.
     #[inline(always)]
     fn write(self, cycles: u64x8, out: &mut [u64], at: usize)
         requires shift { self.shift < 64 }

@@ -1,4 +1,4 @@
-//! Where a clock's line begins, and how steep it is.
+//! Gives the beginning of a clock's line, and its slope.
 ghost use Rattle.std.specs.Prelude.{◌≡◌, ◌+◌, ◌*◌, ◌^◌, ◌<◌, ◌≤◌, pos};
 ghost use Rattle.tk_counter.specs.Counter.{second};
 ghost use Rattle.tk_clock.specs.Limits.{limit, clock_end};
@@ -9,19 +9,20 @@ use tk_clock::{ClockId, Snapshot};
 /// The nanoseconds of a second.
 pub(super) const NANOS_PER_SECOND: u128 = 1_000_000_000;
 
-/// What a clock counts at the last command, without its offset, and what a cycle adds from then on.
+/// Holds what a clock counts up to the last command, without its offset, and what a cycle adds from
+/// then on.
 #[derive(Clone, Copy)]
 pub(super) struct Origin {
     /// Whole seconds.
     pub(super) sec: u64,
-    /// What is left of them, in `2^-shift` ns.
+    /// The rest, below a second, in `2^-shift` ns.
     pub(super) frac: u64,
-    /// What a cycle adds, in `2^-shift` ns: nothing where the clock stands still.
+    /// What a cycle adds, in `2^-shift` ns: 0 if the clock doesn't advance.
     pub(super) mult: u32,
 }
 
 impl Origin {
-    /// The origin of a snapshot's clock.
+    /// Returns the origin of a snapshot's clock.
     pub(super) fn of(snapshot: &Snapshot, clock: ClockId) -> Origin
         ensures units { units_at_last snapshot.now.base clock
             ≡ result.sec * second snapshot.now.base.counter + result.frac }
@@ -38,7 +39,7 @@ impl Origin {
     }
 }
 
-/// What a cycle adds to the clock, in `2^-shift` ns: nothing where it stands still.
+/// Returns what a cycle adds to the clock, in `2^-shift` ns: 0 if the clock doesn't advance.
 fn mult(snapshot: &Snapshot, clock: ClockId) -> u32
     ensures { result ≡ mult_of snapshot.now.base clock }
 {
@@ -51,21 +52,21 @@ fn mult(snapshot: &Snapshot, clock: ClockId) -> u32
     }
 }
 
-/// Does the clock count at the counter's own rate?
+/// Returns whether the clock counts at the counter's own rate.
 fn is_raw(clock: ClockId) -> bool
     ensures { result ≡ is_raw clock }
 {
     matches!(clock, ClockId::MonotonicRaw)
 }
 
-/// Does the clock stand still between commands?
+/// Returns whether the clock keeps its value between commands.
 fn is_coarse(clock: ClockId) -> bool
     ensures { result ≡ is_coarse clock }
 {
     matches!(clock, ClockId::RealtimeCoarse | ClockId::MonotonicCoarse)
 }
 
-/// How far the clock is from what it counts, in ns.
+/// Returns how far the clock is from what it counts, in ns.
 pub(super) fn offset(snapshot: &Snapshot, clock: ClockId) -> u128
     ensures value { pos result ≡ offset_of snapshot.now.base clock }
     ensures low { result < 2 ^ 65 }
@@ -80,7 +81,7 @@ pub(super) fn offset(snapshot: &Snapshot, clock: ClockId) -> u128
     }
 }
 
-/// The nanoseconds at which a clock ends.
+/// Returns the end of a clock, in ns.
 pub(super) fn limit(clock: ClockId) -> u128
     ensures value { pos result ≡ limit clock }
     ensures most { result ≤ clock_end * 10 ^ 9 }
