@@ -1,9 +1,14 @@
-//! Makes the output of each example, and tells whether it is the one that stands beside it.
+//! Makes the output of each example, and compares it with the stored one.
 //!
-//! Standard input has the examples, a line each. A line `NAME` is a script `NAME.csv` beside
-//! `NAME.report`. A line `CLOCK NAME` is a trace of that clock: a script `NAME.csv` and stamps
-//! `NAME.stamps` beside `NAME.trace`. Either has `NAME.fault` in its output's place where the program
-//! refuses it. Status 0: each is as expected. Status 1: one isn't, or can't be read.
+//! Standard input lists the examples, one in each line:
+//!
+//! - `NAME` is the script `NAME.csv`, with the expected report in `NAME.report`.
+//! - `CLOCK NAME` is a trace of that clock: the script `NAME.csv` and the stamps `NAME.stamps`,
+//!   with the expected values in `NAME.trace`.
+//!
+//! If the program refuses an example, `NAME.fault` has the expected message instead. Status 0 means
+//! that each output is as expected. Status 1 means that one differs, that a file can't be read, or
+//! that a result can't be written.
 #![tactic(auto)]
 
 use std::alloc::{AllocError, Global};
@@ -14,7 +19,7 @@ use tk_clock::ClockId;
 use tk_replay::{Fault, report, report_bounded, trace};
 use tk_script::{ScriptError, clock_word};
 
-/// What an example came to.
+/// The result of comparing an example's output with the expected one.
 #[derive(Clone, Copy, PartialEq, Eq)]
 enum Verdict {
     AsExpected,
@@ -28,7 +33,7 @@ fn main(rt: HostRuntime) -> ExitCode {
     }
 }
 
-/// Checks the examples that standard input names, and tells what each came to.
+/// Checks the examples that standard input lists, and prints the result of each.
 fn check_all(rt: &HostRuntime, threads: &(impl Threads + Sync)) -> io::Result<Verdict> {
     let mut all = Verdict::AsExpected;
     for line in rt.lines(rt.alloc()) {
@@ -44,7 +49,7 @@ fn check_all(rt: &HostRuntime, threads: &(impl Threads + Sync)) -> io::Result<Ve
     Ok(all)
 }
 
-/// Checks the script that a line names, or the trace.
+/// Checks the script or the trace that a line names.
 fn check(rt: &HostRuntime, threads: &(impl Threads + Sync), example: &str) -> io::Result<Verdict> {
     match example.split_once(' ') {
         None => check_report(rt, example),
@@ -55,8 +60,8 @@ fn check(rt: &HostRuntime, threads: &(impl Threads + Sync), example: &str) -> io
     }
 }
 
-/// Compares the report of an example with the one beside it. No example fills a journal, so folding
-/// changes nothing.
+/// Compares the report of an example with the expected one. No example fills a journal, so
+/// `report_bounded` must give the same report.
 fn check_report(rt: &HostRuntime, name: &str) -> io::Result<Verdict> {
     let alloc = rt.alloc();
     let script = fs::read(rt, format!(in alloc; "{name}.csv")?)?;
@@ -68,7 +73,7 @@ fn check_report(rt: &HostRuntime, name: &str) -> io::Result<Verdict> {
     ))
 }
 
-/// Compares the trace of an example with the one beside it.
+/// Compares the trace of an example with the expected one.
 fn check_trace(
     rt: &HostRuntime,
     threads: &(impl Threads + Sync),
@@ -94,7 +99,7 @@ fn verdict_if(is_as_expected: bool) -> Verdict {
     }
 }
 
-/// The output that stands beside an example, or its fault.
+/// Reads the expected output of an example, or its expected fault.
 fn expected_of(rt: &HostRuntime, name: &str, ending: &str) -> io::Result<Vec<u8>> {
     let alloc = rt.alloc();
     match fs::read(rt, format!(in alloc; "{name}.{ending}")?) {
@@ -103,7 +108,7 @@ fn expected_of(rt: &HostRuntime, name: &str, ending: &str) -> io::Result<Vec<u8>
     }
 }
 
-/// A report, or its fault as the program tells it.
+/// Returns a report, or its fault as the program prints it.
 fn text_of(alloc: Global, outcome: Result<Vec<u8>, ScriptError>) -> Result<Vec<u8>, AllocError> {
     match outcome {
         Ok(text) => Ok(text),
@@ -111,7 +116,7 @@ fn text_of(alloc: Global, outcome: Result<Vec<u8>, ScriptError>) -> Result<Vec<u
     }
 }
 
-/// A fault as the program tells it.
+/// Returns a fault as the program prints it.
 fn fault_text(alloc: Global, fault: Fault) -> Result<Vec<u8>, AllocError> {
     Ok(format!(in alloc; "tkcore: {fault}\n")?.into_bytes())
 }

@@ -1,21 +1,21 @@
-//! What workers tell of their pieces.
+//! Provides the hook that workers call before and after each piece of their work.
 //!
-//! Work that is shared out to threads comes in numbered pieces. A `Gate` is told when a piece
-//! begins and when it has ended, on the thread that does it: a caller can count the pieces, show
-//! how far the work is, or hold a piece back until another has begun. `NoGate` is for all others.
+//! Work that is distributed among threads comes in numbered pieces. The worker calls its `Gate` on
+//! its own thread. So a caller can count the pieces, show progress, or hold a piece back until
+//! another has begun. Callers that need none of this pass `NoGate`.
 #![tactic(auto)]
 
-/// Is told of each piece by the worker that does it, on the worker's own thread.
+/// Receives a call before and after each piece of work, on the thread of the worker that does it.
 pub trait Gate {
-    /// A worker is about to begin the piece, whose number counts from 0. Nothing of the piece has
-    /// been done, and nothing is until this returns.
+    /// Runs before a worker begins the piece with this number, counted from 0. The worker does
+    /// nothing of the piece before this call returns.
     fn before(&self, piece: usize);
 
-    /// The worker that began the piece has done all of it.
+    /// Runs after a worker has done the whole piece. It is the worker that began the piece.
     fn after(&self, piece: usize);
 }
 
-/// The gate that does nothing.
+/// A gate whose two functions do nothing.
 #[derive(Clone, Copy, Debug)]
 pub struct NoGate;
 

@@ -1,21 +1,24 @@
 use std::alloc::{AllocError, Allocator};
 use std::sync::atomic::{AtomicU64, Ordering};
 
-/// Every request is granted.
+/// The state in which every request is forwarded.
 const NONE: u64 = u64::MAX;
 
-/// Every request is refused.
+/// The state in which every request is refused.
 const ALL: u64 = 0;
 
-/// Passes each request on, but for those that it was told to refuse.
+/// Forwards each request to another allocator, except for those that it was set to refuse.
+///
+/// Threads may share it. If several allocate at once, it isn't specified which of their requests is
+/// refused, or how many.
 pub struct Heap<B: Allocator> {
     inner: B,
-    /// `NONE`, `ALL`, or which request from now on is refused, counted from 1.
+    /// `NONE`, `ALL`, or the number of the request to refuse, counted from 1 for the next one.
     refused: AtomicU64,
 }
 
 impl<B: Allocator> Heap<B> {
-    /// A heap over another allocator. It refuses nothing yet.
+    /// Creates a heap over another allocator. It refuses nothing yet.
     pub fn new(inner: B) -> Heap<B> {
         Heap {
             inner,
@@ -23,17 +26,19 @@ impl<B: Allocator> Heap<B> {
         }
     }
 
-    /// Refuses every request from now on.
+    /// Refuses every request from now on, until `grant_all` or `refuse` is called.
     pub fn refuse_all(&self) {
         self.refused.store(ALL, Ordering::SeqCst);
     }
 
-    /// Refuses one request, the first where it is 1.
+    /// Refuses one request from now on: the next one if `number` is 1. If `number` is 0, refuses
+    /// every request; if it is `u64::MAX`, none.
     pub fn refuse(&self, number: u64) {
         self.refused.store(number, Ordering::SeqCst);
     }
 
-    /// Grants every request from now on; whether one was still to be refused.
+    /// Forwards every request from now on. Returns whether a refusal was still set: `false` means
+    /// that the chosen request was refused, or that none was chosen.
     pub fn grant_all(&self) -> bool {
         self.refused.swap(NONE, Ordering::SeqCst) != NONE
     }
@@ -48,7 +53,7 @@ impl<B: Allocator> Drop for Heap<B> {
     }
 }
 
-/// Is this request refused? The next one is then another.
+/// Returns whether to refuse this request, and counts it.
 fn refuses(refused: &AtomicU64) -> bool {
     match refused.load(Ordering::SeqCst) {
         NONE => false,

@@ -1,10 +1,10 @@
-//! An allocator for tests, which refuses the requests that it is told to.
+//! Provides an allocator for tests, which refuses chosen requests.
 //!
 //! | Item | What it is |
 //! |---|---|
-//! | `Heap` | passes requests on to another allocator, but for those that it refuses |
+//! | `Heap` | an allocator that forwards requests to another one, and refuses chosen ones |
 //!
-//! Requests are counted from 1. A `&Heap` is an allocator that can be copied.
+//! Requests are counted from 1. A `&Heap` is an allocator that is `Copy`.
 #![tactic(auto)]
 
 mod heap;

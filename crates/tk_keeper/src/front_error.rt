@@ -4,12 +4,12 @@ ghost use Rattle.tk_keeper.specs.FrontError.{fault_text};
 use std::error::Error;
 use std::fmt;
 
-/// Why a front has no snapshot. A front is how many commands were accepted.
+/// States why a front has no snapshot. A front is the number of commands accepted up to then.
 #[derive(Clone, Copy, Debug, PartialEq, Eq)]
 pub enum FrontError {
-    /// Fewer commands were accepted.
+    /// The front is greater than the number of accepted commands.
     Unknown,
-    /// A later entry was folded.
+    /// The entry after the front was folded: the front is below `Timekeeper::folded`.
     Folded,
 }
 

@@ -1,13 +1,13 @@
-//! The running clocks of a counter with the journal of all accepted commands.
+//! Keeps the running clocks of a counter, and the journal of all accepted commands.
 //!
 //! | Item | What it is |
 //! |---|---|
-//! | `Timekeeper` | the clocks and their journal: opened, changed, read, folded |
+//! | `Timekeeper` | the clocks and their journal: opens, changes, reads and folds them |
 //! | `FrontError` | why a front has no snapshot |
-//! | `TraceError` | why a trace isn't converted |
+//! | `TraceError` | why a list of stamps isn't converted |
 //!
-//! Units are those of `tk_clock`. Entries are numbered from 1, and a front is how many commands
-//! were accepted: both count the folded ones too.
+//! Units are those of `tk_clock`: readings in cycles, clock times in s and ns. Entries are numbered
+//! from 1. A front is the number of commands accepted up to then. Both count the folded commands.
 #![tactic(auto)]
 
 mod front_error;

@@ -14,28 +14,30 @@ use tk_counter::CounterDesc;
 /// The most entries that a journal lists.
 const LISTED_LIMIT: usize = 1_048_576;
 
-/// The most commands that a journal counts.
+/// The most commands that a journal counts, the folded ones included.
 const COUNTED_LIMIT: u64 = (1 << 63) - 1;
 
-/// A copy of the clocks is kept at each entry whose number is a multiple of this.
+/// A copy of the clocks is kept after each entry whose number is a multiple of this.
 const KEPT_EVERY: usize = 256;
 
-/// The clocks of a counter, with the journal of all accepted commands.
+/// Keeps the clocks of one counter, and the journal of all accepted commands (the kernel's
+/// `struct timekeeper`).
 ///
-/// Its journal is always legal, and its clocks are always what the journal comes to. It takes no
-/// lock: whoever shares it brings one. Its memory comes from the allocator that it was opened with.
+/// Its journal is always legal, and its clocks are always the state that the journal leads to. It
+/// takes no lock: threads that share it must bring one. It allocates from the allocator that it was
+/// opened with, and only in `apply` while `spare()` is 0, `reserve`, `run` and `trace`.
 #[derive(Drop)]
 pub struct Timekeeper<A: Allocator = Global> {
-    /// The clocks as the journal begins.
+    /// The clocks at the journal's opening.
     start: Clock,
-    /// How many commands were accepted before that.
+    /// The number of commands accepted before the opening: those that were folded.
     folded: u64,
-    /// The commands accepted since.
+    /// The commands accepted since the opening.
     entries: Vec<Entry, A>,
-    /// The clocks after each of them whose number is a multiple of 256, so that past states are
-    /// near.
+    /// The clocks after each entry whose number is a multiple of 256. From these the states of past
+    /// fronts are made.
     kept: Vec<Clock, A>,
-    /// The clocks now.
+    /// The clocks after the last accepted command.
     clock: Clock,
 }
 
@@ -67,10 +69,13 @@ impl<A: Allocator + Copy> Timekeeper<A> {
     ghost use Rattle.tk_keeper.specs.Keeper.{entry_at, ReadsAs, CountsTrue};
     ghost use Rattle.tk_keeper.specs.Read.{IsRead};
 
-    /// The clocks from this reading on, with an empty journal: MONOTONIC is 0, and REALTIME `real`.
-    /// It takes no memory.
+    /// Opens the clocks at a reading, with an empty journal. At `reading` (in cycles) MONOTONIC is
+    /// 0, and REALTIME is `real`, counted from 1970. Allocates nothing; later calls allocate from
+    /// `alloc`.
     ///
-    /// Invalid where the reading is above the mask, or where REALTIME may not be set to `real`.
+    /// # Errors
+    ///
+    /// `Refusal::Invalid` if `reading` is above the mask, or if REALTIME can't be set to `real`.
     pub fn open(
         alloc: A,
         desc: CounterDesc,
@@ -93,7 +98,7 @@ impl<A: Allocator + Copy> Timekeeper<A> {
         })
     }
 
-    /// How many commands were accepted, the folded ones among them.
+    /// Returns the number of accepted commands, the folded ones included: the current front.
     pub fn len(&self) -> usize
         ensures value { result ≡ accepted_count self.now.journal }
         ensures most { result ≤ counted_most }
@@ -102,7 +107,10 @@ impl<A: Allocator + Copy> Timekeeper<A> {
         self.folded as usize + self.entries.len()
     }
 
-    /// The entry of a number, counted from 1; None for 0, beyond `len`, and where it was folded.
+    /// Returns the entry with this number, counted from 1.
+    ///
+    /// `None` means that the journal doesn't list it: `number` is 0, above `len()`, or at most
+    /// `folded()`.
     pub fn entry(&self, number: u64) -> Option<Entry>
         ensures { result ≡ entry_at self.now.journal number }
     {
@@ -114,7 +122,8 @@ impl<A: Allocator + Copy> Timekeeper<A> {
             .copied()
     }
 
-    /// How many accepted commands will take no memory.
+    /// Returns how many more commands can be accepted without an allocation. It doesn't take the
+    /// journal's limits into account: for a full journal it may be above 0.
     pub fn spare(&self) -> usize
         ensures { result ≡ self.now.spare }
     {
@@ -124,7 +133,9 @@ impl<A: Allocator + Copy> Timekeeper<A> {
         places.min(kept.saturating_mul(KEPT_EVERY).saturating_add(until_kept))
     }
 
-    /// What a reader is given: each clock at each reading as the journal has it.
+    /// Returns the snapshot to give to readers: it gives each clock the journal's value at each
+    /// reading. Use it up to the reading of the next accepted command: with a later one it may give
+    /// more than a later snapshot does.
     pub fn snapshot(&self) -> Snapshot
         ensures value { result ≡ snapshot_of self.now.journal }
         ensures legal { IsLegal self.now.journal }
@@ -134,12 +145,16 @@ impl<A: Allocator + Copy> Timekeeper<A> {
         self.clock.snapshot(self.len() as u64)
     }
 
-    /// A clock's time at a reading, as the journal has it (clock_gettime(2)): seconds since 1970 or
-    /// since opening, and nanoseconds.
+    /// Returns a clock's time at a reading, as the journal defines it (clock_gettime(2)): whole
+    /// seconds since 1970 or since opening, and nanoseconds, rounded down.
     ///
-    /// Invalid where the reading is above the mask; then Range where the clock is at its limit or
-    /// beyond. A reading behind the last command gets the value at that command, as does every one
-    /// while asleep.
+    /// A reading that lies behind the last command's gets the value at that command. So does every
+    /// reading while the clocks are asleep.
+    ///
+    /// # Errors
+    ///
+    /// - `ReadError::Invalid` if `reading` is above the mask.
+    /// - `ReadError::Range` if the clock is at its limit or beyond it.
     pub fn get(&self, clock: ClockId, reading: u64) -> Result<Timespec, ReadError>
         ensures { IsRead self.now.journal clock reading result }
     {

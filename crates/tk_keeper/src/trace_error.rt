@@ -8,25 +8,27 @@ use std::error::Error;
 use std::fmt;
 use tk_lanes::BatchError;
 
-/// Why a trace isn't converted: the first item with a fault, counted from 0, or want of memory.
+/// States why a list of stamps isn't converted: the first item that has a fault, or an allocation
+/// failure.
 ///
-/// The faults of an item stand in the order of their tests.
+/// `index` is the item's place in the whole list, counted from 0. The faults of an item are listed
+/// in the order in which they are tested.
 #[derive(Clone, Copy, Debug, PartialEq, Eq)]
 pub enum TraceError {
-    /// Fewer commands were accepted than the item's front counts.
+    /// The item's front is greater than the number of accepted commands.
     Unknown { index: usize },
-    /// A command after the item's front was folded.
+    /// The entry after the item's front was folded.
     Folded { index: usize },
     /// The item's stamp is above the mask.
     Invalid { index: usize },
-    /// The clock's value at the stamp isn't below its limit.
+    /// The clock's value at the stamp is at or above the clock's limit.
     Range { index: usize },
-    /// Memory was refused.
+    /// The memory for the result could not be allocated.
     Memory,
 }
 
 impl TraceError {
-    /// The fault of an item's front.
+    /// Returns the fault of the item at `index` whose front has `error`.
     pub(crate) fn of_front(index: usize, error: FrontError) -> TraceError
         ensures { result ≡ fault_of_front index error }
     {
@@ -36,7 +38,7 @@ impl TraceError {
         }
     }
 
-    /// The fault of a stamp of a batch that begins at the item `first`.
+    /// Returns the fault of the item that a batch rejected; the batch begins at the item `first`.
     pub(crate) fn of_batch(first: usize, error: BatchError) -> TraceError
         requires { first + place_of error < 2 ^ 64 }
         ensures { result ≡ fault_of_batch first error }

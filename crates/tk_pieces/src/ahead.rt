@@ -1,9 +1,10 @@
-//! A list so long that its answer lies in memory that nobody has touched yet: whoever writes there
-//! first takes most of the time. So the calling thread does nothing but append pieces to the
-//! answer, while another thread converts them ahead, into words that go back and forth.
+//! Converts a list so long that its result lies in memory that was never written before. The first
+//! write there takes most of the time. So the calling thread appends pieces to the result, while
+//! another thread converts pieces ahead of it, into buffers of words that go back and forth.
 //!
-//! Neither waits for a piece: where the next one isn't ready, the calling thread converts it itself;
-//! where no words come back, the other thread ends. Only that end is waited for.
+//! Neither thread waits for a piece. If the next piece isn't ready, the calling thread converts it
+//! itself. If no buffer comes back for a while, the other thread ends. The calling thread waits
+//! only for that end.
 ghost use Rattle.std.specs.Prelude.{◌≡◌, ◌+◌, ◌<◌, ◌≤◌, [], length, MatchResult, OnOk, IfErr, IfSome};
 ghost use Rattle.tk_keeper.specs.Trace.{IsConverted, IsFault, item_of};
 ghost use Rattle.tk_keeper.specs.declared.trace_error.TraceError.TheVariants.{Memory};
@@ -18,19 +19,20 @@ use std::thread::Threads;
 use tk_clock::ClockId;
 use tk_keeper::{Timekeeper, TraceError};
 
-/// The items of a piece: its words stay in the caches until they are appended.
+/// The number of items of a piece. Its words stay in the caches until they are appended.
 const PIECE: usize = 8_192;
 
-/// The pieces that are on their way at once.
+/// The number of pieces between the two threads at once.
 const PIECES: usize = 4;
 
-/// How often the other thread looks for words that came back before it ends: so often as takes some
+/// How many times the other thread polls for returned words before it ends. That takes some
 /// hundredths of a second.
 const LOOKS: usize = 100_000;
 
 /// Names the items of a trace. It has no function, and no value of it is made.
 ///
-/// What one thread takes from another is known by its type alone: so the type names the items.
+/// The proof knows of what one thread receives from another only its type. So the type names the
+/// items.
 pub(crate) trait NamesTrace {
     ghost use Rattle.std.specs.Prelude.{ℕ};
     ghost use Rattle.tk_pieces.specs.Pieces.{Items};
@@ -49,7 +51,7 @@ impl NamesTrace for Brand {
     ghost count = { 0 };
 }
 
-/// The values of some items that follow each other.
+/// The values of consecutive items.
 #[derive(Drop)]
 pub(crate) struct Piece<N: NamesTrace, A: Allocator> {
     /// The place of the first item.
@@ -60,14 +62,14 @@ pub(crate) struct Piece<N: NamesTrace, A: Allocator> {
     ghost values: { HoldFrom N.item at words.items },
 }
 
-/// What the calling thread has: pieces that are ready come in, and their words go back.
+/// The calling thread's ends of the queues: converted pieces come in, and their words go back.
 #[derive(Drop)]
 pub(crate) struct Intake<N: NamesTrace, A: Allocator> {
     ready: Consumer<Piece<N, A>, A>,
     back: Producer<Vec<u64, A>, A>,
 }
 
-/// What the other thread has.
+/// The other thread's ends of the queues.
 #[derive(Drop)]
 pub(crate) struct Supply<N: NamesTrace, A: Allocator> {
     ready: Producer<Piece<N, A>, A>,
@@ -75,7 +77,8 @@ pub(crate) struct Supply<N: NamesTrace, A: Allocator> {
 }
 
 impl<N: NamesTrace, A: Allocator> Intake<N, A> {
-    /// The piece that begins at a place, where it is ready. Others come too late.
+    /// Returns the piece that begins at `at`, if it is ready. Gives back the words of pieces that
+    /// the calling thread converted itself in the meantime.
     fn take(&mut self, at: usize) -> Option<Piece<N, A>>
         ensures { IfSome result (λ piece. piece.at ≡ at) }
     {
@@ -93,14 +96,15 @@ impl<N: NamesTrace, A: Allocator> Intake<N, A> {
         None
     }
 
-    /// Gives a piece's words back. There is room for the words of all pieces.
+    /// Gives a piece's words back. The queue has capacity for the words of all pieces.
     fn give_back(&mut self, piece: Piece<N, A>) {
         let _given = self.back.push(piece.words);
     }
 }
 
 impl<N: NamesTrace, A: Allocator> Supply<N, A> {
-    /// Words that came back, or none where the calling thread has ended or is held up.
+    /// Returns words that came back. `None` means that the calling thread has ended, or that no
+    /// words came back within `LOOKS` polls.
     fn words(&mut self) -> Option<Vec<u64, A>> {
         for _ in 0..LOOKS {
             if let Ok(words) = self.back.pop() {
@@ -115,7 +119,7 @@ impl<N: NamesTrace, A: Allocator> Supply<N, A> {
     }
 }
 
-/// What both threads have, and the words of all pieces.
+/// Creates both threads' ends of the queues, and allocates the words of all pieces.
 fn ends<N: NamesTrace, A: Allocator + Copy>(
     alloc: A,
 ) -> Result<(Supply<N, A>, Intake<N, A>), AllocError> {
@@ -136,7 +140,8 @@ fn ends<N: NamesTrace, A: Allocator + Copy>(
     Ok((supply, intake))
 }
 
-/// Converts the piece that begins at a place, as many items as there are words.
+/// Converts the piece that begins at `at`. It has as many items as there are words, up to the end
+/// of the list.
 fn convert<N: NamesTrace, A: Allocator + Copy>(
     keeper: &Timekeeper<A>,
     fronts: &[u64],
@@ -167,7 +172,8 @@ fn convert<N: NamesTrace, A: Allocator + Copy>(
     }
 }
 
-/// Converts pieces from the first on, until the calling thread has ended or a piece has a fault.
+/// Converts pieces from the first on. Ends after the last piece, at a fault, or if no words come
+/// back.
 fn convert_ahead<N: NamesTrace, A: Allocator + Copy>(
     keeper: &Timekeeper<A>,
     fronts: &[u64],
@@ -198,7 +204,7 @@ fn convert_ahead<N: NamesTrace, A: Allocator + Copy>(
     }
 }
 
-/// Appends the piece whose turn it is.
+/// Appends the next piece to the result.
 fn append<N: NamesTrace, A: Allocator, B: Allocator>(
     values: &mut Vec<u64, B>,
     piece: &Piece<N, A>,
@@ -216,7 +222,7 @@ fn append<N: NamesTrace, A: Allocator, B: Allocator>(
     }
 }
 
-/// Appends piece after piece, those that are ready and those that it converts itself.
+/// Appends all pieces in order. Takes a piece that is ready, and otherwise converts it itself.
 fn append_all<N: NamesTrace, A: Allocator + Copy, B: Allocator>(
     keeper: &Timekeeper<A>,
     fronts: &[u64],
@@ -253,13 +259,14 @@ fn append_all<N: NamesTrace, A: Allocator + Copy, B: Allocator>(
     Ok(values)
 }
 
-/// The keeper's allocator, which is that of each list that it gives.
+/// Returns the keeper's allocator: that of an empty list from `trace`.
 fn heap_of<A: Allocator + Copy>(keeper: &Timekeeper<A>) -> Result<A, TraceError> {
     let none = keeper.trace(&[], &[], ClockId::Monotonic)?;
     Ok(*none.allocator())
 }
 
-/// What both threads have, and the words of the pieces that the calling thread converts.
+/// Creates both threads' ends of the queues, and the words of the pieces that the calling thread
+/// converts. `None` means that an allocation failed.
 fn prepared<N: NamesTrace, A: Allocator + Copy>(
     keeper: &Timekeeper<A>,
 ) -> Option<(Supply<N, A>, Intake<N, A>, Vec<u64, A>)>
@@ -271,7 +278,7 @@ fn prepared<N: NamesTrace, A: Allocator + Copy>(
     Some((supply, intake, words))
 }
 
-/// As `trace_all`, into an empty list, where the type `N` names the items.
+/// Does what `trace_all` does, into an empty list. The type `N` names the items.
 pub(crate) fn trace_ahead<
     N: NamesTrace + Send + Sync,
     R: Threads + Sync,

@@ -1,11 +1,11 @@
-//! Whole lists of stamps in clock time, shared out among threads.
+//! Converts whole lists of stamps to clock time on several threads.
 //!
 //! | Item | What it is |
 //! |---|---|
-//! | `trace_all` | a clock at each stamp, as of the front beside it, in a list of its own |
-//! | `trace_all_into` | the same, in memory that is there |
+//! | `trace_all` | converts each stamp by the journal at its front, and returns a new list |
+//! | `trace_all_into` | does the same, and writes the values to the caller's memory |
 //!
-//! Units are those of `tk_keeper`: stamps are readings, in cycles; clock times in ns.
+//! Units are those of `tk_keeper`: stamps are readings, in cycles; clock times are in ns.
 #![tactic(auto)]
 
 mod ahead;

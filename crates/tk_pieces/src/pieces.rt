@@ -1,6 +1,8 @@
-//! A long list is cut into pieces, which threads convert in place. Then the pieces are gone over in
-//! order, and the list is converted once more, item by item, from the first piece with a fault on.
-//! The longest answers are made by `ahead`.
+//! Cuts a long list into pieces, which threads convert in place.
+//!
+//! Then the calling thread checks the pieces in order. If one has a fault, the calling thread
+//! converts the list once more from the first such piece on, up to the fault. The longest new lists
+//! are made by `ahead`.
 ghost use Rattle.std.specs.Prelude.{[], ◌≡◌, ◌+◌, ◌<◌, ◌≤◌, ◌^◌, length, MatchResult};
 ghost use Rattle.tk_keeper.specs.Trace.{AreValues, IsConverted, IsFault};
 ghost use Rattle.tk_pieces.specs.Pieces.{ArePieces, IsPiece, IsTracedInPieces, further_on, place_told};
@@ -14,26 +16,34 @@ use std::thread::Threads;
 use tk_clock::ClockId;
 use tk_keeper::{Timekeeper, TraceError};
 
-/// The items of a piece: enough of them that handing a piece out costs nothing beside its
-/// conversion.
+/// The number of items of a piece: so large that giving a piece to a thread costs nothing compared
+/// with its conversion.
 const PIECE: usize = 65_536;
 
-/// Fewer items than this, two pieces, are converted by the calling thread.
+/// The calling thread alone converts a list of fewer items than this, two pieces.
 const SHARED: usize = 2 * PIECE;
 
-/// From so many items on the words of the answer, 32 MB, are taken from the system anew each time.
-/// To touch them first takes longer than all else.
+/// The number of items, 32 MB of words, from which on the system maps the result's memory anew for
+/// each call. The first write to that memory takes longer than the conversion.
 const UNTOUCHED: usize = 4_194_304;
 
-/// The first word of a piece with a fault. No clock tells it: all end before.
+/// The first word of a piece with a fault. No clock has this value: all end before it.
 const REFUSED: u64 = u64::MAX;
 
-/// A clock at each stamp, in ns, as the journal was at the front beside it, from several threads: two
-/// for each processor at most.
+/// Converts each stamp to a clock's time, in ns since 1970 or since opening, by the journal as it
+/// was at the front with the same index. `fronts` and `stamps` have the same length.
 ///
-/// It answers as `Timekeeper::trace`. Room for the answer is asked of `alloc`, before all else. What
-/// the longest lists want beside it is asked of the keeper's allocator, and they do without it where
-/// that is refused.
+/// The result is that of `Timekeeper::trace`, allocated by `alloc`. The call uses several threads,
+/// at most two for each processor, which have ended when it returns. For 4,194,304 items or more,
+/// on at least two processors, it also allocates buffers from the keeper's allocator. It works
+/// without them if that fails.
+///
+/// # Errors
+///
+/// `TraceError::Memory` if the result can't be allocated. The call reserves the result's capacity
+/// before it examines any item; for an empty list it allocates nothing. Otherwise the error of the
+/// first item of the whole list that has a fault: `TraceError::Unknown`, `Folded`, `Invalid` or
+/// `Range`, tested in this order.
 pub fn trace_all<R: Threads + Sync, A: Allocator + Copy + Send + Sync, B: Allocator>(
     rt: &R,
     alloc: B,
@@ -59,7 +69,7 @@ pub fn trace_all<R: Threads + Sync, A: Allocator + Copy + Send + Sync, B: Alloca
     trace_ahead::<Brand, R, A, B>(rt, keeper, fronts, stamps, clock, values)
 }
 
-/// As `trace_all`, into an empty list: it is filled up, and then converted in place.
+/// Does what `trace_all` does, into an empty list: fills it with zeros, and then converts in place.
 pub(crate) fn convert_at_once<R: Threads + Sync, A: Allocator + Copy + Sync, B: Allocator>(
     rt: &R,
     keeper: &Timekeeper<A>,
@@ -83,10 +93,14 @@ pub(crate) fn convert_at_once<R: Threads + Sync, A: Allocator + Copy + Sync, B: 
     Ok(values)
 }
 
-/// As `trace_all`, into memory that is there: it takes none for the answer.
+/// Converts each stamp as `trace_all` does, and writes the values to `out`. All three slices have
+/// the same length. The call allocates nothing for the result.
 ///
-/// The first item with a fault decides. The items before it are written then; what stands in `out`
-/// from there on isn't told.
+/// # Errors
+///
+/// The error of the first item of the whole list that has a fault: `TraceError::Unknown`, `Folded`,
+/// `Invalid` or `Range`, tested in this order. The items before it are written then. The contents
+/// of the rest of `out` are unspecified.
 pub fn trace_all_into<R: Threads + Sync, A: Allocator + Copy + Sync>(
     rt: &R,
     keeper: &Timekeeper<A>,
@@ -106,7 +120,7 @@ pub fn trace_all_into<R: Threads + Sync, A: Allocator + Copy + Sync>(
     first_fault(keeper, fronts, stamps, clock, out)
 }
 
-/// Converts all pieces, side by side.
+/// Converts all pieces, in parallel.
 fn convert_pieces<R: Threads + Sync, A: Allocator + Copy + Sync>(
     rt: &R,
     keeper: &Timekeeper<A>,
@@ -132,7 +146,7 @@ fn convert_pieces<R: Threads + Sync, A: Allocator + Copy + Sync>(
     );
 }
 
-/// Converts the piece that begins at a place, and marks it where an item of it has a fault.
+/// Converts the piece that begins at `at`, and marks it if one of its items has a fault.
 fn convert_piece<A: Allocator + Copy>(
     keeper: &Timekeeper<A>,
     fronts: &[u64],
@@ -153,7 +167,7 @@ fn convert_piece<A: Allocator + Copy>(
     }
 }
 
-/// Goes over the pieces in order, up to the first that is marked.
+/// Checks the pieces in order, and converts again from the first marked one on.
 fn first_fault<A: Allocator + Copy>(
     keeper: &Timekeeper<A>,
     fronts: &[u64],
@@ -176,7 +190,7 @@ fn first_fault<A: Allocator + Copy>(
     Ok(())
 }
 
-/// Converts the items from a place on, where those before it are converted.
+/// Converts the items from `at` on. Those before it are converted already.
 fn rest<A: Allocator + Copy>(
     keeper: &Timekeeper<A>,
     fronts: &[u64],
@@ -200,7 +214,7 @@ fn rest<A: Allocator + Copy>(
     }
 }
 
-/// The fault of a part that begins at a place, as one of the whole list.
+/// Returns the fault of a part that begins at the item `by`, as a fault of the whole list.
 pub(crate) fn moved(error: TraceError, by: usize) -> TraceError
     requires { by + place_told error < 2 ^ 64 }
     ensures { result ≡ further_on error by }

@@ -1,5 +1,5 @@
-//! Keeps the clocks of a counter of 1 MHz through settings, a sleep and a fold, and prints what
-//! they tell.
+//! Runs the clocks of a counter of 1 MHz through settings, a sleep and a fold, and prints their
+//! values on the way.
 #![tactic(auto)]
 
 mod stop;
@@ -16,7 +16,7 @@ use tk_clock::{ClockId, Command, Timespec};
 use tk_counter::CounterDesc;
 use tk_keeper::Timekeeper;
 
-/// The caller that the journal names.
+/// The number of this caller, which the journal keeps with each entry.
 const WHO: u32 = 7;
 
 fn main(rt: HostRuntime) -> Result<(), Stop> {
@@ -27,13 +27,14 @@ fn main(rt: HostRuntime) -> Result<(), Stop> {
     fold(&rt, &mut keeper)
 }
 
-/// A microsecond a cycle, in readings of 32 bits that begin at 0; REALTIME is 1,700,000,000 s.
+/// Opens the clocks of a counter with 1 microsecond a cycle and readings of 32 bits. At the reading
+/// 0 REALTIME is 1,700,000,000 s.
 fn opened(alloc: Global) -> Result<Timekeeper, Stop> {
     let desc = CounterDesc::from_hz(32, 1_000_000, 600)?;
     Ok(Timekeeper::open(alloc, desc, 0, time(1_700_000_000, 0))?)
 }
 
-/// Sets REALTIME, steps it back by 1.25 s, and runs 500 ppm faster from 5 s on.
+/// Sets REALTIME, steps it back by 1.25 s, and lets the clocks run 500 ppm faster from 5 s on.
 fn settings(rt: &impl Print, keeper: &mut Timekeeper) -> Result<(), Stop> {
     let set = time(1_700_000_100, 500_000_000);
     act(rt, keeper, 2_000_000, Command::SetTime(set))?;
@@ -44,7 +45,8 @@ fn settings(rt: &impl Print, keeper: &mut Timekeeper) -> Result<(), Stop> {
     tell(rt, keeper, 7_000_000)
 }
 
-/// Falls asleep, and wakes a minute later at a counter that has begun anew.
+/// Suspends the clocks, and resumes them with a counter that has restarted. The resume gives the
+/// length of the sleep, 60.25 s. An update during the sleep is refused.
 fn sleep(rt: &impl Print, keeper: &mut Timekeeper) -> Result<(), Stop> {
     act(rt, keeper, 7_000_000, Command::Suspend)?;
     tell(rt, keeper, 9_000_000)?;
@@ -53,8 +55,8 @@ fn sleep(rt: &impl Print, keeper: &mut Timekeeper) -> Result<(), Stop> {
     tell(rt, keeper, 1_000_100)
 }
 
-/// Folds all but the last two commands: the clocks tell what they told, and so do stamps of the
-/// fronts from there on.
+/// Folds all commands except for the last two. The clocks keep their values, and stamps of the
+/// fronts 3 to 5 still convert. Front 2 is folded then, and there is no front 6 yet.
 fn fold(rt: &impl Print, keeper: &mut Timekeeper) -> Result<(), Stop> {
     let folded = keeper.fold(2);
     println!(rt; "folded {folded} of {}", keeper.len())?;
@@ -68,8 +70,8 @@ fn fold(rt: &impl Print, keeper: &mut Timekeeper) -> Result<(), Stop> {
     Ok(())
 }
 
-/// Does a command, and prints its number or why it is refused. Either way MONOTONIC at the reading
-/// stays.
+/// Applies a command, and prints its number or the refusal. In both cases MONOTONIC at the reading
+/// is the same before and after.
 fn act(rt: &impl Print, keeper: &mut Timekeeper, reading: u64, cmd: Command) -> Result<(), Stop>
     ensures { monotonic keeper.new.journal reading ≡ monotonic keeper.old.journal reading }
 {
@@ -80,7 +82,7 @@ fn act(rt: &impl Print, keeper: &mut Timekeeper, reading: u64, cmd: Command) -> 
     Ok(())
 }
 
-/// REALTIME at a stamp that was noted at a front: by the journal as it was then.
+/// Returns REALTIME at a stamp that was noted at a front, by the journal as it was then.
 fn wall_time(keeper: &Timekeeper, front: u64, stamp: u64) -> Result<Timespec, Stop>
     ensures { IfOk result (λ time. nanoseconds time
         ≡ clock_value (at_front front keeper.now.journal) ClockId.Realtime stamp) }

@@ -3,18 +3,18 @@ use tk_clock::{ReadError, Refusal};
 use tk_counter::DescError;
 use tk_keeper::FrontError;
 
-/// Why the program stops before it is done.
+/// States why the program stops early.
 #[derive(Debug, Drop)]
 pub(crate) enum Stop {
-    /// The numbers describe no counter.
+    /// The description of the counter was rejected.
     Counter(DescError),
-    /// The clocks can't be opened, or a command is refused.
+    /// The clocks can't be opened. A refused command is printed, and doesn't stop the program.
     Command(Refusal),
-    /// A clock can't be read.
+    /// A clock can't be read at a reading.
     Read(ReadError),
     /// A front has no snapshot.
     Front(FrontError),
-    /// Standard output failed.
+    /// A write to standard output failed.
     Output(io::Error),
 }
 

@@ -1,4 +1,4 @@
-//! Commands, and the room that their entries take.
+//! Applies commands, and reserves the memory for their entries.
 ghost use Rattle.std.specs.Prelude.{◌≡◌, ◌+◌, ◌-◌, ◌<◌, ◌≤◌, length, min, MatchResult, IfOk, IsErrOf, Some, None, false};
 ghost use Rattle.tk_clock.specs.Journal.{followed_by, accepted_count};
 ghost use Rattle.tk_clock.specs.Life.{NeverFalls};
@@ -12,12 +12,25 @@ use std::alloc::Allocator;
 use tk_clock::{Command, Entry, Refusal};
 
 impl<A: Allocator + Copy> Timekeeper<A> {
-    /// Does a command to the clocks and enters it in the journal; the entry's number, counted from
-    /// 1.
+    /// Applies a command to the clocks, enters it in the journal, and returns the entry's number,
+    /// counted from 1.
     ///
-    /// `who` is the number of the caller, which the entry keeps. Full where the journal has no
-    /// room, then as `Clock::apply` refuses it, then Memory where the room for the entry was
-    /// refused. A refused command changes nothing. It takes no memory while `spare` is above 0.
+    /// `who` is the number of the caller, which the entry keeps; `reading` is in cycles. The call
+    /// allocates only while `spare()` is 0. A refused command changes nothing.
+    ///
+    /// # Errors
+    ///
+    /// The first test that fails, in this order:
+    ///
+    /// - `Refusal::Full` if the journal lists 1,048,576 entries or counts `2^63 - 1` commands.
+    /// - `Refusal::Asleep` if the clocks are asleep and `cmd` isn't `Resume`; `Refusal::Awake` if
+    ///   they are awake and it is.
+    /// - `Refusal::Invalid` if `reading` is above the mask or a number of `cmd` is out of range.
+    /// - `Refusal::Behind` if `reading` lies behind the last accepted command's and `cmd` isn't
+    ///   `Resume`.
+    /// - `Refusal::Range` if a clock would reach its limit.
+    /// - `Refusal::Invalid` if REALTIME would fall below MONOTONIC or beyond what may be set.
+    /// - `Refusal::Memory` if `spare()` is 0 and the memory for the entry can't be allocated.
     pub fn apply(&mut self, who: u32, reading: u64, cmd: Command) -> Result<u64, Refusal>
         ensures answer { let entry : Entry = record { who = who; reading = reading; cmd = cmd } in
             MatchResult result
@@ -31,7 +44,7 @@ impl<A: Allocator + Copy> Timekeeper<A> {
         // MONOTONIC at the command's reading is the same before and after
         ensures agrees { IfOk result
             (λ _. monotonic self.old.journal reading ≡ monotonic self.new.journal reading) }
-        // and no prefix, read in its life, tells more than the journal tells now at any reading
+        // no prefix, read in its life, gives more than the journal gives now at any reading
         ensures rises { NeverFalls self.new.journal }
     {
         if self.is_full() {
@@ -44,7 +57,8 @@ impl<A: Allocator + Copy> Timekeeper<A> {
         self.enter(entry)
     }
 
-    /// Does a command for which room must be made first. One that is refused takes no memory.
+    /// Applies a command for which memory must be reserved first. It tests the command on a copy of
+    /// the clocks, so that a refused one allocates nothing.
     fn apply_growing(&mut self, entry: Entry) -> Result<u64, Refusal>
         requires none { self.old.spare ≡ 0 }
         requires free { is_full self.old.journal ≡ false }
@@ -60,7 +74,7 @@ impl<A: Allocator + Copy> Timekeeper<A> {
         self.enter(entry)
     }
 
-    /// Makes room for one more command, where there is none.
+    /// Reserves memory for one more command, unless `spare()` is above 0.
     fn make_room(&mut self) -> Result<(), Refusal>
         requires { is_full self.old.journal ≡ false }
         ensures answer { MatchResult result
@@ -75,9 +89,9 @@ impl<A: Allocator + Copy> Timekeeper<A> {
         Ok(())
     }
 
-    /// Does a command and enters it in the journal, where there is room; its number.
+    /// Applies a command and enters it in the journal, which has room for it. Returns its number.
     ///
-    /// The clocks are changed in place: one that they refuse leaves them as they were.
+    /// The clocks are changed in place. A refused command leaves them as they were.
     fn enter(&mut self, entry: Entry) -> Result<u64, Refusal>
         requires room { 0 < self.old.spare }
         requires free { is_full self.old.journal ≡ false }
@@ -98,9 +112,12 @@ impl<A: Allocator + Copy> Timekeeper<A> {
         Ok(number)
     }
 
-    /// Makes room for so many more commands, or for as many as the journal may still list.
+    /// Reserves memory for `extra` more commands, or for as many as the journal may still list if
+    /// those are fewer. Changes nothing except `spare()`, which never falls.
     ///
-    /// Only Memory. `spare` may be greater then too; nothing else changes.
+    /// # Errors
+    ///
+    /// `Refusal::Memory` if that memory can't be allocated. `spare()` may have grown then, too.
     pub fn reserve(&mut self, extra: usize) -> Result<(), Refusal>
         ensures answer { let wanted = min extra (listed_most - length self.old.journal.entries) in
             MatchResult result
@@ -117,7 +134,7 @@ impl<A: Allocator + Copy> Timekeeper<A> {
         Ok(())
     }
 
-    /// Has the journal no room for another entry?
+    /// Returns whether the journal can take no further entry.
     fn is_full(&self) -> bool
         ensures { result ≡ is_full self.now.journal }
     {

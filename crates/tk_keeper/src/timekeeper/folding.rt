@@ -1,4 +1,4 @@
-//! Folding the oldest entries into the opening.
+//! Folds the oldest entries into the opening.
 ghost use Rattle.std.specs.Prelude.{◌≡◌, ◌-◌, ◌≤◌, length, drop, max, vec_capacity};
 ghost use Rattle.tk_clock.specs.Journal.{accepted_count};
 ghost use Rattle.tk_clock.specs.Legal.{IsLegal};
@@ -9,10 +9,12 @@ use super::{KEPT_EVERY, Timekeeper};
 use std::alloc::Allocator;
 
 impl<A: Allocator + Copy> Timekeeper<A> {
-    /// Folds the oldest entries, so that at most `keep` are listed; how many are folded then.
+    /// Folds the oldest entries into the opening, so that at most `keep` entries stay listed.
+    /// Returns the number of commands folded so far.
     ///
-    /// Numbers and fronts go on as before, and no later value changes. It takes no memory: the
-    /// listed entries move down once, so fold many at a time.
+    /// Entry numbers don't change, nor does any value at a front from the returned number on.
+    /// Earlier fronts have no snapshot any more. The call allocates nothing. It moves each entry
+    /// that stays once, so fold many at a time.
     pub fn fold(&mut self, keep: u64) -> u64
         ensures answer { let before = self.old.journal in
             result ≡ max before.opening.count (accepted_count before - keep) }
@@ -28,7 +30,7 @@ impl<A: Allocator + Copy> Timekeeper<A> {
         self.folded
     }
 
-    /// Folds so many of the listed entries.
+    /// Folds the first `places` of the listed entries.
     fn fold_first(&mut self, places: usize)
         requires { places ≤ length self.old.journal.entries }
         ensures journal { self.new.journal ≡ folded_by places self.old.journal }
@@ -44,7 +46,7 @@ impl<A: Allocator + Copy> Timekeeper<A> {
     }
 }
 
-/// Takes the first items off, and moves the others down.
+/// Removes the first `places` items, and moves the others down.
 fn discard<T: Copy, A: Allocator>(items: &mut Vec<T, A>, places: usize)
     requires { places ≤ length items.old.items }
     ensures items { items.new.items ≡ drop places items.old.items }

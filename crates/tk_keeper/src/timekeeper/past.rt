@@ -1,4 +1,4 @@
-//! Snapshots of the past. Each is made from the last kept state before it.
+//! Makes snapshots of past fronts, each from the nearest kept state at or before the front.
 ghost use Rattle.std.specs.Prelude.{◌≡◌, ◌+◌, ◌<◌, ◌≤◌, length, MatchResult, IfOk, Some, None};
 ghost use Rattle.tk_clock.specs.Journal.{prefix};
 ghost use Rattle.tk_clock.specs.Snapshot.{snapshot_of};
@@ -12,10 +12,13 @@ use std::alloc::Allocator;
 use tk_clock::{Clock, Snapshot};
 
 impl<A: Allocator + Copy> Timekeeper<A> {
-    /// What a reader was given when so many commands were accepted. It takes no memory, and at most
-    /// 255 steps.
+    /// Returns the snapshot as it was when `front` commands were accepted. Applies at most 255
+    /// commands again, and allocates nothing.
     ///
-    /// Unknown where fewer were accepted, then Folded where entries after the front were folded.
+    /// # Errors
+    ///
+    /// - `FrontError::Unknown` if `front` is above `len()`.
+    /// - `FrontError::Folded` if `front` is below `folded()`.
     pub fn snapshot_at(&self, front: u64) -> Result<Snapshot, FrontError>
         ensures answer { MatchResult result
             (λ snapshot. (front_refusal self.now.journal front ≡ None)
@@ -41,7 +44,7 @@ impl<A: Allocator + Copy> Timekeeper<A> {
         self.folded
     }
 
-    /// The clocks after so many of the listed entries.
+    /// Returns the clocks after the first `place` of the listed entries.
     pub(super) fn clock_at(&self, place: usize) -> Clock
         requires { place ≤ length self.now.journal.entries }
         ensures { result ≡ state_of (prefix place self.now.journal) }
@@ -50,8 +53,8 @@ impl<A: Allocator + Copy> Timekeeper<A> {
         self.replayed(clock, from, place)
     }
 
-    /// The clocks at a place, from those at an earlier one: the entries between them are applied
-    /// again.
+    /// Returns the clocks at a place, given those at an earlier place `from`. Applies the entries
+    /// between the two again.
     fn replayed(&self, mut clock: Clock, from: usize, place: usize) -> Clock
         requires state { clock ≡ state_of (prefix from self.now.journal) }
         requires before { from ≤ place }
@@ -65,8 +68,8 @@ impl<A: Allocator + Copy> Timekeeper<A> {
         clock
     }
 
-    /// The clocks at the last kept state up to a place, or before all entries, and how many entries
-    /// lie before it.
+    /// Returns the last kept state at or before a place, or the clocks at the opening if there is
+    /// none, and the number of listed entries before it.
     fn nearest(&self, place: usize) -> (Clock, usize)
         requires { place ≤ length self.now.journal.entries }
         ensures state { result.0 ≡ state_of (prefix result.1 self.now.journal) }

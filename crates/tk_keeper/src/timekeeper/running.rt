@@ -1,4 +1,4 @@
-//! Many commands at once.
+//! Applies many commands in one call.
 ghost use Rattle.std.specs.Prelude.{◌≡◌, ◌<◌, ◌≤◌, length, MatchResult};
 ghost use Rattle.tk_clock.specs.Run.{run};
 
@@ -7,10 +7,15 @@ use std::alloc::Allocator;
 use tk_clock::{Entry, Refusal};
 
 impl<A: Allocator + Copy> Timekeeper<A> {
-    /// Applies the events in their order; the answer to each.
+    /// Applies events in order, and returns the result of each. It goes on after a refused event.
     ///
-    /// All room is asked for first, so Memory applies nothing, though `spare` may be greater then,
-    /// and no answer to an event is Memory. Without events it takes no memory.
+    /// The call reserves all memory before it applies any event, so no event's result is
+    /// `Refusal::Memory`. Without events it allocates nothing.
+    ///
+    /// # Errors
+    ///
+    /// `Refusal::Memory` if the memory for the results or the entries can't be allocated. No event
+    /// was applied then, but `spare()` may have grown.
     pub fn run(&mut self, events: &[Entry]) -> Result<Vec<Result<u64, Refusal>, A>, Refusal>
         ensures { MatchResult result
             (λ answers. (answers.items ≡ (run self.old.journal events.now).answers)

@@ -1,4 +1,4 @@
-//! Lists of stamps in clock time, each stamp as the journal was at the front beside it.
+//! Converts lists of stamps to clock time, each stamp by the journal as it was at its front.
 ghost use Rattle.std.specs.Prelude.{◌≡◌, ℕ, ◌+◌, ◌<◌, ◌≤◌, ◌≤ℤ◌, pos, length, slice_index, vec_len, vec_capacity, Err, IsTrue, MatchResult};
 ghost use Rattle.tk_clock.specs.State.{base_value};
 ghost use Rattle.tk_clock.specs.declared.clock_id.ClockId.{ClockId};
@@ -12,19 +12,27 @@ use std::simd::prelude::*;
 use tk_clock::{ClockId, Snapshot};
 use tk_lanes::lane_batch;
 
-/// How many items of a new list are made at a time. The zeros of so few are still in the nearest
-/// cache when the values go over them.
+/// The number of items of a new list that are made at a time. The zeros of one part are still in
+/// the nearest cache when the values overwrite them.
 const PART: usize = 256;
 
-/// How many fronts are compared at a time.
+/// The number of fronts that are compared at a time.
 const LANES: usize = 8;
 
 impl<A: Allocator + Copy> Timekeeper<A> {
-    /// A clock at each stamp, in ns, as the journal was at the front beside it.
+    /// Converts each stamp to a clock's time, in ns since 1970 or since opening, by the journal as
+    /// it was at the front with the same index. `fronts` and `stamps` have the same length.
     ///
-    /// Room for the answer is asked for first: Memory where that is refused, which it never is
-    /// where there are no items. Then the first item with a fault decides: Unknown, Folded,
-    /// Invalid, Range.
+    /// # Errors
+    ///
+    /// `TraceError::Memory` if the result can't be allocated. The call reserves the result's
+    /// capacity before it examines any item; for an empty list it allocates nothing. Otherwise the
+    /// error of the first item that has a fault, by the first of these tests that fails:
+    ///
+    /// - `TraceError::Unknown` if its front is above `len()`.
+    /// - `TraceError::Folded` if its front is below `folded()`.
+    /// - `TraceError::Invalid` if its stamp is above the mask.
+    /// - `TraceError::Range` if the clock is at its limit or beyond it.
     pub fn trace(
         &self,
         fronts: &[u64],
@@ -54,10 +62,13 @@ impl<A: Allocator + Copy> Timekeeper<A> {
         Ok(values)
     }
 
-    /// As `trace`, into memory that is there: it takes none.
+    /// Converts each stamp as `trace` does, and writes the values to `out`. All three slices have
+    /// the same length. Allocates nothing.
     ///
-    /// The first item with a fault decides. The items before it are written then, and what stood
-    /// in `out` from there on stays.
+    /// # Errors
+    ///
+    /// The error of the first item that has a fault, as in `trace`, but never `TraceError::Memory`.
+    /// The items before it are written then; the rest of `out` stays as it was.
     pub fn trace_into(
         &self,
         fronts: &[u64],
@@ -77,8 +88,8 @@ impl<A: Allocator + Copy> Timekeeper<A> {
         Ok(())
     }
 
-    /// Converts the items of one front from a place on, as far as `out` reaches, by the front's
-    /// snapshot, and tells where they end. The items before are written.
+    /// Converts the items of one front that begin at `first`, as far as `out` reaches, by the
+    /// front's snapshot. Returns where they end. The items before `first` are written already.
     fn trace_run(
         &self,
         snapshot: &Snapshot,
@@ -108,7 +119,7 @@ impl<A: Allocator + Copy> Timekeeper<A> {
         }
     }
 
-    /// Brings a front and its snapshot to the front of an item, unless it is the same.
+    /// Replaces a front and its snapshot by those of the item at `index`, if its front differs.
     fn bring_to(
         &self,
         told: &mut (u64, Snapshot),
@@ -127,7 +138,7 @@ impl<A: Allocator + Copy> Timekeeper<A> {
         Ok(())
     }
 
-    /// The snapshot by which the items of a front are told, or the fault of the front.
+    /// Returns the snapshot that converts the items of a front, or the fault of the front.
     fn item_snapshot(&self, index: usize, front: u64) -> Result<Snapshot, TraceError>
         ensures { MatchResult result
             (λ snapshot. TellsItems self.now.journal front snapshot.base)
@@ -144,8 +155,8 @@ impl<A: Allocator + Copy> Timekeeper<A> {
     }
 }
 
-/// Makes room for the next part of a list that is to have so many items, where it ends at `first`:
-/// its room is there, and is filled with zeros.
+/// Appends zeros for the next part of a list of `all` items, if the list ends at `first`. The
+/// capacity for all items is reserved already.
 fn make_room<A: Allocator>(values: &mut Vec<u64, A>, first: usize, all: usize)
     requires order { first < all }
     requires made { first ≤ vec_len values.old }
@@ -163,7 +174,7 @@ fn make_room<A: Allocator>(values: &mut Vec<u64, A>, first: usize, all: usize)
     values.resize(first + PART.min(all - first), 0).unwrap();
 }
 
-/// Where the items of the same front end that begin at a place, or `end`.
+/// Returns where the run of equal fronts that begins at `first` ends, at most `end`.
 fn stretch_end(fronts: &[u64], first: usize, end: usize) -> usize
     requires order { first < end }
     requires within { end ≤ length fronts.now }
@@ -185,7 +196,7 @@ fn stretch_end(fronts: &[u64], first: usize, end: usize) -> usize
     end
 }
 
-/// Are the eight fronts from a place on all this one?
+/// Returns whether the eight fronts from `at` on all equal `front`.
 fn is_each(fronts: &[u64], at: usize, front: u64) -> bool
     requires { at + 8 ≤ length fronts.now }
     ensures { IsTrue result → (k : ℕ) → at ≤ k → k < at + 8 →
@@ -195,7 +206,7 @@ fn is_each(fronts: &[u64], at: usize, front: u64) -> bool
     others.to_bitmask() == 0
 }
 
-/// No clock of a snapshot tells a time before its zero: no offset of one is negative.
+/// Proves that no clock of a snapshot has a negative value, since none of its offsets is negative.
 fn never_negative(snapshot: &Snapshot)
     ensures { (clock : ClockId) (reading : ℕ) →
         pos 0 ≤ℤ base_value snapshot.now.base clock reading }
