@@ -4,25 +4,26 @@ ghost use Rattle.tk_latch.specs.Errors.{fault_text, full_text, moved_text};
 use std::error::Error;
 use std::fmt;
 
-/// Why a latch isn't opened. Where more than one holds, the first in this order is told.
+/// Says why a latch can't be opened: the first variant, in this order, that applies.
 #[derive(Clone, Copy, Debug, PartialEq, Eq)]
 pub enum LatchError {
     /// Fewer readers than 1 or more than 64 were asked for.
     Count,
-    /// The memory for the words or the readers was refused.
+    /// An allocation for the words or for the readers failed.
     Memory,
 }
 
-/// Why a snapshot isn't published: 2^63 - 1 were, and the sequence can count no further.
+/// Says that a snapshot wasn't published: 2^63 - 1 were, and the sequence can't count further.
 #[derive(Clone, Copy, Debug, PartialEq, Eq)]
 pub struct PageFull;
 
-/// Why no snapshot was read: a publication was begun or made between the two looks at the sequence.
+/// Says that a read returned no snapshot, because a publication was begun or made between its two
+/// looks at the sequence.
 #[derive(Clone, Copy, Debug, PartialEq, Eq)]
 pub struct Moved {
-    /// The sequence as the read began.
+    /// The sequence number that the first look found.
     pub first: u64,
-    /// The sequence as it ended.
+    /// The sequence number that the second look found. It is greater.
     pub last: u64,
 }
 

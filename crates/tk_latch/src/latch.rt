@@ -1,14 +1,13 @@
-//! A snapshot in two copies, so that one of them is always whole.
+//! The latch: a snapshot in two copies, one of which is always whole.
 //!
 //! The words are the sequence, copy 0 and copy 1. The sequence is twice the number of the latest
-//! publication, and 1 more while the next one is being made:
+//! publication, plus 1 while the next one is being made:
 //!
-//! - even: at rest. Copy 0 is whole and is the latest publication; copy 1 may still be of the one
-//!   before.
-//! - odd: copy 0 is being written. Copy 1 is whole and is the latest publication.
+//! - Even: at rest. Copy 0 is whole and is the latest publication. Copy 1 may still have words of
+//!   the one before.
+//! - Odd: copy 0 is being written. Copy 1 is whole and is the latest publication.
 //!
-//! So the copy to read is always that of the lowest bit, `sequence & 1`. Each step is one load or
-//! one store.
+//! So the copy to read is always `sequence & 1`. Each load and each store is one atomic step.
 //!
 //! The writer publishes:
 //!
@@ -19,19 +18,20 @@
 //!
 //! A reader reads:
 //!
-//! 5. It looks at the sequence.
+//! 5. It loads the sequence: the first look.
 //! 6. It loads each word of the copy that the sequence names.
-//! 7. It looks at the sequence again. The same number: the words are one publication, whole.
-//!    Another one: the words may be of two, and the answer is `Moved`.
+//! 7. It loads the sequence again: the second look. If the number is the same, the words are one
+//!    publication, whole. If it isn't, the words may be of two, and the answer is `Moved`.
 //!
-//! A reader is told of what was published (`tell`):
+//! A reader learns what was published (`tell`):
 //!
-//! 8. It is handed the writer's history, and what it knew goes to the writer as a note.
-//! 9. The writer looks at the sequence: the note is a beginning of its history.
+//! 8. The reader gets the writer's history, and the writer gets what the reader knew, as a note.
+//! 9. The writer loads the sequence, which shows that the note is a beginning of its history.
 //!
-//! `try_read` waits for nobody: it takes 12 loads whatever the writer does, so it may be called
-//! where nothing may wait, as in an interrupt. It doesn't promise that `Moved` ever ends while
-//! others publish. `publish` takes 22 stores and waits for nobody either, nor does `tell`.
+//! Who waits: nobody. `try_read` takes 12 loads whatever the writer does, so it may be called where
+//! nothing may wait, such as in an interrupt handler. It doesn't guarantee that `Moved` ever ends
+//! while others publish. `publish` takes 22 stores. It doesn't wait either, nor does `tell`. Only
+//! `open` allocates.
 //!
 //! This is the kernel's `seqcount_latch_t` (Documentation/locking/seqlock.rst,
 //! include/linux/seqlock.h).
@@ -48,10 +48,10 @@ use std::mem;
 use tk_clock::Snapshot;
 use tk_counter::CounterDesc;
 
-/// How many words a snapshot has.
+/// The number of words of a snapshot.
 pub(crate) const SNAPSHOT_WORDS: usize = 10;
 
-/// Where the sequence and the copies stand among the words, and how many words there are.
+/// The positions of the sequence and of the copies among the words, and the number of words.
 pub(crate) const SEQUENCE: usize = 0;
 
 pub(crate) const COPY_0: usize = 1;
@@ -60,12 +60,13 @@ pub(crate) const COPY_1: usize = COPY_0 + SNAPSHOT_WORDS;
 
 const WORDS: usize = COPY_1 + SNAPSHOT_WORDS;
 
-/// The most readers that a latch is opened with.
+/// The greatest number of readers that a latch is opened with.
 const READERS_LIMIT: usize = 64;
 
-/// The page: a sequence word and two copies of a snapshot's words.
+/// Holds a sequence word and two copies of a snapshot's ten words.
 ///
-/// Its memory comes from the allocator that it was opened with.
+/// The memory comes from the allocator that the latch was opened with. Contracts see a latch as its
+/// identity and the counter of its snapshots.
 #[derive(Drop)]
 pub struct Latch<A: Allocator = Global> {
     pub(crate) words: Words<A>,
@@ -88,10 +89,15 @@ impl<A: Allocator> Model for Latch<A> {
 impl<A: Allocator + Copy> Latch<A> {
     ghost use Rattle.tk_latch.specs.Latch.{IsReaderCount, opened_writer, opened_reader};
 
-    /// A latch whose publication 0 is this snapshot, its writer, and so many readers that know
-    /// of it.
+    /// Opens a latch whose publication 0 is `snapshot`, which has front 0. Returns it with its
+    /// writer and as many readers as `readers` says, each with mark 0.
     ///
-    /// Count where fewer readers than 1 or more than 64 are asked for, then Memory.
+    /// It allocates the words and the list of readers. It waits for nobody.
+    ///
+    /// # Errors
+    ///
+    /// - `LatchError::Count` if `readers` is less than 1 or more than 64.
+    /// - `LatchError::Memory` if an allocation fails.
     pub fn open(
         alloc: A,
         snapshot: Snapshot,
@@ -119,7 +125,7 @@ impl<A: Allocator + Copy> Latch<A> {
         Ok((latch, writer, seats))
     }
 
-    /// The words of a latch, both copies of this snapshot.
+    /// Makes the words of a latch, with this snapshot in both copies, and its writer.
     fn with_writer(alloc: A, snapshot: Snapshot) -> Result<(Latch<A>, LatchWriter), AllocError>
         requires opening { snapshot.front ≡ 0 }
         ensures { IfOk result (λ opened. (opened.0.counter ≡ snapshot.base.counter)
@@ -141,7 +147,7 @@ impl<A: Allocator + Copy> Latch<A> {
 impl<A: Allocator> Latch<A> {
     ghost use Rattle.tk_latch.specs.Latch.{told_reader};
 
-    /// One more reader, which knows what the writer knows.
+    /// Returns one more reader, which knows what the writer knows.
     fn reader(&self, writer: &mut LatchWriter) -> LatchReader
         requires latch { writer.old.latch ≡ self.now }
         ensures writer { writer.new ≡ writer.old }
@@ -153,10 +159,10 @@ impl<A: Allocator> Latch<A> {
         }
     }
 
-    /// Tells a reader of the latest publication: its mark becomes that one, which isn't earlier
-    /// than the mark was.
+    /// Gives a reader all that was published: its mark becomes the number of the latest
+    /// publication, which is at least its former mark.
     ///
-    /// It waits for nobody and takes no memory. Both come from this latch's `open`.
+    /// It waits for nobody and allocates nothing. Writer and reader are those of this latch.
     pub fn tell(&self, writer: &mut LatchWriter, reader: &mut LatchReader)
         requires writer { writer.old.latch ≡ self.now }
         requires reader { reader.old.latch ≡ self.now }
@@ -164,7 +170,7 @@ impl<A: Allocator> Latch<A> {
         ensures reader { reader.new ≡ told_reader writer.old }
         ensures extends { IsPrefix reader.old.publications writer.old.publications }
     {
-        // 8. The reader has the writer's history, and the writer a note of what it knew.
+        // 8. The reader gets the writer's history, and the writer a note of what the reader knew.
         let shared = &self.words.shared;
         let told = shared.split_seat::<Hands>(&mut writer.seat);
         let former = mem::replace(&mut reader.seat, told);

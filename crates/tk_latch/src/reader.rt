@@ -11,7 +11,10 @@ use std::alloc::Allocator;
 use std::marker::Model;
 use tk_clock::Snapshot;
 
-/// One that reads a latch, with the publications that it knows of. The latest of them is its mark.
+/// Reads a latch, and keeps a mark: the number of the latest publication that it knows of.
+///
+/// It belongs to one thread at a time. Contracts see it as the publications that it knows of and
+/// the sequence numbers that its looks have found.
 #[derive(Drop)]
 pub struct LatchReader {
     pub(crate) seat: Seat<(), View>,
@@ -39,18 +42,24 @@ impl Model for LatchReader {
 impl LatchReader {
     ghost use Rattle.tk_latch.specs.Latch.{IsRead, IsMoved};
 
-    /// The number of the latest publication that it knows of: 0 at first.
+    /// Returns the number of the latest publication that this reader knows of. It is 0 at first.
+    ///
+    /// The call never waits and allocates nothing.
     pub fn mark(&self) -> u64
         ensures { result + 1 ≡ length self.now.publications }
     {
         self.mark
     }
 
-    /// The latest publication, whole, which becomes the mark; or Moved, where the sequence didn't
-    /// stay the same.
+    /// Returns the latest publication, whole. Its number becomes the mark.
     ///
-    /// Moved tells the two sequence numbers that this call found; the mark becomes half the
-    /// second, rounded down. It waits for nobody, not even for the writer, and takes no memory.
+    /// It waits for nobody, not even for the writer, and allocates nothing. The contract ties the
+    /// answer to the sequence numbers that this very call loaded.
+    ///
+    /// # Errors
+    ///
+    /// `Moved` if the sequence changed during the call, with the two sequence numbers that it
+    /// found. The mark then becomes half the second one, rounded down.
     #[inline(always)]
     pub fn try_read<A: Allocator>(&mut self, latch: &Latch<A>) -> Result<Snapshot, Moved>
         requires latch { self.old.latch ≡ latch.now }
@@ -69,14 +78,14 @@ impl LatchReader {
     }
 }
 
-/// What a read finds: the words, and the sequence before and after.
+/// The result of a read: the words, and the sequence before and after.
 struct Look {
     first: u64,
     words: [u64; SNAPSHOT_WORDS],
     last: u64,
 }
 
-/// Loads the words of the copy that the sequence names, and looks at the sequence before and after.
+/// Loads the words of the copy that the sequence names, and the sequence before and after.
 fn look_twice<A: Allocator>(latch: &Latch<A>, seat: &mut Seat<(), View>) -> Look
     requires latch { seat.old.table_id ≡ latch.now.table }
     requires reader { seat.old.me.0 ≡ resting seat.old.me.0.history (found_by seat.old.me.0.role) }
@@ -93,7 +102,7 @@ fn look_twice<A: Allocator>(latch: &Latch<A>, seat: &mut Seat<(), View>) -> Look
     Look { first, words, last }
 }
 
-/// The words of the copy that the sequence names.
+/// Loads the words of the copy that the sequence `first` names.
 fn gather<A: Allocator>(
     latch: &Latch<A>,
     seat: &mut Seat<(), View>,
@@ -116,7 +125,7 @@ fn gather<A: Allocator>(
     words
 }
 
-/// Where the copy begins that a sequence names.
+/// Returns the position of the first word of the copy that a sequence names.
 fn copy_named(sequence: u64) -> usize
     ensures { result ≡ 1 + 10 * (sequence % 2) }
 {

@@ -1,5 +1,6 @@
-//! What the seats of a latch know, and the rule that every step keeps. No value of these types is
-//! ever made.
+//! What the seats of a latch know, and the rule that every step keeps.
+//!
+//! The types are for proofs: no value of them is ever made.
 
 mod steps;
 
@@ -12,39 +13,42 @@ pub(crate) use steps::{
 use tk_clock::Snapshot;
 use tk_counter::CounterDesc;
 
-/// The publications of a latch as far as they are known, the opening first.
+/// Describes the known publications of a latch, the opening first.
 pub struct History {
     /// The counter of all of them.
     pub counter: CounterDesc,
+    /// The snapshots, by number.
     pub list: LinkedList<Snapshot>,
 }
 
-/// What a seat is about.
+/// Describes what a seat is doing.
 pub enum Role {
-    /// Nothing more: the seat was joined to another.
+    /// Nothing any more: the seat was joined to another.
     Spent,
-    /// A reader at rest, with the sequence numbers that its loads have found.
+    /// A reader at rest, with the sequence numbers that its looks have found.
     Resting(LinkedList<u64>),
-    /// A reader between its two looks: also the sequence that it began with, and the latest that
-    /// it knows of.
+    /// A reader between its two looks: the sequence numbers found so far, the one that this read
+    /// began with, and the latest that it knows of.
     Reading(LinkedList<u64>, u64, u64),
-    /// The writer while the sequence is odd: these words of the publication being made are in
+    /// The writer while the sequence is odd, with the words of the new publication that are in
     /// copy 0.
     Making(LinkedList<u64>),
-    /// The writer while the sequence is even: so many words of the latest publication are in
-    /// copy 1.
+    /// The writer while the sequence is even, with the number of words of the latest publication
+    /// that are in copy 1.
     Copying(u64),
-    /// The writer at rest, with what a reader has seen beside its own history.
+    /// The writer at rest, with a note of what a reader has seen.
     Noting(History),
 }
 
-/// What a seat knows.
+/// Describes what a seat knows.
 pub struct View {
+    /// The publications that it knows of.
     pub history: History,
+    /// What it is doing.
     pub role: Role,
 }
 
-/// The rule of a latch's words.
+/// States the rule of a latch's words.
 pub struct Law;
 
 impl TableRule<(), View, Snapshot> for Law {

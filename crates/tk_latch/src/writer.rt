@@ -13,7 +13,7 @@ use tk_clock::Snapshot;
 /// The greatest even sequence, that of the last publication.
 const SEQUENCE_LIMIT: u64 = u64::MAX - 1;
 
-/// The one that publishes in a latch. It knows every publication.
+/// Publishes snapshots in a latch. Each latch has one writer, which knows every publication.
 #[derive(Drop)]
 pub struct LatchWriter {
     pub(crate) seat: Seat<(), View>,
@@ -42,11 +42,14 @@ impl LatchWriter {
     ghost use Rattle.std.specs.Prelude.{◌++◌, ◌∷◌, MatchResult};
     ghost use Rattle.tk_latch.specs.Latch.{mark_of, most_publications};
 
-    /// Publishes a snapshot of the latch's counter, whose front is the number of this
-    /// publication, from 1.
+    /// Publishes a snapshot of the latch's counter, whose front is the number of this publication,
+    /// from 1.
     ///
-    /// PageFull where 2^63 - 1 were published: it then changes nothing. It waits for nobody and
-    /// takes no memory.
+    /// It waits for nobody and allocates nothing.
+    ///
+    /// # Errors
+    ///
+    /// `PageFull` if 2^63 - 1 snapshots were published. The call then changes nothing.
     pub fn publish<A: Allocator>(
         &mut self,
         latch: &Latch<A>,
@@ -87,7 +90,7 @@ fn make<A: Allocator>(
     ensures writer { seat.new.me.0 ≡ making seat.old.me.0.history words.now }
 {
     let shared = &latch.words.shared;
-    // 1. Readers turn to copy 1.
+    // 1. From now on readers take copy 1.
     shared.store::<Opens>(seat, SEQUENCE, odd);
     for i in 0..SNAPSHOT_WORDS {
         // 2. A word goes into copy 0.
@@ -110,7 +113,7 @@ fn commit<A: Allocator>(
     ensures writer { seat.new.me.0 ≡ copying (pushed_told seat.old.me.0.history words.now) 10 }
 {
     let shared = &latch.words.shared;
-    // 3. Readers turn to copy 0: the publication is made.
+    // 3. The publication: from now on readers take copy 0.
     shared.store::<Commits>(seat, SEQUENCE, even);
     for i in 0..SNAPSHOT_WORDS {
         // 4. A word goes into copy 1.

@@ -1,15 +1,15 @@
-//! A page of ten words: one publisher writes snapshots on it, and any number of viewers read the
-//! latest one.
+//! Publishes clock snapshots on a page of ten words: one publisher writes, any number of viewers
+//! read the latest one.
 //!
 //! | Item | What it is |
 //! |---|---|
 //! | `Page` | the words; opened with the snapshot of a journal without entries |
-//! | `Publisher` | who adds entries to the page's journal, and shows the longer one's snapshot |
-//! | `Viewer` | who reads: the snapshot of one whole journal, no shorter than any it saw |
-//! | `PageError` | why a page isn't opened |
+//! | `Publisher` | adds entries to the page's journal and publishes its snapshots |
+//! | `Viewer` | reads the snapshot of one whole journal, no shorter than any it saw |
+//! | `PageError` | why a page can't be opened |
 //!
-//! The journal is known to proofs alone: a publication takes no memory. Units are those of
-//! `tk_clock`; a front is how many entries a journal has.
+//! Only proofs know the journal, so a publication allocates nothing. Units are those of `tk_clock`.
+//! A front is the number of entries of a journal.
 #![tactic(auto)]
 
 mod page;

@@ -1,27 +1,38 @@
-//! The words that one publisher writes and any number of viewers read.
+//! The page: ten words that one publisher writes and any number of viewers read.
 //!
-//! A page is a cell of ten words under a version word of its own, as in crossbeam's `seq_lock.rs`
-//! (Documentation/locking/seqlock.rst). While the version is even the cell is at rest, and the ten
-//! words are those of the latest publication. While it is odd one pass has the cell to itself: the
-//! publisher, which writes the words, or a viewer whose first try failed, which only reads them.
+//! The words are in a cell with its own version word, as in crossbeam's `seq_lock.rs`
+//! (Documentation/locking/seqlock.rst). The publisher and each viewer hold a pass to the cell. It
+//! has no bytes, and records for proofs what its holder knows. The version has two meanings:
+//!
+//! - Even: the cell is at rest. The ten words are those of the latest publication.
+//! - Odd: one pass holds the cell alone. It is the publisher's, which writes the words, or that of
+//!   a viewer whose first try failed, which only reads them.
+//!
+//! The protocol:
 //!
 //! 1. Open: the cell is made with the words of the opening. Its first pass stores the same words
-//!    again, and is the publisher's from then on, of a journal without entries.
-//! 2. Publish: the version is made odd, the words are written, the version is made even, 2 above
-//!    what it was. That last store is the publication: the journal has one more entry.
-//! 3. Read: the version is found even, the words are loaded, and the version is found the same.
-//!    That second look is the read: the viewer has then seen the whole journal published so far.
-//! 4. Read after a failed try: where the version was odd or moved, the viewer makes it odd itself,
-//!    loads the words, and puts the version back. That last store is the read.
-//! 5. Split: what a pass knows is given to a second pass too, or to it alone.
-//! 6. Join: a pass takes in what another one knows, which is then spent.
-//! 7. Tell: what the viewer knows leaves its pass (5), the publisher's pass gives a copy (5) and
-//!    notes what the viewer knew (6). A read by the publisher (3 or 4) then tells that the note
-//!    begins the journal.
+//!    again. From then on it is the publisher's pass, of a journal without entries.
+//! 2. Publish: the publisher makes the version odd, writes the words, and makes the version even, 2
+//!    above its former value. That last store is the publication: the journal has one more entry.
+//! 3. Read: the viewer loads an even version, loads the words, and loads the same version again.
+//!    That last load is the read: the viewer has then seen the whole journal published so far.
+//! 4. Read after a failed try: if the version was odd or changed, the viewer makes it odd itself,
+//!    loads the words, and restores the version. That last store is the read.
+//! 5. Split: a second pass gets what a pass knows. The first one keeps it too, or gives it up.
+//! 6. Join: a pass takes in what another pass knows. The other one is then spent.
+//! 7. Tell: what the viewer knows moves from its pass to a new one (5). The publisher's pass gives
+//!    the viewer a copy of what it knows (5), and takes in the new pass as a note (6). A read by
+//!    the publisher (3 or 4) then shows that the noted journal begins the publisher's.
 //!
-//! Who waits for whom: `publish` waits for a viewer that has the cell by step 4. A `read` or `tell`
-//! whose first try failed waits for whoever has the cell. `front`, `split` and `join` never wait.
-//! No call takes the lock of a keeper.
+//! Who waits for whom:
+//!
+//! - `publish` waits for a viewer that holds the cell in step 4.
+//! - `read` and `tell` wait, after a failed first try, for the pass that holds the cell.
+//! - `open` waits for nobody: no other pass exists yet.
+//! - `front`, `split` and `join` never wait.
+//!
+//! No call takes the lock of a keeper, and only `open` allocates. The version has room for
+//! 2^63 - 1 stores of the words. Step 1 uses one, so there can be 2^63 - 2 publications.
 ghost use Rattle.std.specs.Prelude.{◌≡◌, IfOk};
 ghost use Rattle.crossbeam_utils.specs.Seq.{cell_view};
 ghost use Rattle.tk_page.specs.declared.view.View.TheVariants.{Fresh, Publishing};
@@ -36,9 +47,9 @@ use std::marker::{Brand, Model};
 use std::sync::Wait;
 use tk_clock::Snapshot;
 
-/// The words.
+/// Holds the ten words of the latest published snapshot.
 ///
-/// Contracts see it as its identity, which its publisher and its viewers name.
+/// Contracts see a page as its identity, which its publisher and its viewers name.
 #[derive(Drop)]
 pub struct Page {
     pub(crate) cell: Cell,
@@ -53,10 +64,14 @@ impl Model for Page {
 }
 
 impl Page {
-    /// A page that shows this snapshot, of a journal without entries, with its publisher and a
-    /// first viewer.
+    /// Opens a page that shows `snapshot`, which is that of a journal without entries. Returns the
+    /// page with its publisher and a first viewer.
     ///
-    /// Memory where there is none for the page. It waits for nobody: no other pass is there yet.
+    /// It allocates the page. It waits for nobody, since no other thread has the page yet.
+    ///
+    /// # Errors
+    ///
+    /// `PageError::Memory` if an allocation fails.
     pub fn open<R: Wait>(
         rt: &R,
         alloc: Global,
@@ -82,7 +97,10 @@ impl Page {
         Ok((Page { cell }, Publisher { pass }, viewer))
     }
 
-    /// Tells a viewer all that was published: its journal becomes the publisher's, which it begins.
+    /// Gives a viewer all that was published: its journal becomes the publisher's, which its former
+    /// journal begins.
+    ///
+    /// It allocates nothing. If its first try fails, it waits for a viewer that holds the words.
     pub fn tell<R: Wait>(&self, rt: &R, publisher: &mut Publisher, viewer: &mut Viewer)
         requires publisher { publisher.old.page ≡ self.now }
         requires viewer { viewer.old.page ≡ self.now }
@@ -100,7 +118,7 @@ impl Page {
     }
 }
 
-/// The first pass becomes the publisher's, by a store of the words that are there already.
+/// Makes the first pass the publisher's, by a store of the words that the cell already has.
 fn take_opening<J: NamesJournal, R: Wait>(rt: &R, cell: &Cell, pass: &mut Pass, snapshot: Snapshot)
     requires cell { pass.old.table_id ≡ cell.now.table.shared.table_id }
     requires view { cell_view pass.old ≡ Fresh }

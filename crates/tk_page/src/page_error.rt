@@ -4,10 +4,10 @@ ghost use Rattle.tk_page.specs.PageError.{fault_text};
 use std::error::Error;
 use std::fmt;
 
-/// Why a page isn't opened.
+/// Says why a page can't be opened.
 #[derive(Clone, Copy, Debug, PartialEq, Eq)]
 pub enum PageError {
-    /// There is no memory for it.
+    /// An allocation for the page failed.
     Memory,
 }
 

@@ -11,9 +11,9 @@ use std::marker::{Brand, Model};
 use std::sync::Wait;
 use tk_clock::{Entry, Snapshot};
 
-/// Who adds entries to the journal of a page. There is one for each page.
+/// Adds entries to the journal of a page and publishes its snapshots. Each page has one publisher.
 ///
-/// Contracts see it as the page and all that was published on it.
+/// Contracts see it as the page and the whole journal that was published on it.
 #[derive(Drop)]
 pub struct Publisher {
     pub(crate) pass: Pass,
@@ -37,7 +37,10 @@ impl Model for Publisher {
 }
 
 impl Publisher {
-    /// Adds an entry to the journal, and shows the snapshot of the longer one. It takes no memory.
+    /// Adds `entry` to the journal and publishes `snapshot`, which is that of the longer journal.
+    ///
+    /// It allocates nothing. It waits for a viewer that holds the words after a failed try. After
+    /// 2^63 - 2 publications it waits for ever.
     pub fn publish<R: Wait>(&mut self, rt: &R, page: &Page, entry: Entry, snapshot: Snapshot)
         requires page { self.old.page ≡ page.now }
         requires snapshot { snapshot ≡ snapshot_of (followed_by self.old.journal entry) }
@@ -47,7 +50,7 @@ impl Publisher {
     }
 }
 
-/// Publishes an entry that the type names, so that the step can tell it.
+/// Publishes an entry that the type `E` names, so that the step's outcome can name it too.
 fn publish_entry<E: NamesEntry, R: Wait>(
     rt: &R,
     cell: &Cell,

@@ -1,4 +1,4 @@
-//! The rule of the page's cell, and what each step on it tells.
+//! The rule of the page's cell, and the outcome of each step on it.
 use crate::view::View;
 use atomic_table::{Join, Split};
 use crossbeam_utils::atomic::seq_cell;
@@ -6,13 +6,13 @@ use crossbeam_utils::atomic::seq_cell::RuledSeqCell;
 use crossbeam_utils::rule::{Outcome, Protocol};
 use std::marker::{Brand, PhantomData};
 
-/// The page's cell: ten words, and its own version word.
+/// The page's cell: ten words and a version word.
 pub type Cell = RuledSeqCell<[u64; 10], View, Law, 10>;
 
-/// What a publisher or a viewer holds of the cell. It has no bytes.
+/// The access to the cell that a publisher or a viewer holds. It has no bytes.
 pub type Pass = seq_cell::Pass<[u64; 10], View>;
 
-/// The rule.
+/// States the rule of the cell: what is true of its words and passes between any two steps.
 pub struct Law;
 
 impl Protocol<[u64; 10], View> for Law {
@@ -81,7 +81,7 @@ impl Outcome<[u64; 10], View> for Reads {
     ghost then = { Seen };
 }
 
-/// The load that tells how a noted journal stands to the publisher's.
+/// The load that shows that the noted journal begins the publisher's.
 pub struct Compares;
 
 impl Outcome<[u64; 10], View> for Compares {
@@ -90,7 +90,7 @@ impl Outcome<[u64; 10], View> for Compares {
     ghost then = { Compared };
 }
 
-/// A second pass, of a viewer, knows as much.
+/// Gives a second pass, of a viewer, the same knowledge.
 pub struct Copies;
 
 impl Split<View> for Copies {
@@ -101,7 +101,7 @@ impl Split<View> for Copies {
     ghost right = { copy_of };
 }
 
-/// A second pass takes all that the first one knew.
+/// Moves all that a pass knows to a second one.
 pub struct Leaves;
 
 impl Split<View> for Leaves {
@@ -112,7 +112,7 @@ impl Split<View> for Leaves {
     ghost right = { λ view. view };
 }
 
-/// A viewer takes in another one, and keeps the longer journal.
+/// Joins two viewers and keeps the longer journal.
 pub struct KeepsLonger;
 
 impl Join<View> for KeepsLonger {
@@ -124,7 +124,7 @@ impl Join<View> for KeepsLonger {
     ghost spent = { Spent };
 }
 
-/// The publisher takes in a viewer, and notes its journal.
+/// Joins a viewer to the publisher, which notes the viewer's journal.
 pub struct Notes;
 
 impl Join<View> for Notes {

@@ -1,7 +1,7 @@
-//! What the passes of a page's cell know.
+//! The knowledge that the passes of a page's cell carry in proofs.
 use std::marker::Model;
 
-/// A journal that is known. No value of it is made.
+/// Represents a known journal. No value of it is made.
 pub struct Known;
 
 impl Model for Known {
@@ -13,16 +13,17 @@ impl Model for Known {
     ghost view = { λ _. no_journal };
 }
 
-/// What a pass knows of the page. No value of it is made.
+/// Describes what a pass knows of the page. No value of it is made.
 pub enum View {
-    /// Nothing yet: the page is being opened.
+    /// The pass knows nothing yet: the page is being opened.
     Fresh,
-    /// Nothing any more: what it knew went to another pass.
+    /// The pass knows nothing any more: its knowledge went to another pass.
     Spent,
-    /// A viewer's: the journal that it has seen.
+    /// The pass is a viewer's: the journal that it has seen.
     Viewing(Known),
-    /// The publisher's: all that was published.
+    /// The pass is the publisher's: the whole published journal.
     Publishing(Known),
-    /// The publisher's, and beside it the journal that some viewer has seen.
+    /// The pass is the publisher's: the whole published journal, and a journal that a viewer has
+    /// seen.
     Comparing(Known, Known),
 }

@@ -9,7 +9,7 @@ use std::sync::Wait;
 use tk_clock::Snapshot;
 use tk_counter::CounterDesc;
 
-/// Who reads a page.
+/// Reads a page.
 ///
 /// Contracts see it as the page and the journal that it has seen.
 #[derive(Drop)]
@@ -17,7 +17,7 @@ pub struct Viewer {
     pub(crate) pass: Pass,
     /// The counter that the snapshots are of.
     pub(crate) desc: CounterDesc,
-    /// How many entries it has seen.
+    /// The number of entries that it has seen.
     pub(crate) front: u64,
 }
 
@@ -36,10 +36,11 @@ impl Model for Viewer {
 }
 
 impl Viewer {
-    /// The snapshot of the journal published so far, no shorter than any that this viewer saw.
+    /// Returns the snapshot of the journal published so far, which is no shorter than any that
+    /// this viewer saw.
     ///
-    /// It takes no lock of a keeper's. Where a publication comes between, it waits for the words of
-    /// the page.
+    /// It takes no keeper's lock and allocates nothing. If its first try fails, it waits for
+    /// whoever holds the words.
     pub fn read<R: Wait>(&mut self, rt: &R, page: &Page) -> Snapshot
         requires page { self.old.page ≡ page.now }
         ensures page { self.new.page ≡ self.old.page }
@@ -52,8 +53,9 @@ impl Viewer {
         Snapshot::from_known_words(self.desc, words)
     }
 
-    /// How many entries it has seen: the front of its latest snapshot. None was folded before the
-    /// first.
+    /// Returns the number of entries that this viewer has seen: the front of its latest snapshot.
+    ///
+    /// No entry was folded before the first one. The call never waits and allocates nothing.
     pub fn front(&self) -> u64
         ensures value { result ≡ length self.now.journal.entries }
         ensures whole { self.now.journal.opening.count ≡ 0 }
@@ -61,7 +63,8 @@ impl Viewer {
         self.front
     }
 
-    /// Two viewers that have seen as much.
+    /// Returns two viewers that have both seen what this one saw. It never waits and allocates
+    /// nothing.
     pub fn split(self, page: &Page) -> (Viewer, Viewer)
         requires page { self.page ≡ page.now }
         ensures first { result.0 ≡ self }
@@ -84,7 +87,9 @@ impl Viewer {
         )
     }
 
-    /// One viewer in place of two: it has seen the longer of their journals.
+    /// Joins two viewers of one page: the result has seen the longer of their journals.
+    ///
+    /// It never waits and allocates nothing.
     pub fn join(self, other: Viewer, page: &Page) -> Viewer
         requires page { self.page ≡ page.now }
         requires other { other.page ≡ page.now }
@@ -96,8 +101,8 @@ impl Viewer {
             front,
         } = self;
         let mut left = other.pass;
-        // Steps 5 and 6: a pass that has read can't be joined itself, so what it knows is moved to
-        // a new one first.
+        // Steps 5 and 6: a pass that has read can't itself be joined, so a new pass gets what it
+        // knows first.
         let whole = page.cell.split_pass::<Leaves>(&mut left);
         page.cell.join_pass::<KeepsLonger>(&mut pass, whole);
         Viewer {

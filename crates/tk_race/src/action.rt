@@ -1,27 +1,28 @@
 use tk_clock::{Command, Refusal};
 
-/// What an actor does.
+/// Describes one action of an actor.
 #[derive(Clone, Copy, Debug, PartialEq, Eq)]
 pub enum Action {
-    /// It gives a command, at the reading that the counter has then.
+    /// Gives a command, at the reading that the counter has then. It may wait for the lock and for
+    /// readers of the page.
     Order(Command),
-    /// It reads the page, which may wait for a publication.
+    /// Reads the page. It may wait for whoever holds its words.
     Look,
-    /// It reads the latch, which waits for nobody.
+    /// Reads the latch. It waits for nobody.
     Glance,
 }
 
-/// What an actor is answered.
+/// Reports how an action ended.
 #[derive(Clone, Copy, Debug, PartialEq, Eq)]
 pub enum RaceReply {
-    /// To an order: it was accepted, and is the entry of this number.
+    /// The order was accepted, and is the entry with this number.
     Done(u64),
-    /// To an order: it was refused.
+    /// The order was refused.
     Refused(Refusal),
-    /// To a look: so many commands were accepted before the snapshot.
+    /// The look found a snapshot. This many commands were accepted before it.
     Saw(u64),
-    /// To a glance: so many commands were accepted before the snapshot.
+    /// The glance found a snapshot. This many commands were accepted before it.
     Glanced(u64),
-    /// To a glance: a publication came between, and nothing was read.
+    /// The glance read nothing, because a publication came between.
     Moved,
 }

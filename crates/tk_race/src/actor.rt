@@ -1,4 +1,4 @@
-//! An actor, and what it does in its thread.
+//! An actor, and its work in its thread.
 ghost use Rattle.std.specs.Prelude.{◌≡◌, ◌≤◌, [], length};
 ghost use Rattle.tk_race.specs.Actor.{IsAnswer, HasActed, IsReady};
 
@@ -8,7 +8,7 @@ use std::sync::Wait;
 use tk_gate::Gate;
 use tk_shared::{Caller, Named, SharedKeeper, Ticker};
 
-/// An actor: its caller, and the replies that it has so far.
+/// Contains an actor: its caller, and its replies so far.
 #[derive(Drop)]
 pub(crate) struct Actor<L: Named> {
     pub(crate) caller: Caller<L>,
@@ -28,7 +28,7 @@ impl<L: Named> Model for Actor<L> {
     } };
 }
 
-/// Does an action.
+/// Does an action and returns the reply to it.
 fn answer<L: Named, R: Wait>(
     rt: &R,
     keeper: &SharedKeeper<L, Ticker>,
@@ -50,7 +50,7 @@ fn answer<L: Named, R: Wait>(
     }
 }
 
-/// Does all actions of an actor, in order, and tells the gate of it as a piece.
+/// Does all actions of an actor, in order, and calls the gate before and after them.
 pub(crate) fn act<L: Named, G: Gate, R: Wait>(
     rt: &R,
     keeper: &SharedKeeper<L, Ticker>,

@@ -1,16 +1,16 @@
-//! Races: actors in threads of their own, on one shared keeper.
+//! Runs races: actors in their own threads, on one shared keeper.
 //!
 //! | Item | What it is |
 //! |---|---|
-//! | `race` | lets each actor do its actions in a thread of its own |
+//! | `race` | lets each actor do its actions in its own thread |
 //! | `Action` | what an actor does: it gives a command, or reads the clocks in one of two ways |
-//! | `RaceReply` | what it is answered |
-//! | `RaceReport` | the keeper in the end, and all replies |
-//! | `RaceError` | why a race isn't run |
+//! | `RaceReply` | the answer to an action |
+//! | `RaceReport` | the keeper at the end, and all replies |
+//! | `RaceError` | why a race gives no report |
 //!
-//! Actors are numbered from 0, and that is also the number of their caller and of their piece: a
-//! `Gate` of `tk_gate` is told when an actor begins and when it is done. Commands, readings and
-//! times are those of `tk_clock`.
+//! Actors are numbered from 0. That is also the number of their caller and of their piece: a `Gate`
+//! of `tk_gate` is called when an actor begins and when it is done. Commands, readings and times
+//! are those of `tk_clock`.
 #![tactic(auto)]
 
 mod action;

@@ -7,16 +7,16 @@ use std::error::Error;
 use std::fmt;
 use tk_shared::OpenError;
 
-/// Why a race isn't run. Where more than one holds, the first in this order is told.
+/// Says why a race gives no report: the first variant, in this order, that applies.
 #[derive(Clone, Copy, Debug, PartialEq, Eq)]
 pub enum RaceError {
     /// There are fewer actors than 1 or more than 64.
     Count,
-    /// The clocks can't be opened at this reading, or at this time.
+    /// The reading is above the mask, or REALTIME may not be set to the requested time.
     Invalid,
-    /// Memory was refused, before any thread was started.
+    /// An allocation failed, before any thread was started.
     Memory,
-    /// A thread couldn't be started. Those that were have ended.
+    /// A thread couldn't be started. Those that were started have ended.
     Threads,
 }
 

@@ -18,18 +18,23 @@ use tk_counter::CounterDesc;
 use tk_gate::Gate;
 use tk_shared::{Caller, Named, Prepared, SharedKeeper, Ticker, prepare};
 
-/// The most actors of a race: as many callers as a keeper has.
+/// The greatest number of actors of a race, which is that of callers of a keeper.
 const ACTORS_LIMIT: usize = 64;
 
-/// Lets each actor do its actions in a thread of its own, all on one keeper, whose counter is read
-/// at opening as `reading` and in each order a `step` of cycles later, modulo 2^64.
+/// Runs a race: each actor does its actions in its own thread, all on one keeper. Returns the
+/// keeper and the replies, which are those of `SharedKeeper`'s `command`, `read` and `fast_read`.
 ///
-/// The replies are those of `SharedKeeper`'s `command`, `read` and `fast_read`. The gate is told of
-/// each actor as a piece: `before` comes ahead of its first action, `after` behind its last.
+/// The counter reads `reading` at the opening and `step` cycles more in each order, modulo 2^64.
+/// Actor k is piece k of the gate: `before(k)` runs before its first action, `after(k)` after its
+/// last. The call waits until all actors are done. It reserves all capacity before it starts a
+/// thread.
 ///
-/// In this order: Count where there are fewer actors than 1 or more than 64; Invalid where the
-/// reading is above the mask, or REALTIME may not be set to `real`; Memory, which comes before any
-/// thread is started; Threads where one can't be started, and then those that were have ended.
+/// # Errors
+///
+/// - `Count` if there are fewer actors than 1 or more than 64.
+/// - `Invalid` if `reading` is above the mask, or REALTIME may not be set to `real`.
+/// - `Memory` if an allocation fails. No thread was started.
+/// - `Threads` if a thread can't be started. Those that were started have ended.
 pub fn race<G: Gate + Sync, R: Threads + Wait + Sync>(
     rt: &R,
     alloc: Global,
@@ -59,7 +64,7 @@ pub fn race<G: Gate + Sync, R: Threads + Wait + Sync>(
     }
 }
 
-/// How many orders there are.
+/// Returns the number of orders.
 fn orders(actors: &[Vec<Action>]) -> usize {
     let mut count = 0usize;
     for actions in actors {
@@ -74,7 +79,7 @@ fn orders(actors: &[Vec<Action>]) -> usize {
 
 /// Opens the keeper, lets all actors act, and closes it.
 ///
-/// All room is asked for before the first thread is started.
+/// It reserves all capacity before the first thread is started.
 fn raced<L: Named + Send + Sync, G: Gate + Sync, R: Threads + Wait + Sync>(
     rt: &R,
     alloc: Global,
@@ -107,7 +112,7 @@ fn raced<L: Named + Send + Sync, G: Gate + Sync, R: Threads + Wait + Sync>(
     })
 }
 
-/// An actor for each caller, with room for its replies.
+/// Makes an actor for each caller, with room for its replies.
 fn ready<L: Named>(
     alloc: Global,
     actions: &[Vec<Action>],
@@ -126,7 +131,7 @@ fn ready<L: Named>(
     Ok(actors)
 }
 
-/// Puts the callers of these actors, and their replies, into vectors that have the room.
+/// Moves the callers of these actors, and their replies, into vectors that have room for them.
 fn part<L: Named>(
     actors: Vec<Actor<L>>,
     callers: &mut Vec<Caller<L>>,

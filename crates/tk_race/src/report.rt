@@ -1,11 +1,12 @@
 use crate::action::RaceReply;
 use tk_keeper::Timekeeper;
 
-/// What a race has come to.
+/// Contains the result of a race.
 #[derive(Drop)]
 pub struct RaceReport {
-    /// The clocks, and the journal of all accepted orders.
+    /// The clocks, with the journal of all accepted orders.
     pub keeper: Timekeeper,
-    /// Of each actor, the replies to its actions, in order.
+    /// The replies to the actions of each actor: one list per actor, each in the order of the
+    /// actions.
     pub replies: Vec<Vec<RaceReply>>,
 }

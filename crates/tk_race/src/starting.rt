@@ -1,4 +1,4 @@
-//! Each actor in a thread of its own.
+//! Starting each actor in its own thread.
 ghost use Rattle.std.specs.Prelude.{◌≡◌, length, map, IfOk, vec_len, vec_capacity, MatchResult};
 ghost use Rattle.tk_race.specs.Actor.{HasActed, IsReady, HaveActed, AreReady};
 
@@ -12,7 +12,8 @@ use std::thread::{Promise, PromisedHandle, Scope, Threads};
 use tk_gate::Gate;
 use tk_shared::{Caller, Named, SharedKeeper, Ticker};
 
-/// What an actor's thread promises: it has done these actions, from this caller on.
+/// States what an actor's thread promises: that it has done these actions, starting from this
+/// caller.
 #[derive(Drop)]
 struct Acts<L: Named> {
     caller: Snapshot<Caller<L>>,
@@ -26,7 +27,7 @@ impl<L: Named> Promise<Actor<L>> for Acts<L> {
         HasActed p.caller.value actor.caller p.actions.value.items actor.replies };
 }
 
-/// Starts an actor's thread; Threads where it can't be started.
+/// Starts an actor's thread. Returns `Threads` if it can't be started.
 fn start<'s, 'e, L: Named + Send + Sync + 'e, G: Gate + Sync, R: Threads + Wait + Sync>(
     scope: &'s Scope<'s, &'e ()>,
     rt: &'e R,
@@ -56,8 +57,8 @@ fn start<'s, 'e, L: Named + Send + Sync + 'e, G: Gate + Sync, R: Threads + Wait 
     }
 }
 
-/// Starts a thread for each actor, the last one first, and joins them all. It takes no memory of
-/// its own: the actors that come back stand where they stood.
+/// Starts a thread for each actor, the last one first, and joins them all. It allocates no list:
+/// the actors that come back are in the list that was passed.
 fn start_all<'s, 'e, L: Named + Send + Sync + 'e, G: Gate + Sync, R: Threads + Wait + Sync>(
     scope: &'s Scope<'s, &'e ()>,
     rt: &'e R,
@@ -82,9 +83,9 @@ fn start_all<'s, 'e, L: Named + Send + Sync + 'e, G: Gate + Sync, R: Threads + W
     Ok(back)
 }
 
-/// Lets all actors act at once, each in a thread of its own, until all are done.
+/// Lets all actors act at once, each in its own thread, until all are done.
 ///
-/// Threads where one couldn't be started: then too those that were started have ended.
+/// Returns `Threads` if a thread couldn't be started. Those that were started have ended then too.
 pub(crate) fn act_at_once<L: Named + Send + Sync, G: Gate + Sync, R: Threads + Wait + Sync>(
     rt: &R,
     keeper: &SharedKeeper<L, Ticker>,

@@ -7,15 +7,15 @@ use std::sync::ledger::Share;
 use tk_latch::LatchReader;
 use tk_page::Viewer;
 
-/// One who gives commands to a shared keeper and reads its clocks.
+/// Gives commands to a shared keeper and reads its clocks.
 ///
-/// It belongs to one thread at a time. Contracts see it as its number, how many of its commands
-/// were accepted, and what it has seen.
+/// It belongs to one thread at a time. Contracts see it as its number, the number of its accepted
+/// commands, and what it has seen.
 #[derive(Drop)]
 pub struct Caller<L: Named> {
     pub(crate) viewer: Viewer,
     pub(crate) reader: LatchReader,
-    /// Its part of the ledger, with the commands that were accepted.
+    /// Its part of the ledger, which counts its accepted commands.
     pub(crate) share: Share<L>,
     pub(crate) id: u32,
     pub(crate) accepted: u64,
@@ -40,28 +40,38 @@ impl<L: Named> Model for Caller<L> {
 }
 
 impl<L: Named> Caller<L> {
-    /// Its number among the callers of its keeper, from 0.
+    /// Returns the caller's number among the callers of its keeper, from 0.
+    ///
+    /// It never waits and allocates nothing.
     pub fn id(&self) -> u32
         ensures { result ≡ self.now.id }
     {
         self.id
     }
 
-    /// How many accepted commands, of all callers, it has seen by commands and reads of the page.
+    /// Returns the number of accepted commands, of all callers, that this caller has seen through
+    /// its commands and its reads of the page.
+    ///
+    /// It never waits and allocates nothing.
     pub fn front(&self) -> u64
         ensures { result ≡ length self.now.seen.entries }
     {
         self.viewer.front()
     }
 
-    /// How many of its own commands were accepted.
+    /// Returns the number of this caller's accepted commands.
+    ///
+    /// It never waits and allocates nothing.
     pub fn accepted(&self) -> u64
         ensures { result ≡ self.now.accepted }
     {
         self.accepted
     }
 
-    /// The number of the latest publication that it knows of, by commands and fast reads.
+    /// Returns the number of the latest publication that this caller knows of through its commands
+    /// and its fast reads.
+    ///
+    /// It never waits and allocates nothing.
     pub fn mark(&self) -> u64
         ensures { result ≡ mark_of self.now.learnt.publications }
     {

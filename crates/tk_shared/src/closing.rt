@@ -1,4 +1,4 @@
-//! Taking a shared keeper apart, once all callers are back.
+//! Closing a shared keeper, once all callers are back.
 ghost use Rattle.std.specs.Prelude.{◌≡◌, ◌+◌, ◌<◌, ◌≤◌, All, MatchResult, length, vec_len};
 ghost use Rattle.tk_shared.specs.Closing.{AreDifferent, IsClosed, IsPartOf, accepted_by};
 ghost use Rattle.tk_shared.specs.History.{AreSnapshots};
@@ -14,25 +14,35 @@ use tk_keeper::Timekeeper;
 use tk_latch::{Latch, LatchWriter};
 use tk_page::{Page, Publisher};
 
-/// What a shared keeper was made of.
+/// Contains what a closed keeper leaves.
 #[derive(Drop)]
 pub struct Closed<C: Counter> {
-    /// Its journal has every accepted command.
+    /// The timekeeper, whose journal is that of all accepted commands; the oldest may be folded.
     pub keeper: Timekeeper,
+    /// The counter that the keeper was prepared with.
     pub counter: C,
 }
 
-/// A keeper that stays open, since callers are missing, and those that were handed in.
+/// Contains a keeper that stays open, because callers are missing, and the callers that were
+/// passed.
 #[derive(Drop)]
 pub struct Missing<L: Named, C: Counter> {
+    /// The keeper, as usable as before.
     pub keeper: SharedKeeper<L, C>,
+    /// The callers that were passed to `close`.
     pub callers: Vec<Caller<L>>,
 }
 
 impl<L: Named, C: Counter> SharedKeeper<L, C> {
-    /// Takes the keeper apart, where all its callers are handed in.
+    /// Closes the keeper, to which all its callers are passed back, and returns its timekeeper and
+    /// its counter.
     ///
-    /// Missing where there are fewer. It hands everything back, as usable as before.
+    /// It may wait for the page, and allocates nothing.
+    ///
+    /// # Errors
+    ///
+    /// `Missing` if there are fewer callers than the keeper has. It contains the keeper and the
+    /// callers, as usable as before.
     pub fn close<R: Wait>(self, rt: &R, callers: Vec<Caller<L>>) -> Result<Closed<C>, Missing<L, C>>
         requires parts { L.callers ≡ L.parts }
         requires different { AreDifferent callers.items }
@@ -76,7 +86,7 @@ impl<L: Named, C: Counter> SharedKeeper<L, C> {
     }
 }
 
-/// Tells each caller all that was published, and joins its part of the ledger to the others.
+/// Gives each caller all that was published, and joins its part of the ledger to the others.
 fn take_all<L: Named, R: Wait>(
     rt: &R,
     page: &Page,
@@ -100,7 +110,7 @@ fn take_all<L: Named, R: Wait>(
     }
 }
 
-/// Tells a caller all that was published, and joins its part of the ledger to the others.
+/// Gives a caller all that was published, and joins its part of the ledger to the others.
 fn take_in<L: Named, R: Wait>(
     rt: &R,
     page: &Page,

@@ -1,12 +1,13 @@
-/// What gives the readings of a keeper.
+/// Gives the readings of a keeper, in cycles.
 ///
-/// It is read once where the keeper is opened and once in each command, under the lock. Bits above
-/// those of the keeper's counter are left out.
+/// The keeper reads it once when it is opened and once in each command, under the lock. Bits above
+/// those of the keeper's counter are dropped.
 pub trait Counter: Send + Drop {
+    /// Returns the next reading. In a command the lock is held while this runs.
     fn read(&mut self) -> u64;
 }
 
-/// A counter that answers a start, and then each time a step more, modulo 2^64.
+/// Counts in even steps: each reading is the one before plus a fixed step, modulo 2^64.
 #[derive(Debug, Drop)]
 pub struct Ticker {
     next: u64,
@@ -16,7 +17,9 @@ pub struct Ticker {
 impl Ticker {
     ghost use Rattle.std.specs.Prelude.{◌≡◌};
 
-    /// A counter whose first answer is `start`.
+    /// Returns a counter whose first reading is `start` and which adds `step` cycles each time.
+    ///
+    /// It never waits and allocates nothing.
     pub fn new(start: u64, step: u64) -> Ticker
         ensures start { result.next ≡ start }
         ensures step { result.step ≡ step }

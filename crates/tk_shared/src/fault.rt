@@ -1,19 +1,21 @@
 use crate::counter::Counter;
 
-/// Why a keeper isn't opened. Where more than one holds, the first in this order is told.
+/// Says why a keeper can't be opened: the first variant, in this order, that applies.
 #[derive(Clone, Copy, Debug, PartialEq, Eq)]
 pub enum OpenError {
-    /// Fewer callers than 1 or more than 64 were asked for.
+    /// Fewer callers than 1 or more than 64 were asked for. The counter wasn't read.
     Count,
-    /// REALTIME may not be set to this time.
+    /// REALTIME may not be set to the requested time. The counter was read once.
     Invalid,
-    /// Memory was refused. The counter may have been read.
+    /// An allocation failed. The counter was read once.
     Memory,
 }
 
-/// Why a keeper isn't opened, and the counter, which is handed back.
+/// Contains the reason why a keeper can't be opened, and the counter.
 #[derive(Debug, Drop)]
 pub struct OpenFault<C: Counter> {
+    /// The reason.
     pub error: OpenError,
+    /// The counter that `prepare` was given.
     pub counter: C,
 }

@@ -1,18 +1,18 @@
-//! A timekeeper behind one lock, that callers in many threads share.
+//! Shares a timekeeper under one lock among callers in many threads.
 //!
 //! | Item | What it is |
 //! |---|---|
 //! | `prepare`, `Prepared` | makes all that a shared keeper needs |
 //! | `SharedKeeper` | the lock, the page and the latch: commands, reads, folds, closing |
-//! | `Caller` | one who gives commands and reads |
-//! | `Closed`, `Missing` | what closing gives, and what it hands back |
-//! | `OpenError`, `OpenFault` | why a keeper isn't opened, and the counter |
-//! | `Counter`, `Ticker` | what gives readings; one that ticks in even steps |
-//! | `Named` | a type's names for one keeper, by which its parts belong together |
-//! | `Locked` | the value behind the lock, of which all proofs speak |
+//! | `Caller` | gives commands and reads the clocks |
+//! | `Closed`, `Missing` | the result of closing, and what a failed closing returns |
+//! | `OpenError`, `OpenFault` | why a keeper can't be opened, and the counter |
+//! | `Counter`, `Ticker` | gives readings; one that counts in even steps |
+//! | `Named` | a type's names for one keeper, which show that its parts belong together |
+//! | `Locked` | the value that the lock protects, whose invariant all proofs use |
 //!
-//! Units are those of `tk_clock`. A front is how many commands a caller has seen accepted on the
-//! page, a mark the number of the latest publication that it knows of on the latch.
+//! Units are those of `tk_clock`. A front is the number of accepted commands that a caller has seen
+//! on the page. A mark is the number of the latest publication that it knows of on the latch.
 #![tactic(auto)]
 
 mod caller;

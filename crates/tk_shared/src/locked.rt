@@ -1,4 +1,4 @@
-//! What lies under the lock, and each command to it.
+//! The value that the lock protects, and the calls on it.
 ghost use Rattle.std.specs.Prelude.{◌≡◌, ◌+◌, ◌-◌, ◌<◌, max, ◌++◌, ◌∷◌, [], length, MatchResult};
 ghost use mathlib.Core.List.{IsPrefix};
 ghost use Rattle.tk_clock.specs.Folding.{folded_by};
@@ -20,22 +20,22 @@ use tk_keeper::Timekeeper;
 use tk_latch::{Latch, LatchReader, LatchWriter};
 use tk_page::{Page, Publisher, Viewer};
 
-/// What lies under the lock.
+/// Holds what the lock protects.
 ///
-/// Contracts see it as the history, all accepted commands, and as the journal of the keeper.
+/// Contracts see it as the history of all accepted commands and the keeper's journal.
 #[derive(Drop)]
 pub struct Locked<L: Named, C: Counter> {
     pub(crate) keeper: Timekeeper,
-    /// Shows each accepted command on the page beside the lock.
+    /// Publishes each accepted command on the page, which is outside the lock.
     pub(crate) publisher: Publisher,
-    /// And on the latch beside it.
+    /// Publishes each accepted command on the latch, which is outside the lock too.
     pub(crate) writer: LatchWriter,
     pub(crate) counter: C,
     /// The greatest reading of the counter.
     pub(crate) mask: u64,
     /// Counts the accepted commands.
     pub(crate) book: Book<L>,
-    /// No part of the ledger: the callers' shares are joined to it in the end.
+    /// The ledger's empty share, to which `close` joins the callers' shares.
     pub(crate) rest: Share<L>,
 }
 
@@ -61,7 +61,8 @@ impl<L: Named, C: Counter> Model for Locked<L, C> {
 impl<L: Named, C: Counter> Locked<L, C> {
     /// Does a caller's command at the counter's reading, and publishes it.
     ///
-    /// The counter is read once. A refused command publishes nothing.
+    /// It reads the counter once, and waits for readers of the page. A refused command publishes
+    /// nothing.
     pub(crate) fn command<R: Wait>(
         &mut self,
         rt: &R,
@@ -103,8 +104,8 @@ impl<L: Named, C: Counter> Locked<L, C> {
         Ok(number)
     }
 
-    /// Folds the oldest entries of the keeper's journal, so that at most `keep` are listed; how
-    /// many are folded then. It publishes nothing.
+    /// Folds the oldest entries of the keeper's journal so that at most `keep` are listed, and
+    /// returns the number of folded entries. It publishes nothing.
     pub(crate) fn fold(&mut self, keep: u64) -> u64
         ensures answer { let before = self.old.journal in
             result ≡ max before.opening.count (accepted_count before - keep) }
@@ -116,7 +117,7 @@ impl<L: Named, C: Counter> Locked<L, C> {
     }
 }
 
-/// Publishes an entry on the page, and tells its caller so.
+/// Publishes an entry on the page, and gives it to its caller's viewer.
 fn show_on_page<R: Wait>(
     rt: &R,
     page: &Page,
@@ -135,8 +136,8 @@ fn show_on_page<R: Wait>(
     page.tell(rt, publisher, viewer);
 }
 
-/// Publishes the next snapshot on the latch, which has room for as many as a journal counts, and
-/// tells its caller so.
+/// Publishes the next snapshot on the latch, and gives it to its caller's reader. The latch has
+/// room for as many publications as a journal counts commands.
 fn show_on_latch(
     latch: &Latch,
     writer: &mut LatchWriter,

@@ -3,15 +3,17 @@ use std::sync::ledger::Ledger;
 
 /// Names one keeper: its page, its latch, and the ledger of its accepted commands.
 ///
-/// What lies behind the lock and what lies beside it are known to belong together, since each is
-/// compared with these names alone. It has no function, and no value of it is made.
+/// Each part of the keeper, inside the lock or outside, is compared with these names alone. So the
+/// parts are known to belong together. The trait has no function, and no value of it is made.
 pub trait Named: Ledger {
     ghost use Rattle.std.specs.Prelude.{ℕ};
     ghost use Rattle.atomic_table.specs.Seated.{TableId};
     ghost use Rattle.tk_latch.specs.Latch.{LatchId};
 
+    /// The identity of the page.
     ghost page: { TableId };
 
+    /// The identity of the latch.
     ghost latch: { LatchId };
 
     /// The number of callers, each with one part of the ledger.

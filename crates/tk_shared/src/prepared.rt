@@ -1,4 +1,4 @@
-//! What a shared keeper needs, made before any type names it.
+//! Preparing what a shared keeper needs, before any type names it.
 ghost use Rattle.std.specs.Prelude.{◌≡◌, ◌≤◌, [], length, min, MatchResult, IfOk, None};
 ghost use Rattle.tk_clock.specs.Legal.{IsWhole};
 ghost use Rattle.tk_clock.specs.Limits.{listed_most};
@@ -16,10 +16,10 @@ use tk_keeper::Timekeeper;
 use tk_latch::{Latch, LatchReader, LatchWriter};
 use tk_page::{Page, Publisher, Viewer};
 
-/// The most callers of a keeper.
+/// The greatest number of callers of a keeper.
 const CALLERS_LIMIT: usize = 64;
 
-/// A keeper whose clocks were just opened, with its page and its latch.
+/// Contains a keeper whose clocks were just opened, with its page and its latch.
 #[derive(Drop)]
 pub(crate) struct Parts {
     pub(crate) page: Page,
@@ -32,9 +32,10 @@ pub(crate) struct Parts {
     pub(crate) keeper: Timekeeper,
 }
 
-/// All that `SharedKeeper::open` needs.
+/// Contains all that `SharedKeeper::open` needs.
 ///
-/// Contracts see it as what names it, and the journal without entries.
+/// Contracts see it as its names, the number of callers, the journal without entries, and the
+/// number of commands that it has room for.
 #[derive(Drop)]
 pub struct Prepared<C: Counter> {
     pub(crate) parts: Parts,
@@ -73,12 +74,19 @@ impl<C: Counter> Model for Prepared<C> {
         × (p.blank.parts ≡ length p.parts.readers.items) };
 }
 
-/// Makes a keeper of this counter for so many callers, and reads the counter once. Its clocks are
-/// opened there: MONOTONIC is 0 and REALTIME `real`.
+/// Prepares a keeper with `callers` callers over `counter`, which it reads once. The clocks open at
+/// that reading, masked, with MONOTONIC 0 and REALTIME `real`.
 ///
-/// It makes room for so many commands, or for as many as a journal lists. Count where fewer callers
-/// than 1 or more than 64 are asked for, Invalid where REALTIME may not be set to `real`, then
-/// Memory. A fault hands the counter back.
+/// It reserves capacity for `room` commands, or for the 1,048,576 that a journal lists. It
+/// allocates, and counts among the calls that may wait; no other thread has the page yet.
+///
+/// # Errors
+///
+/// An `OpenFault`, which contains the counter, with the first error that applies:
+///
+/// - `Count` if `callers` is less than 1 or more than 64.
+/// - `Invalid` if REALTIME may not be set to `real`.
+/// - `Memory` if an allocation fails.
 pub fn prepare<C: Counter, R: Wait>(
     alloc: Global,
     rt: &R,
@@ -123,8 +131,8 @@ pub fn prepare<C: Counter, R: Wait>(
     })
 }
 
-/// A page and a latch for a keeper whose clocks were just opened, which gets room for so many
-/// commands.
+/// Makes a page and a latch for a keeper whose clocks were just opened, and reserves room for
+/// `room` commands.
 fn assemble<R: Wait>(
     alloc: Global,
     rt: &R,

@@ -22,9 +22,9 @@ use tk_clock::{Command, Refusal, Snapshot};
 use tk_latch::{Latch, LatchReader, Moved};
 use tk_page::{Page, Viewer};
 
-/// A timekeeper that callers in many threads share.
+/// Shares a timekeeper among callers in many threads.
 ///
-/// Commands take its lock; reads don't. Contracts see it as the number of its callers.
+/// Commands and folds take its lock; reads don't. Contracts see it as the number of its callers.
 #[derive(Drop)]
 pub struct SharedKeeper<L: Named, C: Counter> {
     pub(crate) page: Page,
@@ -45,9 +45,14 @@ impl<L: Named, C: Counter> Model for SharedKeeper<L, C> {
 }
 
 impl<L: Named, C: Counter> SharedKeeper<L, C> {
-    /// Opens what was prepared, with the callers 0, 1, and so on, as many as were asked for.
+    /// Opens what was prepared. Returns the keeper and its callers 0, 1, and so on, as many as
+    /// `prepare` was asked for.
     ///
-    /// Only Memory, which hands the counter back. The type `L` has to name what was prepared.
+    /// The type `L` has to name what was prepared. The call allocates and never waits.
+    ///
+    /// # Errors
+    ///
+    /// An `OpenFault` with `Memory` if an allocation fails. It contains the counter.
     pub fn open(
         alloc: Global,
         prepared: Prepared<C>,
@@ -99,11 +104,18 @@ impl<L: Named, C: Counter> SharedKeeper<L, C> {
         Ok((shared, made))
     }
 
-    /// Does a caller's command at the counter's reading, enters it in the journal under the caller's
-    /// number and publishes it; the number of the entry. All that is done under the lock.
+    /// Does a caller's command at the counter's reading, enters it in the journal under the
+    /// caller's number and publishes it on page and latch. Returns the number of the entry.
     ///
-    /// It is refused as `Timekeeper::apply` refuses it. A refused command changes nothing, but that
-    /// the caller may have learnt of more entries; and the counter was read.
+    /// It does all that under the lock. It waits for the lock, and then it may wait for readers of
+    /// the page. It allocates when no room is left, and reads the counter once. The page has room
+    /// for 2^63 - 2 accepted commands; the next one waits for ever.
+    ///
+    /// # Errors
+    ///
+    /// The `Refusal` of `Timekeeper::apply`: the first test that fails, in the order that `Refusal`
+    /// gives. A refused command changes nothing, except that the caller may have seen more entries
+    /// and the counter was read.
     pub fn command<R: Wait>(
         &self,
         rt: &R,
@@ -120,10 +132,10 @@ impl<L: Named, C: Counter> SharedKeeper<L, C> {
             .command(rt, &self.page, &self.latch, caller, cmd)
     }
 
-    /// The snapshot of the history so far, at least as far as this caller has seen it.
+    /// Returns the snapshot of the history so far, at least as far as this caller has seen it.
     ///
-    /// It doesn't take the lock. Where a publication comes between, it waits for the words of the
-    /// page.
+    /// It doesn't take the lock and allocates nothing. If its first try fails, it waits for whoever
+    /// holds the words of the page.
     pub fn read<R: Wait>(&self, rt: &R, caller: &mut Caller<L>) -> Snapshot
         ensures extends { Begins caller.old.seen caller.new.seen }
         ensures answer { result ≡ snapshot_of caller.new.seen }
@@ -135,11 +147,16 @@ impl<L: Named, C: Counter> SharedKeeper<L, C> {
         caller.viewer.read(rt, &self.page)
     }
 
-    /// The latest publication, whole, and no earlier than this caller knows of; or Moved, where a
-    /// publication came between.
+    /// Returns the latest publication of the latch, whole and no earlier than this caller knows
+    /// of.
     ///
-    /// It waits for nobody and takes no memory. What the caller has seen by commands and by `read`
-    /// stays as it was.
+    /// It waits for nobody and allocates nothing. What the caller has seen through commands and
+    /// `read` stays as it was. The contract ties the result to the sequence numbers that this very
+    /// call loaded.
+    ///
+    /// # Errors
+    ///
+    /// `Moved` if a publication was begun or made during the call. The caller's mark may then rise.
     pub fn fast_read(&self, caller: &mut Caller<L>) -> Result<Snapshot, Moved>
         ensures extends { IsPrefix caller.old.learnt.publications caller.new.learnt.publications }
         ensures answer { MatchResult result
@@ -152,16 +169,17 @@ impl<L: Named, C: Counter> SharedKeeper<L, C> {
         caller.reader.try_read(&self.latch)
     }
 
-    /// Folds the oldest entries of the journal under the lock, so that at most `keep` are listed;
-    /// how many are folded then.
+    /// Folds the oldest entries of the journal so that at most `keep` are listed, and returns the
+    /// number of folded entries.
     ///
-    /// It publishes nothing, and nothing that a reader is told changes.
+    /// It waits for the lock and allocates nothing. It publishes nothing, and no answer to a reader
+    /// changes.
     pub fn fold<R: Wait>(&self, rt: &R, keep: u64) -> u64 {
         self.locked.lock(rt).fold(keep)
     }
 }
 
-/// The callers 0, 1, and so on: one for each reader, with a part of the ledger each.
+/// Makes the callers 0, 1, and so on: one for each reader, each with a part of the ledger.
 fn make_callers<L: Named>(
     alloc: Global,
     page: &Page,

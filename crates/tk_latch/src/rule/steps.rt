@@ -1,4 +1,4 @@
-//! The steps of a latch: what each tells the seat that takes it.
+//! The steps of a latch, and what each teaches the seat that takes it.
 use super::View;
 use atomic_table::{Join, Play, Split};
 
@@ -38,7 +38,7 @@ impl Play<(), View> for CopiesWord {
     ghost then = { copied_word };
 }
 
-/// A read begins with a look at the sequence.
+/// A read begins: the reader loads the sequence, its first look.
 pub struct Begins;
 
 impl Play<(), View> for Begins {
@@ -47,7 +47,7 @@ impl Play<(), View> for Begins {
     ghost then = { began };
 }
 
-/// A reader loads a word.
+/// A reader loads a word of a copy.
 pub struct Loads;
 
 impl Play<(), View> for Loads {
@@ -56,7 +56,7 @@ impl Play<(), View> for Loads {
     ghost then = { loaded };
 }
 
-/// A read ends with a look at the sequence.
+/// A read ends: the reader loads the sequence again, its second look.
 pub struct Ends;
 
 impl Play<(), View> for Ends {
@@ -65,7 +65,7 @@ impl Play<(), View> for Ends {
     ghost then = { ended };
 }
 
-/// The writer looks at the sequence, and so learns how a note stands to its history.
+/// The writer loads the sequence, and learns that its note is a beginning of its history.
 pub struct Compares;
 
 impl Play<(), View> for Compares {
@@ -74,7 +74,7 @@ impl Play<(), View> for Compares {
     ghost then = { compared };
 }
 
-/// The writer hands what it knows to a new reader.
+/// The writer gives what it knows to a new reader.
 pub struct Hands;
 
 impl Split<View> for Hands {
