@@ -1,6 +1,7 @@
 #!/usr/bin/env bash
-# Runs the built program on files that are missing, that are none, or that say what can't be told.
-# `rt run < /dev/null` in this folder builds the program.
+# Runs the built program on files that are missing, are no files, or have faults, with `trace`,
+# `many` and `race`. It prints a line for each case, and exits with status 1 at the first that
+# differs. `rt run < /dev/null` in this folder builds the program.
 set -u
 # shellcheck source=expect.sh
 . "$(dirname "$0")/expect.sh"
@@ -116,7 +117,7 @@ stops 'a race on a full disk' 'cannot write' "$race script script >/dev/full"
 stops 'a race without output' 'cannot write' "$race script >&-"
 { echo "$opening" && yes update,0 | head -n 1500000; } >long
 stops 'a race with too little memory' 'out of memory' "ulimit -v 60000 && $race script long"
-# a limit on processes holds for no root, so another user starts the program; it may start it alone
+# a limit on processes doesn't bind root, so another user, who may start one process alone, runs it
 if [ "$(id -u)" = 0 ]; then
     chmod -R a+rX "$work" && cp "$program" "$work/tkcore" && chmod a+rx "$work/tkcore" "$work"
     stops 'a thread that cannot be started' 'cannot start a thread' \

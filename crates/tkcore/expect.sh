@@ -1,7 +1,7 @@
 #!/usr/bin/env bash
-# What the scripts beside it begin with: the built program, a folder for files, and how a case is
-# told. Each case has 20 seconds and 800 MB of address space. A script prints a line for each case,
-# and ends with status 1 at the first that differs.
+# Sourced by bad_input.sh and bad_files.sh: finds the built program, makes a folder for files, and
+# defines how a case runs. Each case has 20 seconds and 800 MB of address space. A script prints a
+# line for each case, and exits with status 1 at the first that differs.
 set -u
 cd "$(dirname "$0")" || exit 1
 export program=$PWD/out/tkcore row=$PWD/stdin opening='open,32,16777216,24,0,1700000000,0'
@@ -9,8 +9,8 @@ work=$(mktemp -d)
 export work
 trap 'rm -rf "$work"' EXIT
 
-# NAME STATUS FAULT LINES LAST COMMAND: with this status the program tells the fault, or nothing, on
-# standard error, and on standard output so many lines, of which this is the last
+# NAME STATUS FAULT LINES LAST COMMAND: the command must exit with STATUS, write FAULT (or nothing)
+# to standard error, and LINES lines to standard output, of which LAST is the last
 expect() {
     local told=${3:+tkcore: $3} got
     (ulimit -v 800000 && exec timeout 20 bash -c "$6") >"$work/out" 2>"$work/err"
@@ -22,10 +22,10 @@ expect() {
     echo "as it should be: $1"
 }
 
-# NAME FAULT COMMAND: a fault, and nothing on standard output
+# NAME FAULT COMMAND: the command must exit with status 1 and this fault, and write no output
 stops() { expect "$1" 1 "$2" 0 '' "$3"; }
 
-# BYTE COUNT: so many of it
+# BYTE COUNT: writes COUNT copies of the byte
 bytes() { head -c "$2" /dev/zero | tr '\0' "$1"; }
 
 words='words refused'

@@ -1,4 +1,4 @@
-//! The words on the command line.
+//! Parses the words on the command line.
 ghost use Rattle.std.specs.Prelude.{◌≡◌, ◌≢◌, Some, None, [], false, map, codes, string_bytes, IfErr, IfOk, IfSome, option_map};
 ghost use Rattle.clap.specs.Words.{all_of, app_of, fault_of, first_of, found_of, kind_of, rows_of, rule_of, subcommand_of, subcommand_rows_of};
 ghost use Rattle.clap.specs.declared.builder.command.Command.TheViews.{out-Command};
@@ -14,16 +14,23 @@ use std::alloc::{AllocError, Global};
 use std::io;
 use tk_script::{clock_word, number};
 
-/// Why words ask for nothing.
+/// Says why words ask for nothing.
 #[derive(Clone, Copy, Debug, PartialEq, Eq)]
 pub enum WordsError {
-    /// They are none of the program's own.
+    /// The words are not in the form that docs/TKCORE.md gives, or one of them isn't UTF-8.
     Refused,
-    /// Memory was refused.
+    /// An allocation failed.
     Memory,
 }
 
-/// What the words ask for, the first of which is the program's own.
+/// Parses the words of a command line, the first of which is the program's name.
+///
+/// The numbers of the request are within their ranges.
+///
+/// # Errors
+///
+/// - `Refused`: the words ask for nothing; calls for help are such words
+/// - `Memory`: an allocation failed; it may replace any other result
 #[tactic(auto, unfolding(crate::specs::CommandLine::asked_by))]
 pub fn asked<'a>(alloc: Global, words: &'a [String]) -> Result<Request<'a>, WordsError>
     ensures asked { IsAsked (map string_bytes words.entry.now) result }
@@ -35,7 +42,7 @@ pub fn asked<'a>(alloc: Global, words: &'a [String]) -> Result<Request<'a>, Word
     }
 }
 
-/// What the program finds in the words.
+/// Parses the words by the program's grammar.
 fn parsed<'a>(alloc: Global, words: &'a [String]) -> Result<ArgMatches<'a>, WordsError>
     ensures ok { IfOk result (λ matches.
         (fault_of program_words (map string_bytes words.entry.now) ≡ [])
@@ -48,7 +55,7 @@ fn parsed<'a>(alloc: Global, words: &'a [String]) -> Result<ArgMatches<'a>, Word
     Ok(matches)
 }
 
-/// What is asked for by what was found.
+/// Makes the request of parsed words.
 fn request_in<'a>(alloc: Global, matches: &ArgMatches<'a>) -> Result<Request<'a>, WordsError>
     ensures asked { Asks (task_found (subcommand_rows_of matches.now)) result }
     ensures allowed { IfOk result IsAllowed }
@@ -59,7 +66,7 @@ fn request_in<'a>(alloc: Global, matches: &ArgMatches<'a>) -> Result<Request<'a>
     }
 }
 
-/// What a subcommand asks for, by what was found behind it.
+/// Makes the request of a subcommand, from what was found after it.
 fn request_by<'a>(
     alloc: Global,
     name: &str,
@@ -81,7 +88,7 @@ fn request_by<'a>(
     }
 }
 
-/// How a script is to be replayed.
+/// Makes the request of `replay`.
 fn replay_in<'a>(found: &ArgMatches<'a>) -> Option<Request<'a>>
     ensures asked { option_map task_of result
         ≡ replay_by (first_of (codes "keep") (rows_of (found_of found.now))) }
@@ -91,7 +98,7 @@ fn replay_in<'a>(found: &ArgMatches<'a>) -> Option<Request<'a>>
     replay_asked(keep)
 }
 
-/// The replay that the text of `--keep` asks for, if there is one.
+/// Makes the replay that the text of `--keep` asks for, if there is one.
 fn replay_asked<'a>(keep: Option<&str>) -> Option<Request<'a>>
     ensures asked { option_map task_of result ≡ replay_by (option_map (λ t. t.now) keep.entry) }
     ensures allowed { IfSome result IsAllowed }
@@ -105,14 +112,14 @@ fn replay_asked<'a>(keep: Option<&str>) -> Option<Request<'a>>
     }
 }
 
-/// How many entries a text says to keep: a number as in scripts, from 1 to 524,288.
+/// Parses the value of `--keep`: a number as in scripts, from 1 to 524,288.
 fn keep_in(text: &str) -> Option<u64>
     ensures { result ≡ keep_of text.now }
 {
     number(text.as_bytes()).filter(|keep| (1..=524_288).contains(keep))
 }
 
-/// Which stamps are to be converted, and how.
+/// Makes the request of `trace`.
 fn trace_in<'a>(found: &ArgMatches<'a>) -> Option<Request<'a>>
     ensures asked { option_map task_of result
         ≡ trace_by (first_of (codes "CLOCK") (rows_of (found_of found.now)))
@@ -126,7 +133,7 @@ fn trace_in<'a>(found: &ArgMatches<'a>) -> Option<Request<'a>>
     trace_asked(clock, script, stamps)
 }
 
-/// The trace that three texts ask for, where they are there.
+/// Makes the trace that three texts ask for, if all are there.
 fn trace_asked<'a>(
     clock: Option<&'a str>,
     script: Option<&'a str>,
@@ -150,7 +157,7 @@ fn trace_asked<'a>(
     }
 }
 
-/// How many threads are to make the reports of which files.
+/// Makes the request of `many`.
 fn many_in<'a>(alloc: Global, found: &ArgMatches<'a>) -> Result<Request<'a>, WordsError>
     ensures asked { Asks (many_by (first_of (codes "WORKERS") (rows_of (found_of found.now)))
         (all_of (codes "FILE") (rows_of (found_of found.now)))) result }
@@ -161,7 +168,7 @@ fn many_in<'a>(alloc: Global, found: &ArgMatches<'a>) -> Result<Request<'a>, Wor
     many_asked(alloc, workers, files)
 }
 
-/// The reports that the texts of WORKERS and of FILE.. ask for, where they are there.
+/// Makes the request that the texts of WORKERS and of FILE.. ask for, if they are there.
 fn many_asked<'a>(
     alloc: Global,
     workers: Option<&str>,
@@ -183,14 +190,14 @@ fn many_asked<'a>(
     }
 }
 
-/// How many threads a text says: a number as in scripts, from 1 to 64.
+/// Parses WORKERS: a number as in scripts, from 1 to 64.
 fn workers_in(text: &str) -> Option<u64>
     ensures { result ≡ workers_of text.now }
 {
     number(text.as_bytes()).filter(|workers| (1..=64).contains(workers))
 }
 
-/// Which files race, by which steps of the counter.
+/// Makes the request of `race`.
 fn race_in<'a>(alloc: Global, found: &ArgMatches<'a>) -> Result<Request<'a>, WordsError>
     ensures asked { Asks (race_by (first_of (codes "STEP") (rows_of (found_of found.now)))
         (all_of (codes "FILE") (rows_of (found_of found.now)))) result }
@@ -201,7 +208,7 @@ fn race_in<'a>(alloc: Global, found: &ArgMatches<'a>) -> Result<Request<'a>, Wor
     race_asked(alloc, step, files)
 }
 
-/// The race that the texts of STEP and of FILE.. ask for, where they are there.
+/// Makes the race that the texts of STEP and of FILE.. ask for, if they are there.
 fn race_asked<'a>(
     alloc: Global,
     step: Option<&str>,
@@ -223,7 +230,7 @@ fn race_asked<'a>(
     }
 }
 
-/// The program's words.
+/// Makes the grammar of the program's words.
 fn program<'a>(alloc: Global) -> Result<Command<'a>, AllocError>
     ensures { IfOk result (λ command. app_of command ≡ program_words) }
 {
@@ -232,7 +239,7 @@ fn program<'a>(alloc: Global) -> Result<Command<'a>, AllocError>
         .subcommand(files_command(alloc, "race", "STEP")?)
 }
 
-/// The program's words that are about one script.
+/// Makes the part of the grammar that is about one script.
 fn one_script_program<'a>(alloc: Global) -> Result<Command<'a>, AllocError>
     ensures { IfOk result (λ command. app_of command ≡ one_script_words) }
 {
@@ -241,7 +248,7 @@ fn one_script_program<'a>(alloc: Global) -> Result<Command<'a>, AllocError>
         .subcommand(trace_command(alloc)?)
 }
 
-/// The program's words without its subcommands. No word asks for help.
+/// Makes the grammar without subcommands. No word asks for help.
 fn bare_program<'a>(alloc: Global) -> Command<'a>
     ensures { app_of result ≡ bare_words }
 {
@@ -250,7 +257,7 @@ fn bare_program<'a>(alloc: Global) -> Command<'a>
         .disable_help_subcommand(true)
 }
 
-/// `replay`, which may have `--keep`.
+/// Makes the grammar of `replay`, which may have `--keep`.
 fn replay_command<'a>(alloc: Global) -> Result<Command<'a>, AllocError>
     ensures words { IfOk result (λ command. app_of command ≡ replay_words) }
     ensures local { IfOk result (λ command. (out-Command command).has_globals ≡ false) }
@@ -258,7 +265,7 @@ fn replay_command<'a>(alloc: Global) -> Result<Command<'a>, AllocError>
     Command::new(alloc, "replay").arg(keep_argument(alloc))
 }
 
-/// `--keep TEXT`
+/// Makes the option `--keep TEXT`.
 fn keep_argument<'a>(alloc: Global) -> Arg<'a>
     ensures rule { rule_of result ≡ keep_rule }
     ensures local { result.global ≡ false }
@@ -266,7 +273,7 @@ fn keep_argument<'a>(alloc: Global) -> Arg<'a>
     Arg::new(alloc, "keep").long("keep").action(ArgAction::Set)
 }
 
-/// `trace CLOCK SCRIPT STAMPS`
+/// Makes the grammar of `trace CLOCK SCRIPT STAMPS`.
 fn trace_command<'a>(alloc: Global) -> Result<Command<'a>, AllocError>
     ensures words { IfOk result (λ command. app_of command ≡ trace_words) }
     ensures local { IfOk result (λ command. (out-Command command).has_globals ≡ false) }
@@ -277,7 +284,7 @@ fn trace_command<'a>(alloc: Global) -> Result<Command<'a>, AllocError>
         .arg(word_argument(alloc, "STAMPS"))
 }
 
-/// `NAME NUMBER FILE..`
+/// Makes the grammar of `NAME NUMBER FILE..`.
 fn files_command<'a>(
     alloc: Global,
     name: &'a str,
@@ -292,7 +299,7 @@ fn files_command<'a>(
         .arg(files_argument(alloc))
 }
 
-/// A word that must be there.
+/// Makes a word that is required.
 fn word_argument<'a>(alloc: Global, name: &'a str) -> Arg<'a>
     ensures rule { rule_of result ≡ word_rule name.entry.now }
     ensures local { result.global ≡ false }
@@ -300,7 +307,7 @@ fn word_argument<'a>(alloc: Global, name: &'a str) -> Arg<'a>
     Arg::new(alloc, name).required(true).action(ArgAction::Set)
 }
 
-/// `FILE..`, one word or more.
+/// Makes `FILE..`, one word or more.
 fn files_argument<'a>(alloc: Global) -> Arg<'a>
     ensures rule { rule_of result ≡ files_rule }
     ensures local { result.global ≡ false }
@@ -318,7 +325,8 @@ impl From<AllocError> for WordsError {
     }
 }
 
-/// The words don't parse: they aren't known, they ask for help, or memory was refused.
+/// Converts the error of words that don't parse: they are unknown, they ask for help, or an
+/// allocation failed.
 impl From<clap::Error> for WordsError {
     ghost from_gives = { λ error told. told ≡ error_of (kind_of error) };
 
@@ -330,7 +338,8 @@ impl From<clap::Error> for WordsError {
     }
 }
 
-/// The words couldn't be taken: one of them isn't UTF-8, or memory was refused.
+/// Converts the error of words that can't be read: one of them isn't UTF-8, or an allocation
+/// failed.
 impl From<io::Error> for WordsError {
     fn from(error: io::Error) -> WordsError {
         match error.kind() {

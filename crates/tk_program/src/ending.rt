@@ -8,35 +8,37 @@ use tk_race::RaceError;
 use tk_replay::{Fault, ManyError};
 use tk_script::ScriptError;
 
-/// How the program ends.
+/// Says how the program ends. Every variant with status 1 or 2, except `Faulty`, has one line of
+/// error.
 #[derive(Clone, Copy, Debug, PartialEq, Eq)]
 pub enum Ending {
-    /// All was done: status 0, and nothing is told.
+    /// All was done: status 0, and no line.
     Done,
-    /// The words are none of its own: status 2, told in a line.
+    /// The words were refused: status 2.
     Words,
-    /// All was done, and scripts with a fault are told of where their reports would stand: status 1,
-    /// and nothing more is told.
+    /// All was done by `many`, but a script has a fault, which its text contains instead of the
+    /// report: status 1, and no line.
     Faulty,
-    /// What the words ask for has failed: status 1, told in a line.
+    /// A fault stopped the work, such as a script's fault, or a failed read, write or allocation:
+    /// status 1.
     Fault(Fault),
-    /// The reports of many scripts weren't made: status 1, told in a line.
+    /// The reports of many scripts were not made: status 1.
     Many(ManyError),
-    /// A file of a race is no script: status 1, told in a line. This is never `ScriptError::Memory`.
+    /// The script of a race's file has a fault, which is never `ScriptError::Memory`: status 1.
     File {
-        /// Its place among the files, from 0.
+        /// The file's index, from 0.
         index: usize,
-        /// Its first fault.
+        /// The script's first fault.
         error: ScriptError,
     },
-    /// Scripts of a race open their clocks differently: status 1, told in a line.
+    /// The scripts of a race open their clocks differently: status 1.
     Openings,
-    /// A race wasn't run: status 1, told in a line.
+    /// The race was not run: status 1.
     Race(RaceError),
 }
 
 impl Ending {
-    /// The exit status.
+    /// Returns the exit status: 0, 1 or 2.
     pub fn status(self) -> u8
         ensures { result ≡ status_of self }
     {
@@ -48,7 +50,12 @@ impl Ending {
         }
     }
 
-    /// Tells it in a line, where there is something to tell.
+    /// Writes the line of error to `out`: `tkcore: ` and the text. For `Done` and `Faulty` it
+    /// writes nothing.
+    ///
+    /// # Errors
+    ///
+    /// Returns the error of the writer; a part of the line may have been written.
     pub fn tell<W: Write>(self, out: &mut W) -> io::Result<()>
         ensures { OnOk result (IsToldIn W.Write.contents out.old out.new self) }
     {
@@ -63,7 +70,7 @@ impl Ending {
         }
     }
 
-    /// That the file of a race at this place is no script, or want of memory.
+    /// Converts the fault of the script in a race's file.
     pub(crate) fn of_file(index: usize, error: ScriptError) -> Ending
         ensures { result ≡ ending_of_file index error }
     {

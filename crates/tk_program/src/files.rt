@@ -1,4 +1,4 @@
-//! Files, read by their names.
+//! Reads files by their names.
 ghost use Rattle.std.specs.Prelude.{IfOk, IfErr};
 ghost use Rattle.tk_program.specs.Files.{AreReadFrom, IsReadFrom, StopsFile, StopsFiles};
 
@@ -6,10 +6,12 @@ use crate::folder::Folder;
 use std::alloc::Global;
 use tk_replay::{Fault, read_to_end};
 
-/// The bytes of each file in the order of their names, each to its end or up to one byte more than
-/// a script may have.
+/// Reads each file, in order, to its end or up to one byte more than the largest script.
 ///
-/// Read where a file can't be opened or read, and then no later one is opened; Memory.
+/// # Errors
+///
+/// - `Read`: a file can't be opened or read; no later one is opened
+/// - `Memory`: an allocation failed
 pub(crate) fn read_files<D: Folder>(
     alloc: Global,
     folder: &D,
@@ -34,7 +36,7 @@ pub(crate) fn read_files<D: Folder>(
     Ok(texts)
 }
 
-/// The bytes of one file.
+/// Reads one file.
 pub(crate) fn read_file<D: Folder>(alloc: Global, folder: &D, name: &str) -> Result<Vec<u8>, Fault>
     ensures ok { IfOk result (λ text. IsReadFrom D.Folder.open_gives D.File.Read.remaining
         D.File.Source.read_gives folder.now name.now text.items) }

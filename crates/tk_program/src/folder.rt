@@ -1,24 +1,25 @@
-//! Where files are opened by their names.
+//! Opens files by their names.
 ghost use Rattle.std.specs.Prelude.{ℕ, List, Option};
 
 use std::fs;
 use std::rt::Files;
 use tk_replay::Source;
 
-/// Where files are opened by their names: any runtime that reaches the system's files.
+/// Opens files by their names. Every runtime that reaches the system's files implements it; any
+/// other impl is for tests.
 ///
-/// The program opens its files by this trait, so that its contract can say which file was read, and
-/// that one couldn't be opened: it is proved for every relation `open_gives`, and so can name only
-/// an opening that it tried. Every such runtime has it; an impl elsewhere is for tests.
+/// The program opens its files through this trait, so that its contract can say which file was read
+/// or could not be opened: it is proved for every relation `open_gives`, and so can name only an
+/// opening that was tried.
 pub trait Folder {
-    /// An open file.
+    /// The type of an open file.
     type File: Source + Drop;
 
-    // What opening may come to: the folder, the file's name, and the open file, none where it
-    // couldn't be opened.
+    // What opening may do: the folder, the file's name, and the open file, none if it could not be
+    // opened.
     ghost open_gives: { Self → List ℕ → Option Self.File → Type 0 };
 
-    /// Opens the file of this name to be read; nothing where it can't be opened.
+    /// Opens the file of this name for reading. `None` means that it can't be opened.
     fn open_once(&self, name: &str) -> Option<Self::File>
         ensures { open_gives self.now name.now result };
 }

@@ -1,19 +1,19 @@
-//! The program `tkcore` but for its `main`: what its words ask for, what that comes to, and how it
-//! ends.
+//! Runs the program `tkcore`, except for its `main`: parses the words on the command line, does what
+//! they ask for, and ends with a status and at most one line of error.
 //!
-//! | Item | What it is |
+//! | Item | What it does |
 //! |---|---|
-//! | `run_and_tell` | the program: it takes the process's words, and gives the code to exit with |
-//! | `run` | does what words ask for, from any reader and any folder to any writer |
-//! | `Folder` | where files are opened by their names: the host's |
-//! | `asked`, `Request` | what words ask for |
-//! | `WordsError` | why words ask for nothing |
-//! | `many_text` | the reports of many scripts in one text |
-//! | `race_text` | what a race has come to, in lines |
-//! | `same_opening` | do two scripts open their clocks alike? |
-//! | `Ending` | how the program ends: its status and what it tells |
+//! | `run_and_tell` | runs the program on the process's words, and returns the exit code |
+//! | `run` | does what given words ask for, from any reader and any folder to any writer |
+//! | `Folder` | opens files by their names: the host's, or a test's |
+//! | `asked`, `Request` | parse words into a request |
+//! | `WordsError` | says why words ask for nothing |
+//! | `many_text` | joins the reports of many scripts into one text |
+//! | `race_text` | makes the lines of a race |
+//! | `same_opening` | compares the openings of two scripts |
+//! | `Ending` | says how the program ends: its status and its line of error |
 //!
-//! Each subcommand has an arm of `Request` and a module of its own.
+//! Each subcommand has a variant of `Request` and a module. docs/TKCORE.md describes the program.
 #![tactic(auto)]
 
 mod command_line;

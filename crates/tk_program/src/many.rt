@@ -1,4 +1,4 @@
-//! The subcommand `many`.
+//! Does the subcommand `many`.
 ghost use Rattle.std.specs.Prelude.{◌≡◌, ◌≤◌, is_ok};
 ghost use Rattle.std.specs.List.{list_all};
 ghost use Rattle.tk_replay.specs.Many.{most_workers};
@@ -15,9 +15,7 @@ use tk_gate::NoGate;
 use tk_replay::{Fault, Sink, replay_all, write_whole};
 use tk_script::ScriptError;
 
-/// Writes the reports of the scripts of these files, made by so many threads.
-///
-/// All files are read before a thread is started.
+/// Reads all files, makes the reports of their scripts on `workers` threads, and writes them.
 pub(crate) fn answer<E: Threads + Wait + Sync, D: Folder, W: Sink>(
     rt: &E,
     alloc: Global,
@@ -42,7 +40,7 @@ pub(crate) fn answer<E: Threads + Wait + Sync, D: Folder, W: Sink>(
     }
 }
 
-/// Writes what scripts have come to. It ends as `Faulty` where one of them has a fault.
+/// Writes reports and faults. It ends as `Faulty` if a script has a fault.
 fn tell<W: Sink>(alloc: Global, writer: &mut W, outcomes: &[Result<Vec<u8>, ScriptError>]) -> Ending
     ensures { EndsTelling W.Write.contents W.Sink.write_gives W.Sink.flush_gives
         writer.old writer.new outcomes.now result }
@@ -63,7 +61,7 @@ fn tell<W: Sink>(alloc: Global, writer: &mut W, outcomes: &[Result<Vec<u8>, Scri
     }
 }
 
-/// Has no script a fault?
+/// Returns whether no script has a fault.
 fn are_whole(outcomes: &[Result<Vec<u8>, ScriptError>]) -> bool
     ensures { result ≡ list_all is_ok outcomes.now }
 {

@@ -3,8 +3,9 @@ ghost use Rattle.tk_program.specs.Openings.{AreSameOpenings};
 
 use tk_script::Script;
 
-/// Do two scripts open their clocks alike: over the same counter, at the same reading, with the
-/// same REALTIME? How the counter is described, by its numbers or by its frequency, is one.
+/// Returns whether two scripts open their clocks with the same counter, reading and REALTIME.
+///
+/// `open` and `openhz` that describe the same counter are equal.
 pub fn same_opening(one: &Script, other: &Script) -> bool
     ensures { IsTrue result ↔ AreSameOpenings one.now other.now }
 {

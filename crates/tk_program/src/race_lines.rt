@@ -7,10 +7,12 @@ use std::alloc::{AllocError, Global};
 use tk_race::{RaceReply, RaceReport};
 use tk_replay::Fault;
 
-/// What a race has come to, in lines: `entries,NUMBER` for the journal, then for each actor
-/// `actor,ID,ACCEPTED,REFUSED`, which count its orders.
+/// Makes the lines of a race: `entries,NUMBER`, the number of accepted commands, then for each
+/// actor, from 0, `actor,ID,ACCEPTED,REFUSED`, the numbers of its orders.
 ///
-/// Only Memory.
+/// # Errors
+///
+/// - `Fault::Memory`: an allocation failed
 pub fn race_text(alloc: Global, report: &RaceReport) -> Result<Vec<u8>, Fault>
     ensures { MatchResult result
         (λ text. text.items ≡ race_lines (accepted_count report.now.keeper.journal)
@@ -26,7 +28,7 @@ pub fn race_text(alloc: Global, report: &RaceReport) -> Result<Vec<u8>, Fault>
     Ok(text)
 }
 
-/// The line of an actor.
+/// Makes the line of an actor.
 fn line_of(alloc: Global, id: usize, replies: &[RaceReply]) -> Result<String, AllocError>
     ensures { IfOk result (λ line. string_bytes line ≡ actor_line id replies.now) }
 {
@@ -34,7 +36,7 @@ fn line_of(alloc: Global, id: usize, replies: &[RaceReply]) -> Result<String, Al
     format!(in alloc; "actor,{id},{accepted},{refused}\n")
 }
 
-/// How many orders of an actor were accepted, and how many refused.
+/// The numbers of an actor's accepted and refused orders.
 #[derive(Clone, Copy)]
 struct Counts {
     accepted: usize,

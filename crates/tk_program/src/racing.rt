@@ -1,4 +1,4 @@
-//! The subcommand `race`.
+//! Does the subcommand `race`.
 ghost use Rattle.std.specs.Prelude.{◌≡◌, ◌↔◌, length, map, IfOk, IsTrue};
 ghost use Rattle.std.specs.List.{All};
 ghost use Rattle.tk_clock.specs.Journal.{accepted_count};
@@ -18,10 +18,10 @@ use tk_race::{Action, RaceError, RaceReport, race};
 use tk_replay::{Fault, Sink, write_whole};
 use tk_script::{Row, Script};
 
-/// Races the scripts of these files, an actor for each, and writes what that comes to.
+/// Reads and parses the files, races an actor for each script, and writes the result.
 ///
-/// The clocks are opened as the scripts say, which are to agree on it. In each command the counter
-/// is read, a step later than before.
+/// The clocks are opened as the scripts say, which must be the same for all. The counter moves on
+/// by `step` cycles at each command.
 pub(crate) fn answer<E: Threads + Wait + Sync, D: Folder, W: Sink>(
     rt: &E,
     alloc: Global,
@@ -52,8 +52,7 @@ pub(crate) fn answer<E: Threads + Wait + Sync, D: Folder, W: Sink>(
     }
 }
 
-/// Races these actors, each of which plays the part of one script, if all scripts open their clocks
-/// alike.
+/// Races these actors, each of which plays the part of one script, if all openings are the same.
 fn race_all<E: Threads + Wait + Sync, W: Sink>(
     rt: &E,
     alloc: Global,
@@ -77,7 +76,7 @@ fn race_all<E: Threads + Wait + Sync, W: Sink>(
     }
 }
 
-/// Races these actors on clocks that are opened as the script says.
+/// Races these actors on clocks that are opened as the script says, and writes the result.
 fn race_as<E: Threads + Wait + Sync, W: Sink>(
     rt: &E,
     alloc: Global,
@@ -105,14 +104,14 @@ fn race_as<E: Threads + Wait + Sync, W: Sink>(
     }
 }
 
-/// Do all the others open their clocks as the first one?
+/// Returns whether all others have the opening of the first script.
 fn open_alike(first: &Script, others: &[Script]) -> bool
     ensures { IsTrue result ↔ All (AreSameOpenings first.now) others.now }
 {
     others.iter().all(|other| same_opening(first, other))
 }
 
-/// Writes what a race has come to.
+/// Writes the lines of a race.
 fn tell<W: Sink>(alloc: Global, writer: &mut W, report: &RaceReport) -> Ending
     ensures { EndsTold W.Write.contents W.Sink.write_gives W.Sink.flush_gives
         writer.old writer.new
@@ -128,7 +127,7 @@ fn tell<W: Sink>(alloc: Global, writer: &mut W, report: &RaceReport) -> Ending
     }
 }
 
-/// The part of each script.
+/// Makes the part of each script.
 fn actors_of(alloc: Global, scripts: &[Script]) -> Result<Vec<Vec<Action>>, AllocError>
     ensures count { IfOk result (λ actors. length actors.items ≡ length scripts.now) }
     ensures parts { IfOk result (λ actors.
@@ -142,7 +141,7 @@ fn actors_of(alloc: Global, scripts: &[Script]) -> Result<Vec<Vec<Action>>, Allo
     Ok(actors)
 }
 
-/// What an actor does for these rows: it gives the commands, and looks where a clock is asked.
+/// Makes the part of a script: an order for each command, and a look for each read of a clock.
 fn part_in(alloc: Global, rows: &[Row]) -> Result<Vec<Action>, AllocError>
     ensures { IfOk result (λ actions. actions.items ≡ map action_of rows.now) }
 {

@@ -1,4 +1,4 @@
-//! The subcommand `replay`.
+//! Does the subcommand `replay`.
 ghost use Rattle.tk_program.specs.Request.{IsKeep};
 ghost use Rattle.tk_program.specs.Running.{EndsReplay};
 
@@ -6,7 +6,7 @@ use crate::ending::Ending;
 use std::alloc::Global;
 use tk_replay::{Sink, Source, replay, replay_bounded};
 
-/// Replays the script that the reader has, to the writer.
+/// Reads the script from the reader, and writes its report to the writer.
 pub(crate) fn answer<R: Source, W: Sink>(
     alloc: Global,
     reader: &mut R,

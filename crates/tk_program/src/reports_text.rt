@@ -1,4 +1,4 @@
-//! The text of many scripts' reports.
+//! Makes the text of many scripts' reports.
 ghost use Rattle.std.specs.Prelude.{◌≡◌, ◌++◌, OnOk, MatchResult};
 ghost use Rattle.tk_program.specs.ManyText.{fault_line, heading, outcome_text, text_from};
 
@@ -8,13 +8,17 @@ use std::io::Write;
 use tk_replay::Fault;
 use tk_script::ScriptError;
 
-/// More bytes than a heading and a fault's line take.
+/// More bytes than a heading and the line of a fault have.
 const LINES: usize = 100;
 
-/// The reports of scripts, each under the line `file,INDEX` that counts from 0, or `fault,TEXT` in a
-/// line where a script has a fault.
+/// Joins the reports of scripts into one text: for each script the line `file,INDEX`, from 0, and
+/// then its report, or the line `fault,TEXT` if it has a fault.
 ///
-/// Only `Fault::Memory`. The room of the whole text is asked for first.
+/// It first allocates the capacity for the whole text.
+///
+/// # Errors
+///
+/// - `Fault::Memory`: an allocation failed
 pub fn many_text(alloc: Global, outcomes: &[Result<Vec<u8>, ScriptError>]) -> Result<Vec<u8>, Fault>
     ensures { MatchResult result
         (λ text. text.items ≡ text_from 0 outcomes.now)
@@ -28,7 +32,7 @@ pub fn many_text(alloc: Global, outcomes: &[Result<Vec<u8>, ScriptError>]) -> Re
     Ok(text)
 }
 
-/// At least as many bytes as the text takes, where so many can be counted.
+/// Returns at least the number of bytes of the text, or `usize::MAX` if that is more.
 fn room_for(outcomes: &[Result<Vec<u8>, ScriptError>]) -> usize {
     let mut room = 0usize;
     for outcome in outcomes {
@@ -41,14 +45,14 @@ fn room_for(outcomes: &[Result<Vec<u8>, ScriptError>]) -> usize {
     room
 }
 
-/// Adds the line above a script's report.
+/// Appends the line above a script's report.
 fn add_heading(text: &mut Vec<u8>, index: usize) -> Result<(), AllocError>
     ensures { OnOk result (text.new.items ≡ text.old.items ++ heading index) }
 {
     writeln!(text, "file,{index}").map_err(|_| AllocError)
 }
 
-/// Adds a script's report, or a line with its fault.
+/// Appends a script's report, or a line with its fault.
 fn add_outcome(text: &mut Vec<u8>, outcome: &Result<Vec<u8>, ScriptError>) -> Result<(), AllocError>
     ensures { OnOk result (text.new.items ≡ text.old.items ++ outcome_text outcome.now) }
 {
@@ -58,7 +62,7 @@ fn add_outcome(text: &mut Vec<u8>, outcome: &Result<Vec<u8>, ScriptError>) -> Re
     }
 }
 
-/// Adds a line with a script's fault, in the words that `ScriptError` prints.
+/// Appends a line with a script's fault, in the words that `ScriptError` prints.
 fn add_fault(text: &mut Vec<u8>, error: ScriptError) -> io::Result<()>
     ensures { OnOk result (text.new.items ≡ text.old.items ++ fault_line error) }
 {

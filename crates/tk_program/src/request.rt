@@ -1,33 +1,33 @@
 use tk_clock::ClockId;
 
-/// What the words ask for: an arm for each subcommand.
+/// Contains what the words ask for: a variant for each subcommand.
 #[derive(Debug, Drop, PartialEq, Eq)]
 pub enum Request<'a> {
-    /// `replay`, or no word at all: the report of a script.
+    /// `replay`, or no word: the report of the script on standard input.
     Replay {
-        /// `--keep N`: how many entries a full journal is folded to. Without it a full journal
-        /// refuses commands.
+        /// The N of `--keep N`, from 1 to 524,288: the number of entries that a full journal is
+        /// folded to. `None` means that a full journal refuses commands.
         keep: Option<u64>,
     },
-    /// `trace CLOCK SCRIPT STAMPS`: the stamps of a file, converted by the journal of a script.
+    /// `trace CLOCK SCRIPT STAMPS`: the value of a clock at each stamp of a file.
     Trace {
-        /// The clock that is asked for each stamp.
+        /// The clock to read at each stamp.
         clock: ClockId,
         /// The name of the script's file.
         script: &'a str,
         /// The name of the stamp file.
         stamps: &'a str,
     },
-    /// `many WORKERS FILE..`: the reports of scripts, made by threads.
+    /// `many WORKERS FILE..`: the reports of many scripts, made by threads.
     Many {
-        /// How many threads work at once, from 1 to 64.
+        /// The greatest number of threads, from 1 to 64.
         workers: u64,
         /// The names of the scripts' files.
         files: Vec<&'a str>,
     },
     /// `race STEP FILE..`: the commands of scripts on one keeper, a thread for each script.
     Race {
-        /// How many cycles the counter moves on at each of its readings.
+        /// The number of cycles that the counter moves on at each command.
         step: u64,
         /// The names of the scripts' files.
         files: Vec<&'a str>,

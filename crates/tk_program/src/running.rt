@@ -19,10 +19,11 @@ use std::sync::Wait;
 use std::thread::Threads;
 use tk_replay::{Sink, Source};
 
-/// Does what the words ask for, the first of which is the program's own; how it ended.
+/// Does what the words ask for, and returns how it ended. The first word is the program's name.
 ///
-/// The reports of many scripts wait for the threads that make them, and a race for its actors'. A
-/// long trace is converted by several threads; all else is done by this one.
+/// `replay` reads from `reader`; the other words open their files in `folder`. All output goes to
+/// `writer`. Reader and writer stay as they were if the words are refused. `many` waits for the
+/// threads that make the reports, and `race` for its actors'. Several threads convert a long trace.
 pub fn run<E: Threads + Wait + Sync, D: Folder, R: Source, W: Sink>(
     rt: &E,
     alloc: Global,
@@ -43,7 +44,7 @@ pub fn run<E: Threads + Wait + Sync, D: Folder, R: Source, W: Sink>(
     }
 }
 
-/// Does what is asked for; how it ended.
+/// Does what a request asks for, and returns how it ended.
 fn answer<E: Threads + Wait + Sync, D: Folder, R: Source, W: Sink>(
     rt: &E,
     alloc: Global,
@@ -75,9 +76,10 @@ fn answer<E: Threads + Wait + Sync, D: Folder, R: Source, W: Sink>(
     }
 }
 
-/// Does what the process's words ask for, and tells how it ended, with the code to exit with.
+/// Runs the program: does what the process's words ask for, as `run` does, writes the ending's line
+/// of error to `told`, and returns the exit code.
 ///
-/// What can't be told is left out.
+/// If the line can't be written, it is left out; the exit code stays the same.
 pub fn run_and_tell<E, R, W, T>(rt: &E, reader: &mut R, writer: &mut W, told: &mut T) -> ExitCode
 where
     E: Env + AllocGlobal + Folder + Threads + Wait + Sync,
@@ -96,7 +98,7 @@ where
     ExitCode::from(ending.status())
 }
 
-/// Does what the process's words ask for; how it ended.
+/// Does what the process's words ask for, and returns how it ended.
 fn run_by_words_of<E, R, W>(rt: &E, reader: &mut R, writer: &mut W) -> Ending
 where
     E: Env + AllocGlobal + Folder + Threads + Wait + Sync,
@@ -113,7 +115,7 @@ where
     }
 }
 
-/// The process's words.
+/// Returns the process's words.
 fn words_of(rt: &(impl Env + AllocGlobal)) -> Result<Vec<String>, WordsError> {
     let words: Vec<String> = env::args(rt)?.collect(rt.alloc())?;
     Ok(words)

@@ -1,4 +1,4 @@
-//! Scripts, read by the names of their files.
+//! Reads scripts by the names of their files.
 ghost use Rattle.std.specs.Prelude.{IfErr, IfOk};
 ghost use Rattle.tk_program.specs.Race.{AreScriptsFrom, IsScriptFrom, StopsScript, StopsScripts};
 
@@ -9,10 +9,14 @@ use std::alloc::Global;
 use tk_replay::Fault;
 use tk_script::Script;
 
-/// The scripts of these files, each of which is read and parsed before the next one is opened.
+/// Reads and parses the script of each file, before it opens the next file.
 ///
-/// The first fault ends it: `Fault::Read` where a file can't be opened or read, `File` where its
-/// bytes are no script; or else `Fault::Memory`.
+/// # Errors
+///
+/// Returns the first fault; `Fault::Memory` may replace any other result:
+/// - `Ending::Fault` with `Fault::Read`: a file can't be opened or read
+/// - `Ending::File`: its script has a fault
+/// - `Ending::Fault` with `Fault::Memory`: an allocation failed
 pub(crate) fn read_scripts<D: Folder>(
     alloc: Global,
     folder: &D,
@@ -39,7 +43,7 @@ pub(crate) fn read_scripts<D: Folder>(
     Ok(scripts)
 }
 
-/// The script of the file at this place.
+/// Reads and parses the script of the file at an index.
 fn read_script<D: Folder>(
     alloc: Global,
     folder: &D,

@@ -1,4 +1,4 @@
-//! The subcommand `trace`.
+//! Does the subcommand `trace`.
 ghost use Rattle.tk_program.specs.Running.{EndsTrace};
 
 use crate::ending::Ending;
@@ -8,9 +8,10 @@ use std::thread::Threads;
 use tk_clock::ClockId;
 use tk_replay::{Fault, Sink, trace};
 
-/// Converts the stamps of one file by the script in another, to the writer.
+/// Converts the stamps of one file by the script in another, and writes the lines.
 ///
-/// Both are opened before either is read. The two may be one file: it is then opened twice.
+/// It opens both files before it reads either. Both names may be those of one file, which it then
+/// opens twice.
 pub(crate) fn answer<E: Threads + Sync, D: Folder, W: Sink>(
     rt: &E,
     alloc: Global,

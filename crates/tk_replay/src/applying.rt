@@ -1,4 +1,4 @@
-//! Commands of a script, done to the clocks.
+//! Applies the commands of a script to the clocks.
 ghost use Rattle.std.specs.Prelude.{◌≡◌, ◌<◌, ◌≤◌, length};
 ghost use Rattle.std.specs.Option.{ForSome};
 ghost use Rattle.tk_clock.specs.Folding.{IsAlike};
@@ -12,20 +12,20 @@ use std::alloc::Allocator;
 use tk_clock::{Command, Refusal};
 use tk_keeper::Timekeeper;
 
-/// Who gives a script's commands.
+/// The caller that a script's commands are recorded with.
 pub(crate) const CALLER: u32 = 0;
 
 /// The most commands that a journal lists.
 const LISTED_LIMIT: usize = 1_048_576;
 
-/// How many commands a journal that no line shows may list before it is folded: few, so that it
-/// takes little memory.
+/// The number of commands after which a report folds its own journal, which no line shows: small,
+/// so that the journal takes little memory.
 const FOLDED_AFTER: usize = 1_024;
 
-/// Does a command to the clocks; its number, or its first refusal.
+/// Applies a command to the clocks and returns its number, or the first test that it fails.
 ///
-/// Where the journal is full, it is first folded to its last `keep` entries. Without that the
-/// command is refused as Full once so many were accepted as a journal lists.
+/// With `keep`, a full journal is first folded to its last `keep` entries. Without it, the command
+/// is refused as `Full` after 1,048,576 accepted commands.
 pub(crate) fn apply<A: Allocator + Copy>(
     keeper: &mut Timekeeper<A>,
     keep: Option<u64>,
@@ -47,8 +47,8 @@ pub(crate) fn apply<A: Allocator + Copy>(
     }
 }
 
-/// Does a command to clocks whose journal only has to be counted: that is folded now and then, and
-/// so takes little memory.
+/// Applies a command to clocks of whose journal only the count matters. The journal is folded
+/// every 1,024 commands, so that it takes little memory.
 fn apply_counting<A: Allocator + Copy>(
     keeper: &mut Timekeeper<A>,
     reading: u64,
@@ -64,7 +64,7 @@ fn apply_counting<A: Allocator + Copy>(
     keeper.apply(CALLER, reading, cmd)
 }
 
-/// Folds the journal whole after each so many commands.
+/// Folds the whole journal if the number of accepted commands is a multiple of 1,024.
 fn fold_in_time<A: Allocator + Copy>(keeper: &mut Timekeeper<A>)
     ensures { IsAlike keeper.new.journal keeper.old.journal }
 {
@@ -73,8 +73,8 @@ fn fold_in_time<A: Allocator + Copy>(keeper: &mut Timekeeper<A>)
     }
 }
 
-/// Does a command to clocks whose journal is folded where it is full. It stands apart so that a
-/// command without a fold takes few steps.
+/// Applies a command to clocks whose journal is folded when it is full. It is a separate function
+/// so that a command without a fold takes few steps.
 #[inline(never)]
 fn apply_folding<A: Allocator + Copy>(
     keeper: &mut Timekeeper<A>,

@@ -1,4 +1,4 @@
-//! The text of a trace: the value of each stamp in a line.
+//! Makes the text of a trace: one line for each stamp, with the clock's value there.
 ghost use Rattle.std.specs.Prelude.{◌≡◌, ◌⊎◌, flat_map, length, IfOk, MatchResult};
 ghost use Rattle.tk_keeper.specs.declared.trace_error.TraceError.{TraceError};
 ghost use Rattle.tk_replay.specs.Fault.{fault_of_stamps};
@@ -17,9 +17,9 @@ use tk_keeper::Timekeeper;
 use tk_pieces::trace_all;
 use tk_script::Stamps;
 
-/// The trace of a script's bytes and of a stamp file's: a clock at each stamp, a line each, or the
-/// first fault of the script, then of the stamp file, then of its items. `Memory` may stand in the
-/// place of any other answer.
+/// Makes the trace of a script's bytes and a stamp file's: one line for each stamp, or the first
+/// fault of the script, then of the stamp file, then of its items. `Memory` may replace any other
+/// result.
 pub(crate) fn trace_of<E: Threads + Sync>(
     rt: &E,
     alloc: Global,
@@ -36,7 +36,7 @@ pub(crate) fn trace_of<E: Threads + Sync>(
     convert(rt, alloc, &keeper, &items, clock)
 }
 
-/// The items of a stamp file's bytes.
+/// Parses the bytes of a stamp file.
 fn items_of(alloc: Global, stamps: &[u8]) -> Result<Stamps, Fault>
     ensures gives { MatchResult result
         (λ items. spec.stamps_of stamps.now ≡ Ok (spec.items items))
@@ -50,9 +50,17 @@ fn items_of(alloc: Global, stamps: &[u8]) -> Result<Stamps, Fault>
     }
 }
 
-/// The lines of items by the clocks of a keeper, in memory from `alloc`: a clock at each stamp, in
-/// ns; or the fault of the first one that has any. A long list is converted by several threads.
-/// `Memory` may stand in the place of any other answer.
+/// Makes the lines of a trace: for each item, the value of `clock` at its stamp in the keeper's
+/// journal at its front, in ns.
+///
+/// The two lists of `items` must have the same length, as `Stamps::from_bytes` gives them. The text
+/// is allocated from `alloc`. From 131,072 items on, several threads convert them; if no thread can
+/// be started, the calling thread converts them all.
+///
+/// # Errors
+///
+/// - `Fault::Trace`: the first item in the list that has a fault, with that fault
+/// - `Fault::Memory`: an allocation failed; it may replace any other result
 pub fn convert<E: Threads + Sync, A: Allocator + Copy + Send + Sync, B: Allocator + Copy>(
     rt: &E,
     alloc: B,
@@ -71,7 +79,8 @@ pub fn convert<E: Threads + Sync, A: Allocator + Copy + Send + Sync, B: Allocato
     Ok(lines_of(alloc, values.as_slice())?)
 }
 
-/// A line for each value. Its memory is asked for at once, by the digits of the greatest value.
+/// Makes one line for each value. It first reserves the whole text, by the digits of the greatest
+/// value.
 fn lines_of<B: Allocator>(alloc: B, values: &[u64]) -> Result<Vec<u8, B>, AllocError>
     ensures { IfOk result (λ text. text.items ≡ flat_map value_line values.now) }
 {

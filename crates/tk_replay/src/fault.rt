@@ -8,28 +8,30 @@ use std::fmt;
 use tk_keeper::TraceError;
 use tk_script::ScriptError;
 
-/// Why a replay or a trace stopped. In every fault but `Write` nothing was written.
+/// Says why a replay or a trace stopped. Nothing was written, except with `Write`.
+///
+/// `Display` prints the program's text. docs/TKCORE.md lists the texts.
 #[derive(Clone, Copy, Debug, PartialEq, Eq)]
 pub enum Fault {
-    /// A read answered an error.
+    /// A read returned an error, or (in the program) a file could not be opened.
     Read,
-    /// The bytes are no script. This is never `ScriptError::Memory`.
+    /// The script has a fault, which is never `ScriptError::Memory`.
     Script(ScriptError),
-    /// The bytes are no stamp file, and never `ScriptError::Memory`. Only a trace reads one.
+    /// The stamp file of a trace has a fault, which is never `ScriptError::Memory`.
     Stamps(ScriptError),
-    /// A stamp can't be converted, and never `TraceError::Memory`. Only a trace converts them.
+    /// A stamp of a trace can't be converted. The error is never `TraceError::Memory`.
     Trace(TraceError),
-    /// Memory was refused, before anything was written.
+    /// An allocation failed before anything was written.
     Memory,
-    /// A write or the flush answered an error, or a write took nothing.
+    /// A write or the flush returned an error, or a write accepted no byte.
     Write {
-        /// How many bytes of the report or of the trace, from its beginning, had gone out.
+        /// The number of bytes written, from the beginning of the report or of the trace.
         written: u64,
     },
 }
 
 impl Fault {
-    /// The fault of a stamp file.
+    /// Converts the error of a stamp file into a fault.
     pub(crate) fn of_stamps(error: ScriptError) -> Fault
         ensures { result ≡ fault_of_stamps error }
     {

@@ -1,4 +1,4 @@
-//! The clocks as the commands of a script leave them.
+//! Makes the clocks that the commands of a script leave.
 ghost use Rattle.std.specs.Prelude.{◌≡◌, ◌<◌, IfErr, None, OnOk};
 ghost use Rattle.tk_clock.specs.Journal.{accepted_count, opened};
 ghost use Rattle.tk_clock.specs.Limits.{counted_most};
@@ -14,10 +14,15 @@ use tk_clock::Refusal;
 use tk_keeper::Timekeeper;
 use tk_script::{Row, RowReader, ScriptError, Start};
 
-/// The clocks with all commands of a script that are accepted, or the script's first fault.
+/// Opens clocks as a script says, applies its commands, and returns them with their journal.
 ///
-/// Refused commands and reads of clocks are passed over. `Memory` may stand in the place of any
-/// other answer.
+/// Refused commands and reads of clocks are skipped. Nothing is folded, so every command after
+/// 1,048,576 accepted ones is refused as `Full`.
+///
+/// # Errors
+///
+/// Returns the script's first fault, in the order of `ScriptError`. `Memory` may replace any other
+/// result.
 pub fn keeper_of(alloc: Global, script: &[u8]) -> Result<Timekeeper, ScriptError>
     ensures { Gives (λ keeper. keeper.journal) result (journal_of (parse_of script.now)) }
 {
@@ -25,9 +30,16 @@ pub fn keeper_of(alloc: Global, script: &[u8]) -> Result<Timekeeper, ScriptError
     keeper_after(alloc, start, &mut rows)
 }
 
-/// The clocks of an opening with the commands that are still to be read, or the fault of these. All
-/// that it takes is from `alloc`, but for what the reader of the rows takes. `Memory` may stand in
-/// the place of any other answer.
+/// Opens clocks as `start` says, applies the commands that `rows` still has, and returns the
+/// clocks.
+///
+/// `start` and `rows` are those that one `RowReader::open` returned. The journal is allocated from
+/// `alloc`; the reader of the rows allocates from its own allocator. Otherwise it does what
+/// `keeper_of` does.
+///
+/// # Errors
+///
+/// Returns the first fault of the rows. `Memory` may replace any other result.
 pub fn keeper_after<A: Allocator + Copy>(
     alloc: A,
     start: Start,
@@ -45,7 +57,7 @@ pub fn keeper_after<A: Allocator + Copy>(
     Ok(keeper)
 }
 
-/// Does a record's command. One that is refused changes nothing, and neither does a read.
+/// Applies a record's command. A refused command and a read change nothing.
 fn obey<A: Allocator + Copy>(keeper: &mut Timekeeper<A>, row: Row) -> Result<(), ScriptError>
     requires { accepted_count keeper.old.journal < counted_most }
     ensures after { OnOk result

@@ -1,22 +1,23 @@
-//! Reports of scripts, what each record of a script comes to, and traces, a clock at each of many
-//! stamps: a line each.
+//! Makes reports of scripts, one line for each record, and traces of stamp files, one line for each
+//! stamp.
 //!
-//! | Item | What it is |
+//! | Item | What it does |
 //! |---|---|
-//! | `report` | the report of a script's bytes |
-//! | `report_bounded` | the same with no limit to the commands, by a bounded journal |
-//! | `report_rows` | the report of rows that are being read, in memory of the caller's choice |
+//! | `report` | makes the report of a script's bytes |
+//! | `report_bounded` | makes it with no limit on the number of commands, from a bounded journal |
+//! | `report_rows` | makes it from rows that are still to be read, in the caller's memory |
 //! | `replay` | reads a script to its end and writes its report |
-//! | `replay_bounded` | the same by `report_bounded` |
-//! | `trace` | reads a script and a stamp file, and writes a clock at each stamp |
-//! | `keeper_of`, `keeper_after` | the clocks as a script's commands leave them |
-//! | `convert` | the lines of items by a keeper's clocks |
-//! | `replay_all` | the reports of many scripts, by several threads |
-//! | `ManyError` | why there are no reports of many scripts |
-//! | `read_to_end` | the bytes of any reader, up to one more than a script may have |
+//! | `replay_bounded` | does the same with `report_bounded` |
+//! | `trace` | reads a script and a stamp file, and writes a clock's value at each stamp |
+//! | `keeper_of`, `keeper_after` | return the clocks after all accepted commands of a script |
+//! | `convert` | makes the lines of stamps from a keeper's clocks |
+//! | `trace_all`, `trace_all_into` | convert lists of stamps on several threads; from `tk_pieces` |
+//! | `replay_all` | makes the reports of many scripts on several threads |
+//! | `ManyError` | says why `replay_all` made no reports |
+//! | `read_to_end` | reads a whole input, up to one byte more than the largest script |
 //! | `write_whole` | writes a text and flushes |
-//! | `Fault` | why `replay` or `trace` stopped, and how much of the text had gone out by then |
-//! | `Source`, `Sink` | where bytes come from and where the text goes: any reader and writer |
+//! | `Fault` | says why `replay` or `trace` stopped, and how much of the text was written |
+//! | `Source`, `Sink` | stand for any reader and any writer |
 //!
 //! Units: readings in cycles; times in seconds and nanoseconds; texts and lengths in bytes.
 #![tactic(auto)]

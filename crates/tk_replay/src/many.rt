@@ -1,4 +1,4 @@
-//! Reports of many scripts, by several threads.
+//! Makes the reports of many scripts on several threads.
 ghost use Rattle.std.specs.Prelude.{◌≡◌, ◌↔◌, ◌≤◌, IfOk, Err, length};
 ghost use Rattle.tk_replay.specs.Many.{AreOutcomes, IsCountRefused, most_workers};
 
@@ -13,17 +13,24 @@ use std::thread::{Scope, Threads};
 use tk_gate::Gate;
 use tk_script::ScriptError;
 
-/// The most workers.
+/// The greatest number of workers.
 const MOST_WORKERS: usize = 64;
 
-/// The report of each script, in the scripts' order, as `report` gives it, made by as many threads
-/// at once as there are workers.
+/// Makes the report of each script, as `report` does, on at most `workers` threads, and returns the
+/// results in the scripts' order.
 ///
-/// Each worker takes the next script that nobody has taken, until none is left: so a long script
-/// holds up its own worker alone. The gate is told of each script by its worker, with its place
-/// from 0. Count where there are fewer than 1 worker or more than 64. Memory where there is no room for
-/// the answers, before a thread is started. Threads where a thread couldn't be started: the others
-/// then take no further script, and have ended when this returns.
+/// It starts one thread for each worker, but no more than there are scripts. Each worker takes the
+/// next script that no worker has taken, until none is left, so a long script delays its own worker
+/// alone. The worker calls `gate.before` with the script's index, from 0, before it makes the
+/// report, and `gate.after` afterwards. The call waits for its threads.
+///
+/// # Errors
+///
+/// In this order:
+/// - `Count`: `workers` is 0 or more than 64
+/// - `Memory`: the list of results could not be allocated; no thread was started
+/// - `Threads`: a thread could not be started; the others take no further script, and have ended
+///   when this returns
 pub fn replay_all<G: Gate + Sync, R: Threads + Wait + Sync>(
     rt: &R,
     alloc: Global,
@@ -40,7 +47,7 @@ pub fn replay_all<G: Gate + Sync, R: Threads + Wait + Sync>(
     replay_shared::<Brand, G, R>(rt, alloc, scripts, workers, gate)
 }
 
-/// The same, where the type `S` names the scripts.
+/// Does the same for the scripts that the type `S` names.
 fn replay_shared<S: NamesScripts + Send + Sync, G: Gate + Sync, R: Threads + Wait + Sync>(
     rt: &R,
     alloc: Global,
@@ -63,7 +70,7 @@ fn replay_shared<S: NamesScripts + Send + Sync, G: Gate + Sync, R: Threads + Wai
     Ok(shared.into_inner().into_outcomes())
 }
 
-/// Lets so many threads work until all scripts are done. Whether all could be started.
+/// Lets `threads` threads work until all scripts are done. Returns whether all could be started.
 fn work_all<S: NamesScripts + Send + Sync, G: Gate + Sync, R: Threads + Wait + Sync>(
     rt: &R,
     alloc: Global,
@@ -83,7 +90,7 @@ fn work_all<S: NamesScripts + Send + Sync, G: Gate + Sync, R: Threads + Wait + S
     )
 }
 
-/// Starts so many threads, or none more from the first one on that can't be started.
+/// Starts `threads` threads, and stops at the first one that can't be started.
 fn start_all<'s, 'e, S: NamesScripts + Send + Sync + 'e, G: Gate + Sync, R: Threads + Wait + Sync>(
     scope: &'s Scope<'s, &'e ()>,
     rt: &'e R,
@@ -107,7 +114,7 @@ fn start_all<'s, 'e, S: NamesScripts + Send + Sync + 'e, G: Gate + Sync, R: Thre
     true
 }
 
-/// Takes scripts and makes their reports, until none is left.
+/// Takes scripts and makes their reports until none is left.
 fn work<S: NamesScripts, G: Gate, R: Wait>(
     rt: &R,
     alloc: Global,

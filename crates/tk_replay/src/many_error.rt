@@ -4,15 +4,15 @@ ghost use Rattle.tk_replay.specs.ManyError.{many_text};
 use std::error::Error;
 use std::fmt;
 
-/// Why there are no reports of many scripts. Where more than one holds, the first in this order is
-/// told.
+/// Says why `replay_all` made no reports. If more than one cause holds, the first of this list is
+/// returned. `Display` prints the program's text.
 #[derive(Clone, Copy, Debug, PartialEq, Eq)]
 pub enum ManyError {
-    /// Fewer workers than 1 or more than 64 were asked for.
+    /// The number of workers is 0 or more than 64.
     Count,
-    /// Memory was refused, before a thread was started.
+    /// An allocation failed before a thread was started.
     Memory,
-    /// A thread couldn't be started. Want of memory for its start is one cause.
+    /// A thread could not be started. An allocation failure at its start is one cause.
     Threads,
 }
 

@@ -11,10 +11,18 @@ use crate::sink::{Sink, write_whole};
 use crate::source::{Source, read_to_end};
 use std::alloc::Global;
 
-/// Reads a script to its end, makes the whole report, writes it and flushes.
+/// Reads a script to its end, makes its report as `report` does, writes it and flushes.
 ///
-/// It reads at most 16,777,217 bytes, of which the last one shows that the script is too large. No
-/// call is tried again: a read or a write that is interrupted (EINTR) is a fault as any other.
+/// It reads at most 16,777,217 bytes; the last of these shows that the script is too large. No read
+/// or write is tried again: an interrupted one (EINTR) is a fault.
+///
+/// # Errors
+///
+/// Nothing is written, except with `Write`.
+/// - `Fault::Read`: a read failed
+/// - `Fault::Script`: the script has a fault
+/// - `Fault::Memory`: an allocation failed; it may replace any other result before the first write
+/// - `Fault::Write`: a write or the flush failed; it contains the number of bytes written
 pub fn replay<R: Source, W: Sink>(
     alloc: Global,
     reader: &mut R,
@@ -28,8 +36,13 @@ pub fn replay<R: Source, W: Sink>(
     replay_by(alloc, reader, writer, None)
 }
 
-/// Reads and writes as `replay` does, and makes the report as `report_bounded` does, by a bounded
-/// journal.
+/// Reads a script to its end, makes its report as `report_bounded` does, writes it and flushes.
+///
+/// `keep` is from 1 to 524,288. No command is refused as `Full`.
+///
+/// # Errors
+///
+/// Returns the same faults as `replay`.
 pub fn replay_bounded<R: Source, W: Sink>(
     alloc: Global,
     reader: &mut R,
@@ -46,7 +59,7 @@ pub fn replay_bounded<R: Source, W: Sink>(
 }
 
 /// Reads a script to its end, makes its report, writes it and flushes. A full journal is folded to
-/// its last `keep` entries, or refuses commands.
+/// its last `keep` entries; without `keep` it refuses commands.
 fn replay_by<R: Source, W: Sink>(
     alloc: Global,
     reader: &mut R,

@@ -16,11 +16,16 @@ use tk_clock::{ClockId, Command, Refusal};
 use tk_keeper::Timekeeper;
 use tk_script::{Calendar, Row, RowReader, ScriptError, Start, line_no, line_ok, line_open};
 
-/// The report of a script's bytes: a line for the opening, and one for each record after it.
+/// Makes the report of a script's bytes: a line for the opening, and one for each later record.
 ///
-/// Commands are applied in their order, all by the caller 0. An accepted one is told with MONOTONIC
-/// at its reading. One that meets a journal of 1,048,576 entries is refused as Full. `Memory` may
-/// stand in the place of any other answer.
+/// Commands are applied in their order, all with the caller 0. The line of an accepted command has
+/// MONOTONIC at its reading. After 1,048,576 accepted commands every further one is refused as
+/// `Full`.
+///
+/// # Errors
+///
+/// Returns the script's first fault, in the order of `ScriptError`. `Memory` may replace any other
+/// result.
 pub fn report(alloc: Global, script: &[u8]) -> Result<Vec<u8>, ScriptError>
     ensures { MatchResult result
         (λ text. IsReport script.now text.items)
@@ -29,10 +34,15 @@ pub fn report(alloc: Global, script: &[u8]) -> Result<Vec<u8>, ScriptError>
     report_by(alloc, script, None)
 }
 
-/// The report of a script's bytes by a bounded journal: no command is refused as Full.
+/// Makes the report of a script's bytes from a bounded journal, so that no command is refused as
+/// `Full`.
 ///
-/// A journal of 1,048,576 entries is folded to its last `keep` entries before the next command. The
-/// lines are those of a journal that lists every command. All else is as in `report`.
+/// A journal of 1,048,576 entries is folded to its last `keep` entries, from 1 to 524,288, before
+/// the next command. The lines are those of a journal that lists every command and is never full.
+///
+/// # Errors
+///
+/// Returns the same errors as `report`.
 pub fn report_bounded(alloc: Global, script: &[u8], keep: u64) -> Result<Vec<u8>, ScriptError>
     requires { (1 ≤ keep) × (keep ≤ greatest_keep) }
     ensures { MatchResult result
@@ -42,8 +52,8 @@ pub fn report_bounded(alloc: Global, script: &[u8], keep: u64) -> Result<Vec<u8>
     report_by(alloc, script, Some(keep))
 }
 
-/// The report of a script's bytes. A full journal is folded to its last `keep` entries, or refuses
-/// commands.
+/// Makes the report of a script's bytes. A full journal is folded to its last `keep` entries;
+/// without `keep` it refuses commands.
 pub(crate) fn report_by(
     alloc: Global,
     script: &[u8],
@@ -58,9 +68,15 @@ pub(crate) fn report_by(
     report_rows(alloc, start, &mut rows, keep)
 }
 
-/// The report of an opening and of the rows that are still to be read, or the fault of these. All
-/// that it takes is from `alloc`, but for what the reader of the rows takes. `Memory` may stand in
-/// the place of any other answer.
+/// Makes the report of an opening and of the rows that `rows` still has.
+///
+/// `start` and `rows` are those that one `RowReader::open` returned. With `keep`, at most 524,288,
+/// a full journal is folded to its last `keep` entries, and no command is refused as `Full`. Report
+/// and journal are allocated from `alloc`; the reader of the rows allocates from its own allocator.
+///
+/// # Errors
+///
+/// Returns the first fault of the rows. `Memory` may replace any other result.
 pub fn report_rows<A: Allocator + Copy>(
     alloc: A,
     start: Start,
@@ -84,7 +100,7 @@ pub fn report_rows<A: Allocator + Copy>(
     Ok(text)
 }
 
-/// Adds the line of a record: applies a command, or reads a clock.
+/// Applies a record's command, or reads its clock, and appends the line.
 fn add_line<A: Allocator + Copy>(
     text: &mut Vec<u8, A>,
     calendar: &mut Calendar<A>,
@@ -106,7 +122,8 @@ fn add_line<A: Allocator + Copy>(
     }
 }
 
-/// Applies a command, and adds the line of the answer. An accepted command can always be told.
+/// Applies a command and appends its line. An accepted command always has one: MONOTONIC at its
+/// reading is below its end.
 fn add_reply<A: Allocator + Copy>(
     text: &mut Vec<u8, A>,
     keeper: &mut Timekeeper<A>,
@@ -132,7 +149,7 @@ fn add_reply<A: Allocator + Copy>(
     }
 }
 
-/// Adds the line of a clock at a reading.
+/// Reads a clock and appends its line.
 fn add_look<A: Allocator + Copy>(
     text: &mut Vec<u8, A>,
     calendar: &mut Calendar<A>,

@@ -4,22 +4,23 @@ ghost use Rattle.tk_replay.specs.Writing.{IsFlushed, IsWrittenUpTo, WriteFailed}
 
 use std::io::Write;
 
-/// Where a report goes: any writer.
+/// A destination of a report or a trace: any writer.
 ///
-/// `replay` writes by this trait, so that its contract can say that a write failed: it is proved
-/// for all relations `write_gives` and `flush_gives`, and so can name only a call that it made.
-/// Every writer has it; write no impl of it.
+/// Every `Write` implements it; write no other impl. `replay` and `trace` write through it, so
+/// that their contracts can say that a write failed: they are proved for all relations
+/// `write_gives` and `flush_gives`, and so can name only a call that was made.
 pub trait Sink: Write {
-    // What a write may come to: the writer before it, the text, how many bytes it took, none where
-    // it failed or took nothing, and the writer after it.
+    // What a write may do: the writer before it, the text, the number of bytes that it took (none
+    // if it failed or took nothing), and the writer after it.
     ghost write_gives: { Self → List ℕ → Option ℕ → Self → Type 0 };
 
-    // What a flush may come to: the writer before it, whether it went through, and the writer after
-    // it.
+    // What a flush may do: the writer before it, whether it succeeded, and the writer after it.
     ghost flush_gives: { Self → Bool → Self → Type 0 };
 
-    /// Writes once from the front of the text: how many bytes were taken, or nothing where the
-    /// write answered an error or took none.
+    /// Writes once, from the beginning of `text`, and returns the number of bytes taken, at least
+    /// 1.
+    ///
+    /// `None` means that the write returned an error or took no byte; nothing was written then.
     fn write_once(&mut self, text: &[u8]) -> Option<usize>
         ensures bound { IfSome result (λ count. (0 < count) × (count ≤ length text.now)) }
         ensures bytes { MatchOption result
@@ -28,7 +29,7 @@ pub trait Sink: Write {
             (Self.Write.contents self.old) (Self.Write.contents self.new) (take count text.now)) }
         ensures call { write_gives self.old text.now result self.new };
 
-    /// Flushes what was written; false where the flush answered an error.
+    /// Flushes what was written. `false` means that the flush returned an error.
     fn flush_once(&mut self) -> bool
         ensures bytes { Keeps (Self.Write.contents self.old) (Self.Write.contents self.new) }
         ensures call { flush_gives self.old result self.new };
@@ -48,8 +49,14 @@ impl<W: Write> Sink for W {
     }
 }
 
-/// Writes the whole text and flushes. At `Err` so many bytes of it, from its beginning, had gone
-/// out.
+/// Writes the whole text and flushes.
+///
+/// It allocates nothing itself. No write is tried again: an interrupted one (EINTR) is an error.
+///
+/// # Errors
+///
+/// Returns the number of bytes written, from the beginning of the text, if a write returned an
+/// error or took no byte, or if the flush returned an error.
 pub fn write_whole<S: Sink>(sink: &mut S, text: &[u8]) -> Result<(), u64>
     ensures ok { OnOk result
         (Appends (S.Write.contents sink.old) (S.Write.contents sink.new) text.now) }

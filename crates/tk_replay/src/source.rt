@@ -6,18 +6,20 @@ use crate::fault::Fault;
 use std::alloc::{AllocError, Global};
 use std::io::Read;
 
-/// Where a script comes from: any reader.
+/// A source of a script or a stamp file: any reader.
 ///
-/// `replay` reads by this trait, so that its contract can say that a read failed: it is proved for
-/// every relation `read_gives`, and so can name only a read that it made. Every reader has it;
-/// write no impl of it.
+/// Every `Read` implements it; write no other impl. `replay` and `trace` read through it, so that
+/// their contracts can say that a read failed: they are proved for every relation `read_gives`,
+/// and so can name only a read that was made.
 pub trait Source: Read {
-    // What a read may come to: the reader before it, how many bytes it gave, none where it failed,
-    // and the reader after it.
+    // What a read may do: the reader before it, the number of bytes that it gave (none if it
+    // failed), and the reader after it.
     ghost read_gives: { Self → Option ℕ → Self → Type 0 };
 
-    /// Reads once into `room`, from its front: how many bytes it gave, or nothing where the read
-    /// answered an error.
+    /// Reads once into the beginning of `room` and returns the number of bytes read; 0 means the
+    /// end of the input, unless `room` is empty.
+    ///
+    /// `None` means that the read returned an error; nothing was read then.
     fn read_once(&mut self, room: &mut [u8]) -> Option<usize>
         ensures bound { IfSome result (λ count. count ≤ length room.new) }
         ensures bytes { MatchOption result
@@ -36,19 +38,25 @@ impl<R: Read> Source for R {
     }
 }
 
-/// The most bytes that are read: one more than a script may have.
+/// The most bytes that are ever read: one more than the largest script.
 const MOST: usize = 16_777_217;
 
-/// The least room that is made at once, in bytes.
+/// The smallest growth of the buffer, in bytes.
 const LEAST_ROOM: usize = 65_536;
 
-/// The greatest, so few that they are still in the cache when they are read into.
+/// The largest growth of the buffer, in bytes: small enough that new memory is still in the cache
+/// when it is read into.
 const GREATEST_ROOM: usize = 262_144;
 
-/// Reads to the end, or 16,777,217 bytes, whichever comes first.
+/// Reads the source to its end, or 16,777,217 bytes, whichever comes first, and returns the bytes.
 ///
-/// Read where a read fails, and Memory. No read is tried again: one that is interrupted (EINTR) is
-/// a fault as any other.
+/// The limit is one byte more than the largest script, so a result of that length is too large. No
+/// read is tried again: an interrupted one (EINTR) is a fault.
+///
+/// # Errors
+///
+/// - `Fault::Read`: a read failed
+/// - `Fault::Memory`: an allocation failed
 pub fn read_to_end<S: Source>(alloc: Global, source: &mut S) -> Result<Vec<u8>, Fault>
     ensures within { IsReadWithin (S.Read.remaining source.old) (S.Read.remaining source.new) }
     ensures ok { IfOk result (λ bytes.
@@ -69,8 +77,8 @@ pub fn read_to_end<S: Source>(alloc: Global, source: &mut S) -> Result<Vec<u8>, 
     Ok(bytes)
 }
 
-/// Makes the room greater where it is full, by a quarter within these bounds, and up to `MOST`. What
-/// is filled stays.
+/// Grows a full buffer by a quarter, within the two bounds above, and up to `MOST`. The filled part
+/// stays.
 fn make_room(room: &mut Vec<u8>, filled: usize) -> Result<(), AllocError>
     requires within { filled ≤ vec_len room.old }
     requires below { filled < 2 ^ 24 + 1 }
@@ -86,7 +94,7 @@ fn make_room(room: &mut Vec<u8>, filled: usize) -> Result<(), AllocError>
     room.resize((filled + more).min(MOST), 0)
 }
 
-/// Reads once into the room from a place on.
+/// Reads once into the buffer from the index `at` on.
 fn read_at<S: Source>(source: &mut S, room: &mut [u8], at: usize) -> Option<usize>
     requires { at < length room.old }
     ensures front { take at room.new ≡ take at room.old }

@@ -10,19 +10,27 @@ use std::alloc::Global;
 use std::thread::Threads;
 use tk_clock::ClockId;
 
-/// Reads a script and then stamps to their ends, writes the clock's value at each stamp, in ns, a
-/// line each, and flushes. Without stamps no byte is written.
+/// Reads a script and then a stamp file to their ends, writes the value of `clock` at each stamp,
+/// in ns, one line each, and flushes. Without stamps it writes no byte.
 ///
-/// Each stamp has a front: it is told as the journal was when so many commands of the script were
-/// accepted. A command that meets a journal of 1,048,576 entries is refused as Full.
+/// A stamp's front is the number of accepted commands before it: the value is that of the script's
+/// journal at that front. After 1,048,576 accepted commands every further one is refused as `Full`.
 ///
-/// Both inputs are read before either is looked at, each up to 16,777,217 bytes, of which the last
-/// one shows that it is too large. So Read comes before all other faults; then Script, Stamps and
-/// Trace, by the first item that has a fault. Memory may stand in the place of any answer before
-/// the first byte is written. No call is tried again, as in `replay`.
+/// Both inputs are read before either is parsed, each up to 16,777,217 bytes; the last of these
+/// shows that the input is too large. No read or write is tried again, as in `replay`.
 ///
-/// From 131,072 stamps on they are converted by several threads, two for each processor at most, and
-/// by the calling thread where none can be started. All else is done by the calling thread.
+/// From 131,072 stamps on, several threads convert them, at most two for each processor. If none
+/// can be started, the calling thread converts them. The calling thread does all other work.
+///
+/// # Errors
+///
+/// In this order. `Memory` may replace any other result before the first byte is written, and
+/// nothing is written, except with `Write`.
+/// - `Fault::Read`: a read of the script failed, or after it a read of the stamp file
+/// - `Fault::Script`: the script has a fault
+/// - `Fault::Stamps`: the stamp file has a fault
+/// - `Fault::Trace`: the first stamp in the file that can't be converted
+/// - `Fault::Write`: a write or the flush failed; it contains the number of bytes written
 pub fn trace<E: Threads + Sync, R: Source, S: Source, W: Sink>(
     rt: &E,
     alloc: Global,

@@ -1,4 +1,4 @@
-//! What the workers share: the scripts that nobody has taken yet, and the outcomes so far.
+//! Holds what the workers share: the scripts that no worker has taken, and the outcomes so far.
 ghost use Rattle.std.specs.Prelude.{◌≡◌, ◌+◌, ◌<◌, ◌≤◌, length, set, IfOk, IfNone, IfSome, Ok, Err, get_or};
 ghost use Rattle.tk_replay.specs.Many.{AreOutcomes, IsOutcome};
 
@@ -6,12 +6,12 @@ use std::alloc::{AllocError, Global};
 use std::marker::{Brand, Model, PhantomData};
 use tk_script::ScriptError;
 
-/// What a script came to.
+/// The report of a script, or its first fault.
 pub(crate) type Outcome = Result<Vec<u8>, ScriptError>;
 
 /// Names the scripts that workers share. It has no function, and no value of it is made.
 ///
-/// What lies behind a lock is known by its type alone: so the type names the scripts.
+/// A contract knows the value inside a lock by its type alone, so the type names the scripts.
 pub(crate) trait NamesScripts {
     ghost use Rattle.std.specs.Prelude.{ℕ, List};
     ghost use Rattle.std.specs.Global.{Vec};
@@ -27,8 +27,7 @@ impl NamesScripts for Brand {
 
 /// A script that one worker has taken.
 ///
-/// It is made when the script is handed out, and used up when the outcome is handed in. It can't be
-/// copied or dropped.
+/// `Worklist::take` makes it, and `Worklist::hand_in` uses it up. It can't be copied or dropped.
 pub(crate) struct Job<S: NamesScripts> {
     piece: usize,
     of: PhantomData<S>,
@@ -45,7 +44,7 @@ impl<S: NamesScripts> Model for Job<S> {
 }
 
 impl<S: NamesScripts> Job<S> {
-    /// The script's number, from 0.
+    /// Returns the script's index, from 0.
     pub(crate) fn piece(&self) -> usize
         ensures value { result ≡ self.now }
         ensures within { result < length S.scripts }
@@ -54,11 +53,11 @@ impl<S: NamesScripts> Job<S> {
     }
 }
 
-/// The scripts that nobody has taken yet, and an outcome for each script.
+/// The scripts that no worker has taken, and an outcome for each script.
 #[derive(Drop)]
 pub(crate) struct Worklist<S: NamesScripts> {
     taken: usize,
-    /// Want of memory stands for each script whose outcome hasn't been handed in.
+    /// Contains `Memory` for each script without an outcome so far.
     outcomes: Vec<Outcome>,
     of: PhantomData<S>,
 }
@@ -76,7 +75,7 @@ impl<S: NamesScripts> Model for Worklist<S> {
 }
 
 impl<S: NamesScripts> Worklist<S> {
-    /// All scripts, none of which is taken. It asks for the room of all outcomes.
+    /// Makes a list in which no script is taken. It allocates the capacity for all outcomes.
     pub(crate) fn new(alloc: Global, count: usize) -> Result<Worklist<S>, AllocError>
         requires { count ≡ length S.scripts }
         ensures { IfOk result (λ w. w.taken ≡ 0) }
@@ -92,7 +91,7 @@ impl<S: NamesScripts> Worklist<S> {
         })
     }
 
-    /// Hands out the next script, until all are taken.
+    /// Takes the next script. `None` means that all are taken.
     pub(crate) fn take(&mut self) -> Option<Job<S>>
         ensures some { IfSome result (λ job. (job ≡ self.old.taken)
             × (self.new.taken ≡ self.old.taken + 1)) }
@@ -111,7 +110,7 @@ impl<S: NamesScripts> Worklist<S> {
         })
     }
 
-    /// Takes in the outcome of a script.
+    /// Stores the outcome of a script.
     pub(crate) fn hand_in(&mut self, job: Job<S>, script: &Vec<u8>, outcome: Outcome)
         requires script { script.now ≡ get_or S.scripts job script.now }
         requires outcome { IsOutcome script.now outcome }
@@ -122,14 +121,14 @@ impl<S: NamesScripts> Worklist<S> {
         self.outcomes[piece] = outcome;
     }
 
-    /// Hands out no more scripts.
+    /// Marks all scripts as taken.
     pub(crate) fn close(&mut self)
         ensures { self.new.outcomes ≡ self.old.outcomes }
     {
         self.taken = self.outcomes.len();
     }
 
-    /// The outcomes, in the scripts' order.
+    /// Returns the outcomes, in the scripts' order.
     pub(crate) fn into_outcomes(self) -> Vec<Outcome>
         ensures value { result.items ≡ self.outcomes }
         ensures each { AreOutcomes S.scripts result.items }

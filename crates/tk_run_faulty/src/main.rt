@@ -1,4 +1,4 @@
-//! The program on a script with a fault: status 1, and no report. What it tells of its ending is on
+//! Runs the program on a script with a fault: status 1, and no report. The line of error goes to
 //! standard output here, so that the gate compares it.
 #![tactic(auto)]
 

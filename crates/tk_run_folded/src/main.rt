@@ -1,6 +1,6 @@
-//! The program on a script that fills the journal and has one command more, by the words
-//! `replay --keep 1`: it is folded in time. The script is made here, and the last lines of the report
-//! are written, since both are long.
+//! Runs the program with the words `replay --keep 1` on a script that fills the journal and has one
+//! command more. This program makes the script, and writes the last two lines of the report alone,
+//! since both are long.
 #![tactic(auto)]
 
 use std::alloc::{AllocError, Global};
@@ -8,10 +8,10 @@ use std::io::Write;
 use std::process::ExitCode;
 use tk_program::run_and_tell;
 
-/// How many commands a journal lists, and one more.
+/// The number of commands: one more than a journal lists.
 const COMMANDS: usize = 1_048_577;
 
-/// How many bytes of the report are written: its last two lines.
+/// The number of bytes of the report that are written: its last two lines.
 const LAST: usize = 46;
 
 fn main(rt: HostRuntime) -> ExitCode {
@@ -28,7 +28,7 @@ fn main(rt: HostRuntime) -> ExitCode {
     }
 }
 
-/// A script of so many updates.
+/// Makes a script of `COMMANDS` updates.
 fn script(alloc: Global) -> Result<Vec<u8>, AllocError> {
     let mut script = b"open,32,16777216,24,0,1700000000,0\n".to_vec(alloc)?;
     for _ in 0..COMMANDS {

@@ -1,5 +1,5 @@
-//! The program on words that it refuses, though the script beside them is good: status 2, and no
-//! report. What it tells of its ending is on standard output here, so that the gate compares it.
+//! Runs the program on refused words, with a good script on standard input: status 2, and no
+//! report. The line of error goes to standard output here, so that the gate compares it.
 #![tactic(auto)]
 
 use std::process::ExitCode;

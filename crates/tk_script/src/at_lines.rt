@@ -9,11 +9,15 @@ use crate::script_error::ScriptError;
 use std::alloc::Allocator;
 use tk_clock::{ClockId, Timespec};
 
-/// Appends the line of a clock's time: `at,CLOCK,TIME`, and for REALTIME and its coarse form `,UTC`
-/// behind it.
+/// Appends the line of a clock's time: `at,CLOCK,SEC.NNNNNNNNN`, followed by `,UTC` for REALTIME
+/// and REALTIME_COARSE.
 ///
-/// Only Memory; `out` is then as it was. For many lines use a `Calendar`, which works out each date
-/// once.
+/// `time` is from 0 to 9,223,372,035.999999999 s. For many lines use a `Calendar`, which computes
+/// each date once.
+///
+/// # Errors
+///
+/// - `Memory`: an allocation failed; `out` is as it was
 pub fn line_at<A: Allocator + Copy>(
     out: &mut Vec<u8, A>,
     clock: ClockId,
@@ -32,8 +36,12 @@ pub fn line_at<A: Allocator + Copy>(
 impl<A: Allocator + Copy> Calendar<A> {
     /// Appends the line of a clock's time as the function `line_at` does, and keeps its date.
     ///
-    /// It takes no memory but the growth of `out`, and for the date of a day other than that of the
+    /// It allocates for the growth of `out`, and for a date when the day differs from that of the
     /// last line with a date.
+    ///
+    /// # Errors
+    ///
+    /// - `Memory`: an allocation failed; `out` is as it was
     pub fn line_at(
         &mut self,
         out: &mut Vec<u8, A>,
@@ -93,7 +101,7 @@ fn line_at_plain<A: Allocator>(
     line.add_to(out)
 }
 
-/// Appends the line of a clock's time with this date and time of day behind it.
+/// Appends the line of a clock's time, followed by this date and time of day.
 fn line_at_with<A: Allocator>(
     out: &mut Vec<u8, A>,
     clock: ClockId,
@@ -116,7 +124,7 @@ fn line_at_with<A: Allocator>(
     line.add_to(out)
 }
 
-/// Puts a clock and its time in front of what there is of a line.
+/// Puts a clock and its time in front of a line.
 #[inline(always)]
 fn put_at(line: &mut Line, clock: ClockId, time: Timespec)
     requires writable { IsWritable time }

@@ -12,10 +12,10 @@ use std::marker::Model;
 
 const SECONDS_PER_DAY: u64 = 86_400;
 
-/// The calendar, open at the day that was asked for last: lines of one day work its date out once.
+/// Keeps the date of the last day, so that the lines of one day compute it once.
 #[derive(Drop)]
 pub struct Calendar<A: Allocator = Global> {
-    /// The day whose date is at hand, counted from 1970-01-01.
+    /// The day whose date is kept, counted from 1970-01-01.
     day: Option<u32>,
     /// Its date, `YYYY-MM-DD`.
     date: String<A>,
@@ -30,7 +30,7 @@ impl<A: Allocator> Model for Calendar<A> {
 }
 
 impl<A: Allocator + Copy> Calendar<A> {
-    /// A calendar that is open at no day. It takes no memory.
+    /// Makes a calendar that keeps no date. It allocates nothing.
     pub fn new(alloc: A) -> Calendar<A> {
         Calendar {
             day: None,
@@ -38,7 +38,8 @@ impl<A: Allocator + Copy> Calendar<A> {
         }
     }
 
-    /// The date of a day, counted from 1970-01-01. Only a day other than the last one takes memory.
+    /// Returns the date of a day, counted from 1970-01-01. It allocates only if the day differs
+    /// from the last one.
     pub(crate) fn date_of(&mut self, day: u32) -> Result<&str, ScriptError>
         requires { day ≤ 2932896 }
         ensures ok { IfOk result (λ text. IsDateText day text.now) }
@@ -55,8 +56,14 @@ impl<A: Allocator + Copy> Calendar<A> {
     }
 }
 
-/// A time since 1970 as UTC text, `YYYY-MM-DDThh:mm:ss.nnnnnnnnnZ`, by the Gregorian calendar
-/// without leap seconds.
+/// Returns a time since 1970 as UTC text, `YYYY-MM-DDThh:mm:ss.nnnnnnnnnZ`, in the Gregorian
+/// calendar without leap seconds.
+///
+/// `sec` is from 0 to 9,223,372,035 and `nsec` below 1,000,000,000.
+///
+/// # Errors
+///
+/// - `Memory`: an allocation failed
 pub fn utc<A: Allocator + Copy>(alloc: A, sec: i64, nsec: u32) -> Result<String<A>, ScriptError>
     requires { IsWritable (record { sec = sec; nsec = nsec }) }
     ensures ok { IfOk result (λ s. IsUtcText (unsigned_abs sec) nsec (string_bytes s)) }
@@ -67,7 +74,7 @@ pub fn utc<A: Allocator + Copy>(alloc: A, sec: i64, nsec: u32) -> Result<String<
     utc_of(alloc, date_of_day(day), second, nsec)
 }
 
-/// The day of so many seconds after 1970-01-01, and the second in it.
+/// Returns the day of a count of seconds after 1970-01-01, and the second in that day.
 pub(crate) fn day_and_second(seconds: u64) -> (u32, u32)
     requires { seconds < clock_end }
     ensures day { result.0 ≡ seconds / 86400 }
@@ -79,7 +86,7 @@ pub(crate) fn day_and_second(seconds: u64) -> (u32, u32)
     )
 }
 
-/// The day of the calendar that is so many days after 1970-01-01.
+/// Returns the date that is `day` days after 1970-01-01.
 fn date_of_day(day: u32) -> Date
     requires { day ≤ 2932896 }
     ensures { epoch_day result ≡ pos day }
@@ -87,7 +94,7 @@ fn date_of_day(day: u32) -> Date
     Date::from_plain(jiff_core::civil::Date::from_unix_epoch_day(i64::from(day)).unwrap())
 }
 
-/// The text of a day, and of a second and nanoseconds in it.
+/// Returns the text of a date, and of a second and nanoseconds in it.
 fn utc_of<A: Allocator + Copy>(
     alloc: A,
     date: Date,
@@ -105,7 +112,7 @@ fn utc_of<A: Allocator + Copy>(
     Ok(text)
 }
 
-/// `Thh:mm:ss.nnnnnnnnnZ`.
+/// Returns `Thh:mm:ss.nnnnnnnnnZ`.
 pub(crate) fn time_of_day(second: u32, nsec: u32) -> [u8; 20]
     requires second { second < 86400 }
     requires nanoseconds { nsec < 1000000000 }
@@ -121,7 +128,7 @@ pub(crate) fn time_of_day(second: u32, nsec: u32) -> [u8; 20]
     ]
 }
 
-/// `YYYY-MM-DD`.
+/// Returns `YYYY-MM-DD`.
 fn date_string<A: Allocator + Copy>(alloc: A, date: Date) -> Result<String<A>, ScriptError>
     ensures ok { IfOk result (λ s. string_bytes s ≡ date_text date) }
     ensures memory { IfErr result (λ e. e ≡ ScriptError.Memory) }
@@ -129,7 +136,7 @@ fn date_string<A: Allocator + Copy>(alloc: A, date: Date) -> Result<String<A>, S
     date.to_string(alloc).map_err(|_| ScriptError::Memory)
 }
 
-/// Appends the text, or nothing.
+/// Appends a text.
 fn push<A: Allocator>(text: &mut String<A>, more: &str) -> Result<(), ScriptError>
     ensures ok { OnOk result (string_bytes text.new ≡ string_bytes text.old ++ more.now) }
     ensures memory { IfErr result (λ e. e ≡ ScriptError.Memory) }

@@ -1,7 +1,7 @@
 ghost use Rattle.std.specs.Prelude.{◌≡◌, ◌<◌};
 ghost use Rattle.tk_script.specs.Utc.{two_digits, nine_digits};
 
-/// A number below 100 in two digits.
+/// Returns a number below 100 in two digits.
 pub(crate) fn two_digits_of(n: u32) -> [u8; 2]
     requires { n < 100 }
     ensures { result ≡ two_digits n }
@@ -9,7 +9,7 @@ pub(crate) fn two_digits_of(n: u32) -> [u8; 2]
     [b'0' + (n / 10) as u8, b'0' + (n % 10) as u8]
 }
 
-/// A number below 10^9 in nine digits.
+/// Returns a number below 10^9 in nine digits.
 pub(crate) fn nine_digits_of(n: u32) -> [u8; 9]
     requires { n < 1000000000 }
     ensures { result ≡ nine_digits n }

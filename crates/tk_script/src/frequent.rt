@@ -1,4 +1,4 @@
-//! The frequent forms of a record, each read in one pass where it lies in a plain text.
+//! Reads the frequent forms of a record in a plain text, each in one pass over its bytes.
 ghost use Rattle.std.specs.Prelude.{◌≡◌, ◌++◌, IfSome};
 ghost use Rattle.memchr.specs.Find.{is_byte2};
 ghost use Rattle.tk_script.specs.Plain.{FrontTells, Lacks};
@@ -11,8 +11,8 @@ use crate::plain::behind_line;
 use crate::row::Row;
 use tk_clock::Command;
 
-/// The row of an update or of a read at the front of a text, and what follows its line. None of
-/// another form, and none with a fault.
+/// Parses an update or a read at the beginning of a text, and returns its row and what follows its
+/// line. `None` means another form, or a fault.
 pub(crate) fn row_in_front(text: &[u8]) -> Option<(Row, &[u8])>
     ensures { IfSome result (λ found. FrontTells row_of text.now found.0 found.1.now) }
 {
@@ -22,7 +22,7 @@ pub(crate) fn row_in_front(text: &[u8]) -> Option<(Row, &[u8])>
     }
 }
 
-/// The row of an update, and what follows its line.
+/// Parses an update, and returns its row and what follows its line.
 fn update_in_front(text: &[u8]) -> Option<(Row, &[u8])>
     ensures { IfSome result (λ found. FrontTells row_of text.now found.0 found.1.now) }
 {
@@ -32,7 +32,7 @@ fn update_in_front(text: &[u8]) -> Option<(Row, &[u8])>
     Some((Row::Act { reading, cmd }, rest))
 }
 
-/// The row of a read, and what follows its line.
+/// Parses a read, and returns its row and what follows its line.
 fn look_in_front(text: &[u8]) -> Option<(Row, &[u8])>
     ensures { IfSome result (λ found. FrontTells row_of text.now found.0 found.1.now) }
 {
@@ -43,7 +43,8 @@ fn look_in_front(text: &[u8]) -> Option<(Row, &[u8])>
     Some((Row::Look { reading, clock }, rest))
 }
 
-/// A front and a stamp at the front of a text, and what follows their line.
+/// Parses a front and a stamp at the beginning of a text, and returns them and what follows their
+/// line.
 pub(crate) fn stamp_in_front(text: &[u8]) -> Option<((u64, u64), &[u8])>
     ensures { IfSome result (λ found. FrontTells stamp_of text.now found.0 found.1.now) }
 {
@@ -53,7 +54,7 @@ pub(crate) fn stamp_in_front(text: &[u8]) -> Option<((u64, u64), &[u8])>
     Some(((front, stamp), rest))
 }
 
-/// The field at the front of a text, and what follows it. It is mostly short.
+/// Returns the field at the beginning of a text, and what follows it. It is mostly short.
 fn field_in_front(text: &[u8]) -> (&[u8], &[u8])
     ensures split { text.now ≡ result.0.now ++ result.1.now }
     ensures whole { Lacks (is_byte2 44 10) result.0.now }
@@ -66,8 +67,8 @@ fn field_in_front(text: &[u8]) -> (&[u8], &[u8])
     (text, &[])
 }
 
-/// What follows these bytes at the front of a text. They are few, and known where it is called: the
-/// loop is unrolled there.
+/// Returns what follows these bytes at the beginning of a text. They are few and known to the
+/// compiler at each call, so it unrolls the loop.
 #[inline(always)]
 fn behind<'a>(text: &'a [u8], front: &[u8]) -> Option<&'a [u8]>
     ensures { IfSome result (λ rest. text.now ≡ front.now ++ rest.now) }

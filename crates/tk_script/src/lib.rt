@@ -1,17 +1,18 @@
-//! Scripts of commands and reads, and lists of stamps, taken from bytes, and the lines of a report.
+//! Parses scripts of commands and reads, and stamp files, and makes the lines of a report.
 //!
-//! | Item | What it is |
+//! | Item | What it does |
 //! |---|---|
-//! | `Script`, `Row` | the opening of the clocks, and then commands and reads of clocks |
-//! | `RowReader`, `Start` | the same, read one row after the other |
-//! | `Stamps` | readings of the counter, each with the number of commands before it |
-//! | `ScriptError` | the first fault of a script or of a stamp file |
-//! | `number`, `clock_word` | single fields of a script |
-//! | `line_open`, `line_ok`, `line_no`, `line_at` | the lines of a report |
-//! | `utc` | a time as UTC text |
-//! | `Calendar` | the same lines of clocks, with each date worked out once |
+//! | `Script`, `Row` | hold a parsed script: the opening of the clocks, then commands and reads |
+//! | `RowReader`, `Start` | read a script one row at a time |
+//! | `Stamps` | holds a parsed stamp file: readings of the counter, each with its front |
+//! | `ScriptError` | says what the first fault of a script or of a stamp file is |
+//! | `number`, `clock_word` | parse one field |
+//! | `line_open`, `line_ok`, `line_no`, `line_at` | append one line of a report |
+//! | `Calendar` | appends the same lines of clocks, and computes each date once |
+//! | `utc` | returns a time as UTC text |
 //!
-//! Readings in cycles; times in seconds and nanoseconds; records count from 1, fields from 0.
+//! Units: readings in cycles; times in seconds and nanoseconds. Records count from 1, fields from
+//! 0.
 #![tactic(auto)]
 
 mod at_lines;

@@ -1,5 +1,5 @@
-//! A line of a report as it is made: on the stack, from its end to its front, since the front of a
-//! number is known last.
+//! Builds one line of a report on the stack, from its end to its beginning, since the first digit
+//! of a number is known last.
 ghost use Rattle.std.specs.Prelude.{◌≡◌, ◌+◌, ◌<◌, ◌≤◌, ℕ, List, ◌++◌, OnOk, OnErr, IfErr, codes, length, decimal, drop};
 ghost use Rattle.tk_script.specs.Line.{HasRoom};
 ghost use Rattle.tk_script.specs.Lines.{IsWritable, time_text};
@@ -11,14 +11,14 @@ use std::alloc::Allocator;
 use std::marker::Model;
 use tk_clock::Timespec;
 
-/// The most bytes of a line. None that is made comes to more than 85.
+/// The size of the buffer, in bytes. No line has more than 85.
 const ROOM: usize = 96;
 
-/// What there is of a line, up to its end.
+/// The last part of a line, as far as it is built.
 #[derive(Drop)]
 pub(crate) struct Line {
     bytes: [u8; ROOM],
-    /// Where it begins in `bytes`.
+    /// The index of its first byte in `bytes`.
     start: usize,
 }
 
@@ -31,7 +31,7 @@ impl Model for Line {
 }
 
 impl Line {
-    /// The end of a line.
+    /// Starts with the end of a line: a line feed.
     #[inline(always)]
     pub fn end() -> Line
         ensures { result ≡ codes "\n" }
@@ -76,8 +76,8 @@ impl Line {
         self.put_number(time.sec as u64);
     }
 
-    /// Puts a dot and nine digits in front: the last digits of a number of ten, and the dot in the
-    /// place of the first one.
+    /// Puts a dot and nine digits in front: the last nine digits of a number of ten, whose first
+    /// digit the dot overwrites.
     #[inline(always)]
     fn put_fraction(&mut self, nsec: u32)
         requires below { nsec < 1000000000 }
@@ -89,7 +89,7 @@ impl Line {
         self.bytes[self.start] = b'.';
     }
 
-    /// Appends the line to a report, or nothing.
+    /// Appends the line to a report. After an allocation failure the report is as it was.
     #[inline(always)]
     pub fn add_to<A: Allocator>(&self, out: &mut Vec<u8, A>) -> Result<(), ScriptError>
         ensures ok { OnOk result (out.new.items ≡ out.old.items ++ self.now) }

@@ -9,6 +9,10 @@ use tk_clock::{Refusal, Timespec};
 use tk_counter::CounterDesc;
 
 /// Appends the line of an opening: `open,BITS,MULT,SHIFT`.
+///
+/// # Errors
+///
+/// - `Memory`: an allocation failed; `out` is as it was
 pub fn line_open<A: Allocator>(out: &mut Vec<u8, A>, desc: &CounterDesc) -> Result<(), ScriptError>
     ensures ok { OnOk result (out.new.items ≡ out.old.items ++ open_line desc.now) }
     ensures err { OnErr result (out.new.items ≡ out.old.items) }
@@ -24,7 +28,12 @@ pub fn line_open<A: Allocator>(out: &mut Vec<u8, A>, desc: &CounterDesc) -> Resu
     line.add_to(out)
 }
 
-/// Appends the line of an accepted command: `ok,NUMBER,TIME`, with MONOTONIC at its reading.
+/// Appends the line of an accepted command: `ok,NUMBER,SEC.NNNNNNNNN`. `n` is the command's number
+/// and `time` MONOTONIC at its reading, from 0 to 9,223,372,035.999999999 s.
+///
+/// # Errors
+///
+/// - `Memory`: an allocation failed; `out` is as it was
 pub fn line_ok<A: Allocator>(
     out: &mut Vec<u8, A>,
     n: u64,
@@ -44,6 +53,10 @@ pub fn line_ok<A: Allocator>(
 }
 
 /// Appends the line of a refusal: `no,WORD`.
+///
+/// # Errors
+///
+/// - `Memory`: an allocation failed; `out` is as it was
 pub fn line_no<A: Allocator>(out: &mut Vec<u8, A>, refusal: Refusal) -> Result<(), ScriptError>
     ensures ok { OnOk result (out.new.items ≡ out.old.items ++ no_line refusal) }
     ensures err { OnErr result (out.new.items ≡ out.old.items) }

@@ -4,16 +4,18 @@ ghost use Rattle.std.specs.Char.{is_ascii_digit};
 ghost use Rattle.std.specs.Str.Parse.{digits_value};
 ghost use Rattle.tk_script.specs.Number.{is_numeral, number_up_to, number_of, number32_of, signed_of};
 
-/// The number that a field spells: one ASCII digit or more, leading zeros too, and within 64 bits.
+/// Parses a field as an unsigned number of 64 bits: one or more ASCII digits, with leading zeros
+/// allowed.
 ///
-/// An empty field, a space, or a sign is no part of a number.
+/// `None` means that the field is empty, has another byte (a space or a sign is one), or that the
+/// number needs more than 64 bits.
 pub fn number(field: &[u8]) -> Option<u64>
     ensures { result ≡ number_of field.now }
 {
     number_at_most(field, u64::MAX)
 }
 
-/// The number of 32 bits that a field spells.
+/// Parses a field as an unsigned number of 32 bits.
 pub(crate) fn number32(field: &[u8]) -> Option<u32>
     ensures { result ≡ number32_of field.now }
 {
@@ -21,7 +23,7 @@ pub(crate) fn number32(field: &[u8]) -> Option<u32>
     Some(value as u32)
 }
 
-/// The signed number of 64 bits that a field spells, with one `-` in front if it is negative.
+/// Parses a field as a signed number of 64 bits. A negative one begins with one `-`.
 pub(crate) fn signed(field: &[u8]) -> Option<i64>
     ensures { result ≡ signed_of field.now }
 {
@@ -41,8 +43,8 @@ pub(crate) fn signed(field: &[u8]) -> Option<i64>
     }
 }
 
-/// The number that a field spells, if it is at most `most`. Up to nineteen digits fit a word, so
-/// most fields are read without a test of the sum.
+/// Parses a field as a number of at most `most`. Nineteen digits always fit 64 bits, so most fields
+/// need no test of the sum.
 fn number_at_most(field: &[u8], most: u64) -> Option<u64>
     ensures { result ≡ number_up_to most field.now }
 {
@@ -52,7 +54,7 @@ fn number_at_most(field: &[u8], most: u64) -> Option<u64>
     short_number(field).filter(|value| *value <= most)
 }
 
-/// The number that a field of at most nineteen bytes spells.
+/// Parses a field of at most nineteen bytes.
 fn short_number(field: &[u8]) -> Option<u64>
     requires { length field.now ≤ 19 }
     ensures { result ≡ number_up_to (2 ^ 64 - 1) field.now }
@@ -61,8 +63,8 @@ fn short_number(field: &[u8]) -> Option<u64>
     (len == field.len() && !field.is_empty()).then_some(value)
 }
 
-/// The number that the digits at the front of a text spell, and what follows them. None without a
-/// digit, and only the first nineteen are taken.
+/// Parses the digits at the beginning of a text, and returns the number and the rest. `None` means
+/// that there is no digit. Only the first nineteen digits are taken.
 pub(crate) fn number_in_front(text: &[u8]) -> Option<(u64, &[u8])>
     ensures { IfSome result (λ found. (digits : List ℕ) × (text.now ≡ digits ++ found.1.now)
         × (number_of digits ≡ Some found.0)) }
@@ -74,8 +76,8 @@ pub(crate) fn number_in_front(text: &[u8]) -> Option<(u64, &[u8])>
     Some((value, &text[len..]))
 }
 
-/// The digits at the front of at most nineteen bytes: the number that they spell, and how many they
-/// are.
+/// Parses the digits at the beginning of at most nineteen bytes, and returns the number and the
+/// count of digits.
 fn leading_digits(text: &[u8]) -> (u64, usize)
     requires { length text.now ≤ 19 }
     ensures fits { result.0 < 2 ^ 64 }
@@ -96,7 +98,7 @@ fn leading_digits(text: &[u8]) -> (u64, usize)
     (value, text.len())
 }
 
-/// The number that a field of any length spells, if it is at most `most`.
+/// Parses a field of any length as a number of at most `most`.
 fn long_number(field: &[u8], most: u64) -> Option<u64>
     ensures { result ≡ number_up_to most field.now }
 {
@@ -114,7 +116,7 @@ fn long_number(field: &[u8], most: u64) -> Option<u64>
     Some(value)
 }
 
-/// One digit or more, and nothing else?
+/// Returns whether the field has one digit or more, and nothing else.
 fn has_digits_only(field: &[u8]) -> bool
     ensures { result ≡ is_numeral field.now }
 {

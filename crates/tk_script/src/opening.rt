@@ -9,18 +9,18 @@ use crate::script_error::ScriptError;
 use tk_clock::{Clock, Timespec};
 use tk_counter::CounterDesc;
 
-/// How a script opens the clocks.
+/// Contains the opening of a script: the values that its clocks are opened with.
 #[derive(Clone, Copy)]
 pub struct Start {
-    /// The counter.
+    /// Describes the counter.
     pub desc: CounterDesc,
-    /// Its reading at the opening, in cycles.
+    /// The counter's reading at the opening, in cycles, at most the mask.
     pub reading: u64,
-    /// The real time at that reading.
+    /// REALTIME at that reading.
     pub real: Timespec,
 }
 
-/// Which two numbers tell the counter, behind its bits.
+/// Says which two numbers describe the counter, after its bits.
 #[derive(Clone, Copy)]
 enum Telling {
     /// `open`: mult and shift.
@@ -29,7 +29,7 @@ enum Telling {
     Frequency,
 }
 
-/// The opening that the first record tells, by its word.
+/// Parses the first record by its word.
 #[tactic(auto, unfolding(crate::specs::Opening::start_of))]
 pub(crate) fn read_start(fields: &Records<'_>) -> Result<Start, ScriptError>
     ensures value { result ≡ spec.start_of (fields_of fields.now) }
@@ -46,7 +46,7 @@ pub(crate) fn read_start(fields: &Records<'_>) -> Result<Start, ScriptError>
     }
 }
 
-/// Bits, the two numbers that tell the counter, reading, sec and nsec.
+/// Parses bits, the two numbers that describe the counter, reading, sec and nsec.
 #[tactic(auto, unfolding(crate::specs::Opening::opening_of))]
 fn read_opening(telling: Telling, fields: &Records<'_>) -> Result<Start, ScriptError>
     ensures value { result ≡ spec.opening_of telling (fields_of fields.now) }
@@ -65,7 +65,7 @@ fn read_opening(telling: Telling, fields: &Records<'_>) -> Result<Start, ScriptE
     started(desc, reading, real)
 }
 
-/// The counter of so many bits that the two numbers tell, if there is one.
+/// Makes the counter of `bits` bits that the two numbers describe, if there is one.
 fn counter_of(
     telling: Telling,
     bits: u32,
@@ -81,7 +81,7 @@ fn counter_of(
     .map_err(|_| ScriptError::Opening { row: 1 })
 }
 
-/// The opening with this counter, reading and real time, if clocks can be opened so.
+/// Makes the opening with these values, if clocks can be opened with them.
 fn started(desc: CounterDesc, reading: u64, real: Timespec) -> Result<Start, ScriptError>
     ensures value { result ≡ spec.started desc reading real }
     ensures opens { IfOk result (λ start.

@@ -1,4 +1,4 @@
-//! Texts without quotes and carriage returns: a record is a line, cut at its commas.
+//! Reads texts without quotes and carriage returns: a record is a line, cut at its commas.
 ghost use Rattle.std.specs.Prelude.{◌≡◌, ◌≢◌, ◌<◌, [], length, option_map, slice_index, None, Some, true, IfSome, IfNone, MatchOption};
 ghost use Rattle.csv.specs.Machine.{next_record};
 ghost use Rattle.csv.specs.Reading.{default_config, strip_bom};
@@ -22,7 +22,7 @@ pub(crate) struct Lines<'a> {
 }
 
 impl<'a> Lines<'a> {
-    /// All lines of a text.
+    /// Starts at the first line of a text.
     pub(crate) fn new(text: &'a [u8]) -> Lines<'a>
         ensures { result.rest.now ≡ text.now }
     {
@@ -48,21 +48,21 @@ impl<'a> Lines<'a> {
         true
     }
 
-    /// How many fields the line has.
+    /// Returns the number of fields of the line that was read last.
     pub(crate) fn len(&self) -> usize
         ensures { result ≡ length (cut_at_commas self.now.line.now) }
     {
         field_count(self.line)
     }
 
-    /// Its field at a place, if it has so many.
+    /// Returns the field at an index of the line that was read last.
     pub(crate) fn get(&self, i: usize) -> Option<&'a [u8]>
         ensures { option_map (λ s. s.now) result ≡ field_at (cut_at_commas self.now.line.now) i }
     {
         field_of_line(self.line, i)
     }
 
-    /// Takes the row of the next line, where it is of a frequent form and has no fault.
+    /// Takes the row of the next line, if it has a frequent form and no fault.
     pub(crate) fn take_row(&mut self) -> Option<Row>
         ensures some { IfSome result
             (λ row. FrontTells row_of self.old.rest.now row self.new.rest.now) }
@@ -73,7 +73,7 @@ impl<'a> Lines<'a> {
         Some(row)
     }
 
-    /// Takes the item of the next line of a stamp file, where it has no fault.
+    /// Takes the item of the next line of a stamp file, if it has no fault.
     pub(crate) fn take_stamp(&mut self) -> Option<(u64, u64)>
         ensures some { IfSome result
             (λ item. FrontTells stamp_of self.old.rest.now item self.new.rest.now) }
@@ -85,7 +85,7 @@ impl<'a> Lines<'a> {
     }
 }
 
-/// Are the bytes a plain text, with no byte order mark that a reader would drop?
+/// Returns whether the bytes are a plain text, with no byte order mark that csv would drop.
 pub(crate) fn is_plain(bytes: &[u8]) -> bool
     ensures plain { result ≡ true → IsPlain bytes.now }
     ensures unmarked { result ≡ true → strip_bom bytes.now ≡ bytes.now }
@@ -96,7 +96,7 @@ pub(crate) fn is_plain(bytes: &[u8]) -> bool
     memchr2(b'"', b'\r', bytes).is_none()
 }
 
-/// The first line that is not empty, and what follows it.
+/// Returns the first line that is not empty, and what follows it.
 pub(crate) fn first_line(text: &[u8]) -> Option<(&[u8], &[u8])>
     requires { IsPlain text.now }
     ensures record { MatchOption result
@@ -115,7 +115,7 @@ pub(crate) fn first_line(text: &[u8]) -> Option<(&[u8], &[u8])>
     }
 }
 
-/// The text behind the empty lines at its start.
+/// Returns the text after the empty lines at its beginning.
 fn behind_empty_lines(text: &[u8]) -> &[u8]
     requires { IsPlain text.now }
     ensures same { next_record default_config StartRecord [] [] result.now
@@ -131,7 +131,7 @@ fn behind_empty_lines(text: &[u8]) -> &[u8]
     &[]
 }
 
-/// What follows the end of a line, which is a line feed or the end of the text.
+/// Returns what follows the end of a line: a line feed, or the end of the text.
 pub(crate) fn behind_line(text: &[u8]) -> Option<&[u8]>
     ensures { IfSome result (λ rest. EndsLine text.now rest.now) }
 {
@@ -145,7 +145,7 @@ pub(crate) fn behind_line(text: &[u8]) -> Option<&[u8]>
     }
 }
 
-/// How many fields a line has.
+/// Returns the number of fields of a line.
 pub(crate) fn field_count(line: &[u8]) -> usize
     ensures { result ≡ length (cut_at_commas line.now) }
 {
@@ -158,7 +158,7 @@ pub(crate) fn field_count(line: &[u8]) -> usize
     commas + 1
 }
 
-/// The field of a line at a place, if it has so many.
+/// Returns the field of a line at an index.
 pub(crate) fn field_of_line(line: &[u8], i: usize) -> Option<&[u8]>
     ensures { option_map (λ s. s.now) result ≡ field_at (cut_at_commas line.now) i }
 {

@@ -14,20 +14,20 @@ use crate::script_error::ScriptError;
 use csv::{ByteRecord, Error, Reader, ReaderBuilder};
 use std::alloc::Global;
 
-/// How many bytes a script or a stamp file may have.
+/// The greatest size of a script or of a stamp file, in bytes.
 pub(crate) const SIZE_LIMIT: usize = 16_777_216;
 
-/// The records of a text, one after the other, and the one that was read last. Both ways read what
-/// csv's rules find in the text.
+/// The records of a text, one at a time, and the one that was read last. Both variants read the
+/// records that csv's rules find in the text.
 #[derive(Drop)]
 pub(crate) enum Records<'a> {
-    /// Those of any text.
+    /// Those of any text, read by csv.
     Quoted(Quoted<'a>),
     /// Those of a text without quotes and carriage returns.
     Plain(Lines<'a>),
 }
 
-/// A reader by csv, and the record that it read last.
+/// A reader of csv's, and the record that it read last.
 #[derive(Drop)]
 pub(crate) struct Quoted<'a> {
     reader: Reader<&'a [u8]>,
@@ -35,7 +35,7 @@ pub(crate) struct Quoted<'a> {
 }
 
 impl<'a> Records<'a> {
-    /// All records of the bytes. No record is a header, and lengths may differ.
+    /// Starts at the first record of the bytes. No record is a header, and lengths may differ.
     pub(crate) fn open(alloc: Global, bytes: &'a [u8]) -> Records<'a>
         ensures reading { IsCursor result }
         ensures left { left_in result ≡ Some (records_of bytes.now) }
@@ -64,7 +64,7 @@ impl<'a> Records<'a> {
         }
     }
 
-    /// How many fields the record has that was read last.
+    /// Returns the number of fields of the record that was read last.
     pub(crate) fn len(&self) -> usize
         ensures { result ≡ length (fields_of self.now) }
     {
@@ -74,7 +74,7 @@ impl<'a> Records<'a> {
         }
     }
 
-    /// Its field at a place, if it has so many.
+    /// Returns the field at an index of the record that was read last.
     pub(crate) fn get(&self, i: usize) -> Option<&[u8]>
         ensures { option_map (λ s. s.now) result ≡ field_at (fields_of self.now) i }
     {
@@ -84,7 +84,7 @@ impl<'a> Records<'a> {
         }
     }
 
-    /// Takes the row of the next record, where it is of a frequent form and has no fault.
+    /// Takes the row of the next record, if it has a frequent form and no fault.
     pub(crate) fn take_row(&mut self) -> Option<Row>
         requires { IsCursor self.old }
         ensures some { IfSome result (λ row. TakesTold row_of row self.old self.new) }
@@ -96,7 +96,7 @@ impl<'a> Records<'a> {
         }
     }
 
-    /// Takes the item of the next record of a stamp file, where it lies plainly and has no fault.
+    /// Takes the item of the next record of a stamp file, if the text is plain and it has no fault.
     pub(crate) fn take_stamp(&mut self) -> Option<(u64, u64)>
         requires { IsCursor self.old }
         ensures some { IfSome result (λ item. TakesTold stamp_of item self.old self.new) }
@@ -109,8 +109,8 @@ impl<'a> Records<'a> {
     }
 }
 
-/// A reader of the bytes by the crate's defaults, but that no record is a header and that lengths
-/// may differ.
+/// Makes a csv reader of the bytes. It has csv's defaults, except that no record is a header and
+/// that lengths may differ.
 fn open_reader(alloc: Global, bytes: &[u8]) -> Reader<&[u8]>
     ensures reading { IsReading result }
     ensures left { left_of result ≡ Some (records_of bytes.now) }
@@ -121,7 +121,7 @@ fn open_reader(alloc: Global, bytes: &[u8]) -> Reader<&[u8]>
         .from_reader(alloc, bytes)
 }
 
-/// Reads the next record by csv, if there is one.
+/// Reads the next record with csv, if there is one.
 fn next_fields(reader: &mut Reader<&[u8]>, fields: &mut ByteRecord) -> Result<bool, ScriptError>
     requires { IsReading reader.old }
     ensures reading { IfOk result (λ found. found ≡ true → IsReading reader.new) }
@@ -135,8 +135,8 @@ fn next_fields(reader: &mut Reader<&[u8]>, fields: &mut ByteRecord) -> Result<bo
     }
 }
 
-/// The fault where a record couldn't be read from bytes in memory. It is never that of a record of
-/// another length, or of bytes that are no text.
+/// Returns the fault of a record that csv could not read from bytes in memory. The error is never
+/// that of a record's length, or of bytes that are no text.
 fn want_of_memory(error: Error) -> ScriptError
     requires { IsWantOfMemory (error_kind error) }
     ensures { result ≡ ScriptError.Memory }

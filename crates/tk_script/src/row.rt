@@ -8,16 +8,17 @@ use crate::records::Records;
 use crate::script_error::ScriptError;
 use tk_clock::{ClockId, Command, Timespec};
 
-/// What a record of a script after the first one asks for, at a reading of the counter in cycles.
+/// Contains what a later record of a script asks for. `reading` is the counter's, in cycles; it may
+/// be above the mask, and the clocks then refuse it.
 #[derive(Clone, Copy, Debug, PartialEq, Eq)]
 pub enum Row {
-    /// A command.
+    /// Applies a command at a reading.
     Act { reading: u64, cmd: Command },
-    /// A read of a clock.
+    /// Reads a clock at a reading.
     Look { reading: u64, clock: ClockId },
 }
 
-/// What the record `row` asks for, by its word; the frequent words come first.
+/// Parses the record `row` by its word. The frequent words are tested first.
 #[tactic(auto, unfolding(crate::specs::Rows::row_of))]
 pub(crate) fn read_row(row: u64, fields: &Records<'_>) -> Result<Row, ScriptError>
     ensures { result ≡ spec.row_of row (fields_of fields.now) }
@@ -46,14 +47,14 @@ pub(crate) fn read_row(row: u64, fields: &Records<'_>) -> Result<Row, ScriptErro
     }
 }
 
-/// A command at a reading.
+/// Makes the row of a command at a reading.
 fn act(reading: u64, cmd: Command) -> Row
     ensures { result ≡ Act reading cmd }
 {
     Row::Act { reading, cmd }
 }
 
-/// A reading alone.
+/// Parses a reading.
 #[tactic(auto, unfolding(crate::specs::Rows::plain_of))]
 fn read_plain(row: u64, fields: &Records<'_>) -> Result<u64, ScriptError>
     ensures { result ≡ spec.plain_of row (fields_of fields.now) }
@@ -64,7 +65,7 @@ fn read_plain(row: u64, fields: &Records<'_>) -> Result<u64, ScriptError>
     number_at(row, fields, 1)
 }
 
-/// A reading and a time.
+/// Parses a reading and a time.
 #[tactic(auto, unfolding(crate::specs::Rows::timed_of))]
 fn read_timed(row: u64, fields: &Records<'_>) -> Result<(u64, Timespec), ScriptError>
     ensures { result ≡ spec.timed_of row (fields_of fields.now) }
@@ -77,7 +78,7 @@ fn read_timed(row: u64, fields: &Records<'_>) -> Result<(u64, Timespec), ScriptE
     Ok((reading, time))
 }
 
-/// A reading and a signed number.
+/// Parses a reading and a signed number.
 #[tactic(auto, unfolding(crate::specs::Rows::valued_of))]
 fn read_valued(row: u64, fields: &Records<'_>) -> Result<(u64, i64), ScriptError>
     ensures { result ≡ spec.valued_of row (fields_of fields.now) }
@@ -90,7 +91,7 @@ fn read_valued(row: u64, fields: &Records<'_>) -> Result<(u64, i64), ScriptError
     Ok((reading, value))
 }
 
-/// A reading and a clock.
+/// Parses a reading and a clock.
 #[tactic(auto, unfolding(crate::specs::Rows::look_of))]
 fn read_look(row: u64, fields: &Records<'_>) -> Result<(u64, ClockId), ScriptError>
     ensures { result ≡ spec.look_of row (fields_of fields.now) }

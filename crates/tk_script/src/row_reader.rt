@@ -9,8 +9,8 @@ use crate::row::{Row, read_row};
 use crate::script_error::ScriptError;
 use std::alloc::Global;
 
-/// The rows of a script, read one after the other: it keeps one record in memory, however long the
-/// script is.
+/// Reads the rows of a script one at a time. It holds one record in memory, however long the script
+/// is.
 #[derive(Drop)]
 pub struct RowReader<'a> {
     records: Records<'a>,
@@ -19,10 +19,16 @@ pub struct RowReader<'a> {
 }
 
 impl<'a> RowReader<'a> {
-    /// Reads the opening of a script; what is returned beside it reads the rows.
+    /// Parses the opening of a script, and returns it with a reader of the rows.
     ///
-    /// TooLarge above 16,777,216 bytes, then Empty, then the fault of the first record. Memory may
-    /// stand in the place of any other answer.
+    /// Clocks can be opened with the values of the opening.
+    ///
+    /// # Errors
+    ///
+    /// In this order; `Memory` may replace any other result:
+    /// - `TooLarge`: there are more than 16,777,216 bytes
+    /// - `Empty`: there is no record
+    /// - `Opening`, `Fields`, `Number`: the first record has a fault
     pub fn open(alloc: Global, bytes: &'a [u8]) -> Result<(Start, RowReader<'a>), ScriptError>
         ensures gives { MatchResult result
             (λ opened. IsReady opened.1
@@ -43,8 +49,14 @@ impl<'a> RowReader<'a> {
         Ok((start, RowReader { records, row: 2 }))
     }
 
-    /// The next row, or none where no record is left; a fault is that of the next record. After
-    /// either it reads no more.
+    /// Parses the next record and returns its row. `None` means that no record is left.
+    ///
+    /// After `None` or an error the reader must not be called again.
+    ///
+    /// # Errors
+    ///
+    /// - `Word`, `Fields`, `Number`: the next record has a fault
+    /// - `Memory`: an allocation failed; it may replace any other result
     pub fn next_row(&mut self) -> Result<Option<Row>, ScriptError>
         requires { IsReady self.old }
         ensures { MatchResult result

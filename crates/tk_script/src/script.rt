@@ -9,23 +9,28 @@ use std::alloc::Global;
 use tk_clock::Timespec;
 use tk_counter::CounterDesc;
 
-/// A script: how the clocks are opened, and what is then asked of them.
+/// Contains a parsed script: how the clocks are opened, and then its commands and reads.
 #[derive(Drop)]
 pub struct Script {
-    /// The counter.
+    /// Describes the counter.
     pub desc: CounterDesc,
-    /// Its reading at the opening, in cycles.
+    /// The counter's reading at the opening, in cycles, at most the mask.
     pub reading: u64,
-    /// The real time at that reading.
+    /// REALTIME at that reading.
     pub real: Timespec,
-    /// The commands and the reads, in their order.
+    /// Commands and reads, in the order of their records.
     pub rows: Vec<Row>,
 }
 
 impl Script {
     ghost use Rattle.tk_script.specs.Script.{parse};
 
-    /// The script that the bytes spell, or its first fault, in the order that `ScriptError` tells.
+    /// Parses the bytes of a script. Clocks can be opened with the values of the result.
+    ///
+    /// # Errors
+    ///
+    /// Returns the script's first fault, in the order that `ScriptError` gives. `Memory` may
+    /// replace any other result.
     pub fn from_bytes(alloc: Global, bytes: &[u8]) -> Result<Script, ScriptError>
         ensures gives { Gives parse result (parse_of bytes.now) }
         // clocks can be opened as the script says

@@ -1,31 +1,31 @@
 use thiserror::Error;
 
-/// What is wrong with a script or a stamp file: its first fault in the order of the tests, or want
-/// of memory.
+/// Says what is wrong with a script or a stamp file: its first fault, or an allocation failure.
 ///
-/// The first record with a fault decides. In it the word comes first, then the number of fields,
-/// then the fields from left to right, and last what the opening says.
+/// `TooLarge` is tested first, then `Empty`. After that the first record with a fault decides: its
+/// word, then its number of fields, then its fields from left to right, and in the first record of
+/// a script last the opening. `row` counts records from 1. `Display` prints the program's text.
 #[derive(Clone, Copy, Debug, PartialEq, Eq, Error)]
 pub enum ScriptError {
-    /// It has more than 16,777,216 bytes.
+    /// The text has more than 16,777,216 bytes.
     #[error("larger than 16777216 bytes")]
     TooLarge,
-    /// A script has no record.
+    /// The script has no record. A stamp file may have none.
     #[error("no record")]
     Empty,
-    /// The first record isn't an opening, or the clocks can't be opened as it says.
+    /// The first record's word is no opening's, or no clocks can be opened with its values.
     #[error("record {row}: not a valid opening")]
     Opening { row: u64 },
-    /// A later record's word, or a clock's, is unknown.
+    /// The word of a later record, or that of a clock, is unknown. A second opening is one.
     #[error("record {row}: unknown word")]
     Word { row: u64 },
-    /// A record has too few fields for its word, or too many.
+    /// The record has too few or too many fields for its word.
     #[error("record {row}: wrong number of fields")]
     Fields { row: u64 },
-    /// A field isn't a number of its type.
+    /// A field is no number, or one out of the range of its type.
     #[error("record {row}: not a number in range")]
     Number { row: u64 },
-    /// Memory was refused. It may stand in the place of any other answer.
+    /// An allocation failed. This may replace any other result.
     #[error("out of memory")]
     Memory,
 }

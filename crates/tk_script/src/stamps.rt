@@ -8,20 +8,27 @@ use crate::records::{Records, SIZE_LIMIT};
 use crate::script_error::ScriptError;
 use std::alloc::Global;
 
-/// Stamps to be told in a clock's time, each with its front: how many accepted commands come before
-/// it in a script.
+/// Contains a parsed stamp file: for each item a front and a stamp, in two lists of the same
+/// length.
 #[derive(Drop)]
 pub struct Stamps {
-    /// Each item's front. Reads and refused commands count for nothing.
+    /// Each item's front: the number of accepted commands of a script before the stamp. Reads and
+    /// refused commands do not count.
     pub fronts: Vec<u64>,
-    /// In the same order, each item's stamp: a reading of the counter, in cycles.
+    /// Each item's stamp, in the same order: a reading of the counter, in cycles.
     pub stamps: Vec<u64>,
 }
 
 impl Stamps {
-    /// The stamps that the bytes of a file spell, or its first fault: too many bytes, and then of
-    /// each record the number of fields, the front and the stamp. Without a record it has no
-    /// stamps.
+    /// Parses the bytes of a stamp file. A file without a record has no stamps.
+    ///
+    /// # Errors
+    ///
+    /// In this order; the first record with a fault decides, and `Memory` may replace any other
+    /// result:
+    /// - `TooLarge`: there are more than 16,777,216 bytes
+    /// - `Fields`: a record has not two fields
+    /// - `Number`: the front, or the stamp, is no unsigned number of 64 bits
     pub fn from_bytes(alloc: Global, bytes: &[u8]) -> Result<Stamps, ScriptError>
         ensures gives { Gives spec.items result (spec.stamps_of bytes.now) }
         ensures paired { IfOk result (λ s. length s.fronts.items ≡ length s.stamps.items) }
@@ -32,7 +39,7 @@ impl Stamps {
         read_stamps(alloc, &mut Records::open(alloc, bytes))
     }
 
-    /// Appends an item. Where memory is refused the two lists may differ in length.
+    /// Appends an item. After an allocation failure the two lists may differ in length.
     fn push(&mut self, front: u64, stamp: u64) -> Result<(), ScriptError>
         ensures fronts { OnOk result (self.new.fronts.items ≡ self.old.fronts.items ++ front ∷ []) }
         ensures stamps { OnOk result (self.new.stamps.items ≡ self.old.stamps.items ++ stamp ∷ []) }
@@ -43,7 +50,7 @@ impl Stamps {
     }
 }
 
-/// The items of the records that are left, the first of which is the first of the file.
+/// Parses all records that are left, the first of which is the first of the file.
 fn read_stamps(alloc: Global, records: &mut Records<'_>) -> Result<Stamps, ScriptError>
     requires { IsCursor records.old }
     ensures gives { (rs : List (List (List ℕ))) → left_in records.old ≡ Some rs
@@ -63,7 +70,7 @@ fn read_stamps(alloc: Global, records: &mut Records<'_>) -> Result<Stamps, Scrip
     Err(ScriptError::Memory)
 }
 
-/// The next item, if there is one: that of the record `row`.
+/// Parses the record `row`, if there is one.
 fn next_stamp(row: u64, records: &mut Records<'_>) -> Result<Option<(u64, u64)>, ScriptError>
     requires { IsCursor records.old }
     ensures reading { IfOk result (λ found. IsSome found → IsCursor records.new) }
@@ -82,7 +89,7 @@ fn next_stamp(row: u64, records: &mut Records<'_>) -> Result<Option<(u64, u64)>,
     Ok(Some(item))
 }
 
-/// A front and a stamp in the record `row`.
+/// Parses the front and the stamp of the record `row`.
 #[tactic(auto, unfolding(crate::specs::Stamps::stamp_of))]
 fn read_stamp(row: u64, fields: &Records<'_>) -> Result<(u64, u64), ScriptError>
     ensures { result ≡ spec.stamp_of row (fields_of fields.now) }

@@ -1,14 +1,16 @@
-//! The program `tkcore`: makes reports and traces of scripts, on standard output.
+//! Runs the program `tkcore`: writes reports and traces of scripts to standard output.
 //!
 //! | Words | What it does |
 //! |---|---|
-//! | none, or `replay` | the report of the script on standard input |
-//! | `replay --keep N` | the same with no limit to the commands, by a bounded journal |
-//! | `trace CLOCK SCRIPT STAMPS` | a clock at each stamp of a file, in ns, by the script in another |
-//! | `many WORKERS FILE..` | the reports of the scripts of files, by so many threads |
-//! | `race STEP FILE..` | the commands of scripts on one keeper, by a thread for each script |
+//! | none, or `replay` | writes the report of the script on standard input |
+//! | `replay --keep N` | writes it with no limit on the commands, from a bounded journal |
+//! | `trace CLOCK SCRIPT STAMPS` | writes a clock's value at each stamp of a file, in ns |
+//! | `many WORKERS FILE..` | writes the reports of many scripts, made by threads |
+//! | `race STEP FILE..` | lets the commands of scripts race, a thread for each script |
 //!
-//! Status 0: done. Status 1: a fault, told on standard error. Status 2: other words, refused.
+//! Status 0: done. Status 1: a fault, on standard error or in a line of `many`. Status 2: words
+//! refused.
+//! docs/TKCORE.md describes words, records, lines and faults.
 #![tactic(auto)]
 
 use std::process::ExitCode;
