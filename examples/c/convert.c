@@ -1,6 +1,8 @@
+/* SPDX-License-Identifier: MIT OR Apache-2.0 */
 /*
- * A million stamps of a tracer into REALTIME: the clocks were steered and set
- * before, one call converts all, and another stops at a stamp that is none.
+ * Converts a million stamps of a tracer into REALTIME. The clocks were steered
+ * and stepped before. One call converts all stamps, and a second call stops at
+ * a stamp that the counter can't show.
  */
 #include <inttypes.h>
 #include <stdbool.h>
@@ -12,12 +14,12 @@ enum {
 	STAMPS = 1000000,
 	HZ = 24000000,
 	CYCLES = 24007, /* from one stamp to the next: about a millisecond */
-	SPOILT = 654321, /* the place of the stamp that is none */
+	SPOILT = 654321, /* the index of the stamp that is no reading */
 };
 
 static const uint64_t OPENED_AT = 12345;
 
-/* Says which call was refused. */
+/* Returns whether the code is TK_OK, and reports the call if it isn't. */
 static bool is_done(uint32_t code, const char *call)
 {
 	if (code)
@@ -26,7 +28,11 @@ static bool is_done(uint32_t code, const char *call)
 	return !code;
 }
 
-/* A counter of 48 bits; then 20 ppm slower, and 1.5 s on from half a second. */
+/*
+ * Makes a snapshot of clocks over a counter of 48 bits. The clocks are slowed by
+ * 20 ppm a quarter of a second after the opening, and stepped forward by 1.5 s
+ * half a second after it.
+ */
 static bool make_snapshot(struct tk_snapshot *snapshot)
 {
 	struct tk_counter counter;
@@ -78,7 +84,7 @@ static bool convert_spoilt(uint64_t times[STAMPS],
 	uint32_t code;
 	size_t done;
 
-	stamps[SPOILT] = UINT64_MAX; /* of 48 bits it is none */
+	stamps[SPOILT] = UINT64_MAX; /* no reading of 48 bits */
 	code = tk_snapshot_convert(times, STAMPS, &done, snapshot,
 				   TK_CLOCK_REALTIME, stamps, STAMPS);
 	if (code != TK_INVALID) {

@@ -1,20 +1,26 @@
+/* SPDX-License-Identifier: MIT OR Apache-2.0 */
 /*
- * A page of words: one thread does commands and publishes each snapshot, and
- * readers take the latest without a lock, as the kernel's readers do under
- * tk_core.seq (kernel/time/timekeeping.c, Documentation/locking/seqlock.rst).
+ * Publishes snapshots on a page of words. One thread applies commands and
+ * publishes each snapshot. Readers load the latest one without a lock, as the
+ * kernel's readers do under tk_core.seq (kernel/time/timekeeping.c,
+ * Documentation/locking/seqlock.rst).
  *
- * The proof covers the library's calls, and not this sequence lock, which is
- * C11 by hand (proved pages are the crates tk_page and tk_latch). Whatever a
- * faulty lock would hand to a reader, tk_snapshot_from_words tests it.
+ * The proof covers the library's calls, but not this sequence lock, which is
+ * hand-written C11 (the crates tk_page and tk_latch have proved pages).
+ * tk_snapshot_from_words validates its input, so a faulty lock cannot produce
+ * an invalid snapshot.
  *
  * The sequence is even while the page is at rest, and odd while it is written.
- *   Writer: 1. makes the sequence odd, 2. reads the counter and does the
- *   command, 3. writes the words, 4. makes the sequence even.
- *   Reader: 1. loads the sequence, 2. loads the words and reads the counter,
- *   3. begins anew where the sequence was odd or has changed.
- * The writer reads the counter behind its step 1, and the reader before its
- * step 3. So a reader never takes a reading later than that of the next command
- * with a snapshot of before, and MONOTONIC never goes back for it.
+ *   Writer: 1. makes the sequence odd.
+ *           2. reads the counter and applies the command.
+ *           3. writes the words.
+ *           4. makes the sequence even.
+ *   Reader: 1. loads the sequence.
+ *           2. loads the words and reads the counter.
+ *           3. starts again if the sequence was odd or has changed.
+ * The writer reads the counter after its step 1, and the reader before its
+ * step 3. So a reader never combines a snapshot with a reading later than that
+ * of the next command, and it never sees MONOTONIC go back.
  */
 #include <inttypes.h>
 #include <pthread.h>
@@ -41,7 +47,7 @@ struct machine {
 	_Atomic uint64_t cycles; /* what the counter shows */
 	atomic_bool is_done;
 	struct tk_counter counter;
-	struct tk_clock clock; /* the writer's own */
+	struct tk_clock clock; /* used by the writer alone */
 };
 
 struct reader {
@@ -62,7 +68,7 @@ static uint64_t advance_counter(struct machine *machine)
 						  memory_order_relaxed);
 }
 
-/* The writer's step 1. */
+/* Does the writer's step 1. */
 static void begin_page(struct page *page)
 {
 	uint64_t sequence = atomic_load_explicit(&page->sequence,
@@ -73,7 +79,7 @@ static void begin_page(struct page *page)
 	atomic_thread_fence(memory_order_release);
 }
 
-/* The writer's steps 3 and 4. */
+/* Does the writer's steps 3 and 4. */
 static void end_page(struct page *page, const uint64_t words[TK_WORDS])
 {
 	uint64_t sequence = atomic_load_explicit(&page->sequence,
@@ -86,7 +92,10 @@ static void end_page(struct page *page, const uint64_t words[TK_WORDS])
 			      memory_order_release);
 }
 
-/* The reader's steps. Gives the words, and a reading of their time. */
+/*
+ * Does the reader's steps. Stores the words, and returns a reading that was taken
+ * while they were the latest.
+ */
 static uint64_t read_page(const struct machine *machine,
 			  uint64_t words[TK_WORDS])
 {
@@ -117,7 +126,7 @@ static void publish(struct machine *machine)
 	end_page(&machine->page, words);
 }
 
-/* Does a command at the counter's reading and publishes what came of it. */
+/* Applies a command at the counter's reading and publishes the result. */
 static uint32_t command(struct machine *machine, uint32_t command,
 			int64_t number)
 {
@@ -130,7 +139,10 @@ static uint32_t command(struct machine *machine, uint32_t command,
 	return code;
 }
 
-/* The frequency swings as far as it may, which shows a reading out of turn. */
+/*
+ * Applies all commands. The frequency alternates between its two limits, so a
+ * reading out of order shows.
+ */
 static uint32_t write_all(struct machine *machine)
 {
 	uint32_t code = TK_OK;
@@ -144,7 +156,7 @@ static uint32_t write_all(struct machine *machine)
 	return code;
 }
 
-/* Reads MONOTONIC once, and tells what is wrong, if something is. */
+/* Reads MONOTONIC once. Returns what is wrong, or NULL. */
 static const char *look(struct reader *reader)
 {
 	uint64_t words[TK_WORDS], reading, nanoseconds;

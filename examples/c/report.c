@@ -1,9 +1,10 @@
+/* SPDX-License-Identifier: MIT OR Apache-2.0 */
 /*
- * The report of a script of tkcore on standard input: each of its commands and
- * reads is one call of the library.
+ * Prints the report of the tkcore script on standard input. Each command and
+ * each read of the script is one call of the library.
  *
- * The library keeps no journal, so no command is refused as full where tkcore's
- * journal has no room: it is the report of `tkcore replay --keep`.
+ * The library keeps no journal, so it refuses no command as full when tkcore's
+ * journal is full. The report is that of `tkcore replay --keep`.
  */
 #define _POSIX_C_SOURCE 200809L
 
@@ -44,7 +45,7 @@ static void print_time(const struct tk_time *time)
 	printf("%" PRId64 ".%09" PRIu32, time->sec, time->nsec);
 }
 
-/* Prints the date and time in UTC, of a year of four digits. */
+/* Prints the date and time in UTC. The year has four digits. */
 static void print_utc(const struct tk_time *time)
 {
 	time_t sec = time->sec;
@@ -85,7 +86,7 @@ static void print_read(const struct tk_snapshot *snapshot,
 	putchar('\n');
 }
 
-/* Prints how many commands were accepted, and MONOTONIC at the last. */
+/* Prints the number of accepted commands, and MONOTONIC at the last one. */
 static void print_accepted(const struct tk_snapshot *snapshot)
 {
 	uint64_t words[TK_WORDS];
@@ -93,7 +94,7 @@ static void print_accepted(const struct tk_snapshot *snapshot)
 
 	tk_snapshot_words(words, snapshot);
 	if (tk_snapshot_get(&time, snapshot, TK_CLOCK_MONOTONIC, words[1]))
-		return; /* never: an accepted command leaves a time */
+		return; /* unreachable: MONOTONIC has a time after each command */
 	printf("ok,%" PRIu64 ",", words[0]);
 	print_time(&time);
 	putchar('\n');
@@ -160,7 +161,7 @@ static int report(char *text, size_t length)
 
 int main(void)
 {
-	/* one byte more than the most shows that a script is too large */
+	/* One byte more than the limit shows that a script is too large. */
 	char *text = malloc(SCRIPT_LIMIT + 1);
 	size_t length;
 	int status;

@@ -1,10 +1,11 @@
+/* SPDX-License-Identifier: MIT OR Apache-2.0 */
 #include "script.h"
 
 #include <stdlib.h>
 #include <string.h>
 
 enum {
-	FIELDS_MOST = 7, /* of an opening, its word among them */
+	FIELDS_MOST = 7, /* of an opening, including its word */
 	FIRST_ROOM = 1024,
 };
 
@@ -14,10 +15,10 @@ static const char NO_FIELDS[] = "wrong number of fields";
 static const char NO_NUMBER[] = "not a number in range";
 static const char NO_MEMORY[] = "out of memory";
 
-/* What stands in a field, by the variable that it goes into. */
+/* What a field contains, named for the variable that stores it. */
 enum kind { READING, NUMBER, NSEC, CLOCK };
 
-/* A record behind the opening: its word, and the fields after that. */
+/* A record after the opening: its word, and the fields after the word. */
 struct shape {
 	const char *word;
 	bool is_read;
@@ -71,7 +72,7 @@ struct field {
 	size_t length;
 };
 
-/* Fields past the most are counted only. */
+/* Fields after the first FIELDS_MOST are only counted. */
 struct record {
 	size_t number, count;
 	struct field fields[FIELDS_MOST];
@@ -88,7 +89,10 @@ static bool ends_record(char c)
 	return c == '\n' || c == '\r';
 }
 
-/* Copies what stands in quotes to `to`; the first quote is already behind. */
+/*
+ * Copies the text between quotes to `to`, and returns the end of the copy. The
+ * first quote was already read.
+ */
 static char *read_quoted(struct reader *reader, char *to)
 {
 	while (reader->next < reader->end) {
@@ -104,7 +108,7 @@ static char *read_quoted(struct reader *reader, char *to)
 	return to;
 }
 
-/* Returns whether another field follows in the record. */
+/* Reads a field. Returns whether another field follows in the record. */
 static bool read_field(struct reader *reader, struct field *field)
 {
 	char *to = reader->next;
@@ -121,7 +125,7 @@ static bool read_field(struct reader *reader, struct field *field)
 	return reader->next < reader->end && *reader->next++ == ',';
 }
 
-/* Returns false at the end. Empty lines are no records. */
+/* Reads a record. Returns false at the end. Empty lines are no records. */
 static bool read_record(struct reader *reader, struct record *record)
 {
 	struct field field;
@@ -227,7 +231,7 @@ static const struct shape *find_shape(const struct field *word)
 	return NULL;
 }
 
-/* Returns what is wrong with the record, if something is. */
+/* Parses a record. Returns what is wrong with it, or NULL. */
 static const char *parse_row(const struct record *record, struct row *row)
 {
 	const struct shape *shape = find_shape(&record->fields[0]);
@@ -265,7 +269,7 @@ static const char *parse_opening(const struct record *record,
 	return NULL;
 }
 
-/* Opens the clocks, or tells that counter or clocks refuse the numbers. */
+/* Opens the clocks. Returns a fault if the library refuses the numbers. */
 static const char *open_clocks(const struct opening *opening,
 			       struct script *script)
 {
@@ -285,7 +289,7 @@ static const char *open_clocks(const struct opening *opening,
 	return code ? NO_OPENING : NULL;
 }
 
-/* Makes room for one row more. */
+/* Makes room for one more row. Returns false if memory is refused. */
 static bool reserve_row(struct script *script, size_t *room)
 {
 	struct row *rows;

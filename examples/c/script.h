@@ -1,6 +1,8 @@
+/* SPDX-License-Identifier: MIT OR Apache-2.0 */
 /*
- * The scripts of tkcore: an opening, and the rows behind it, each a command or
- * a read of a clock. crates/tk_script/README.md has the format.
+ * Parses the scripts of tkcore. A script has an opening and the rows after it.
+ * Each row is a command or a read of a clock. crates/tk_script/README.md
+ * describes the format.
  */
 #ifndef SCRIPT_H
 #define SCRIPT_H
@@ -10,7 +12,7 @@
 #include <stdint.h>
 #include <tk.h>
 
-/* The most bytes of a script. */
+/* The greatest size of a script, in bytes. */
 enum { SCRIPT_LIMIT = 16777216 };
 
 /* A command at a reading, or a read of a clock. */
@@ -23,7 +25,7 @@ struct row {
 	uint32_t clock; /* as tk_snapshot_get takes it */
 };
 
-/* The clocks as the first record opens them, and the rows behind it. */
+/* The clocks as the first record opens them, and the rows after it. */
 struct script {
 	struct tk_counter counter;
 	struct tk_clock clock;
@@ -31,21 +33,21 @@ struct script {
 	size_t count;
 };
 
-/* Why a script is refused. Record 0 stands for the script as a whole. */
+/* Why a script is refused. Record 0 means the script as a whole. */
 struct fault {
 	size_t record;
 	const char *text;
 };
 
 /*
- * Parses a script. It writes over the text, where it drops quotes. On the first
- * fault it returns false, and the script then holds no memory.
+ * Parses a script. It overwrites the text, because it removes quotes in place.
+ * On the first fault it returns false, and the script then holds no memory.
  */
 bool script_parse(struct script *script, char *text, size_t length,
 		  struct fault *fault);
 void script_free(struct script *script);
 
-/* The word by which a script names a clock. */
+/* Returns the word by which a script names a clock. */
 const char *script_clock_word(uint32_t clock);
 
 #endif

@@ -1,13 +1,18 @@
 #!/usr/bin/env python3
-"""A simulated machine whose oscillator is off, and which steers its clocks by a reference.
+# SPDX-License-Identifier: MIT OR Apache-2.0
+"""Simulates a machine whose oscillator is off, and which steers its clocks by a reference.
 
     tools/build_c && examples/python/simulate.py dist
 
-Each poll asks the reference for the true time. The first offset is stepped away; each later one
-tells how far the frequency is off. The clocks are those of the library, so they keep each
-nanosecond and each rule of the kernel's. The table's columns: seconds of true time, REALTIME less
-true time in ns, and the frequency in force from there on in ppm. The program ends with status 1
-where the clocks don't come within a microsecond.
+Each poll asks the reference for the true time. The machine steps its clock by the first offset.
+Each later offset shows how far the frequency is off. The clocks are those of the library, so they
+keep each nanosecond and follow each rule of the kernel's. The table's columns are:
+
+- seconds of true time;
+- REALTIME minus true time, in ns;
+- the frequency in force from there on, in ppm.
+
+The program ends with status 1 if the clocks don't get within a microsecond of the true time.
 """
 import argparse
 import sys
@@ -15,16 +20,16 @@ import sys
 import tk
 
 HZ = 24_000_000
-OFF_PPB = 37_250  # the oscillator runs so much too fast, in parts of 10^9
+OFF_PPB = 37_250  # how much too fast the oscillator runs, in parts of 10^9
 STARTED = 1_700_000_000 * tk.NANOS
 POLL = 16 * tk.NANOS
 POLLS = 8
 STEP_LIMIT = tk.NANOS // 8
-PPM = 65_536  # of a frequency's unit, 2^-16 ppm
+PPM = 65_536  # one ppm, in a frequency's unit of 2^-16 ppm
 
 
 class Machine:
-    """Clocks over an oscillator, 2.5 s behind the true time when they are opened."""
+    """Clocks over an oscillator. They are opened 2.5 s behind the true time."""
 
     def __init__(self, library):
         counter = library.counter_from_hz(bits=48, hz=HZ, maxsec=600)
@@ -34,17 +39,17 @@ class Machine:
         self.offset = None
 
     def reading(self, true_time):
-        """What the counter shows."""
+        """Returns the counter's reading at a true time."""
         cycles = (true_time - STARTED) * HZ * (tk.NANOS + OFF_PPB) // tk.NANOS**2
         return (cycles + 987_654_321) % 2**48
 
     def measure(self, true_time):
-        """REALTIME less the true time, in ns."""
+        """Returns REALTIME minus the true time, in ns."""
         return self.clock.snapshot().get("REALTIME", self.reading(true_time)) - true_time
 
     def poll(self, true_time):
-        """Steps the clocks where they are far off, and else steers them, so that they gain no more
-        and lose what they are off until the next poll."""
+        """Steps the clocks if they are far off. Otherwise steers them, so that they gain no more,
+        and lose their offset until the next poll. Returns the offset."""
         offset, reading = self.measure(true_time), self.reading(true_time)
         if abs(offset) > STEP_LIMIT:
             self.clock.step(reading, -offset)
@@ -58,14 +63,14 @@ class Machine:
 
 
 def check_numbers(library):
-    """The numbers of a counter give it back."""
+    """Returns whether the numbers of a counter give it back."""
     counter = library.counter_from_hz(bits=48, hz=HZ, maxsec=600)
     numbers = library.numbers(counter)
     return numbers == (48, 699_050_667, 24) and bytes(library.counter(*numbers)) == bytes(counter)
 
 
 def check_batch(machine, true_time):
-    """A thousand stamps of the last poll at once get the times that they get one by one."""
+    """Returns whether converting a thousand stamps at once gives the times of single reads."""
     snapshot = machine.clock.snapshot()
     stamps = [machine.reading(true_time + 1_000_003 * i) for i in range(1000)]
     times = snapshot.convert("TAI", (tk.U64 * len(stamps))(*stamps))
@@ -73,7 +78,7 @@ def check_batch(machine, true_time):
 
 
 def check_refusal(machine, true_time):
-    """A reading behind the last one is refused."""
+    """Returns whether a reading behind the last one is refused."""
     try:
         machine.clock.apply(machine.reading(true_time) - 1, "UPDATE")
     except tk.Refused as refused:

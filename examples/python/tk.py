@@ -1,4 +1,5 @@
-"""The clocks of libtk_c from Python, by ctypes.
+# SPDX-License-Identifier: MIT OR Apache-2.0
+"""Offers the clocks of libtk_c to Python, through ctypes.
 
     library = tk.Library("dist")
     counter = library.counter_from_hz(bits=48, hz=24_000_000, maxsec=600)
@@ -6,8 +7,8 @@
     clock.apply(24_000_000, "FREQ", 65_536)
     clock.snapshot().get("REALTIME", 48_000_000)
 
-The numbers of codes, commands and clocks, and the sizes of values, are those of the header. Times
-are whole nanoseconds. A call that is refused raises Refused.
+The module reads the numbers of codes, commands and clocks, and the sizes of values, from the
+header. Times are whole nanoseconds. A refused call raises Refused.
 """
 import ctypes
 import re
@@ -20,8 +21,8 @@ NANOS = 10**9
 
 
 class Refused(Exception):
-    """A call answered another code than OK. `code` is its name, as BEHIND, and `done` how many
-    stamps were converted."""
+    """A call returned another code than OK. `code` is the code's name, such as BEHIND. `done` is
+    the number of converted stamps, or None for calls that convert no stamps."""
 
     def __init__(self, code, done=None):
         super().__init__(code)
@@ -30,17 +31,19 @@ class Refused(Exception):
 
 
 class Time(ctypes.Structure):
+    """`struct tk_time` of the header."""
+
     _fields_ = [("sec", I64), ("nsec", U32)]
 
 
 def enum(header, name, prefix):
-    """The names and numbers of an enum of the header, without their prefix."""
+    """Returns the names of an enum of the header, without their prefix, and their numbers."""
     body = re.search(rf"enum {name} {{(.*?)}};", header, re.S).group(1)
     return {word: int(number) for word, number in re.findall(rf"\b{prefix}(\w+) = (\d+)", body)}
 
 
 def value(header, name):
-    """The structure of a value that only the library looks into."""
+    """Returns a ctypes structure for a value whose contents only the library reads."""
     told = re.search(rf"struct {name} {{\s*uint(\d+)_t tk_private\[(\d+)\]", header)
     word = {"32": U32, "64": U64}[told.group(1)]
     fields = [("tk_private", word * int(told.group(2)))]
@@ -61,28 +64,31 @@ class Library:
         self.calls = ctypes.CDLL(str(Path(folder, "lib", "libtk_c.so").resolve()))
 
     def call(self, name, *arguments):
-        """Calls a function that answers a code."""
+        """Calls a function that returns a code."""
         code = self.codes[getattr(self.calls, name)(*arguments)]
         if code != "OK":
             raise Refused(code)
 
     def counter(self, bits, mult, shift):
+        """Returns the counter that has these numbers."""
         counter = self.counter_value()
         self.call("tk_counter_new", byref(counter), U32(bits), U32(mult), U32(shift))
         return counter
 
     def counter_from_hz(self, bits, hz, maxsec):
+        """Returns the counter that runs at hz cycles a second, for gaps of up to maxsec seconds."""
         counter = self.counter_value()
         self.call("tk_counter_from_hz", byref(counter), U32(bits), U32(hz), U32(maxsec))
         return counter
 
     def numbers(self, counter):
-        """The bits, the mult and the shift of a counter."""
+        """Returns the bits, the mult and the shift of a counter."""
         numbers = [U32(), U32(), U32()]
         self.calls.tk_counter_numbers(*map(byref, numbers), byref(counter))
         return tuple(number.value for number in numbers)
 
     def open(self, counter, reading, sec, nsec=0):
+        """Opens clocks at a reading, with REALTIME at sec seconds and nsec nanoseconds."""
         clock = Clock(self)
         self.call("tk_clock_open", byref(clock.value), byref(counter), U64(reading), I64(sec),
                   U32(nsec))
@@ -97,38 +103,39 @@ class Clock:
         self.value = library.clock_value()
 
     def apply(self, reading, command, number=0, nsec=0):
-        """Does a command of the header, by its name: `apply(reading, "TICK", 10_001)`."""
+        """Applies a command of the header, by its name: `apply(reading, "TICK", 10_001)`."""
         command = self.library.commands[command]
         self.library.call("tk_clock_apply", byref(self.value), U64(reading), U32(command),
                           I64(number), U32(nsec))
 
     def step(self, reading, nanoseconds):
-        """Moves REALTIME, by a negative amount too."""
+        """Moves REALTIME by an amount in ns, which may be negative."""
         self.apply(reading, "STEP", *divmod(nanoseconds, NANOS))
 
     def snapshot(self):
+        """Returns a snapshot of the clocks."""
         snapshot = Snapshot(self.library)
         self.library.calls.tk_clock_snapshot(byref(snapshot.value), byref(self.value))
         return snapshot
 
 
 class Snapshot:
-    """What a reader of the clocks is given."""
+    """A snapshot of the clocks, for readers."""
 
     def __init__(self, library):
         self.library = library
         self.value = library.snapshot_value()
 
     def get(self, clock, reading):
-        """A clock of the header at a reading, in ns: `get("REALTIME", reading)`."""
+        """Returns a clock's time at a reading, in ns: `get("REALTIME", reading)`."""
         time, clock = Time(), self.library.clocks[clock]
         self.library.call("tk_snapshot_get", byref(time), byref(self.value), U32(clock),
                           U64(reading))
         return time.sec * NANOS + time.nsec
 
     def convert(self, clock, stamps):
-        """A clock at each stamp, in ns. `stamps` is a ctypes array of 64-bit numbers, and so is the
-        answer."""
+        """Returns a clock's time at each stamp, in ns. `stamps` and the result are ctypes arrays of
+        64-bit numbers."""
         count, done, clock = len(stamps), SIZE(), self.library.clocks[clock]
         out = (U64 * count)()
         try:
@@ -139,6 +146,7 @@ class Snapshot:
         return out
 
     def words(self):
+        """Returns the ten words of the snapshot."""
         words = (U64 * 10)()
         self.library.calls.tk_snapshot_words(words, byref(self.value))
         return list(words)

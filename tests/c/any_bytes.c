@@ -1,14 +1,15 @@
+/* SPDX-License-Identifier: MIT OR Apache-2.0 */
 /*
- * Random numbers into each call of the library: an answer is always one that
- * the header allows, a refusal writes nothing, and what is taken agrees with
- * the other calls.
+ * Passes random numbers to each call of the library. Each code must be one that
+ * the header allows, a refusal must write nothing, and accepted values must
+ * agree with the other calls.
  *
  *	any_bytes [ROUNDS [SEED]]
  *
- * It is compiled under the address and undefined behaviour sanitizers. Those
- * see only this file, and not the archive. So each value that a call is handed
- * lies at the begin or the end of a page whose neighbours can't be touched, and
- * is a copy, which a call's own bytes are compared with.
+ * It is compiled with the address and undefined behaviour sanitizers, which
+ * instrument only this file and not the archive. So each value that is passed
+ * to a call is a copy at the begin or the end of a page whose neighbours can't
+ * be accessed, and is compared with the original after the call.
  */
 #define _DEFAULT_SOURCE
 
@@ -39,7 +40,7 @@ static const uint32_t CLOCKS[] = {
 
 #define COUNT_OF(array) (sizeof(array) / sizeof(*(array)))
 
-/* Ends the program where what should hold doesn't. */
+/* Ends the program if a condition doesn't hold. */
 #define check(holds) \
 	do { \
 		if (!(holds)) \
@@ -48,7 +49,7 @@ static const uint32_t CLOCKS[] = {
 
 static uint64_t round_number;
 
-/* How often each code was answered. */
+/* The number of times that each code was returned. */
 static uint64_t met[TK_BAD_RATE + 1];
 
 static void fail(const char *what, int line)
@@ -87,7 +88,7 @@ static bool one_in(uint64_t n)
 	return !below(n);
 }
 
-/* A number of any size, often one at an edge. */
+/* Returns a number of any size, often one at an edge. */
 static uint64_t some(void)
 {
 	uint64_t power = (uint64_t)1 << below(64);
@@ -113,7 +114,7 @@ static uint32_t some_nsec(void)
 	return one_in(10) ? (uint32_t)some() : (uint32_t)below(1000000001);
 }
 
-/* Pages of their own. */
+/* Separate pages. */
 
 struct room {
 	unsigned char *page;
@@ -134,7 +135,7 @@ static struct room make_room(void)
 	return (struct room){ pages + page_size };
 }
 
-/* So many bytes at the begin or the end of the page. */
+/* Returns the address of `size` bytes at the begin or the end of the page. */
 static void *place(struct room room, size_t size)
 {
 	return one_in(2) ? room.page : room.page + page_size - size;
@@ -159,7 +160,7 @@ static void make_rooms(void)
 		*all[i] = make_room();
 }
 
-/* Fills a room with bytes, and keeps a copy of them. */
+/* Fills a room with random bytes, and stores a copy of them. */
 static void *fill(struct room room, void *copy, size_t size)
 {
 	unsigned char *at = place(room, size);
@@ -206,7 +207,7 @@ static uint32_t try_from_hz(struct tk_counter *counter)
 	return code;
 }
 
-/* The numbers of a counter give it back. */
+/* Checks that the numbers of a counter give it back. */
 static void try_numbers(const struct tk_counter *of)
 {
 	const struct tk_counter *counter = put(rooms.counter, of, sizeof(*of));
@@ -256,7 +257,7 @@ static uint32_t get(struct tk_time *time, const struct tk_snapshot *snapshot,
 	return code;
 }
 
-/* Each stamp that was converted has its time, and the next is refused so. */
+/* Checks that each converted stamp has its time, and the code of the next. */
 static void check_converted(const struct tk_snapshot *snapshot, uint32_t clock,
 			    const uint64_t *stamps, size_t done,
 			    const uint64_t *out, uint32_t code, size_t count)
@@ -273,7 +274,7 @@ static void check_converted(const struct tk_snapshot *snapshot, uint32_t clock,
 		check(get(&time, snapshot, clock, stamps[done]) == code);
 }
 
-/* The list, or as often NULL where it is of no numbers. */
+/* Returns the list, or for an empty list, NULL half of the time. */
 static uint64_t *or_null(uint64_t *list, size_t count)
 {
 	return count || one_in(2) ? list : NULL;
@@ -329,7 +330,7 @@ static void try_reads(const struct tk_snapshot *of)
 	check(!memcmp(snapshot, of, sizeof(*of)));
 }
 
-/* Words: such as a call gave, with some of them changed. */
+/* Words: those that a call stored, with some of them changed. */
 
 static void spoil(uint64_t words[TK_WORDS])
 {
@@ -393,7 +394,7 @@ static uint32_t try_clock_words(struct tk_clock *clock,
 	return code;
 }
 
-/* The words of a clock give it back, and changed ones another or none. */
+/* Checks that the words of a clock give it back, and tries changed words. */
 static void try_words(const struct tk_clock *of,
 		      const struct tk_counter *counter)
 {
@@ -432,7 +433,7 @@ static int64_t some_number(uint32_t command)
 	}
 }
 
-/* A clock at the end of 2^63 - 1 commands, where it can be one. */
+/* Sets a clock's count of commands close to its limit of 2^63 - 1. */
 static void fill_count(struct tk_clock *clock, const struct tk_counter *counter)
 {
 	uint64_t words[TK_WORDS];

@@ -1,6 +1,6 @@
 #!/usr/bin/env python3
-"""Runs random scripts through examples/c/report.c and through the definitions in Python, and stops
-at the first report, or fault, that differs.
+"""Runs random scripts through examples/c/report.c and through the definitions in Python. Stops at
+the first report or fault that differs.
 
     tests/c/compare_report.py PROGRAM [SCRIPTS [SEED]]
 """
@@ -17,7 +17,7 @@ import model
 
 
 def wanted(text):
-    """The status, the report and the fault that a script has by the definitions."""
+    """Returns the status, the report and the fault that the definitions give for a script."""
     try:
         return 0, "".join(line + "\n" for line in model.report(text)), ""
     except model.Fault as fault:
@@ -25,6 +25,7 @@ def wanted(text):
 
 
 def told(program, text):
+    """Returns the status, the report and the fault that the program gives for a script."""
     ran = subprocess.run([program], input=text, capture_output=True, check=False)
     return ran.returncode, ran.stdout.decode(), ran.stderr.decode()
 

@@ -1,6 +1,7 @@
+/* SPDX-License-Identifier: MIT OR Apache-2.0 */
 /*
- * Meets each code of the header by the call and the numbers that it is for, and
- * prints its name. tools/check_c compares the names with those of the header.
+ * Provokes each code of the header by the call and the numbers that it is for,
+ * and prints its name. tools/check_c compares the names with the header's.
  */
 #include <inttypes.h>
 #include <stdbool.h>
@@ -43,7 +44,7 @@ static void counters(struct tk_counter *counter)
 	MEET(TK_OK, tk_counter_new(counter, 32, 1 << 24, 24));
 }
 
-/* A cycle is a nanosecond, and the opening is at reading 1000. */
+/* Tries commands. A cycle is a nanosecond. The opening is at reading 1000. */
 static void commands(struct tk_clock *clock, const struct tk_counter *counter)
 {
 	MEET(TK_INVALID, tk_clock_open(clock, counter, 0, -1, 0));
@@ -59,8 +60,9 @@ static void commands(struct tk_clock *clock, const struct tk_counter *counter)
 	MEET(TK_OK, tk_clock_apply(clock, 7, TK_CMD_RESUME, 5, 0));
 }
 
-/* MONOTONIC may come to its end, and the count to the greatest. The multiplier
- * is that of the frequency and the tick. */
+/* Tries clocks at their limits: the count of commands at its greatest, and
+ * MONOTONIC just below its end. Also tries words whose multiplier isn't that of
+ * the frequency and the tick. */
 static void ends(struct tk_clock *clock, const struct tk_counter *counter)
 {
 	uint64_t words[TK_WORDS];
@@ -86,7 +88,7 @@ static void ends(struct tk_clock *clock, const struct tk_counter *counter)
 					       frequency, tick));
 }
 
-/* A list of no numbers may be NULL. What is written stays, but for *done. */
+/* Checks that an empty list may be NULL, and that only *done is written. */
 static void empty_lists(const struct tk_snapshot *snapshot, uint64_t out[3],
 			const uint64_t stamps[3])
 {

@@ -1,11 +1,13 @@
+/* SPDX-License-Identifier: MIT OR Apache-2.0 */
 /*
- * A program with neither C library nor start files, as a kernel has none: what
- * it links is the archive alone. Every call is made once. It is for Linux on
- * x86-64, and ends with the status 0 where each answers as it should, else with
- * the line of the first that doesn't.
+ * A program without a C library and without start files, as in a kernel. It
+ * links the archive alone and makes every call at least once. It is for Linux
+ * on x86-64. Its status is 0 if each call returns what it should, otherwise the
+ * line of the first check that fails.
  *
- * STACK_OFF is how many bytes the stack is off its alignment to 16 bytes: 8 in
- * a function as the kernel compiles it, by -mpreferred-stack-boundary=3.
+ * STACK_OFF is the number of bytes by which the stack is off its alignment to
+ * 16 bytes. It is 8 in a function that is compiled as the kernel compiles its
+ * own, with -mpreferred-stack-boundary=3.
  */
 #include <tk.h>
 
@@ -27,7 +29,7 @@ static void leave(long status)
 			leave(__LINE__); \
 	} while (0)
 
-/* The first reading is 5, and a cycle of the counter is a nanosecond. */
+/* Opens clocks at reading 5. A cycle of the counter is a nanosecond. */
 static void open(struct tk_clock *clock, struct tk_counter *counter)
 {
 	uint32_t bits, mult, shift;
@@ -59,7 +61,7 @@ static void read(const struct tk_snapshot *snapshot)
 	check(done == 0);
 }
 
-/* The words of clocks and of a snapshot give them back. */
+/* Checks that the words of clocks and of a snapshot give them back. */
 static void restore(const struct tk_clock *clock,
 		    const struct tk_counter *counter)
 {
@@ -94,7 +96,7 @@ void start(void)
 #define TEXT_OF(number) #number
 #define TEXT(number) TEXT_OF(number)
 
-/* The system hands over an aligned stack. */
+/* The system starts the program with an aligned stack. */
 __asm__(".globl _start\n"
 	"_start:\n"
 	"	and $-16, %rsp\n"

@@ -16,11 +16,18 @@ use crate::storage::{ClockStorage, SnapshotStorage};
 use tk_clock::{Clock, Refusal, Timespec};
 use tk_counter::CounterDesc;
 
-/// The most commands that are counted: as many as 63 bits tell.
+/// The most commands that are counted: the greatest number of 63 bits.
 const COUNTED_MOST: u64 = (1 << 63) - 1;
 
-/// Writes the clocks from a reading on, with REALTIME at a time; or answers why they can't be
-/// opened (`Clock::open`).
+/// Opens clocks at a reading of the counter and writes them to `out` (`Clock::open`).
+///
+/// REALTIME is `sec` s, 0 to 8,277,292,035, plus `nsec` ns, 0 to 999,999,999, at the reading. No
+/// command is counted yet.
+///
+/// # Errors
+///
+/// Returns `Code::Invalid`, and leaves `out`, if the reading is above the mask or the time is out
+/// of its range.
 #[unsafe(no_mangle)]
 pub extern "C" fn tk_clock_open(
     out: &mut ClockStorage,
@@ -44,8 +51,19 @@ pub extern "C" fn tk_clock_open(
     }
 }
 
-/// Does a command and counts it; or answers why not and leaves the clocks as they were
-/// (`Clock::apply`).
+/// Applies the command of a number to the clocks and counts it (`Clock::apply`).
+///
+/// `number` and `nsec` are the command's numbers, in the units of `enum tk_command` in
+/// include/tk.h. A number that the command doesn't use may have any value.
+///
+/// # Errors
+///
+/// A refused command leaves the clocks. Returns, in this order:
+///
+/// - `Code::BadCommand` if no command has the number `command`;
+/// - `Code::Full` if 2^63 - 1 commands were accepted;
+/// - the code of the first test that the command fails: `Asleep` or `Awake`, `Invalid` for the
+///   reading and the numbers, `Behind`, `Range`, `Invalid` for the resulting REALTIME.
 #[unsafe(no_mangle)]
 pub extern "C" fn tk_clock_apply(
     clock: &mut CountedClock,
@@ -75,7 +93,8 @@ pub extern "C" fn tk_clock_apply(
     }
 }
 
-/// Writes a snapshot of the clocks (`Clock::snapshot`).
+/// Writes a snapshot of the clocks to `out` (`Clock::snapshot`). Its front is the number of
+/// accepted commands.
 #[unsafe(no_mangle)]
 pub extern "C" fn tk_clock_snapshot(out: &mut SnapshotStorage, clock: &CountedClock)
     ensures { out.new ≡ snapshot_storage (record {

@@ -4,47 +4,47 @@ ghost use Rattle.tk_c.specs.Codes.{number_of, code_of_refusal, code_of_read, cod
 use tk_clock::{ReadError, Refusal};
 use tk_counter::DescError;
 
-/// What a call answers, by the numbers of `enum tk_code` in include/tk.h.
+/// Names what a call returns, with the numbers of `enum tk_code` in include/tk.h.
 #[derive(Clone, Copy, Debug, PartialEq, Eq)]
 pub enum Code {
-    /// Done.
+    /// The call is done.
     Done = 0,
-    /// No more commands are counted.
+    /// 2^63 - 1 commands were accepted, and no more can be counted.
     Full = 1,
     /// The clocks are asleep, and the command is not `Resume`.
     Asleep = 2,
     /// The clocks are awake, and the command is `Resume`.
     Awake = 3,
-    /// The reading or a number is out of its range, or REALTIME can't be set so.
+    /// The reading or a number is out of its range, or REALTIME can't have the resulting value.
     Invalid = 4,
-    /// The reading lies behind that of the last accepted command.
+    /// The reading is behind that of the last accepted command.
     Behind = 5,
-    /// A clock would be at its limit or beyond it.
+    /// A clock would be at or past its limit.
     Range = 6,
-    /// Memory was refused. No call of this crate answers it, since none takes memory.
+    /// An allocation failed. No call of this crate returns it, because none allocates.
     Memory = 7,
     /// No command has this number.
     BadCommand = 16,
     /// No clock has this number.
     BadClock = 17,
-    /// The words tell no snapshot, or no clocks.
+    /// The words represent no snapshot, or no running clocks.
     BadWords = 18,
-    /// There is less room for results than there are stamps.
+    /// There is room for fewer results than there are stamps.
     BadRoom = 19,
-    /// A reading would have fewer than 8 bits, or more than 64.
+    /// A reading would have fewer than 8 bits or more than 64.
     BadBits = 32,
     /// The shift is above 32.
     BadShift = 33,
     /// The mult is below 256.
     BadMult = 34,
-    /// The mult and 11 percent of it don't fit 32 bits.
+    /// The mult plus 11 percent doesn't fit in 32 bits.
     BadAdjust = 35,
-    /// The frequency is 0 Hz, or the span is not of 1 to 600 seconds.
+    /// The frequency is 0 Hz, or the span is not 1 to 600 seconds.
     BadRate = 36,
 }
 
 impl Code {
-    /// The number that C has for it.
+    /// Returns the code's number in `enum tk_code`.
     pub fn number(self) -> u32
         ensures { result ≡ number_of self }
     {

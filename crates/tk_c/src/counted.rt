@@ -1,11 +1,11 @@
 use tk_clock::Clock;
 
-/// Running clocks, and how many commands they have accepted: `struct tk_clock` of C.
+/// Holds running clocks and the number of commands that they accepted: `struct tk_clock` in C.
 #[repr(C)]
 #[derive(Clone, Copy, Debug)]
 pub struct CountedClock {
     /// The clocks.
     pub clock: Clock,
-    /// How many commands were accepted.
+    /// The number of accepted commands, at most 2^63 - 1 in clocks that these calls change.
     pub front: u64,
 }

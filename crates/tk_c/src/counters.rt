@@ -10,8 +10,18 @@ use crate::code::Code;
 use crate::storage::CounterStorage;
 use tk_counter::CounterDesc;
 
-/// Writes the counter of these numbers; or answers the first thing that is wrong with them
-/// (`CounterDesc::new`).
+/// Writes the counter that has these numbers to `out` (`CounterDesc::new`).
+///
+/// A reading has 8 to 64 bits, and a cycle lasts `mult / 2^shift` ns.
+///
+/// # Errors
+///
+/// Leaves `out` and returns, in this order:
+///
+/// - `Code::BadBits` unless `bits` is 8 to 64;
+/// - `Code::BadShift` if `shift` is above 32;
+/// - `Code::BadMult` if `mult` is below 256;
+/// - `Code::BadAdjust` if `mult` plus 11 percent doesn't fit in 32 bits.
 #[unsafe(no_mangle)]
 pub extern "C" fn tk_counter_new(out: &mut CounterStorage, bits: u32, mult: u32, shift: u32) -> u32
     ensures { let counter : Counter = record { bits = bits; mult = mult; shift = shift } in
@@ -28,8 +38,16 @@ pub extern "C" fn tk_counter_new(out: &mut CounterStorage, bits: u32, mult: u32,
     }
 }
 
-/// Writes the counter that runs at a frequency; or answers the first thing that is wrong with the
-/// numbers (`CounterDesc::from_hz`).
+/// Writes the counter that runs at `hz` cycles a second to `out` (`CounterDesc::from_hz`).
+///
+/// Gaps of up to `maxsec` seconds convert within 64 bits.
+///
+/// # Errors
+///
+/// Leaves `out` and returns, in this order:
+///
+/// - `Code::BadBits` unless `bits` is 8 to 64;
+/// - `Code::BadRate` if `hz` is 0, or unless `maxsec` is 1 to 600.
 #[unsafe(no_mangle)]
 pub extern "C" fn tk_counter_from_hz(
     out: &mut CounterStorage,
@@ -51,8 +69,10 @@ pub extern "C" fn tk_counter_from_hz(
     }
 }
 
-/// Writes the numbers of a counter: how many bits a reading has, and the mult and the shift of a
-/// cycle, which lasts `mult / 2^shift` ns (`CounterDesc::bits`, `mult` and `shift`).
+/// Writes the numbers of a counter (`CounterDesc::bits`, `mult` and `shift`): the bits of a
+/// reading, and the mult and shift of a cycle, which lasts `mult / 2^shift` ns.
+///
+/// `tk_counter_new` makes the same counter from these numbers.
 #[unsafe(no_mangle)]
 pub extern "C" fn tk_counter_numbers(
     bits: &mut u32,

@@ -1,15 +1,16 @@
-//! The clocks for C: the functions of include/tk.h, a thin layer over tk_clock and tk_lanes.
+//! Offers the clocks to C: the functions of include/tk.h, a thin layer over tk_clock and tk_lanes.
 //!
 //! | Item | What it is |
 //! |---|---|
-//! | `tk_counter_*` | counters from numbers, and their numbers |
-//! | `tk_clock_*` | the running clocks: opened, changed by commands, as words |
-//! | `tk_snapshot_*` | what a reader is given: times and lists of times, as words |
-//! | `CountedClock` | what C calls `struct tk_clock` |
-//! | `CounterStorage`, `ClockStorage`, `SnapshotStorage` | where C wants a value written |
-//! | `Code` | what a call answers |
+//! | `tk_counter_*` | make counters from numbers, and store a counter's numbers |
+//! | `tk_clock_*` | open the running clocks, apply commands, convert clocks to and from words |
+//! | `tk_snapshot_*` | read one time or a list of times, convert snapshots to and from words |
+//! | `tk_version` | returns the archive's version |
+//! | `CountedClock` | the clocks with their count of commands, `struct tk_clock` in C |
+//! | `CounterStorage`, `ClockStorage`, `SnapshotStorage` | memory that a value is written to |
+//! | `Code` | the codes that calls return |
 //!
-//! Units: as in tk_clock; include/tk.h says them for C.
+//! Units are those of tk_clock; include/tk.h states them for C. No call allocates or waits.
 #![tactic(auto)]
 
 mod clocks;

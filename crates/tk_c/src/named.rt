@@ -1,10 +1,10 @@
-//! Commands and clocks by the numbers that C has for them.
+//! Finds commands and clocks by their numbers in C.
 ghost use Rattle.std.specs.Prelude.{◌≡◌};
 ghost use Rattle.tk_c.specs.Named.{command_named, clock_named};
 
 use tk_clock::{ClockId, Command, Timespec};
 
-/// The command of a number of `enum tk_command`; None where no command has it.
+/// Returns the command that has a number of `enum tk_command`, or `None` if no command has it.
 pub(crate) fn command_named(command: u32, number: i64, nsec: u32) -> Option<Command>
     ensures { result ≡ command_named command number nsec }
 {
@@ -22,8 +22,8 @@ pub(crate) fn command_named(command: u32, number: i64, nsec: u32) -> Option<Comm
     }
 }
 
-/// The clock of a number of `enum tk_clock_id`, which are those of clock_gettime(2); None where no
-/// clock has it.
+/// Returns the clock that has a number of `enum tk_clock_id`, or `None` if no clock has it. The
+/// numbers are those of clock_gettime(2).
 pub(crate) fn clock_named(clock: u32) -> Option<ClockId>
     ensures { result ≡ clock_named clock }
 {

@@ -15,7 +15,16 @@ use std::slice::{from_raw_parts, from_raw_parts_mut};
 use tk_clock::{ClockId, Snapshot, Timespec};
 use tk_lanes::{BatchError, lane_batch};
 
-/// Writes a clock's time at a reading; or answers why it has none (`Snapshot::get`).
+/// Writes a clock's time at a reading to `out` (`Snapshot::get`). `clock` is a number of
+/// `enum tk_clock_id`.
+///
+/// # Errors
+///
+/// Leaves `out` and returns, in this order:
+///
+/// - `Code::BadClock` if no clock has the number `clock`;
+/// - `Code::Invalid` if the reading is above the mask;
+/// - `Code::Range` if the clock is at or past its limit.
 #[unsafe(no_mangle)]
 pub extern "C" fn tk_snapshot_get(
     out: &mut Timespec,
@@ -38,8 +47,10 @@ pub extern "C" fn tk_snapshot_get(
     }
 }
 
-/// Writes the time of a clock by its number, as `tk_snapshot_get`, which has a way of its own for
-/// the two clocks that are read most: out of line, so that theirs begins with no table of jumps.
+/// Writes the time of the clock that has a number, as `tk_snapshot_get` does for any number.
+///
+/// `tk_snapshot_get` itself has separate branches for the two clocks that are read most. This
+/// function is out of line, so that those branches don't start with a jump table.
 #[inline(never)]
 fn get_named(out: &mut Timespec, snapshot: &Snapshot, clock: u32, reading: u64) -> u32
     ensures { MatchOption (clock_named clock)
@@ -56,7 +67,7 @@ fn get_named(out: &mut Timespec, snapshot: &Snapshot, clock: u32, reading: u64) 
     }
 }
 
-/// Writes a clock's time at a reading; or answers why it has none.
+/// Writes a clock's time at a reading, or returns the code of the test that fails.
 #[inline(always)]
 fn get_known(out: &mut Timespec, snapshot: &Snapshot, clock: ClockId, reading: u64) -> u32
     ensures { MatchOption (read_refusal snapshot.now.base clock reading)
@@ -67,7 +78,7 @@ fn get_known(out: &mut Timespec, snapshot: &Snapshot, clock: ClockId, reading: u
 {
     match snapshot.get(clock, reading) {
         Ok(time) => {
-            // one word each, as the read has left them
+            // two stores, of the fields as the read returned them
             out.sec = time.sec;
             out.nsec = time.nsec;
             Code::Done.number()
@@ -76,9 +87,21 @@ fn get_known(out: &mut Timespec, snapshot: &Snapshot, clock: ClockId, reading: u
     }
 }
 
-/// Writes a clock at each of a list of stamps, in ns, and how many were converted: all, or those
-/// before the first that is refused, and why (`lane_batch`). A list of no numbers may lie anywhere,
-/// at NULL too.
+/// Converts each of `count` stamps into a clock's time in ns, and writes the times to `out`
+/// (`lane_batch`).
+///
+/// Writes the number of converted stamps to `done`: all of them, or those before the first refused
+/// one. `out` has room for `room` numbers, and those after the converted ones stay. If `room` is 0,
+/// `out` may be NULL; if `count` is 0, `stamps` may be NULL.
+///
+/// # Errors
+///
+/// Returns, in this order:
+///
+/// - `Code::BadClock` if no clock has the number `clock`: nothing is written;
+/// - `Code::BadRoom` if `room` is below `count`: nothing is written;
+/// - `Code::Invalid` or `Code::Range` if a read at stamp number `done` is refused so: the times of
+///   the stamps before it are written.
 #[unsafe(no_mangle)]
 pub unsafe extern "C" fn tk_snapshot_convert(
     out: *mut u64,
@@ -113,7 +136,7 @@ pub unsafe extern "C" fn tk_snapshot_convert(
     )
 }
 
-/// What there is to do for no stamps.
+/// Converts no stamps: tests the clock's number and writes 0 to `done`.
 fn convert_none(done: &mut usize, clock: u32) -> u32
     ensures { MatchOption (clock_named clock)
         ((result ≡ number_of BadClock) × (done.new ≡ done.old))
@@ -126,7 +149,7 @@ fn convert_none(done: &mut usize, clock: u32) -> u32
     Code::Done.number()
 }
 
-/// Why stamps can't be converted where there is room for none.
+/// Returns why one stamp or more can't be converted into an empty list.
 fn convert_into_none(clock: u32) -> u32
     ensures { (base : ReadBase) (stamps : List ℕ) (done : ℕ) → 0 < length stamps →
         IsAnswered base clock stamps [] [] done done result }
@@ -137,7 +160,7 @@ fn convert_into_none(clock: u32) -> u32
     }
 }
 
-/// The same for lists that lie at an address.
+/// Converts stamps as `tk_snapshot_convert` does, for lists that are slices.
 pub(crate) fn convert(
     out: &mut [u64],
     done: &mut usize,

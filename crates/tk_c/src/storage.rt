@@ -1,6 +1,6 @@
-//! Where C wants a value written. Any bytes may lie there before, which need not be a value yet.
+//! Describes the memory that values are written to. Its bytes need not be a value before the write.
 //!
-//! Each has the fields of its value in the value's order, so what is written there is that value.
+//! Each storage has its value's fields in the value's order, so what is written is that value.
 ghost use Rattle.std.specs.Prelude.{◌≡◌};
 ghost use Rattle.tk_c.specs.Storage.{counter_storage, base_storage, snapshot_storage, clock_storage};
 
@@ -15,47 +15,68 @@ const _: () = prove!(size_of::<Snapshot>() == size_of::<SnapshotStorage>());
 
 const _: () = prove!(size_of::<CountedClock>() == size_of::<ClockStorage>());
 
-/// Where a counter is written: `struct tk_counter`.
+/// Describes the memory that a counter is written to: `struct tk_counter`. A cycle lasts
+/// `mult / 2^shift` ns.
 #[repr(C)]
 #[derive(Clone, Copy, Debug, PartialEq, Eq)]
 pub struct CounterStorage {
+    /// The bits of a reading, 8 to 64 once a counter is written.
     pub bits: u32,
+    /// The mult of a cycle.
     pub mult: u32,
+    /// The shift of a cycle.
     pub shift: u32,
 }
 
-/// The part of both that reading the clocks takes, in the units of tk_clock.
+/// Describes the part of a snapshot and of clocks that reads use, in the units of tk_clock.
 #[repr(C)]
 #[derive(Clone, Copy, Debug, PartialEq, Eq)]
 pub struct BaseStorage {
+    /// The counter.
     pub counter: CounterStorage,
+    /// The reading of the last accepted command, or of the opening.
     pub last: u64,
+    /// What a cycle adds to MONOTONIC, in `2^-shift` ns.
     pub mult: u32,
+    /// MONOTONIC at `last`, whole seconds.
     pub sec: u64,
+    /// MONOTONIC at `last`, the part below a second in `2^-shift` ns.
     pub frac: u64,
+    /// MONOTONIC_RAW at `last`, whole seconds.
     pub raw_sec: u64,
+    /// MONOTONIC_RAW at `last`, the part below a second in `2^-shift` ns.
     pub raw_frac: u64,
+    /// REALTIME minus MONOTONIC, in ns.
     pub real_offset: u64,
+    /// BOOTTIME minus MONOTONIC, in ns.
     pub boot_offset: u64,
+    /// TAI minus REALTIME, in seconds.
     pub tai: u32,
+    /// 1 while the clocks are asleep, otherwise 0.
     pub asleep: u8,
 }
 
-/// Where a snapshot is written: `struct tk_snapshot`.
+/// Describes the memory that a snapshot is written to: `struct tk_snapshot`.
 #[repr(C)]
 #[derive(Clone, Copy, Debug, PartialEq, Eq)]
 pub struct SnapshotStorage {
+    /// The number of accepted commands.
     pub front: u64,
+    /// What reads use.
     pub base: BaseStorage,
 }
 
-/// Where clocks are written: `struct tk_clock`.
+/// Describes the memory that clocks are written to: `struct tk_clock`.
 #[repr(C)]
 #[derive(Clone, Copy, Debug, PartialEq, Eq)]
 pub struct ClockStorage {
+    /// What reads use.
     pub base: BaseStorage,
+    /// The frequency as it was set, in `2^-16` ppm.
     pub frequency: i64,
+    /// The tick, in microseconds.
     pub tick: i64,
+    /// The number of accepted commands.
     pub front: u64,
 }
 

@@ -1,4 +1,5 @@
-//! Each code of include/tk.h met once, by its number there, and values from outside the contracts.
+//! Tests meet each code of include/tk.h once by its number there, with values from outside the
+//! contracts.
 
 mod applied;
 mod made;
@@ -14,7 +15,7 @@ use std::test::Fail;
 use tk_clock::{Clock, Timespec};
 use tk_counter::CounterDesc;
 
-/// Commands, by their numbers in `enum tk_command`.
+/// The numbers of the commands in `enum tk_command`.
 const UPDATE: u32 = 0;
 
 const SET_TIME: u32 = 1;
@@ -31,7 +32,7 @@ const SUSPEND: u32 = 6;
 
 const RESUME: u32 = 7;
 
-/// Clocks, by their numbers in `enum tk_clock_id`.
+/// The numbers of the clocks in `enum tk_clock_id`.
 const REALTIME: u32 = 0;
 
 const MONOTONIC: u32 = 1;
@@ -46,7 +47,7 @@ const BOOTTIME: u32 = 7;
 
 const TAI: u32 = 11;
 
-/// What lies where a value is wanted, before one is written.
+/// The bytes at `out` before a value is written.
 const OLD_COUNTER: CounterStorage = CounterStorage {
     bits: 7,
     mult: 7,
@@ -79,17 +80,17 @@ const OLD_CLOCK: ClockStorage = ClockStorage {
     front: 7,
 };
 
-/// A counter of one nanosecond a cycle, with readings of 32 bits.
+/// Returns a counter of one nanosecond a cycle, with readings of 32 bits.
 fn nanosecond_counter() -> Result<CounterDesc, Fail> {
     Ok(CounterDesc::new(32, 16_777_216, 24)?)
 }
 
-/// A counter of 4,194,304 nanoseconds a cycle, with readings of 64 bits.
+/// Returns a counter of 4,194,304 nanoseconds a cycle, with readings of 64 bits.
 fn wide_counter() -> Result<CounterDesc, Fail> {
     Ok(CounterDesc::new(64, 4_194_304, 0)?)
 }
 
-/// Clocks opened at reading 0, 1,700,000,000 seconds after 1970.
+/// Opens clocks at reading 0, 1,700,000,000 seconds after 1970.
 fn opened(counter: CounterDesc) -> Result<CountedClock, Fail> {
     let real = Timespec {
         sec: 1_700_000_000,
@@ -101,7 +102,7 @@ fn opened(counter: CounterDesc) -> Result<CountedClock, Fail> {
     })
 }
 
-/// Clocks that took one command of each kind, one microsecond after the other.
+/// Returns clocks that accepted one command of each kind, in readings from 1,000 ns to 9,000 ns.
 fn commanded(rt: &impl Abort) -> Result<CountedClock, Fail> {
     let mut clock = opened(nanosecond_counter()?)?;
     for (reading, command, number, nsec) in [
@@ -119,7 +120,7 @@ fn commanded(rt: &impl Abort) -> Result<CountedClock, Fail> {
     Ok(clock)
 }
 
-/// The words of clocks, and their frequency and tick.
+/// Returns the words of clocks, and their frequency and tick.
 fn words_of(clock: &CountedClock) -> ([u64; 10], i64, i64) {
     let mut words = [7; 10];
     let mut frequency = 7;
@@ -128,7 +129,7 @@ fn words_of(clock: &CountedClock) -> ([u64; 10], i64, i64) {
     (words, frequency, tick)
 }
 
-/// Does a command, which must be answered so. A refused one must leave the clocks as they were.
+/// Applies a command, which must return `code`. A refused one must leave the clocks as they were.
 fn answers(
     rt: &impl Abort,
     clock: &mut CountedClock,

@@ -1,4 +1,4 @@
-//! Values as words, and the checked door from words back to values.
+//! Converts values to words, and words back to values with every test.
 ghost use Rattle.std.specs.Prelude.{◌≡◌, ◌⊎◌, MatchOption, Some};
 ghost use Rattle.tk_clock.specs.Running.{IsRunning};
 ghost use Rattle.tk_clock.specs.Snapshot.{Snapshot};
@@ -15,7 +15,7 @@ use crate::storage::{ClockStorage, SnapshotStorage};
 use tk_clock::{Clock, Snapshot};
 use tk_counter::CounterDesc;
 
-/// Writes the ten words of a snapshot (`Snapshot::words`).
+/// Writes the ten words of a snapshot (`Snapshot::words`). include/tk.h lists them with units.
 #[unsafe(no_mangle)]
 pub extern "C" fn tk_snapshot_words(words: &mut [u64; 10], snapshot: &Snapshot)
     ensures value { words.new ≡ words_of snapshot.now }
@@ -24,7 +24,12 @@ pub extern "C" fn tk_snapshot_words(words: &mut [u64; 10], snapshot: &Snapshot)
     *words = snapshot.words();
 }
 
-/// Writes the snapshot that ten words tell; or answers that they tell none (`Snapshot::from_words`).
+/// Writes the snapshot of a counter that ten words represent to `out` (`Snapshot::from_words`).
+///
+/// # Errors
+///
+/// Returns `Code::BadWords`, and leaves `out`, if a word is out of its range, or if REALTIME,
+/// BOOTTIME or TAI would be at or past its limit at the last reading.
 #[unsafe(no_mangle)]
 pub extern "C" fn tk_snapshot_from_words(
     out: &mut SnapshotStorage,
@@ -44,7 +49,8 @@ pub extern "C" fn tk_snapshot_from_words(
     }
 }
 
-/// Writes the ten words of the clocks' snapshot, and their frequency and tick.
+/// Writes the ten words of the clocks' snapshot, the frequency in `2^-16` ppm as it was set, and
+/// the tick in microseconds.
 #[unsafe(no_mangle)]
 pub extern "C" fn tk_clock_words(
     words: &mut [u64; 10],
@@ -64,8 +70,13 @@ pub extern "C" fn tk_clock_words(
     *tick = clock.clock.tick();
 }
 
-/// Writes the clocks that ten words, a frequency and a tick tell; or answers that they tell none
-/// (`Snapshot::from_words`, `Clock::from_snapshot`).
+/// Writes the clocks that ten words, a frequency in `2^-16` ppm and a tick in microseconds
+/// represent to `out` (`Snapshot::from_words`, `Clock::from_snapshot`).
+///
+/// # Errors
+///
+/// Returns `Code::BadWords`, and leaves `out`, if the words represent no snapshot of the counter,
+/// or if running clocks of this frequency and tick never have this snapshot.
 #[unsafe(no_mangle)]
 pub extern "C" fn tk_clock_from_words(
     out: &mut ClockStorage,

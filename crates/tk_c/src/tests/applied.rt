@@ -64,7 +64,7 @@ fn a_full_count_refuses_every_command(rt: HostRuntime) -> Result<(), Fail> {
     answers(&rt, &mut clock, 1_000, UPDATE, 0, 0, 0);
     assert_eq!(rt; clock.front, 9_223_372_036_854_775_807);
     answers(&rt, &mut clock, 1_000, UPDATE, 0, 0, 1);
-    // before all that else is wrong, but a number that is no command's
+    // Full precedes every other refusal, except for a number that no command has
     answers(&rt, &mut clock, 0, RESUME, -1, 0, 1);
     answers(&rt, &mut clock, 1_000, 8, 0, 0, 16);
     Ok(())

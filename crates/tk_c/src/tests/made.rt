@@ -6,7 +6,7 @@ use crate::{
 use std::test::Fail;
 use tk_counter::CounterDesc;
 
-/// The counter of one nanosecond a cycle, as it is written.
+/// The storage of the counter of one nanosecond a cycle.
 const COUNTER: CounterStorage = CounterStorage {
     bits: 32,
     mult: 16_777_216,

@@ -7,7 +7,7 @@ use crate::tk_snapshot_get;
 use std::test::Fail;
 use tk_clock::Timespec;
 
-/// What lies where a time is wanted.
+/// The time at `out` before a call.
 const OLD: Timespec = Timespec { sec: -7, nsec: 7 };
 
 #[test]

@@ -70,13 +70,13 @@ fn clocks_have_the_rate_of_their_frequency_and_tick(rt: HostRuntime) -> Result<(
         (16_777_216, 0, 10_000, 0, 0),
         (18_463_326, 32_768_000, 11_000, 0, 0),
         (18_463_326, i64::MAX, 11_000, 0, 0),
-        // not the multiplier of both, though words may have it
+        // not the multiplier of the frequency and tick, although it is in range for a snapshot
         (16_777_215, 0, 10_000, 0, 18),
         (16_777_216, 32_768_000, 10_000, 0, 18),
         // a tick that can't be set
         (16_777_216, 0, 8_999, 0, 18),
         (16_777_216, 0, i64::MAX, 0, 18),
-        // MONOTONIC_RAW runs, where MONOTONIC never did
+        // MONOTONIC_RAW has advanced, but MONOTONIC hasn't
         (16_777_216, 0, 10_000, 1, 18),
     ] {
         let words = [5, 0, mult, 0, 0, 0, 0, 0, raw_frac, 0];
