@@ -1,3 +1,4 @@
+/* SPDX-License-Identifier: MIT OR Apache-2.0 */
 /* The jobs by plain.h. */
 #include "jobs.h"
 #include "plain.h"

@@ -1,3 +1,4 @@
+/* SPDX-License-Identifier: MIT OR Apache-2.0 */
 /* Times the jobs of jobs.h, as the library does them or as one does them by hand, and prints them
  * as crates/tk_bench does: with no word a line JOB<tab>CHECK for each, with `time` a line
  * JOB<tab>NUMBER<tab>UNIT<tab>CHECK for each, with `time JOB..` for these alone. */

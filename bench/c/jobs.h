@@ -1,3 +1,4 @@
+/* SPDX-License-Identifier: MIT OR Apache-2.0 */
 /* The jobs that calls.c times. library.c has them by the calls of the library, by_hand.c by
  * plain.h: a program is calls.c with one of the two. Each goes once over a list of readings. */
 #ifndef JOBS_H

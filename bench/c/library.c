@@ -1,3 +1,4 @@
+/* SPDX-License-Identifier: MIT OR Apache-2.0 */
 /* The jobs by the calls of the library. */
 #include "jobs.h"
 

@@ -1,3 +1,4 @@
+/* SPDX-License-Identifier: MIT OR Apache-2.0 */
 #include "plain.h"
 
 static const uint64_t SECOND = 1000000000;

@@ -1,3 +1,4 @@
+/* SPDX-License-Identifier: MIT OR Apache-2.0 */
 /* The same clocks in plain C, as one writes them by hand: what the calls of the library are
  * measured against. They are handed good numbers only, and test no more than a reading. */
 #ifndef PLAIN_H

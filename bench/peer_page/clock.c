@@ -1,3 +1,4 @@
+/* SPDX-License-Identifier: MIT OR Apache-2.0 */
 /* Clocks as far as updates need them, by a product of 128 bits. */
 #include "jobs.h"
 #include <stdlib.h>

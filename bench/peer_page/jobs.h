@@ -1,3 +1,4 @@
+/* SPDX-License-Identifier: MIT OR Apache-2.0 */
 /* The jobs of crates/tk_bench_page in C, and what they share. */
 #pragma once
 #include <pthread.h>

@@ -1,3 +1,4 @@
+/* SPDX-License-Identifier: MIT OR Apache-2.0 */
 /* A latch of ten words in C: reads in the weakest order that is right, publications by stores in
    sequentially consistent order. */
 #include "jobs.h"

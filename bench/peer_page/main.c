@@ -1,3 +1,4 @@
+/* SPDX-License-Identifier: MIT OR Apache-2.0 */
 /* The jobs of crates/tk_bench_page in C. Words and lines are those of turns.rs beside this. */
 #define _GNU_SOURCE
 #include "jobs.h"

@@ -1,3 +1,4 @@
+/* SPDX-License-Identifier: MIT OR Apache-2.0 */
 /* A page of ten words in C: a version word that is odd while one writes. Its publications are
    stores in sequentially consistent order, its reads loads of the weakest order that is right. */
 #include "jobs.h"

@@ -1,4 +1,4 @@
-//! Lists of stamps by one snapshot, in the cache and out of it.
+//! Times lists of stamps by one snapshot, in the cache and beyond it.
 
 use crate::bench::{Bench, Job, Unit};
 use crate::digest::of_numbers;
@@ -9,14 +9,14 @@ use tk_clock::{Clock, ClockId, Command, Snapshot, Timespec};
 use tk_counter::CounterDesc;
 use tk_lanes::{lane_batch, plain_batch};
 
-/// The call that converts.
+/// Names the call that converts.
 #[derive(Clone, Copy)]
 enum Form {
     Lanes,
     Plain,
 }
 
-/// Conversions of one list, so many in a turn.
+/// Converts one list, `times` times in a turn.
 #[derive(Drop)]
 struct Batch {
     form: Form,
@@ -45,7 +45,7 @@ impl Job for Batch {
     }
 }
 
-/// 4,096 stamps, fifty times in a turn, and ten million.
+/// Times lists of 4,096 stamps, fifty times in a turn, and of ten million.
 pub(crate) fn run_batches(rt: &(impl Threads + Sync), bench: &Bench<'_>) -> Result<()> {
     if !bench.wants_any("batch_") {
         return Ok(());
@@ -67,7 +67,7 @@ pub(crate) fn run_batches(rt: &(impl Threads + Sync), bench: &Bench<'_>) -> Resu
     run_forms(rt, bench, snapshot, 10_000_000, 1, names)
 }
 
-/// The jobs of these names, over a list of so many stamps that is converted so often in a turn.
+/// Times the jobs of these names, over a list of `count` stamps, converted `times` times in a turn.
 fn run_forms(
     rt: &(impl Threads + Sync),
     bench: &Bench<'_>,
@@ -95,7 +95,7 @@ fn run_forms(
     Ok(())
 }
 
-/// Clocks with one command, of a counter of one nanosecond a cycle.
+/// Returns a snapshot of clocks with one command, of a counter of one nanosecond a cycle.
 fn updated(unknown: u32) -> Option<Snapshot> {
     let desc = CounterDesc::new(
         unknown.wrapping_add(48),

@@ -1,4 +1,4 @@
-//! How jobs are chosen, run and told.
+//! Chooses jobs, runs them and prints their lines.
 
 ghost use Rattle.std.specs.Thread.{IsSync};
 
@@ -7,51 +7,55 @@ use std::alloc::Global;
 use std::thread::Threads;
 use std::time::Instant;
 
-/// How often a job is done where no time is told.
+/// The number of turns of a job whose time isn't printed.
 const CHECKED_TURNS: u32 = 2;
 
-/// Something to be timed. Each turn does the same.
+/// Describes something to be timed. Each turn does the same work.
 pub(crate) trait Job {
-    /// Makes ready for a turn, and isn't timed.
+    /// Prepares a turn. This isn't timed.
     fn ready(&mut self) {}
 
-    /// Does it once, in threads of the handle where it has any.
+    /// Does the job once. A job with threads starts them through the handle.
     fn turn<R: Threads + Sync>(&mut self, rt: &R) -> Result<()>
         requires { IsSync R.row };
 
-    /// A number drawn from all that the last turn gave.
+    /// Returns a number that is computed from all results of the last turn.
     fn check(&self) -> u64;
 }
 
-/// What a figure tells.
+/// Names what a figure measures.
 #[derive(Clone, Copy)]
 pub(crate) enum Unit {
-    /// Nanoseconds for each of so many, in a turn, of what it names.
+    /// Nanoseconds per item: the number of items in a turn, and their name.
     Each(u64, &'static str),
-    /// Milliseconds for a turn.
+    /// Milliseconds for a whole turn.
     Whole,
 }
 
-/// What is told of each job.
+/// Names what is printed for each job.
 #[derive(Clone, Copy, PartialEq, Eq)]
 enum Telling {
     Checks,
     Times,
 }
 
-/// What is asked for.
+/// Describes what the program's words ask for.
 #[derive(Clone, Copy)]
 pub(crate) struct Bench<'a> {
     rt: &'a HostRuntime,
     telling: Telling,
-    /// The names of the jobs, or none for all jobs.
+    /// The names of the jobs; empty for all jobs.
     names: &'a [String],
-    /// 0, which the compiler can't know: what is worked out with it is worked out at run time.
+    /// 0, which the compiler can't know, so it can't compute results that depend on it.
     unknown: u32,
 }
 
 impl<'a> Bench<'a> {
-    /// What the program's words ask for, of which the first is its own name.
+    /// Returns what the program's words ask for. The first word is the program's own name.
+    ///
+    /// # Errors
+    ///
+    /// Fails if the second word isn't `time`.
     pub(crate) fn of_words(rt: &'a HostRuntime, words: &'a [String]) -> Result<Bench<'a>> {
         let (telling, names) = match words {
             [_, word, names @ ..] if word.as_str() == "time" => (Telling::Times, names),
@@ -66,17 +70,17 @@ impl<'a> Bench<'a> {
         })
     }
 
-    /// The allocator of all that the jobs take.
+    /// Returns the allocator for all memory of the jobs.
     pub(crate) fn alloc(&self) -> Global {
         self.rt.alloc()
     }
 
-    /// 0, which the compiler can't know.
+    /// Returns 0, which the compiler can't know.
     pub(crate) fn unknown(&self) -> u32 {
         self.unknown
     }
 
-    /// Is a job asked for whose name begins so?
+    /// Returns whether a job is asked for whose name begins with `beginning`.
     pub(crate) fn wants_any(&self, beginning: &str) -> bool {
         for name in self.names {
             if name.as_str().starts_with(beginning) {
@@ -86,7 +90,7 @@ impl<'a> Bench<'a> {
         self.names.is_empty()
     }
 
-    /// Is the job of this name asked for?
+    /// Returns whether the job of this name is asked for.
     fn wants(&self, name: &str) -> bool {
         for wanted in self.names {
             if wanted.as_str() == name {
@@ -96,7 +100,7 @@ impl<'a> Bench<'a> {
         self.names.is_empty()
     }
 
-    /// Runs a job, if it is asked for, and tells of it.
+    /// Runs a job if it is asked for, and prints its line.
     pub(crate) fn run<R: Threads + Sync, J: Job>(
         &self,
         rt: &R,
@@ -121,7 +125,7 @@ impl<'a> Bench<'a> {
         Ok(())
     }
 
-    /// The least time of so many turns, in ns.
+    /// Runs `turns` turns, and returns the least time of one in ns.
     fn least<R: Threads + Sync, J: Job>(&self, rt: &R, turns: u32, job: &mut J) -> Result<u128> {
         let mut least = u128::MAX;
         for _ in 0..turns {
@@ -133,7 +137,7 @@ impl<'a> Bench<'a> {
         Ok(least)
     }
 
-    /// Tells a job's time, in thousandths of its unit, and its check.
+    /// Prints a job's time, to thousandths of its unit, and its check.
     fn tell(&self, name: &str, unit: Unit, nanos: u128, check: u64) -> Result<()> {
         let (each, before, of) = match unit {
             Unit::Each(count, of) => (count.max(1), "ns/", of),

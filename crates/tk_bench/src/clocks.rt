@@ -1,4 +1,4 @@
-//! Reads of a snapshot, and updates of running clocks.
+//! Times reads of a snapshot, and updates of running clocks.
 
 use crate::bench::{Bench, Job, Unit};
 use crate::digest::of_snapshot;
@@ -7,12 +7,12 @@ use std::thread::Threads;
 use tk_clock::{Clock, ClockId, Command, Snapshot, Timespec};
 use tk_counter::CounterDesc;
 
-/// Calls in a turn.
+/// The number of calls in a turn.
 const CALLS: u64 = 1_000_000;
 
 const TURNS: u32 = 20;
 
-/// Reads of a clock at readings that jump about below a mask.
+/// Reads a clock at readings in no order, up to a mask.
 #[derive(Drop)]
 struct Gets {
     snapshot: Snapshot,
@@ -39,7 +39,7 @@ impl Job for Gets {
     }
 }
 
-/// Updates of clocks, so many cycles apart.
+/// Updates clocks, `step` cycles apart.
 #[derive(Drop)]
 struct Updates {
     opened: Clock,
@@ -68,7 +68,7 @@ impl Job for Updates {
     }
 }
 
-/// Reads near the last command and far from it, and updates a microsecond and 0.7 s apart.
+/// Times reads near the last command and far from it, and updates 1 microsecond and 0.7 s apart.
 pub(crate) fn run_clocks(rt: &(impl Threads + Sync), bench: &Bench<'_>) -> Result<()> {
     let unknown = bench.unknown();
     let fine = opened(unknown, 32, 16_777_216).context("no clocks")?;
@@ -106,7 +106,7 @@ pub(crate) fn run_clocks(rt: &(impl Threads + Sync), bench: &Bench<'_>) -> Resul
     Ok(())
 }
 
-/// Clocks of a counter whose numbers the compiler can't know.
+/// Opens clocks of a counter whose numbers the compiler can't know.
 fn opened(unknown: u32, bits: u32, mult: u32) -> Option<Clock> {
     let desc = CounterDesc::new(
         unknown.wrapping_add(bits),

@@ -1,10 +1,10 @@
-//! Numbers drawn from lists, each item and its place having a part in them.
+//! Computes checks from lists. A check depends on each item and its place.
 
 use tk_clock::Snapshot;
 
 const FACTOR: u64 = 0x0000_0100_0000_01b3;
 
-/// A number drawn from numbers.
+/// Returns the check of numbers.
 pub(crate) fn of_numbers(numbers: &[u64]) -> u64 {
     let mut digest = 0u64;
     for number in numbers {
@@ -13,7 +13,7 @@ pub(crate) fn of_numbers(numbers: &[u64]) -> u64 {
     digest
 }
 
-/// A number drawn from bytes.
+/// Returns the check of bytes.
 pub(crate) fn of_bytes(bytes: &[u8]) -> u64 {
     let mut digest = 0u64;
     for byte in bytes {
@@ -22,7 +22,7 @@ pub(crate) fn of_bytes(bytes: &[u8]) -> u64 {
     digest
 }
 
-/// A number drawn from the words of a snapshot.
+/// Returns the check of a snapshot's words.
 pub(crate) fn of_snapshot(snapshot: &Snapshot) -> u64 {
     of_numbers(&snapshot.words())
 }

@@ -1,4 +1,4 @@
-//! What jobs are handed: lists of stamps, scripts and stamp files.
+//! Makes the inputs of jobs: lists of stamps, scripts and stamp files.
 
 use anyhow::Result;
 use std::alloc::{AllocError, Global};
@@ -6,12 +6,12 @@ use std::alloc::{AllocError, Global};
 /// The reading at which the clocks of lists of stamps are opened.
 pub(crate) const OPENING: u64 = 12_345;
 
-/// So many times the number.
+/// Returns a list of `count` times the number.
 pub(crate) fn repeated(alloc: Global, count: usize, number: u64) -> Result<Vec<u64>, AllocError> {
     vec![in alloc; number; count]
 }
 
-/// Stamps that jump about in the 275 seconds after the opening, at a nanosecond a cycle.
+/// Returns stamps in no order in the 275 seconds after the opening, at a nanosecond a cycle.
 pub(crate) fn stamps(alloc: Global, count: usize) -> Result<Vec<u64>, AllocError> {
     let mut stamps = repeated(alloc, count, 0)?;
     let mut state = 88172645463325252u64;
@@ -24,7 +24,7 @@ pub(crate) fn stamps(alloc: Global, count: usize) -> Result<Vec<u64>, AllocError
     Ok(stamps)
 }
 
-/// A script of updates 10 ns apart, and of a read of the clock behind each, if there is one.
+/// Returns a script of updates 10 ns apart, each followed by a read of the clock if one is named.
 pub(crate) fn script(alloc: Global, updates: u64, clock: Option<&str>) -> Result<Vec<u8>> {
     let mut script = Vec::from_slice(alloc, b"open,64,16777216,24,0,1700000000,0\n")?;
     for n in 0..updates {
@@ -38,7 +38,8 @@ pub(crate) fn script(alloc: Global, updates: u64, clock: Option<&str>) -> Result
     Ok(script)
 }
 
-/// A stamp file whose fronts rise by one each `stretch` stamps, or jump about below it.
+/// Returns a stamp file whose fronts rise by one each `stretch` stamps, or else repeat the numbers
+/// below `stretch`.
 pub(crate) fn stamp_file(alloc: Global, count: u64, stretch: u64, rises: bool) -> Result<Vec<u8>> {
     let mut file = Vec::new(alloc);
     let stretch = stretch.max(1);

@@ -1,4 +1,4 @@
-//! Commands of a keeper, with folds, and snapshots of its past.
+//! Times commands of a keeper, with folds, and snapshots of its past.
 
 use crate::bench::{Bench, Job, Unit};
 use crate::digest::of_snapshot;
@@ -11,15 +11,15 @@ use tk_keeper::Timekeeper;
 
 const COMMANDS: u64 = 10_000_000;
 
-/// How many entries a journal lists.
+/// The most entries that a journal lists.
 const LISTED: u64 = 1_048_576;
 
-/// How many entries a full journal keeps: three quarters.
+/// The entries that a full journal keeps in a fold: three quarters.
 const KEPT: u64 = 786_432;
 
 const READS: u64 = 100_000;
 
-/// Updates a microsecond apart, by a keeper that is opened for them.
+/// Applies updates a microsecond apart to a keeper that it opens.
 #[derive(Drop)]
 struct Commands {
     alloc: Global,
@@ -47,7 +47,7 @@ impl Job for Commands {
     }
 }
 
-/// Snapshots at fronts that jump about in a full journal.
+/// Makes snapshots at fronts in no order in a full journal.
 #[derive(Drop)]
 struct Past {
     keeper: Timekeeper,
@@ -72,7 +72,7 @@ impl Job for Past {
     }
 }
 
-/// Ten million updates with folds, and snapshots of a full journal.
+/// Times ten million updates with folds, and snapshots of a full journal.
 pub(crate) fn run_keepers(rt: &(impl Threads + Sync), bench: &Bench<'_>) -> Result<()> {
     if !bench.wants_any("keeper_") {
         return Ok(());

@@ -1,14 +1,14 @@
-//! Times the calls of one thread, and whole texts: of each job the least time of some turns.
+//! Times the calls of one thread, lists of stamps and whole texts: the least time of some turns.
 //!
 //! | Words | What it prints |
 //! |---|---|
 //! | none | for each job a line `JOB<tab>CHECK`, after few turns |
 //! | `time` | for each job a line `JOB<tab>NUMBER<tab>UNIT<tab>CHECK` |
-//! | `time JOB..` | the same for these jobs |
+//! | `time JOB..` | the lines of `time` for these jobs alone |
 //!
-//! NUMBER is the least time of a turn, in ns for each of what UNIT names, or in ms for the whole.
-//! CHECK is drawn from all that the last turn gave. The programs in `bench/peer` and `bench/c` have
-//! jobs of the same names. `bench/run` runs them beside this one and compares the checks.
+//! NUMBER is the least time of a turn, in ns for each item that UNIT names, or in ms for the whole.
+//! CHECK is computed from all results of the last turn. The peer in `bench/peer` has jobs of the
+//! same names. `bench/run` runs it and this program alternately and compares the checks.
 #![tactic(auto)]
 
 mod batches;

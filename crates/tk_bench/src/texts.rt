@@ -1,4 +1,4 @@
-//! Reports of scripts and traces by stamp files, from bytes to text.
+//! Times reports of scripts and traces by stamp files, from bytes to text.
 
 use crate::bench::{Bench, Job, Unit};
 use crate::digest::of_bytes;
@@ -9,10 +9,10 @@ use std::thread::Threads;
 use tk_clock::ClockId;
 use tk_replay::{report, trace};
 
-/// Stamps in a row that have one front, where fronts rise; and commands of the script.
+/// The commands of the script, and the stamps in a row that have one front if fronts rise.
 const STRETCH: u64 = 1_000;
 
-/// The report of a script.
+/// Makes the report of a script.
 #[derive(Drop)]
 struct Report {
     alloc: Global,
@@ -32,7 +32,7 @@ impl Job for Report {
     }
 }
 
-/// TAI at each stamp of a file.
+/// Converts each stamp of a file into TAI.
 #[derive(Drop)]
 struct Trace {
     alloc: Global,
@@ -61,7 +61,7 @@ impl Job for Trace {
     }
 }
 
-/// Reports of 100,000 and a million records, and traces of as many stamps.
+/// Times reports of 100,000 and a million records, and traces of a million and 100,000 stamps.
 pub(crate) fn run_texts(rt: &(impl Threads + Sync), bench: &Bench<'_>) -> Result<()> {
     if !bench.wants_any("text_") {
         return Ok(());

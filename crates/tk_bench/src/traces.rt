@@ -1,5 +1,5 @@
-//! Lists of stamps by a journal: into a new list and into memory that is there, by one thread and
-//! by all.
+//! Times lists of stamps by a journal: into a new list and into existing memory, in one thread and
+//! in all.
 
 use crate::bench::{Bench, Job, Unit};
 use crate::digest::of_numbers;
@@ -12,7 +12,7 @@ use tk_counter::CounterDesc;
 use tk_keeper::Timekeeper;
 use tk_pieces::{trace_all, trace_all_into};
 
-/// The call that converts.
+/// Names the call that converts.
 #[derive(Clone, Copy)]
 enum Form {
     Trace,
@@ -21,7 +21,7 @@ enum Form {
     TraceAllInto,
 }
 
-/// A conversion of one list.
+/// Converts one list.
 #[derive(Drop)]
 struct Trace {
     form: Form,
@@ -29,14 +29,14 @@ struct Trace {
     keeper: Timekeeper,
     fronts: Vec<u64>,
     stamps: Vec<u64>,
-    /// The list that was made last.
+    /// The list of the last turn.
     made: Vec<u64>,
-    /// The memory that is there.
+    /// The existing memory.
     out: Vec<u64>,
 }
 
 impl Job for Trace {
-    /// The list that was made last is freed: that isn't part of the call.
+    /// Frees the list of the last turn, which isn't part of the call.
     fn ready(&mut self) {
         self.made = Vec::new(self.alloc);
     }
@@ -66,7 +66,7 @@ impl Job for Trace {
     }
 }
 
-/// Each form at 100,000, a million and ten million stamps.
+/// Times each form at 100,000, a million and ten million stamps.
 pub(crate) fn run_traces(rt: &(impl Threads + Sync), bench: &Bench<'_>) -> Result<()> {
     if !bench.wants_any("trace_") && !bench.wants_any("pieces_") {
         return Ok(());
@@ -94,7 +94,7 @@ pub(crate) fn run_traces(rt: &(impl Threads + Sync), bench: &Bench<'_>) -> Resul
     run_forms(rt, bench, 10_000_000, 5, names)
 }
 
-/// The jobs of these names, over so many stamps.
+/// Times the jobs of these names, over `count` stamps.
 fn run_forms(
     rt: &(impl Threads + Sync),
     bench: &Bench<'_>,
@@ -120,7 +120,7 @@ fn run_forms(
     Ok(())
 }
 
-/// Clocks with one command, of a counter of one nanosecond a cycle.
+/// Opens a keeper with one command, of a counter of one nanosecond a cycle.
 fn opened(alloc: Global, unknown: u32) -> Option<Timekeeper> {
     let desc = CounterDesc::new(48, unknown.wrapping_add(16_777_216), 24).ok()?;
     let real = Timespec {

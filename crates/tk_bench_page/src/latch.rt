@@ -1,4 +1,4 @@
-//! Reads and publications of a latch.
+//! Times reads and publications of a latch.
 ghost use Rattle.std.specs.Prelude.{◌≡◌};
 ghost use Rattle.std.specs.Thread.{IsSync};
 
@@ -10,13 +10,13 @@ use std::time::{Clock as Hours, Duration, Instant};
 use tk_bench_turns::{Effort, Turn, weight};
 use tk_latch::{Latch, LatchReader};
 
-/// How many reads a full turn makes, and how many publications.
+/// The number of reads in a full turn; the next constant is that of publications.
 const READS: u64 = 10_000_000;
 
 const PUBLICATIONS: u64 = 1_000_000;
 
-/// Reads so often: the sum of the weights, with `usual` in the place of one that wasn't read since
-/// a publication came between.
+/// Reads `count` times, and returns the sum of the weights. A read that fails because of a
+/// publication adds `usual` instead.
 fn reads(latch: &Latch, reader: &mut LatchReader, usual: u64, count: u64) -> u64
     requires { reader.old.latch ≡ latch.now }
     ensures { reader.new.latch ≡ reader.old.latch }
@@ -47,14 +47,14 @@ fn timed_reads<R: Hours>(
     Some(Turn { time, count, check })
 }
 
-/// Times reads while nobody publishes.
+/// Times reads while nobody publishes. Returns `None` if a call fails.
 pub fn quiet<R: Hours>(rt: &R, alloc: Global, effort: Effort) -> Option<Turn> {
     let (latch, mut desk, mut reader) = opened(alloc)?;
     desk.update(&latch)?;
     timed_reads(rt, &latch, &mut reader, 0, effort.of(READS))
 }
 
-/// Publishes a thousand times a second until it is told that this is enough.
+/// Publishes a thousand times a second until `enough` is set.
 fn publishes_slowly<R: Hours>(rt: &R, latch: &Latch, desk: &mut LatchDesk, enough: &AtomicBool)
     requires { desk.old.latch ≡ latch.now }
 {
@@ -66,7 +66,7 @@ fn publishes_slowly<R: Hours>(rt: &R, latch: &Latch, desk: &mut LatchDesk, enoug
     }
 }
 
-/// Reads in one thread, and publications in another until the reads are done.
+/// Times reads in one thread, and publishes in another until the reads are done.
 fn both<R: Threads + Hours + Sync>(
     rt: &R,
     latch: &Latch,
@@ -96,14 +96,15 @@ fn both<R: Threads + Hours + Sync>(
     turn
 }
 
-/// Times reads beside a writer that publishes a thousand times a second.
+/// Times reads while another thread publishes a thousand times a second. Returns `None` if a call
+/// fails.
 pub fn beside<R: Threads + Hours + Sync>(rt: &R, alloc: Global, effort: Effort) -> Option<Turn> {
     let (latch, desk, mut reader) = opened(alloc)?;
     let usual = reads(&latch, &mut reader, 0, 1);
     both(rt, &latch, desk, reader, usual, effort.of(READS))
 }
 
-/// Publishes so often.
+/// Updates and publishes `count` times.
 fn publications(latch: &Latch, desk: &mut LatchDesk, count: u64) -> Option<()>
     requires { desk.old.latch ≡ latch.now }
 {
@@ -113,7 +114,7 @@ fn publications(latch: &Latch, desk: &mut LatchDesk, count: u64) -> Option<()>
     Some(())
 }
 
-/// Times updates of clocks, each published.
+/// Times updates of clocks, each published. Returns `None` if a call fails.
 pub fn publishing<R: Hours>(rt: &R, alloc: Global, effort: Effort) -> Option<Turn> {
     let (latch, mut desk, mut reader) = opened(alloc)?;
     let count = effort.of(PUBLICATIONS);

@@ -6,9 +6,9 @@ use tk_bench_turns::{OPENED_TIME, nanosecond_counter, reading_of};
 use tk_clock::{Clock, Command};
 use tk_latch::{Latch, LatchReader, LatchWriter};
 
-/// Clocks whose updates are published in a latch.
+/// Updates clocks and publishes each update in a latch.
 ///
-/// Contracts see it as its writer: the latch, and what was published in it.
+/// In contracts its value is that of its writer: the latch, and what was published in it.
 #[derive(Drop)]
 pub struct LatchDesk {
     clock: Clock,
@@ -29,7 +29,8 @@ impl Model for LatchDesk {
         × (d.front + 1 ≡ length d.writer.publications) };
 }
 
-/// A latch over clocks that were just opened, and one who reads it.
+/// Opens clocks and a latch over them, and returns the latch, its desk and one reader. Returns
+/// `None` if a call fails.
 pub fn opened(alloc: Global) -> Option<(Latch, LatchDesk, LatchReader)>
     ensures desk { IfSome result (λ opened. opened.1.latch ≡ opened.0) }
     ensures reader { IfSome result (λ opened. opened.2.latch ≡ opened.0) }
@@ -46,9 +47,8 @@ pub fn opened(alloc: Global) -> Option<(Latch, LatchDesk, LatchReader)>
 }
 
 impl LatchDesk {
-    /// Updates the clocks, a step after the last time, and publishes them.
-    ///
-    /// None where either is refused.
+    /// Updates the clocks, a step after the last update, and publishes them. Returns `None` if the
+    /// update or the publication is refused.
     pub fn update(&mut self, latch: &Latch) -> Option<()>
         requires latch { self.old.latch ≡ latch.now }
         ensures latch { self.new.latch ≡ self.old.latch }

@@ -1,4 +1,4 @@
-//! Reads and publications of a page.
+//! Times reads and publications of a page.
 ghost use Rattle.std.specs.Prelude.{◌≡◌};
 ghost use Rattle.std.specs.Thread.{IsSync};
 
@@ -11,12 +11,12 @@ use std::time::{Clock as Hours, Duration, Instant};
 use tk_bench_turns::{Effort, Turn, weight};
 use tk_page::{Page, Viewer};
 
-/// How many reads a full turn makes, and how many publications.
+/// The number of reads in a full turn; the next constant is that of publications.
 const READS: u64 = 10_000_000;
 
 const PUBLICATIONS: u64 = 1_000_000;
 
-/// Reads so often: the sum of the weights.
+/// Reads `count` times, and returns the sum of the weights.
 fn reads<R: Wait>(rt: &R, page: &Page, viewer: &mut Viewer, count: u64) -> u64
     requires { viewer.old.page ≡ page.now }
     ensures { viewer.new.page ≡ viewer.old.page }
@@ -42,14 +42,14 @@ fn timed_reads<R: Wait + Hours>(
     Some(Turn { time, count, check })
 }
 
-/// Times reads while nobody publishes.
+/// Times reads while nobody publishes. Returns `None` if a call fails.
 pub fn quiet<R: Wait + Hours>(rt: &R, alloc: Global, effort: Effort) -> Option<Turn> {
     let (page, mut desk, mut viewer) = opened(rt, alloc)?;
     desk.update(rt, &page).ok()?;
     timed_reads(rt, &page, &mut viewer, effort.of(READS))
 }
 
-/// Publishes a thousand times a second until it is told that this is enough.
+/// Publishes a thousand times a second until `enough` is set.
 fn publishes_slowly<R: Wait + Hours>(rt: &R, page: &Page, desk: &mut PageDesk, enough: &AtomicBool)
     requires { desk.old.page ≡ page.now }
 {
@@ -61,7 +61,7 @@ fn publishes_slowly<R: Wait + Hours>(rt: &R, page: &Page, desk: &mut PageDesk, e
     }
 }
 
-/// Reads in one thread, and publications in another until the reads are done.
+/// Times reads in one thread, and publishes in another until the reads are done.
 fn both<R: Threads + Wait + Hours + Sync>(
     rt: &R,
     page: &Page,
@@ -90,7 +90,8 @@ fn both<R: Threads + Wait + Hours + Sync>(
     turn
 }
 
-/// Times reads beside a writer that publishes a thousand times a second.
+/// Times reads while another thread publishes a thousand times a second. Returns `None` if a call
+/// fails.
 pub fn beside<R: Threads + Wait + Hours + Sync>(
     rt: &R,
     alloc: Global,
@@ -100,7 +101,7 @@ pub fn beside<R: Threads + Wait + Hours + Sync>(
     both(rt, &page, desk, viewer, effort.of(READS))
 }
 
-/// Publishes so often.
+/// Updates and publishes `count` times.
 fn publications<R: Wait>(rt: &R, page: &Page, desk: &mut PageDesk, count: u64) -> Option<()>
     requires { desk.old.page ≡ page.now }
 {
@@ -110,7 +111,7 @@ fn publications<R: Wait>(rt: &R, page: &Page, desk: &mut PageDesk, count: u64) -
     Some(())
 }
 
-/// Times updates of clocks, each published.
+/// Times updates of clocks, each published. Returns `None` if a call fails.
 pub fn publishing<R: Wait + Hours>(rt: &R, alloc: Global, effort: Effort) -> Option<Turn> {
     let (page, mut desk, mut viewer) = opened(rt, alloc)?;
     let count = effort.of(PUBLICATIONS);

@@ -7,9 +7,9 @@ use tk_bench_turns::{OPENED_TIME, nanosecond_counter, reading_of};
 use tk_clock::{Clock, Command, Entry, Refusal};
 use tk_page::{Page, Publisher, Viewer};
 
-/// Clocks whose updates are published on a page.
+/// Updates clocks and publishes each update on a page.
 ///
-/// Contracts see it as its publisher: the page, and what was published on it.
+/// In contracts its value is that of its publisher: the page, and what was published on it.
 #[derive(Drop)]
 pub struct PageDesk {
     clock: Clock,
@@ -31,7 +31,8 @@ impl Model for PageDesk {
         (d.clock ≡ state_of d.publisher.journal) × (d.front ≡ accepted_count d.publisher.journal) };
 }
 
-/// A page over clocks that were just opened, and one who views it.
+/// Opens clocks and a page over them, and returns the page, its desk and one viewer. Returns `None`
+/// if a call fails.
 pub fn opened<R: Wait>(rt: &R, alloc: Global) -> Option<(Page, PageDesk, Viewer)>
     ensures desk { IfSome result (λ opened. opened.1.page ≡ opened.0) }
     ensures viewer { IfSome result (λ opened. opened.2.page ≡ opened.0) }
@@ -47,7 +48,13 @@ pub fn opened<R: Wait>(rt: &R, alloc: Global) -> Option<(Page, PageDesk, Viewer)
 }
 
 impl PageDesk {
-    /// Updates the clocks, a step after the last time, and publishes them.
+    /// Updates the clocks, a step after the last update, and publishes them. The publication may
+    /// wait.
+    ///
+    /// # Errors
+    ///
+    /// Returns `Full` if the number of commands doesn't fit in 64 bits, and then the refusal of the
+    /// update.
     pub fn update<R: Wait>(&mut self, rt: &R, page: &Page) -> Result<(), Refusal>
         requires page { self.old.page ≡ page.now }
         ensures page { self.new.page ≡ self.old.page }

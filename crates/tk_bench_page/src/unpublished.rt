@@ -1,15 +1,15 @@
-//! Updates of clocks, published nowhere.
+//! Times updates of clocks that aren't published.
 use std::time::{Clock as Hours, Instant};
 use tk_bench_turns::{Effort, OPENED_TIME, Turn, nanosecond_counter, reading_of, weight};
 use tk_clock::{Clock, Command};
 
-/// How many updates a full turn makes.
+/// The number of updates of a full turn.
 const UPDATES: u64 = 10_000_000;
 
-/// How many of them are made in one opening: the counter doesn't wrap.
+/// The most updates after one opening, so that the counter doesn't wrap.
 const UPDATES_LIMIT: u64 = 1_000_000;
 
-/// Updates clocks so often, each with its snapshot: the sum of the weights.
+/// Updates clocks `count` times, and returns the sum of their snapshots' weights.
 fn updates(clock: &mut Clock, count: u64) -> Option<u64> {
     let mut sum = 0u64;
     for number in 1..=count {
@@ -19,7 +19,7 @@ fn updates(clock: &mut Clock, count: u64) -> Option<u64> {
     Some(sum)
 }
 
-/// Times updates with their snapshots.
+/// Times updates with their snapshots. Returns `None` if a call fails.
 pub fn turn<R: Hours>(rt: &R, effort: Effort) -> Option<Turn> {
     let count = effort.of(UPDATES);
     let each = count.min(UPDATES_LIMIT);

@@ -1,14 +1,14 @@
-//! Times what several threads do at once: commands of a shared keeper and reads beside them,
-//! reports of many scripts, and a race.
+//! Times the work of several threads: commands of a shared keeper with concurrent reads, reports of
+//! many scripts, and a race.
 //!
-//! | Words | What it tells of each job, a line each |
+//! | Words | The line of each job |
 //! |---|---|
-//! | none | `JOB`, `CHECK`, after short turns: the same each time |
+//! | none | `JOB`, `CHECK`, after short turns: the same line each time |
 //! | `time` | `JOB`, `NUMBER`, `UNIT`, `CHECK`: the least time of its turns |
-//! | `time JOB..` | the same of these jobs alone |
+//! | `time JOB..` | the line of `time`, for these jobs alone |
 //!
-//! Columns stand apart by tabs. Status 1: a job failed, or its turns came to different checks.
-//! Status 2: other words.
+//! Tabs separate the columns. The status is 1 if a job failed or its turns gave different checks,
+//! and 2 for other words.
 #![tactic(auto)]
 
 mod many;
@@ -24,23 +24,23 @@ use std::time::Clock as Hours;
 use std::{env, io};
 use tk_bench_turns::{Effort, TURNS, Turn, effort_of, is_asked, is_told};
 
-/// What is timed.
+/// Names a job.
 #[derive(Clone, Copy)]
 enum ThreadsJob {
     /// Commands of a shared keeper, by one thread and by four.
     SharedCommand1,
     SharedCommand4,
-    /// Reads of its page, and of its latch, by one thread beside four that give commands.
+    /// Reads of its page, and of its latch, by one thread, while four threads give commands.
     SharedReadBeside,
     SharedFastReadBeside,
     /// Reports of eight scripts, by one worker and by four.
     Many1,
     Many4,
-    /// A race of four actors, a command each.
+    /// A race of four actors, timed per command.
     Race4,
 }
 
-/// All jobs, in the order in which they are done.
+/// All jobs, in the order in which they run.
 const JOBS: [ThreadsJob; 7] = [
     ThreadsJob::SharedCommand1,
     ThreadsJob::SharedCommand4,
@@ -52,7 +52,7 @@ const JOBS: [ThreadsJob; 7] = [
 ];
 
 impl ThreadsJob {
-    /// Its name, as on the command line.
+    /// Returns the job's name, as on the command line.
     fn name(self) -> &'static str {
         match self {
             ThreadsJob::SharedCommand1 => "shared_command_1",
@@ -65,7 +65,7 @@ impl ThreadsJob {
         }
     }
 
-    /// What its time is told in.
+    /// Returns the unit of the job's time.
     fn unit(self) -> &'static str {
         match self {
             ThreadsJob::SharedReadBeside | ThreadsJob::SharedFastReadBeside => "ns/read",
@@ -94,12 +94,12 @@ fn main(rt: HostRuntime) -> ExitCode {
     ExitCode::from(status)
 }
 
-/// The words of the command line, the program's own first.
+/// Returns the words of the command line. The first is the program's own name.
 fn words_of(rt: &HostRuntime) -> io::Result<Vec<String>> {
     Ok(env::args(rt)?.collect(rt.alloc())?)
 }
 
-/// The fastest turn of a job; None where one fails or comes to another check than the others.
+/// Returns the fastest turn of a job, or `None` if a turn fails or the turns' checks differ.
 fn fastest<R: Threads + Wait + Hours + Sync>(
     rt: &R,
     alloc: Global,
@@ -113,7 +113,7 @@ fn fastest<R: Threads + Wait + Hours + Sync>(
     Some(best)
 }
 
-/// Does a job once.
+/// Does a job once. Returns `None` if it fails.
 fn turn_of<R: Threads + Wait + Hours + Sync>(
     rt: &R,
     alloc: Global,

@@ -1,4 +1,4 @@
-//! Reports of many scripts, by one worker and by four.
+//! Times reports of many scripts, by one worker and by four.
 use std::alloc::{AllocError, Global};
 use std::fmt::Write;
 use std::sync::Wait;
@@ -10,10 +10,10 @@ use tk_replay::replay_all;
 
 const SCRIPTS: usize = 8;
 
-/// How many updates a script has in a full turn, each with a read behind it.
+/// The number of updates of a script in a full turn. A read follows each.
 const PAIRS: u64 = 50_000;
 
-/// A script of an opening, and of updates and reads of TAI by turns.
+/// Returns a script of an opening, and of updates that alternate with reads of TAI.
 fn script(alloc: Global, pairs: u64) -> Result<Vec<u8>, std::fmt::Error> {
     let mut text = String::new(alloc);
     text.push_str("open,32,16777216,24,0,1700000000,0\n")?;
@@ -31,7 +31,7 @@ fn scripts(alloc: Global, pairs: u64) -> Result<Vec<Vec<u8>>, AllocError> {
     Ok(scripts)
 }
 
-/// The bytes of a text in one number, each in its own place, behind another one's.
+/// Returns a number computed from an earlier one, and from a text's bytes and their places.
 fn weighed(before: u64, text: &[u8]) -> u64 {
     let mut sum = before;
     for byte in text {
@@ -40,7 +40,8 @@ fn weighed(before: u64, text: &[u8]) -> u64 {
     sum
 }
 
-/// Times the reports of all scripts by so many workers.
+/// Times the reports of all scripts by `workers` workers. Returns `None` if a call or a report
+/// fails.
 pub fn turn<R: Threads + Wait + Hours + Sync>(
     rt: &R,
     alloc: Global,

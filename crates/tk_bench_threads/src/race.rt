@@ -1,4 +1,4 @@
-//! A race of four actors.
+//! Times a race of four actors.
 use std::alloc::{AllocError, Global};
 use std::sync::Wait;
 use std::thread::Threads;
@@ -10,10 +10,10 @@ use tk_race::{Action, race};
 
 const ACTORS: usize = 4;
 
-/// How many orders each actor has in a full turn.
+/// The number of orders of each actor in a full turn.
 const ORDERS: u64 = 100_000;
 
-/// So many orders of an update for each actor.
+/// Returns `orders` orders of an update for each actor.
 fn updates(alloc: Global, orders: u64) -> Result<Vec<Vec<Action>>, AllocError> {
     let mut all = Vec::new(alloc);
     for _ in 0..ACTORS {
@@ -22,7 +22,7 @@ fn updates(alloc: Global, orders: u64) -> Result<Vec<Vec<Action>>, AllocError> {
     Ok(all)
 }
 
-/// Times a race, with the opening of its keeper and its closing.
+/// Times a race, from the opening of its keeper to its closing. Returns `None` if a call fails.
 pub fn turn<R: Threads + Wait + Hours + Sync>(
     rt: &R,
     alloc: Global,

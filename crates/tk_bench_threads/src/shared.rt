@@ -1,4 +1,4 @@
-//! Commands of a shared keeper by one thread and by four, and reads beside them.
+//! Times commands of a shared keeper by one thread and by four, and concurrent reads.
 ghost use Rattle.tk_shared.specs.Opening.{IsNamed};
 
 use std::alloc::Global;
@@ -11,16 +11,16 @@ use tk_bench_turns::{Effort, OPENED_TIME, STEP, Turn, nanosecond_counter, weighe
 use tk_clock::Command;
 use tk_shared::{Caller, Named, Prepared, SharedKeeper, Ticker, prepare};
 
-/// How many commands a full turn gives, in all threads together.
+/// The number of commands of a full turn, in all threads together.
 const COMMANDS: u64 = 300_000;
 
-/// Room for as many.
+/// The number of commands that the keeper has room for.
 const ROOM: usize = 300_000;
 
-/// How many reads are made between two looks at whether the others have ended.
+/// The number of reads between two tests of whether the other threads have ended.
 const READS_BETWEEN: u64 = 64;
 
-/// What is timed.
+/// Names what is timed.
 #[derive(Clone, Copy)]
 pub enum Work {
     OneThread,
@@ -29,7 +29,7 @@ pub enum Work {
     FastReadsBeside,
 }
 
-/// Times the work, on a keeper that was just opened for five callers.
+/// Times the work, on a keeper that it opens for five callers. Returns `None` if a call fails.
 pub fn turn<R: Threads + Wait + Hours + Sync>(
     rt: &R,
     alloc: Global,
@@ -75,19 +75,19 @@ fn timed<L: Named + Send + Sync, R: Threads + Wait + Hours + Sync>(
     })
 }
 
-/// What was done.
+/// Counts what was done.
 #[derive(Clone, Copy)]
 struct Done {
-    /// How often that was done which is timed.
+    /// The number of timed operations.
     count: u64,
-    /// The sum of the weights of what was read.
+    /// The sum of the weights of the snapshots that were read.
     sum: u64,
-    /// How many snapshots that was.
+    /// The number of these snapshots.
     read: u64,
 }
 
 impl Done {
-    /// So many commands, and no read.
+    /// Returns the counts of `count` commands and no read.
     fn commands(count: u64) -> Done {
         Done {
             count,
@@ -96,14 +96,14 @@ impl Done {
         }
     }
 
-    /// How far the sum is from that of so many snapshots of the usual weight: 0 where each was
-    /// whole.
+    /// Returns the difference between the sum and that of the same number of snapshots of the usual
+    /// weight: 0 if each snapshot was whole.
     fn off(&self, usual: u64) -> u64 {
         self.sum.wrapping_sub(self.read.wrapping_mul(usual))
     }
 }
 
-/// Does the work, and tells what was done.
+/// Does the work, and returns what was done.
 fn does<L: Named + Send + Sync, R: Threads + Wait + Sync>(
     rt: &R,
     keeper: &SharedKeeper<L, Ticker>,
@@ -127,7 +127,7 @@ fn does<L: Named + Send + Sync, R: Threads + Wait + Sync>(
     }
 }
 
-/// Gives so many commands.
+/// Gives `count` commands.
 fn gives<L: Named, R: Wait>(
     rt: &R,
     keeper: &SharedKeeper<L, Ticker>,
@@ -139,7 +139,7 @@ fn gives<L: Named, R: Wait>(
     }
 }
 
-/// Gives so many commands, and tells that it has ended.
+/// Gives `count` commands, and then adds 1 to `ended`.
 fn part<L: Named, R: Wait>(
     rt: &R,
     keeper: &SharedKeeper<L, Ticker>,
@@ -190,7 +190,7 @@ fn quarters<L: Named + Send + Sync, R: Threads + Wait + Sync>(
     );
 }
 
-/// Reads beside four threads that give the commands, until these have ended, and tells of the reads.
+/// Reads while four threads give the commands, until these have ended. Returns what was read.
 fn beside<L: Named + Send + Sync, R: Threads + Wait + Sync>(
     rt: &R,
     keeper: &SharedKeeper<L, Ticker>,
@@ -239,7 +239,7 @@ fn reads<L: Named, R: Wait>(
     }
 }
 
-/// The same with fast reads, of which only those count that answer.
+/// Makes fast reads until all four have ended. Only successful reads count.
 fn fast_reads<L: Named>(
     keeper: &SharedKeeper<L, Ticker>,
     caller: &mut Caller<L>,

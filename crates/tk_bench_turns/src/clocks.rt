@@ -1,28 +1,31 @@
-//! Clocks of a counter of 32 bits and a nanosecond a cycle, which are updated in even steps.
+//! Describes clocks over a counter of 32 bits and a nanosecond a cycle, updated in equal steps.
 use tk_clock::{Snapshot, Timespec};
 use tk_counter::CounterDesc;
 
-/// What REALTIME is opened with.
+/// REALTIME at the opening.
 pub const OPENED_TIME: Timespec = Timespec {
     sec: 1_700_000_000,
     nsec: 0,
 };
 
-/// How many cycles lie between two commands.
+/// The cycles between two commands, each a nanosecond.
 pub const STEP: u64 = 1_000;
 
-/// The counter.
+/// Returns the counter: 32 bits, a nanosecond a cycle. `None` would mean that its numbers are
+/// refused.
 pub fn nanosecond_counter() -> Option<CounterDesc> {
     CounterDesc::new(32, 16_777_216, 24).ok()
 }
 
-/// The reading of a command, by its number.
+/// Returns the reading of a command by its number, in cycles: `number * STEP`. It isn't reduced to
+/// the 32 bits of the counter.
 pub fn reading_of(number: u64) -> u64 {
     number.wrapping_mul(STEP)
 }
 
-/// All ten words of a snapshot in one number. It is the same at each update, since each is a step
-/// later than the one before; words of two snapshots mostly give another.
+/// Returns a number computed from all ten words of a snapshot. It is the same after each update,
+/// because each update is a step later than the one before. Words mixed from two snapshots usually
+/// give another number.
 pub fn weight(snapshot: &Snapshot) -> u64 {
     let steps = snapshot.last().wrapping_sub(reading_of(snapshot.front()));
     let parts = snapshot.frac().wrapping_sub(snapshot.raw_frac());
@@ -36,7 +39,7 @@ pub fn weight(snapshot: &Snapshot) -> u64 {
         .wrapping_add(u64::from(snapshot.tai()))
 }
 
-/// The words of a snapshot in one number, each in its own place.
+/// Returns a number computed from the ten words of a snapshot and their places.
 pub fn weighed(snapshot: &Snapshot) -> u64 {
     let mut sum = 0u64;
     for word in snapshot.words() {

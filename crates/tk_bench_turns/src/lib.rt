@@ -1,15 +1,15 @@
-//! What programs that time jobs have in common.
+//! Offers what programs that time jobs share.
 //!
 //! | Item | What it is |
 //! |---|---|
-//! | `effort_of`, `is_asked` | what a program's words ask for: how long turns are, which jobs |
+//! | `effort_of`, `is_asked` | what a program's words ask for: the length of turns, the jobs |
 //! | `is_told` | prints the line of a job |
-//! | `Effort`, `TURNS` | how long a turn is, and how many are made |
-//! | `Turn`, `IN_MILLISECONDS` | what a turn came to |
-//! | `nanosecond_counter`, `OPENED_TIME`, `STEP`, `reading_of` | clocks updated in even steps |
-//! | `weight`, `weighed` | the words of a snapshot in one number |
+//! | `Effort`, `TURNS` | the length of a turn, and the number of turns |
+//! | `Turn`, `IN_MILLISECONDS` | the result of a turn |
+//! | `nanosecond_counter`, `OPENED_TIME`, `STEP`, `reading_of` | clocks updated in equal steps |
+//! | `weight`, `weighed` | numbers computed from the words of a snapshot |
 //!
-//! Times are of the system's clock, readings in cycles of a nanosecond.
+//! Times are those of the system's clock. Readings are in cycles of a nanosecond.
 #![tactic(auto)]
 
 mod clocks;

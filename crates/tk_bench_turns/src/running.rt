@@ -1,9 +1,11 @@
-//! What a program's words ask for, and the line of a job.
+//! Interprets a program's words, and prints the line of a job.
 
 use crate::turn::{Effort, Turn};
 
-/// How long the turns are that the words ask for, the program's own first; None where the words are
-/// refused.
+/// Returns the length of turns that the words ask for: full for `time`, short without a word.
+///
+/// The first of `words` is the program's own name. Returns `None` if the second is another word
+/// than `time`.
 pub fn effort_of(words: &[String]) -> Option<Effort> {
     match words.get(1) {
         None => Some(Effort::Short),
@@ -12,7 +14,8 @@ pub fn effort_of(words: &[String]) -> Option<Effort> {
     }
 }
 
-/// Whether a job of this name is to be done: all are where the words have no names behind `time`.
+/// Returns whether the words ask for a job of this name. Without a name after `time` they ask for
+/// all jobs.
 pub fn is_asked(words: &[String], name: &str) -> bool {
     for asked in words.iter().skip(2) {
         if asked.as_str() == name {
@@ -22,8 +25,10 @@ pub fn is_asked(words: &[String], name: &str) -> bool {
     words.len() <= 2
 }
 
-/// Prints the line of a job, by the fastest of its turns: its name and check, and between them its
-/// time and unit where it was timed. Whether there was such a turn and all was printed.
+/// Prints the line of a job from its fastest turn: its name and check and, for full turns, its time
+/// and unit between them.
+///
+/// Returns whether there was such a turn and all was printed.
 pub fn is_told<R: Print>(
     rt: &R,
     name: &str,

@@ -1,22 +1,22 @@
 use std::time::Duration;
 
-/// How many turns of a job are made.
+/// The number of turns of a job.
 pub const TURNS: u32 = 2;
 
-/// By what the nanoseconds of a turn are divided where its time is told in milliseconds.
+/// The nanoseconds of a millisecond: the `count` of a turn whose time is printed in milliseconds.
 pub const IN_MILLISECONDS: u64 = 1_000_000;
 
-/// How long a turn is.
+/// Names the length of a turn.
 #[derive(Clone, Copy)]
 pub enum Effort {
-    /// As long as the gate needs to see what it comes to.
+    /// Long enough for the gate to compare the check.
     Short,
     /// Long enough to be timed.
     Full,
 }
 
 impl Effort {
-    /// As many as a full turn has, or a thousandth of them.
+    /// Returns the number of repetitions in a turn: that of a full turn, or a thousandth of it.
     pub fn of(self, full: u64) -> u64 {
         match self {
             Effort::Short => full / 1_000,
@@ -25,23 +25,25 @@ impl Effort {
     }
 }
 
-/// What a turn came to.
+/// Describes the result of a turn.
 #[derive(Clone, Copy)]
 pub struct Turn {
+    /// The turn's time.
     pub time: Duration,
-    /// How often that was done which is timed, or `IN_MILLISECONDS`.
+    /// The number of timed operations, or `IN_MILLISECONDS`.
     pub count: u64,
-    /// Worked out of the results.
+    /// A number computed from the results.
     pub check: u64,
 }
 
 impl Turn {
-    /// Its time in thousandths of the unit.
+    /// Returns the time of one operation in thousandths of a nanosecond or, with `IN_MILLISECONDS`,
+    /// the turn's time in thousandths of a millisecond.
     pub fn thousandths(&self) -> u128 {
         self.time.as_nanos().saturating_mul(1_000) / u128::from(self.count.max(1))
     }
 
-    /// The faster of two turns; None where they came to different checks.
+    /// Returns the faster of two turns, or `None` if their checks differ.
     pub fn faster(self, other: Turn) -> Option<Turn> {
         if other.check != self.check {
             None
