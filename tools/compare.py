@@ -4,9 +4,10 @@ differs.
 
     tools/compare.py PROGRAM [SCRIPTS [SEED]]
 
-Each script is replayed. Another, mostly without a fault, is traced with stamps of its own, and races: alone, where the
-definitions have one answer, and as three actors, whose sums must agree. Each fifth time `many` makes the reports of the
-last five of these. Words that the program refuses are left out, and the last line counts what was compared.
+Each script is replayed, without and with `--keep`. Another, mostly without a fault, is traced with stamps of its own,
+and races: alone, where the definitions have one answer, and as three actors, whose sums must agree. Each fifth time
+`many` makes the reports of the last five of these. Words that the program refuses are left out, and the last line
+counts what was compared.
 """
 import os
 import random
@@ -208,6 +209,12 @@ class Comparison:
     def replay(self, text):
         self.check("replay", ran(self.program, [], text), wanted(report_of, text), text)
 
+    def keep(self, text):
+        """The same report by a journal that is folded to its last entries."""
+        entries = self.rng.choice([1, 2, 1_000, 524_288])
+        found = ran(self.program, ["replay", "--keep", str(entries)], text)
+        self.check("keep", found, wanted(report_of, text), str(entries).encode(), text)
+
     def trace(self, text, journal):
         marks = stamps(self.rng, journal) if journal else b"0,0\n"
         clock = self.rng.choice(model.CLOCKS)
@@ -245,10 +252,13 @@ def main():
     seed = int(sys.argv[3]) if len(sys.argv) > 3 else random.randrange(2**32)
     with tempfile.TemporaryDirectory() as folder:
         both, last = Comparison(program, folder, seed), []
+        has_keep = ran(both.program, ["replay", "--keep", "1"], b"open,8,256,0,0,0,0\n")[0] == 0
         has_many, has_race = both.takes(["many", "1"]), both.takes(["race", "1"])
         for number in range(count):
             text = script(both.rng)
             both.replay(text)
+            if has_keep:
+                both.keep(text)
             text, journal = sound(both.rng)
             both.trace(text, journal)
             last = last[-4:] + [text]

@@ -1,39 +1,90 @@
-/* A library that refuses one request for memory of the program which it is loaded into: the one whose number, counted from
- * 1 over all threads, stands in the variable REFUSE. tools/refuse_each.sh builds it and loads it by LD_PRELOAD. */
+/* SPDX-License-Identifier: MIT OR Apache-2.0 */
+/* A library that refuses requests of the program into which LD_PRELOAD loads it. The environment
+ * says which:
+ *
+ *   REFUSE=N          the Nth request for memory, counted from 1 over all threads, and no other
+ *   REFUSE_THREADS=N  the Nth request for a thread, and every later one
+ *   REFUSE_MARK=PATH  the file that is made when a request is refused, so that a caller can count N
+ *                     up until a run meets no refusal
+ *
+ * tools/refuse_each.sh and tools/refuse_tests build it. It needs glibc. */
+#define _GNU_SOURCE
+#include <dlfcn.h>
 #include <errno.h>
+#include <fcntl.h>
+#include <pthread.h>
 #include <stddef.h>
 #include <stdlib.h>
+#include <unistd.h>
 
 extern void *__libc_malloc(size_t size);
 extern void *__libc_calloc(size_t count, size_t size);
 extern void *__libc_realloc(void *block, size_t size);
 
-/* The number of the request that is refused, 0 where none is, and below 0 until the first request comes. */
-static long refused = -1;
+typedef int pthread_create_fn(pthread_t *, const pthread_attr_t *, void *(*)(void *), void *);
 
-/* How many requests there were. */
-static long requests;
+/* The numbers of the refused requests, 0 if none is refused, and how many requests were made. */
+static long refused_request, requests;
+static long first_refused_thread, threads;
 
-static int is_refused(void) {
-    if (refused < 0) {
-        const char *number = getenv("REFUSE");
-        refused = number ? atol(number) : 0;
-    }
-    if (__atomic_add_fetch(&requests, 1, __ATOMIC_SEQ_CST) != refused) {
+static const char *mark;
+static pthread_create_fn *next_pthread_create;
+
+static long number_of(const char *name)
+{
+    const char *text = getenv(name);
+
+    return text ? atol(text) : 0;
+}
+
+__attribute__((constructor)) static void read_environment(void)
+{
+    next_pthread_create = (pthread_create_fn *)dlsym(RTLD_NEXT, "pthread_create");
+    mark = getenv("REFUSE_MARK");
+    first_refused_thread = number_of("REFUSE_THREADS");
+    __atomic_store_n(&requests, 0, __ATOMIC_SEQ_CST);
+    refused_request = number_of("REFUSE");
+}
+
+static void leave_mark(void)
+{
+    int file = mark ? open(mark, O_WRONLY | O_CREAT | O_CLOEXEC, 0600) : -1;
+
+    if (file >= 0)
+        close(file);
+}
+
+static int is_refused(void)
+{
+    if (__atomic_add_fetch(&requests, 1, __ATOMIC_SEQ_CST) != refused_request || !refused_request)
         return 0;
-    }
+    leave_mark();
     errno = ENOMEM;
     return 1;
 }
 
-void *malloc(size_t size) {
+void *malloc(size_t size)
+{
     return is_refused() ? NULL : __libc_malloc(size);
 }
 
-void *calloc(size_t count, size_t size) {
+void *calloc(size_t count, size_t size)
+{
     return is_refused() ? NULL : __libc_calloc(count, size);
 }
 
-void *realloc(void *block, size_t size) {
+void *realloc(void *block, size_t size)
+{
     return is_refused() ? NULL : __libc_realloc(block, size);
+}
+
+int pthread_create(pthread_t *thread, const pthread_attr_t *attributes, void *(*start)(void *),
+                   void *argument)
+{
+    long number = __atomic_add_fetch(&threads, 1, __ATOMIC_SEQ_CST);
+
+    if (!first_refused_thread || number < first_refused_thread)
+        return next_pthread_create(thread, attributes, start, argument);
+    leave_mark();
+    return EAGAIN;
 }

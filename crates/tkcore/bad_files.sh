@@ -19,6 +19,13 @@ for given in 'trace' 'trace tai' 'trace tai script' 'trace tai script stamps mor
 done
 expect 'a trace' 0 '' 3 1000499964 "$trace script stamps"
 expect 'a trace of a pipe' 0 '' 3 1000499964 "$trace <(cat script) <(cat stamps)"
+# each name is opened once, the script first: a named pipe gives its bytes once
+mkfifo script.pipe stamps.pipe
+expect 'a trace of named pipes' 0 '' 3 1000499964 \
+    "{ cat script >script.pipe; cat stamps >stamps.pipe; } & $trace script.pipe stamps.pipe"
+expect 'many reports of named pipes' 0 '' 8 'ok,2,1.000499963' \
+    "{ cat script >script.pipe; cat script >stamps.pipe; } & \$program many 2 script.pipe stamps.pipe"
+expect 'a race of a named pipe' 0 '' 2 'actor,0,2,0' "{ cat script >script.pipe; } & \$program race 1000 script.pipe"
 expect 'names behind two dashes' 0 '' 3 1000499964 'ln -s stamps ./-stamps && $program trace monotonic -- script -stamps'
 expect 'standard input is left to others' 0 '' 4 'not read' "echo not read | { $trace script stamps; cat; }"
 
