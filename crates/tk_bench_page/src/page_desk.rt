@@ -38,7 +38,7 @@ pub fn opened<R: Wait>(rt: &R, alloc: Global) -> Option<(Page, PageDesk, Viewer)
     ensures viewer { IfSome result (λ opened. opened.2.page ≡ opened.0) }
 {
     let clock = Clock::open(nanosecond_counter()?, 0, OPENED_TIME).ok()?;
-    let (page, publisher, viewer) = Page::open(rt, alloc, clock.snapshot(0)).ok()?;
+    let (page, publisher, viewer) = Page::open(alloc, rt, clock.snapshot(0)).ok()?;
     let desk = PageDesk {
         clock,
         publisher,

@@ -32,8 +32,8 @@ pub fn turn<R: Threads + Wait + Hours + Sync>(
     let actors = updates(alloc, effort.of(ORDERS)).ok()?;
     let start = Instant::now(rt).ok()?;
     let report = race(
-        rt,
         alloc,
+        rt,
         desc,
         0,
         OPENED_TIME,

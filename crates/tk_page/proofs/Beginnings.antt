@@ -1,5 +1,6 @@
 -- Journals that begin one another.
-use Rattle.std.proofs.Common.{◌≡◌, ℕ, ◌+◌, ◌*◌, arith, List, [], ◌∷◌, ◌++◌, length, Bool, true, false, refl, ap, sym, ◌∙◌, append_assoc}
+use Rattle.std.proofs.Common.{◌≡◌, ◌≤◌, ℕ, ◌+◌, ◌*◌, arith, List, [], ◌∷◌, ◌++◌, length, Bool, true, false, refl, ap, sym, ◌∙◌, append_assoc, subst}
+use Rattle.std.proofs.lemmas.Bool.{le-ltb}
 use Rattle.std.specs.Prelude.{nat_lt, if◌then◌else◌, ℤ, pos, ◌+ℤ◌}
 use Rattle.std.proofs.lemmas.Int.{ints}
 use Rattle.std.proofs.lemmas.List.{append-nil}
@@ -39,6 +40,20 @@ longer-begins one other journal first second =
     by : (b : Bool) → IsPrefix (if b then other.entries else one.entries) journal.entries
     by true = second.1
     by false = first.1
+
+-- a journal that another one begins is the longer of the two
+pub longer-begun : (one other : Journal) → Begins other one → longer one other ≡ one
+longer-begun one other begins =
+    ap (λ (b : Bool). record one { entries = if b then other.entries else one.entries })
+    (le-ltb (length one.entries) (length other.entries) low)
+  where
+    within : (xs more : List Entry) → length xs ≤ length (xs ++ more)
+    within [] more = omega arith
+    within (x ∷ xs) more = let low = within xs more in omega arith
+
+    low : length other.entries ≤ length one.entries
+    low = subst (λ (l : List Entry). length other.entries ≤ length l) begins.1.1
+        (within other.entries begins.1.0)
 
 -- clocks that were just opened have an opening, which tells their journal
 pub opened_by-opened : (counter : Counter) (reading : ℕ) (real : Timespec) →

@@ -1,5 +1,5 @@
 -- Each step keeps the rule of the page.
-use Rattle.std.proofs.Common.{◌≡◌, ◌≢◌, ℕ, zero, suc, List, [], ◌∷◌, length, set, true, refl, sym, subst}
+use Rattle.std.proofs.Common.{◌≡◌, ◌≢◌, ℕ, zero, suc, ◌+◌, List, [], ◌∷◌, length, set, true, refl, sym, subst}
 use mathlib.Core.Option.{some, some-ne-none, some-injective}
 use lib.ListN.{get_elem?}
 use Rattle.crossbeam_utils.specs.Register.{Turns, Forks, Merges}
@@ -8,7 +8,7 @@ use Rattle.tk_clock.specs.Journal.{Journal, followed_by}
 use Rattle.tk_page.specs.declared.view.View.{View}
 use Rattle.tk_page.specs.declared.view.View.TheVariants.{Fresh, Spent, Viewing, Publishing, Comparing}
 use Rattle.tk_page.specs.History.{Begins, longer}
-use Rattle.tk_page.specs.Views.{journal_of, is_fresh, Shows, Fits, Kept, Opened, Published, Seen, Compared, copy_of, longer_of, with_note}
+use Rattle.tk_page.specs.Views.{journal_of, reads_of, is_fresh, Shows, Fits, Kept, Opened, Published, Seen, Compared, copy_of, longer_of, with_note}
 use Rattle.tk_page.proofs.Beginnings.{begins-self, longer-begins}
 use Rattle.tk_page.proofs.Views.{not_fresh, only_one, after_set, fits_longer, changed, cut, merged}
 
@@ -65,13 +65,13 @@ publishes by own entry new shown words views kept at =
     )
 
 -- steps 3 and 4, of a viewer
-reads : (by : ℕ) (seen : Journal) → Turns Kept by (Viewing seen) (λ x. x) Seen
-reads by seen words views kept at =
-    let view = Viewing kept.published in (
+reads : (by count : ℕ) (seen : Journal) → Turns Kept by (Viewing count seen) (λ x. x) Seen
+reads by count seen words views kept at =
+    let view = Viewing (count + 1) kept.published in (
       view,
-      changed words words views by (Viewing seen) view kept.published kept.seat kept at refl refl
+      changed words words views by (Viewing count seen) view kept.published kept.seat kept at refl refl
           kept.shown (λ j u apart there. kept.each j u there) (begins-self kept.published),
-      (refl, kept.each by (Viewing seen) at, kept.shown),
+      (refl, kept.each by (Viewing count seen) at, kept.shown),
     )
 
 -- step 7: the read of the publisher
@@ -87,37 +87,39 @@ compares by own noted words views kept at =
 
 -- step 5: a pass that knows a journal gives a viewer that knows as much
 publisher_copies : (by : ℕ) (own : Journal) →
-    Forks Kept by (Publishing own) (Publishing own) (Viewing own)
+    Forks Kept by (Publishing own) (Publishing own) (Viewing 0 own)
 publisher_copies by own words views kept at =
-    cut words views by (Publishing own) (Publishing own) (Viewing own) kept at refl refl refl
+    cut words views by (Publishing own) (Publishing own) (Viewing 0 own) kept at refl refl refl
     (λ _ _ fits. fits)
     (λ journal seat j fits. subst (Begins own) fits.1 (begins-self own))
 
-viewer_copies : (by : ℕ) (seen : Journal) →
-    Forks Kept by (Viewing seen) (Viewing seen) (Viewing seen)
-viewer_copies by seen words views kept at =
-    cut words views by (Viewing seen) (Viewing seen) (Viewing seen) kept at refl refl refl
+viewer_copies : (by count : ℕ) (seen : Journal) →
+    Forks Kept by (Viewing count seen) (Viewing count seen) (Viewing 0 seen)
+viewer_copies by count seen words views kept at =
+    cut words views by (Viewing count seen) (Viewing count seen) (Viewing 0 seen) kept at refl refl refl
     (λ _ _ fits. fits) (λ _ _ _ fits. fits)
 
 -- step 5: all that a viewer knows goes to a new pass
-viewer_leaves : (by : ℕ) (seen : Journal) → Forks Kept by (Viewing seen) Spent (Viewing seen)
-viewer_leaves by seen words views kept at =
-    cut words views by (Viewing seen) Spent (Viewing seen) kept at refl refl refl (λ _ _ _. tt)
+viewer_leaves : (by count : ℕ) (seen : Journal) →
+    Forks Kept by (Viewing count seen) Spent (Viewing count seen)
+viewer_leaves by count seen words views kept at =
+    cut words views by (Viewing count seen) Spent (Viewing count seen) kept at refl refl refl (λ _ _ _. tt)
     (λ _ _ _ fits. fits)
 
 -- step 6: of two viewers
-keeps_longer : (by : ℕ) (one : Journal) (other : ℕ) (two : Journal) →
-    Merges Kept by (Viewing one) other (Viewing two) (Viewing (longer one two)) Spent
-keeps_longer by one other two words views kept at apart there =
-    merged words views by (Viewing one) other (Viewing two) (Viewing (longer one two)) kept at apart
-    there refl refl
+keeps_longer : (by count : ℕ) (one : Journal) (other more : ℕ) (two : Journal) →
+    Merges Kept by (Viewing count one) other (Viewing more two)
+    (Viewing (count + more) (longer one two)) Spent
+keeps_longer by count one other more two words views kept at apart there =
+    merged words views by (Viewing count one) other (Viewing more two)
+    (Viewing (count + more) (longer one two)) kept at apart there refl refl
     (λ journal seat mine theirs. longer-begins one two journal mine theirs)
 
 -- step 6: of a viewer by the publisher
-notes : (by : ℕ) (own : Journal) (other : ℕ) (seen : Journal) →
-    Merges Kept by (Publishing own) other (Viewing seen) (Comparing own seen) Spent
-notes by own other seen words views kept at apart there =
-    merged words views by (Publishing own) other (Viewing seen) (Comparing own seen) kept at apart
+notes : (by : ℕ) (own : Journal) (other count : ℕ) (seen : Journal) →
+    Merges Kept by (Publishing own) other (Viewing count seen) (Comparing own seen) Spent
+notes by own other count seen words views kept at apart there =
+    merged words views by (Publishing own) other (Viewing count seen) (Comparing own seen) kept at apart
     there refl refl
     (λ journal seat mine theirs. (mine.0, mine.1, theirs))
 
@@ -137,10 +139,11 @@ publishes_as by view entry new is shown =
     subst (λ (v : View). Turns Kept by v (λ _. new) (Published entry)) (sym is)
     (publishes by (journal_of view) entry new shown)
 
-pub reads_as : (by : ℕ) (view : View) → view ≡ Viewing (journal_of view) →
+pub reads_as : (by : ℕ) (view : View) → view ≡ Viewing (reads_of view) (journal_of view) →
     Turns Kept by view (λ x. x) Seen
 reads_as by view is =
-    subst (λ (v : View). Turns Kept by v (λ x. x) Seen) (sym is) (reads by (journal_of view))
+    subst (λ (v : View). Turns Kept by v (λ x. x) Seen) (sym is)
+    (reads by (reads_of view) (journal_of view))
 
 pub compares_as : (by : ℕ) (view : View) (own noted : Journal) → view ≡ Comparing own noted →
     Turns Kept by view (λ x. x) Compared
@@ -152,26 +155,26 @@ pub publisher_copies_as : (by : ℕ) (view : View) (own : Journal) → view ≡ 
 publisher_copies_as by view own is =
     subst (λ (v : View). Forks Kept by v v (copy_of v)) (sym is) (publisher_copies by own)
 
-pub viewer_copies_as : (by : ℕ) (view : View) (seen : Journal) → view ≡ Viewing seen →
-    Forks Kept by view view (copy_of view)
-viewer_copies_as by view seen is =
-    subst (λ (v : View). Forks Kept by v v (copy_of v)) (sym is) (viewer_copies by seen)
+pub viewer_copies_as : (by : ℕ) (view : View) (count : ℕ) (seen : Journal) →
+    view ≡ Viewing count seen → Forks Kept by view view (copy_of view)
+viewer_copies_as by view count seen is =
+    subst (λ (v : View). Forks Kept by v v (copy_of v)) (sym is) (viewer_copies by count seen)
 
-pub viewer_leaves_as : (by : ℕ) (view : View) (seen : Journal) → view ≡ Viewing seen →
-    Forks Kept by view Spent view
-viewer_leaves_as by view seen is =
-    subst (λ (v : View). Forks Kept by v Spent v) (sym is) (viewer_leaves by seen)
+pub viewer_leaves_as : (by : ℕ) (view : View) (count : ℕ) (seen : Journal) →
+    view ≡ Viewing count seen → Forks Kept by view Spent view
+viewer_leaves_as by view count seen is =
+    subst (λ (v : View). Forks Kept by v Spent v) (sym is) (viewer_leaves by count seen)
 
-pub keeps_longer_as : (by : ℕ) (view : View) (other : ℕ) (view' : View) (one two : Journal) →
-    view ≡ Viewing one → view' ≡ Viewing two →
+pub keeps_longer_as : (by : ℕ) (view : View) (other : ℕ) (view' : View) (count more : ℕ)
+    (one two : Journal) → view ≡ Viewing count one → view' ≡ Viewing more two →
     Merges Kept by view other view' (longer_of view view') Spent
-keeps_longer_as by view other view' one two is is' =
+keeps_longer_as by view other view' count more one two is is' =
     subst (λ (t : View × View). Merges Kept by t.0 other t.1 (longer_of t.0 t.1) Spent)
-    (λ i. (sym is i, sym is' i)) (keeps_longer by one other two)
+    (λ i. (sym is i, sym is' i)) (keeps_longer by count one other more two)
 
-pub notes_as : (by : ℕ) (view : View) (other : ℕ) (view' : View) (own seen : Journal) →
-    view ≡ Publishing own → view' ≡ Viewing seen →
+pub notes_as : (by : ℕ) (view : View) (other : ℕ) (view' : View) (count : ℕ)
+    (own seen : Journal) → view ≡ Publishing own → view' ≡ Viewing count seen →
     Merges Kept by view other view' (with_note view view') Spent
-notes_as by view other view' own seen is is' =
+notes_as by view other view' count own seen is is' =
     subst (λ (t : View × View). Merges Kept by t.0 other t.1 (with_note t.0 t.1) Spent)
-    (λ i. (sym is i, sym is' i)) (notes by own other seen)
+    (λ i. (sym is i, sym is' i)) (notes by own other count seen)

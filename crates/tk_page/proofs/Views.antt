@@ -52,7 +52,7 @@ pub fits_longer : (journal : Journal) (entry : Entry) (seat by : ℕ) (view : Vi
     Fits journal seat by view → Fits (followed_by journal entry) seat by view
 fits_longer journal entry seat by Fresh apart fits = tt
 fits_longer journal entry seat by Spent apart fits = tt
-fits_longer journal entry seat by (Viewing seen) apart fits =
+fits_longer journal entry seat by (Viewing count seen) apart fits =
     begins-followed_by seen journal entry fits
 fits_longer journal entry seat by (Publishing own) apart fits = absurd (apart fits.0)
 fits_longer journal entry seat by (Comparing own noted) apart fits = absurd (apart fits.0)

@@ -1,14 +1,20 @@
 -- What a publisher or a viewer of a page knows: a journal that was published, entry by entry.
-use Rattle.std.specs.Prelude.{◌≡◌, [], length, false, pos, nat_lt, if◌then◌else◌}
+use Rattle.std.specs.Prelude.{◌≡◌, ℕ, [], length, false, pos, nat_lt, if◌then◌else◌}
 use mathlib.Core.List.{IsPrefix}
 use Rattle.atomic_table.specs.Seated.{TableId}
 use Rattle.tk_clock.specs.Journal.{Journal}
 use Rattle.tk_clock.specs.Snapshot.{Snapshot, snapshot_of}
 
--- the page, and the journal that is known of it: all of it by the publisher, what was seen of it by
--- a viewer
+-- what the publisher knows: the page, and all of its journal
 pub record History : Type 0 where
   pub page : TableId
+  pub journal : Journal
+
+-- what a viewer knows: the page, the number of reads that it has made of it, and the journal that
+-- it has seen
+pub record Sight : Type 0 where
+  pub page : TableId
+  pub reads : ℕ
   pub journal : Journal
 
 -- one journal begins another: both were opened alike, and its entries are the first ones of the

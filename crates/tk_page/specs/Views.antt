@@ -1,5 +1,5 @@
 -- The rule of the page's cell: what its ten words are, whatever each pass to it knows.
-use Rattle.std.specs.Prelude.{◌≡◌, ℕ, List, length, Bool, true, false, Some}
+use Rattle.std.specs.Prelude.{◌≡◌, ℕ, ◌+◌, List, length, Bool, true, false, Some}
 use mathlib.Core.Option.{some}
 use lib.ListN.{get_elem?}
 use Rattle.tk_counter.specs.Counter.{Counter}
@@ -15,9 +15,14 @@ use Rattle.tk_page.specs.History.{Begins, no_journal, longer}
 abbrev pub journal_of : View → Journal
 journal_of Fresh = no_journal
 journal_of Spent = no_journal
-journal_of (Viewing seen) = seen
+journal_of (Viewing count seen) = seen
 journal_of (Publishing own) = own
 journal_of (Comparing own noted) = own
+
+-- the number of reads that the viewer of this pass has made: only the step of a read adds to it
+abbrev pub reads_of : View → ℕ
+reads_of (Viewing count seen) = count
+reads_of _ = 0
 
 -- what a viewer saw, noted beside the publisher's journal
 abbrev pub noted_of : View → Journal
@@ -31,7 +36,7 @@ is_fresh _ = false
 -- a viewer's pass, the counter of its journal, and how many entries that has; none was folded
 -- before the first
 pub record IsViewer (view : View) (counter : Counter) (front : ℕ) : Type 0 where
-  pub viewing : view ≡ Viewing (journal_of view)
+  pub viewing : view ≡ Viewing (reads_of view) (journal_of view)
   pub counted : counter ≡ (journal_of view).opening.counter
   pub fronted : front ≡ length (journal_of view).entries
   pub whole : (journal_of view).opening.count ≡ 0
@@ -46,7 +51,7 @@ pub record Shows (words : List ℕ) (journal : Journal) : Type 0 where
 abbrev pub Fits : Journal → ℕ → ℕ → View → Type 0
 Fits published seat by Fresh = Unit {0}
 Fits published seat by Spent = Unit {0}
-Fits published seat by (Viewing seen) = Begins seen published
+Fits published seat by (Viewing count seen) = Begins seen published
 Fits published seat by (Publishing own) = (by ≡ seat) × (own ≡ published)
 Fits published seat by (Comparing own noted) =
     (by ≡ seat) × (own ≡ published) × Begins noted published
@@ -69,11 +74,11 @@ Opened journal view before after view' = view' ≡ Publishing journal
 abbrev pub Published : Entry → View → List ℕ → List ℕ → View → Type 0
 Published entry view before after view' = view' ≡ Publishing (followed_by (journal_of view) entry)
 
--- the journal published so far is seen, and the words are those of its snapshot
+-- one read more: the journal published so far is seen, and the words are those of its snapshot
 abbrev pub Seen : View → List ℕ → List ℕ → View → Type 0
 Seen view before after view' =
-    (view' ≡ Viewing (journal_of view')) × Begins (journal_of view) (journal_of view')
-    × Shows after (journal_of view')
+    (view' ≡ Viewing (reads_of view + 1) (journal_of view'))
+    × Begins (journal_of view) (journal_of view') × Shows after (journal_of view')
 
 -- the journal that was noted begins the publisher's, and the words are those of the snapshot of the
 -- publisher's
@@ -82,13 +87,14 @@ Compared view before after view' =
     (view' ≡ Publishing (journal_of view)) × Begins (noted_of view) (journal_of view)
     × Shows after (journal_of view)
 
--- a viewer that knows as much
+-- a viewer that knows as much, and has made no read itself
 abbrev pub copy_of : View → View
-copy_of view = Viewing (journal_of view)
+copy_of view = Viewing 0 (journal_of view)
 
--- a viewer that knows the longer journal
+-- a viewer that knows the longer journal, and counts the reads of both
 abbrev pub longer_of : View → View → View
-longer_of one other = Viewing (longer (journal_of one) (journal_of other))
+longer_of one other =
+    Viewing (reads_of one + reads_of other) (longer (journal_of one) (journal_of other))
 
 -- the publisher, with what a viewer has seen beside its own journal
 abbrev pub with_note : View → View → View

@@ -20,9 +20,14 @@
 //!    loads the words, and restores the version. That last store is the read.
 //! 5. Split: a second pass gets what a pass knows. The first one keeps it too, or gives it up.
 //! 6. Join: a pass takes in what another pass knows. The other one is then spent.
-//! 7. Tell: what the viewer knows moves from its pass to a new one (5). The publisher's pass gives
-//!    the viewer a copy of what it knows (5), and takes in the new pass as a note (6). A read by
-//!    the publisher (3 or 4) then shows that the noted journal begins the publisher's.
+//! 7. Tell: the viewer's pass gives a copy of what it knows, and then all of it (5). The publisher's
+//!    pass gives a copy (5), and takes in the viewer's copy as a note (6). A read by the publisher (3
+//!    or 4) then shows that the noted journal begins the publisher's. At last the viewer's count is
+//!    joined to the publisher's copy (6).
+//!
+//! A viewer's pass counts its reads: steps 3 and 4 add one, and no other step adds any. A copy (5)
+//! starts at 0. A join (6) adds both counts and keeps the longer journal, so no step can keep the
+//! count of a read and drop the journal that it saw.
 //!
 //! Who waits for whom:
 //!
@@ -40,7 +45,7 @@ ghost use Rattle.tk_page.specs.History.{Begins, IsOpening, opened_by};
 
 use crate::page_error::PageError;
 use crate::publisher::Publisher;
-use crate::rule::{Cell, Compares, Copies, Leaves, NamesJournal, Notes, Opens, Pass};
+use crate::rule::{Cell, Compares, Copies, KeepsLonger, Leaves, NamesJournal, Notes, Opens, Pass};
 use crate::viewer::Viewer;
 use std::alloc::Global;
 use std::marker::{Brand, Model};
@@ -73,15 +78,15 @@ impl Page {
     ///
     /// `PageError::Memory` if an allocation fails.
     pub fn open<R: Wait>(
-        rt: &R,
         alloc: Global,
+        rt: &R,
         snapshot: Snapshot,
     ) -> Result<(Page, Publisher, Viewer), PageError>
         requires { IsOpening snapshot }
         ensures publisher { IfOk result (λ opened.
             opened.1 ≡ record { page = opened.0; journal = opened_by snapshot }) }
         ensures viewer { IfOk result (λ opened.
-            opened.2 ≡ record { page = opened.0; journal = opened_by snapshot }) }
+            opened.2 ≡ record { page = opened.0; reads = 0; journal = opened_by snapshot }) }
     {
         // Step 1.
         let Ok((cell, mut pass)) = Cell::ruled(alloc, snapshot.words()) else {
@@ -98,21 +103,23 @@ impl Page {
     }
 
     /// Gives a viewer all that was published: its journal becomes the publisher's, which its former
-    /// journal begins.
+    /// journal begins. This is no read of the viewer's.
     ///
     /// It allocates nothing. If its first try fails, it waits for a viewer that holds the words.
     pub fn tell<R: Wait>(&self, rt: &R, publisher: &mut Publisher, viewer: &mut Viewer)
         requires publisher { publisher.old.page ≡ self.now }
         requires viewer { viewer.old.page ≡ self.now }
         ensures publisher { publisher.new ≡ publisher.old }
-        ensures viewer { viewer.new ≡ publisher.old }
+        ensures viewer { viewer.new ≡ record viewer.old { journal = publisher.old.journal } }
         ensures begins { Begins viewer.old.journal publisher.old.journal }
     {
         // Step 7.
-        let noted = self.cell.split_pass::<Leaves>(&mut viewer.pass);
-        let told = self.cell.split_pass::<Copies>(&mut publisher.pass);
+        let noted = self.cell.split_pass::<Copies>(&mut viewer.pass);
+        let whole = self.cell.split_pass::<Leaves>(&mut viewer.pass);
+        let mut told = self.cell.split_pass::<Copies>(&mut publisher.pass);
         self.cell.join_pass::<Notes>(&mut publisher.pass, noted);
         let words = self.cell.load_as::<Compares, R>(rt, &mut publisher.pass);
+        self.cell.join_pass::<KeepsLonger>(&mut told, whole);
         viewer.pass = told;
         viewer.front = words[0];
     }

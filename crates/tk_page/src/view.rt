@@ -19,8 +19,8 @@ pub enum View {
     Fresh,
     /// The pass knows nothing any more: its knowledge went to another pass.
     Spent,
-    /// The pass is a viewer's: the journal that it has seen.
-    Viewing(Known),
+    /// The pass is a viewer's: the number of its reads, and the journal that it has seen.
+    Viewing(u64, Known),
     /// The pass is the publisher's: the whole published journal.
     Publishing(Known),
     /// The pass is the publisher's: the whole published journal, and a journal that a viewer has

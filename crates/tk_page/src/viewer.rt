@@ -1,4 +1,4 @@
-ghost use Rattle.std.specs.Prelude.{◌≡◌, length};
+ghost use Rattle.std.specs.Prelude.{◌≡◌, ◌+◌, length};
 ghost use Rattle.tk_clock.specs.Snapshot.{snapshot_of};
 ghost use Rattle.tk_page.specs.History.{Begins, longer};
 
@@ -11,7 +11,7 @@ use tk_counter::CounterDesc;
 
 /// Reads a page.
 ///
-/// Contracts see it as the page and the journal that it has seen.
+/// Contracts see it as the page, the number of its reads, and the journal that it has seen.
 #[derive(Drop)]
 pub struct Viewer {
     pub(crate) pass: Pass,
@@ -24,13 +24,17 @@ pub struct Viewer {
 impl Model for Viewer {
     ghost use Rattle.std.specs.Prelude.{◌≡◌, length};
     ghost use Rattle.crossbeam_utils.specs.Seq.{cell_view};
-    ghost use Rattle.tk_page.specs.History.{History};
-    ghost use Rattle.tk_page.specs.Views.{journal_of, IsViewer};
+    ghost use Rattle.tk_page.specs.History.{Sight};
+    ghost use Rattle.tk_page.specs.Views.{journal_of, reads_of, IsViewer};
 
-    ghost Value = { History };
+    ghost Value = { Sight };
 
     ghost view = { λ p.
-        record { page = p.pass.table_id; journal = journal_of (cell_view p.pass) } };
+        record {
+          page = p.pass.table_id;
+          reads = reads_of (cell_view p.pass);
+          journal = journal_of (cell_view p.pass);
+        } };
 
     ghost invariant = { λ p. IsViewer (cell_view p.pass) p.desc p.front };
 }
@@ -44,6 +48,7 @@ impl Viewer {
     pub fn read<R: Wait>(&mut self, rt: &R, page: &Page) -> Snapshot
         requires page { self.old.page ≡ page.now }
         ensures page { self.new.page ≡ self.old.page }
+        ensures reads { self.new.reads ≡ self.old.reads + 1 }
         ensures begins { Begins self.old.journal self.new.journal }
         ensures answer { result ≡ snapshot_of self.new.journal }
     {
@@ -63,12 +68,12 @@ impl Viewer {
         self.front
     }
 
-    /// Returns two viewers that have both seen what this one saw. It never waits and allocates
-    /// nothing.
+    /// Returns two viewers that have both seen what this one saw. The first keeps the count of
+    /// reads, the second starts at 0. It never waits and allocates nothing.
     pub fn split(self, page: &Page) -> (Viewer, Viewer)
         requires page { self.page ≡ page.now }
         ensures first { result.0 ≡ self }
-        ensures second { result.1 ≡ self }
+        ensures second { result.1 ≡ record self { reads = 0 } }
     {
         let Viewer {
             mut pass,
@@ -87,13 +92,17 @@ impl Viewer {
         )
     }
 
-    /// Joins two viewers of one page: the result has seen the longer of their journals.
+    /// Joins two viewers of one page: the result has seen the longer of their journals, and counts
+    /// the reads of both.
     ///
     /// It never waits and allocates nothing.
     pub fn join(self, other: Viewer, page: &Page) -> Viewer
         requires page { self.page ≡ page.now }
         requires other { other.page ≡ page.now }
-        ensures { result ≡ record self { journal = longer self.journal other.journal } }
+        ensures { result ≡ record self {
+          reads = self.reads + other.reads;
+          journal = longer self.journal other.journal;
+        } }
     {
         let Viewer {
             mut pass,

@@ -42,7 +42,7 @@ fn a_fault_has_a_text(rt: HostRuntime) -> Result<(), Fail> {
 #[test]
 fn a_page_opens_or_tells_of_memory(rt: HostRuntime) -> Result<(), Fail> {
     let clock = Clock::open(nanosecond_counter()?, 0, OPENED_TIME)?;
-    if let Err(fault) = Page::open(&rt, rt.alloc(), clock.snapshot(0)) {
+    if let Err(fault) = Page::open(rt.alloc(), &rt, clock.snapshot(0)) {
         assert_same(&rt, &fault, &PageError::Memory);
     }
     Ok(())

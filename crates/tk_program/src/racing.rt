@@ -90,8 +90,8 @@ fn race_as<E: Threads + Wait + Sync, W: Sink>(
         first.now (length actors.now) (map (λ a. a.items) actors.now) result }
 {
     match race(
-        rt,
         alloc,
+        rt,
         first.desc,
         first.reading,
         first.real,

@@ -9,27 +9,29 @@ use Rattle.tk_shared.proofs.Snapshots.{snapshots_prefix}
 use Rattle.tk_race.specs.declared.action.Action.{Action}
 use Rattle.tk_race.specs.declared.action.RaceReply.{RaceReply}
 use Rattle.tk_race.specs.Actor.{IsAnswer, IsHistoryOf, IsLater, HasActed, Knows, last_front, last_mark}
-use Rattle.tk_race.specs.Replies.{AreReplies, IsReply, front_after, mark_after, done_by}
+use Rattle.tk_race.specs.Replies.{AreReplies, IsReply, front_after, mark_after, done_by, reads_by}
 use Rattle.tk_race.proofs.Answering.{begins_trans}
 
 -- a history of what a caller knows is one of what it knew before
-history_before : (now next : Known) (done : ℕ) (history : Journal) → IsLater now next done →
-    IsHistoryOf next history → IsHistoryOf now history
-history_before now next done history later is = record {
+history_before : (now next : Known) (done looks : ℕ) (history : Journal) →
+    IsLater now next done looks → IsHistoryOf next history → IsHistoryOf now history
+history_before now next done looks history later is = record {
   whole = is.whole;
   begins = begins_trans now.seen next.seen history later.seen is.begins;
   learnt = snapshots_prefix history now.learnt.publications next.learnt.publications is.learnt
       later.learnt;
 }
 
-later_twice : (start now next : Known) (one other both : ℕ) → IsLater start now one →
-    IsLater now next other → both ≡ one + other → IsLater start next both
-later_twice start now next one other both p q sum = record {
+later_twice : (start now next : Known) (one other both saw more all : ℕ) →
+    IsLater start now one saw → IsLater now next other more → both ≡ one + other →
+    all ≡ saw + more → IsLater start next both all
+later_twice start now next one other both saw more all p q sum total = record {
   id = q.id ∙ p.id;
   seen = begins_trans start.seen now.seen next.seen p.seen q.seen;
   learnt = prefix_trans start.learnt.publications now.learnt.publications next.learnt.publications
       p.learnt q.learnt;
   counted = (let first = p.counted in let rest = q.counted in omega (arith, first, rest, sum));
+  looked = (let first = p.looked in let rest = q.looked in omega (arith, first, rest, total));
 }
 
 -- one more right reply
@@ -62,11 +64,12 @@ acted_push : (start now next : Known) (actions : List Action) (replies : List Ra
     IsAnswer now next action reply →
     HasActed start next (actions ++ action ∷ []) (replies ++ reply ∷ [])
 acted_push start now next actions replies action reply acted answer = record {
-  later = later_twice start now next _ (done_by reply) _ acted.later answer.later
-      (sum_by_push done_by replies reply);
+  later = later_twice start now next _ (done_by reply) _ _ (reads_by reply) _ acted.later
+      answer.later (sum_by_push done_by replies reply) (sum_by_push reads_by replies reply);
   right = λ history is.
       (let was =
-      acted.right history (history_before now next (done_by reply) history answer.later is) in
+      acted.right history
+      (history_before now next (done_by reply) (reads_by reply) history answer.later is) in
       let front = last_front 0 replies in
       let mark = last_mark 0 replies in
       let told = answer.right history is front mark was.1 in

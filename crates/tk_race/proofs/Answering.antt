@@ -78,6 +78,7 @@ done old new cmd number told same =
         );
         learnt = told.learnt;
         counted = told.counted;
+        looked = let still = same.2 in omega (arith, still);
       };
       right = λ history is front least known.
           (let low = known.0 in
@@ -113,6 +114,7 @@ refused old new cmd refusal told same =
         learnt = subst (λ (l : Learnt). IsPrefix old.learnt.publications l.publications)
             (sym told.learnt) (prefix_self old.learnt.publications);
         counted = omega (arith, counted);
+        looked = let still = same.2 in omega (arith, still);
       };
       right = λ history is front mark known.
           (let low = known.0 in

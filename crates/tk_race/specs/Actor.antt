@@ -10,7 +10,7 @@ use Rattle.tk_shared.specs.Callers.{Known}
 use Rattle.tk_shared.specs.History.{AreSnapshots}
 use Rattle.tk_race.specs.declared.action.Action.{Action}
 use Rattle.tk_race.specs.declared.action.RaceReply.{RaceReply}
-use Rattle.tk_race.specs.Replies.{IsReply, AreReplies, front_after, mark_after, done_by, done_in}
+use Rattle.tk_race.specs.Replies.{IsReply, AreReplies, front_after, mark_after, done_by, done_in, reads_by, reads_in}
 
 -- an actor: what its caller knows, its replies so far, and the room for them
 pub record Actor : Type 0 where
@@ -32,12 +32,14 @@ pub record IsHistoryOf (caller : Known) (history : Journal) : Type 0 where
   pub begins : Begins caller.seen history
   pub learnt : AreSnapshots history caller.learnt.publications
 
--- from one moment of a caller to a later one, with so many orders done
-pub record IsLater (old new : Known) (done : ℕ) : Type 0 where
+-- from one moment of a caller to a later one, with this many orders done and this many reads of the
+-- page made
+pub record IsLater (old new : Known) (done looks : ℕ) : Type 0 where
   pub id : new.id ≡ old.id
   pub seen : Begins old.seen new.seen
   pub learnt : IsPrefix old.learnt.publications new.learnt.publications
   pub counted : new.accepted ≡ old.accepted + done
+  pub looked : new.reads ≡ old.reads + looks
 
 -- replies may tell of this front and this mark, if the caller knows of no less
 abbrev pub Knows : Known → ℕ → ℕ → Type 0
@@ -46,7 +48,7 @@ Knows caller front mark =
 
 -- an action and its reply, by every history that is still possible
 pub record IsAnswer (old new : Known) (action : Action) (reply : RaceReply) : Type 0 where
-  pub later : IsLater old new (done_by reply)
+  pub later : IsLater old new (done_by reply) (reads_by reply)
   pub right : (history : Journal) → IsHistoryOf new history → (front mark : ℕ) →
       Knows old front mark →
       IsReply history old.id front mark action reply
@@ -64,7 +66,7 @@ last_mark mark (reply ∷ replies) = last_mark (mark_after mark reply) replies
 -- an actor's actions and their replies, by every history that is still possible
 pub record HasActed (old new : Known) (actions : List Action) (replies : List RaceReply)
     : Type 0 where
-  pub later : IsLater old new (done_in replies)
+  pub later : IsLater old new (done_in replies) (reads_in replies)
   pub right : (history : Journal) → IsHistoryOf new history →
       AreReplies history old.id 0 0 actions replies
       × Knows new (last_front 0 replies) (last_mark 0 replies)

@@ -8,8 +8,17 @@ use Rattle.tk_page.specs.History.{Begins}
 use Rattle.tk_shared.specs.Opening.{IsOpened}
 use Rattle.tk_shared.specs.History.{IsKeptOf}
 use Rattle.tk_race.specs.declared.action.Action.{Action}
+use Rattle.tk_race.specs.declared.action.Action.TheVariants.{Order}
 use Rattle.tk_race.specs.declared.action.RaceReply.{RaceReply}
 use Rattle.tk_race.specs.Replies.{IsActed, done_in}
+
+-- how many orders there are among these actions
+abbrev pub order_by : Action → ℕ
+order_by (Order cmd) = 1
+order_by _ = 0
+
+abbrev pub orders_in : List Action → ℕ
+orders_in actions = sum_by order_by actions
 
 -- one list of replies for each actor, the actors being numbered on from this id
 abbrev pub HaveAll : Journal → ℕ → List (List Action) → List (List RaceReply) → Type 0

@@ -72,6 +72,14 @@ done_by _ = 0
 abbrev pub done_in : List RaceReply → ℕ
 done_in replies = sum_by done_by replies
 
+-- how many times the page was read, by these replies
+abbrev pub reads_by : RaceReply → ℕ
+reads_by (Saw read) = 1
+reads_by _ = 0
+
+abbrev pub reads_in : List RaceReply → ℕ
+reads_in replies = sum_by reads_by replies
+
 -- an actor's part: its replies are right, and it has as many entries as orders that were done
 pub record IsActed (history : Journal) (id : ℕ) (actions : List Action) (replies : List RaceReply)
     : Type 0 where

@@ -1,6 +1,7 @@
-ghost use Rattle.std.specs.Prelude.{◌≡◌, ◌<◌, ◌≤◌, length, map, IfOk, MatchResult, None, vec_len, vec_capacity};
+ghost use Rattle.std.specs.Prelude.{◌≡◌, ◌-◌, ◌^◌, ◌<◌, ◌≤◌, length, map, min, sum_by, IfOk, MatchResult, None, vec_len, vec_capacity};
+ghost use Rattle.tk_clock.specs.Limits.{listed_most};
 ghost use Rattle.tk_shared.specs.Opening.{IsNamed};
-ghost use Rattle.tk_race.specs.Race.{IsRaced, IsOutcome};
+ghost use Rattle.tk_race.specs.Race.{IsRaced, IsOutcome, orders_in};
 ghost use Rattle.tk_race.specs.RaceError.{IsRaceError, IsLate, race_error};
 ghost use Rattle.tk_race.specs.Actor.{AreReady};
 
@@ -36,8 +37,8 @@ const ACTORS_LIMIT: usize = 64;
 /// - `Memory` if an allocation fails. No thread was started.
 /// - `Threads` if a thread can't be started. Those that were started have ended.
 pub fn race<G: Gate + Sync, R: Threads + Wait + Sync>(
-    rt: &R,
     alloc: Global,
+    rt: &R,
     desc: CounterDesc,
     reading: u64,
     real: Timespec,
@@ -59,19 +60,30 @@ pub fn race<G: Gate + Sync, R: Threads + Wait + Sync>(
     }
     let counter = Ticker::new(reading, step);
     match prepare(alloc, rt, desc, real, counter, actors.len(), orders(actors)) {
-        Ok(prepared) => raced::<Brand, G, R>(rt, alloc, prepared, actors, gate),
+        Ok(prepared) => raced::<Brand, G, R>(alloc, rt, prepared, actors, gate),
         Err(fault) => Err(fault.error.into()),
     }
 }
 
-/// Returns the number of orders.
-fn orders(actors: &[Vec<Action>]) -> usize {
+/// Returns the number of orders of all actors, or `usize::MAX` if there are more.
+fn orders(actors: &[Vec<Action>]) -> usize
+    ensures { result ≡ min (sum_by (λ a. orders_in a.items) actors.now) (2 ^ 64 - 1) }
+{
     let mut count = 0usize;
     for actions in actors {
-        for action in actions {
-            if let Action::Order(_) = action {
-                count = count.saturating_add(1);
-            }
+        count = count.saturating_add(orders_of(actions.as_slice()));
+    }
+    count
+}
+
+/// The number of orders of one actor.
+fn orders_of(actions: &[Action]) -> usize
+    ensures { result ≡ orders_in actions.now }
+{
+    let mut count = 0;
+    for action in actions {
+        if let Action::Order(_) = action {
+            count += 1;
         }
     }
     count
@@ -79,10 +91,11 @@ fn orders(actors: &[Vec<Action>]) -> usize {
 
 /// Opens the keeper, lets all actors act, and closes it.
 ///
-/// It reserves all capacity before the first thread is started.
+/// The keeper has capacity for every order, or for as many as a journal lists. The rest of the
+/// memory is allocated before the first thread is started.
 fn raced<L: Named + Send + Sync, G: Gate + Sync, R: Threads + Wait + Sync>(
-    rt: &R,
     alloc: Global,
+    rt: &R,
     prepared: Prepared<Ticker>,
     actions: &[Vec<Action>],
     gate: &G,
@@ -90,6 +103,8 @@ fn raced<L: Named + Send + Sync, G: Gate + Sync, R: Threads + Wait + Sync>(
     requires named { IsNamed prepared L.page L.latch L.name L.parts L.callers }
     requires callers { prepared.callers ≡ length actions.now }
     requires some { 0 < length actions.now }
+    requires room { min (sum_by (λ a. orders_in a.items) actions.now) listed_most
+        ≤ prepared.spare }
     ensures { MatchResult result
         (λ report. IsOutcome prepared.journal (map (λ a. a.items) actions.now)
         report.keeper.journal (map (λ r. r.items) report.replies.items))

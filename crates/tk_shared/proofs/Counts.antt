@@ -136,11 +136,18 @@ exact history (caller ∷ callers) each few =
       exact history callers each.1 (omega (arith, parts, first, few)),
     )
 
+own_in : (history : Journal) (caller : Known) → IsPartOf history caller →
+    caller.accepted ≤ made_by caller.id history.entries
+own_in history caller part =
+    let seen = part.own in
+    let more = made_by-prefix caller.id caller.seen.entries history.entries part.begins.1 in
+    omega (arith, seen, more)
+
 pub all_counted : (history : Journal) (callers : List Known) → AreDifferent callers →
     All (IsPartOf history) callers → length history.entries ≡ accepted_by callers →
     All (IsCounted history) callers
 all_counted history callers different parts whole =
     let least = each_of (λ caller. caller.accepted ≤ made_by caller.id history.entries) callers
-    (λ k d l. (parts k d l).own) in
+    (λ k d l. own_in history _ (parts k d l)) in
     let within = together_within callers history.entries different in
     all_of (IsCounted history) callers (exact history callers least (omega (arith, within, whole)))

@@ -10,7 +10,7 @@ use Rattle.tk_shared.specs.Callers.{Known, made_by}
 use Rattle.tk_shared.specs.Closing.{accepted_by, AreDifferent, IsPartOf, IsClosed}
 use Rattle.tk_shared.specs.History.{AreSnapshots}
 use Rattle.tk_shared.specs.Locked.{Held, IsHeld}
-use Rattle.tk_shared.proofs.Counts.{all_counted, made_by-prefix}
+use Rattle.tk_shared.proofs.Counts.{all_counted}
 use Rattle.tk_shared.proofs.Kept.{kept_count}
 use Rattle.tk_shared.proofs.Snapshots.{snapshots_prefix}
 
@@ -22,8 +22,7 @@ pub part_of : (history : Journal) (publications : List Snapshot) (caller : Known
 part_of history publications caller are begins learnt own = record {
   begins = begins;
   learnt = snapshots_prefix history caller.learnt.publications publications are learnt;
-  own = let more = made_by-prefix caller.id caller.seen.entries history.entries begins.1 in
-      omega (arith, own, more);
+  own = own;
 }
 
 pub closed : (page : TableId) (latch : LatchId) (held : Held) (callers : List Known) →

@@ -46,6 +46,7 @@ module _ (page : TableId) (latch : LatchId) (held : Held) (is : IsHeld page latc
       record {
         id = old.id;
         accepted = old.accepted + 1;
+        reads = old.reads;
         seen = now.shown.journal;
         learnt = told_reader now.latched;
       }
@@ -84,4 +85,5 @@ module _ (page : TableId) (latch : LatchId) (held : Held) (is : IsHeld page latc
         mark = let all = length_push held.latched.publications next in
             omega (arith, all, latest, many, longer);
         learnt = prefix_trans _ _ _ learnt (next ∷ [], refl);
+        snapshots = now.snapshots;
       }

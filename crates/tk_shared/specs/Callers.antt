@@ -15,12 +15,14 @@ use Rattle.tk_clock.specs.Refusal.{clock_refusal}
 use Rattle.tk_clock.specs.Snapshot.{snapshot_of}
 use Rattle.tk_page.specs.History.{Begins}
 use Rattle.tk_latch.specs.Latch.{LatchId, Learnt, mark_of, opened_reader}
+use Rattle.tk_shared.specs.History.{AreSnapshots}
 
--- a caller: its number, how many of its commands were accepted, the history as far as it has seen
--- it, and what it has learnt from the latch
+-- a caller: its number, how many of its commands were accepted, how many times it has read the
+-- page, the history as far as it has seen it, and what it has learnt from the latch
 pub record Known : Type 0 where
   pub id : ℕ
   pub accepted : ℕ
+  pub reads : ℕ
   pub seen : Journal
   pub learnt : Learnt
 
@@ -32,9 +34,11 @@ made_by id entries = count_by (λ entry. entry.who == id) entries
 abbrev pub entry_of : Known → ℕ → Command → Entry
 entry_of caller reading cmd = record { who = caller.id; reading = reading; cmd = cmd }
 
--- no call changes the number of a caller, or the opening of what it has seen
+-- a command changes neither the number of a caller, nor the opening of what it has seen, nor the
+-- number of its reads
 abbrev pub IsSameCaller : Known → Known → Type 0
-IsSameCaller old new = (new.id ≡ old.id) × (new.seen.opening ≡ old.seen.opening)
+IsSameCaller old new =
+    (new.id ≡ old.id) × (new.seen.opening ≡ old.seen.opening) × (new.reads ≡ old.reads)
 
 -- a caller whose command was accepted under this number: the history that it has seen now is that
 -- of before with this one entry more
@@ -55,6 +59,7 @@ pub record IsAccepted (old new : Known) (cmd : Command) (answer : ℕ) : Type 0 
   pub beyond : mark_of old.learnt.publications < answer
   pub mark : mark_of new.learnt.publications ≡ answer
   pub learnt : IsPrefix old.learnt.publications new.learnt.publications
+  pub snapshots : AreSnapshots new.seen new.learnt.publications
 
 -- why an entry is refused after a whole history: Full where that has more entries than a journal
 -- lists or counts, Memory only where nothing else is wrong
@@ -78,6 +83,7 @@ abbrev pub newcomer : LatchId → Journal → ℕ → Known
 newcomer latch opened id = record {
   id = id;
   accepted = 0;
+  reads = 0;
   seen = opened;
   learnt = opened_reader latch (snapshot_of opened);
 }

@@ -26,7 +26,7 @@ AreDifferent (caller ∷ callers) = IsApart caller.id callers × AreDifferent ca
 pub record IsPartOf (history : Journal) (caller : Known) : Type 0 where
   pub begins : Begins caller.seen history
   pub learnt : AreSnapshots history caller.learnt.publications
-  pub own : caller.accepted ≤ made_by caller.id history.entries
+  pub own : caller.accepted ≤ made_by caller.id caller.seen.entries
 
 -- just as many entries are a caller's as were accepted
 abbrev pub IsCounted : Journal → Known → Type 0

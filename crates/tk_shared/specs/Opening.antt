@@ -7,7 +7,7 @@ use Rattle.tk_clock.specs.Journal.{Journal, opened}
 use Rattle.tk_clock.specs.Legal.{IsWhole}
 use Rattle.tk_clock.specs.Limits.{is_settable}
 use Rattle.tk_clock.specs.Snapshot.{snapshot_of}
-use Rattle.tk_page.specs.History.{History}
+use Rattle.tk_page.specs.History.{History, Sight}
 use Rattle.tk_latch.specs.Latch.{LatchId, Published, Learnt, opened_writer, opened_reader}
 use Rattle.tk_shared.specs.declared.fault.OpenError.{OpenError}
 use Rattle.tk_shared.specs.declared.fault.OpenError.TheVariants.{Count, Invalid, Memory}
@@ -61,10 +61,10 @@ pub record IsOpened (counter : Counter) (real : Timespec) (journal : Journal) : 
   pub whole : IsWhole journal
 
 -- a page and a latch that show the journal without entries, and a reader for each caller
-pub record IsReady (start : Start) (publisher viewer : History) (writer : Published)
-    (readers : List Learnt) : Type 0 where
+pub record IsReady (start : Start) (publisher : History) (viewer : Sight)
+    (writer : Published) (readers : List Learnt) : Type 0 where
   pub published : publisher ≡ record { page = start.page; journal = start.journal }
-  pub seen : viewer ≡ record { page = start.page; journal = start.journal }
+  pub seen : viewer ≡ record { page = start.page; reads = 0; journal = start.journal }
   pub latched : writer ≡ opened_writer start.latch (snapshot_of start.journal)
   pub learnt : readers
       ≡ replicate start.callers (opened_reader start.latch (snapshot_of start.journal))

@@ -30,6 +30,7 @@ impl<L: Named> Model for Caller<L> {
     ghost view = { λ c. record {
       id = c.id;
       accepted = c.accepted;
+      reads = c.viewer.reads;
       seen = c.viewer.journal;
       learnt = c.reader;
     } };

@@ -44,7 +44,6 @@ impl<L: Named, C: Counter> SharedKeeper<L, C> {
     /// `Missing` if there are fewer callers than the keeper has. It contains the keeper and the
     /// callers, as usable as before.
     pub fn close<R: Wait>(self, rt: &R, callers: Vec<Caller<L>>) -> Result<Closed<C>, Missing<L, C>>
-        requires parts { L.callers ≡ L.parts }
         requires different { AreDifferent callers.items }
         ensures { MatchResult result
             (λ closed. (self ≤ vec_len callers) × IsClosed closed.keeper.journal callers.items)

@@ -5,9 +5,9 @@ use crate::counter::Counter;
 pub enum OpenError {
     /// Fewer callers than 1 or more than 64 were asked for. The counter wasn't read.
     Count,
-    /// REALTIME may not be set to the requested time. The counter was read once.
+    /// REALTIME may not be set to the requested time. The counter wasn't read.
     Invalid,
-    /// An allocation failed. The counter was read once.
+    /// An allocation failed. The counter was read at most once.
     Memory,
 }
 

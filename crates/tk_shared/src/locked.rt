@@ -2,12 +2,11 @@
 ghost use Rattle.std.specs.Prelude.{◌≡◌, ◌+◌, ◌-◌, ◌<◌, max, ◌++◌, ◌∷◌, [], length, MatchResult};
 ghost use mathlib.Core.List.{IsPrefix};
 ghost use Rattle.tk_clock.specs.Folding.{folded_by};
-ghost use Rattle.tk_clock.specs.Journal.{followed_by, accepted_count};
+ghost use Rattle.tk_clock.specs.Journal.{accepted_count};
 ghost use Rattle.tk_clock.specs.Limits.{counted_most};
-ghost use Rattle.tk_clock.specs.Snapshot.{snapshot_of};
 ghost use Rattle.tk_page.specs.History.{Begins};
-ghost use Rattle.tk_latch.specs.Latch.{told_reader};
 ghost use Rattle.tk_shared.specs.Callers.{IsAccepted, IsRefused, IsSameCaller};
+ghost use Rattle.tk_shared.specs.History.{IsFold};
 
 use crate::caller::Caller;
 use crate::counter::Counter;
@@ -17,8 +16,8 @@ use std::sync::Wait;
 use std::sync::ledger::{Book, Share};
 use tk_clock::{Command, Entry, Refusal, Snapshot};
 use tk_keeper::Timekeeper;
-use tk_latch::{Latch, LatchReader, LatchWriter};
-use tk_page::{Page, Publisher, Viewer};
+use tk_latch::{Latch, LatchWriter};
+use tk_page::{Page, Publisher};
 
 /// Holds what the lock protects.
 ///
@@ -59,7 +58,8 @@ impl<L: Named, C: Counter> Model for Locked<L, C> {
 }
 
 impl<L: Named, C: Counter> Locked<L, C> {
-    /// Does a caller's command at the counter's reading, and publishes it.
+    /// Does a caller's command at the counter's reading, and publishes it on the page and then on
+    /// the latch. No call between these two waits.
     ///
     /// It reads the counter once, and waits for readers of the page. A refused command publishes
     /// nothing.
@@ -90,15 +90,11 @@ impl<L: Named, C: Counter> Locked<L, C> {
         latch.tell(&mut self.writer, &mut caller.reader);
         let entry = Entry { who, reading, cmd };
         let snapshot = self.keeper.snapshot();
-        show_on_page(
-            rt,
-            page,
-            &mut self.publisher,
-            &mut caller.viewer,
-            entry,
-            snapshot,
-        );
-        show_on_latch(latch, &mut self.writer, &mut caller.reader, snapshot);
+        self.publisher.publish(rt, page, entry, snapshot);
+        show_on_latch(latch, &mut self.writer, snapshot);
+        // This call may wait, so it comes after both publications.
+        page.tell(rt, &mut self.publisher, &mut caller.viewer);
+        latch.tell(&mut self.writer, &mut caller.reader);
         self.book.add(&mut caller.share, 1);
         caller.accepted += 1;
         Ok(number)
@@ -112,48 +108,21 @@ impl<L: Named, C: Counter> Locked<L, C> {
         ensures journal { let before = self.old.journal in
             self.new.journal ≡ folded_by (result - before.opening.count) before }
         ensures history { self.new.history ≡ self.old.history }
+        ensures fold { IsFold L.latch.counter keep result }
     {
         self.keeper.fold(keep)
     }
 }
 
-/// Publishes an entry on the page, and gives it to its caller's viewer.
-fn show_on_page<R: Wait>(
-    rt: &R,
-    page: &Page,
-    publisher: &mut Publisher,
-    viewer: &mut Viewer,
-    entry: Entry,
-    snapshot: Snapshot,
-)
-    requires page { (publisher.old.page ≡ page.now) × (viewer.old.page ≡ page.now) }
-    requires snapshot { snapshot ≡ snapshot_of (followed_by publisher.old.journal entry) }
-    ensures publisher { publisher.new
-        ≡ record publisher.old { journal = followed_by publisher.old.journal entry } }
-    ensures viewer { viewer.new ≡ publisher.new }
-{
-    publisher.publish(rt, page, entry, snapshot);
-    page.tell(rt, publisher, viewer);
-}
-
-/// Publishes the next snapshot on the latch, and gives it to its caller's reader. The latch has
-/// room for as many publications as a journal counts commands.
-fn show_on_latch(
-    latch: &Latch,
-    writer: &mut LatchWriter,
-    reader: &mut LatchReader,
-    snapshot: Snapshot,
-)
-    requires latch { (writer.old.latch ≡ latch.now) × (reader.old.latch ≡ latch.now) }
+/// Publishes the next snapshot on the latch. The latch has room for as many publications as a
+/// journal counts commands.
+fn show_on_latch(latch: &Latch, writer: &mut LatchWriter, snapshot: Snapshot)
+    requires latch { writer.old.latch ≡ latch.now }
     requires counter { snapshot.base.counter ≡ latch.now.counter }
     requires number { snapshot.front ≡ length writer.old.publications }
     requires room { length writer.old.publications < counted_most + 1 }
-    ensures writer { writer.new
+    ensures { writer.new
         ≡ record writer.old { publications = writer.old.publications ++ snapshot ∷ [] } }
-    ensures reader { reader.new ≡ told_reader writer.new }
 {
-    let Ok(()) = writer.publish(latch, snapshot) else {
-        return;
-    };
-    latch.tell(writer, reader);
+    writer.publish(latch, snapshot).unwrap()
 }

@@ -1,5 +1,5 @@
 //! Preparing what a shared keeper needs, before any type names it.
-ghost use Rattle.std.specs.Prelude.{◌≡◌, ◌≤◌, [], length, min, MatchResult, IfOk, None};
+ghost use Rattle.std.specs.Prelude.{◌≡◌, ◌≢◌, ◌≤◌, [], length, min, MatchResult, IfOk, None};
 ghost use Rattle.tk_clock.specs.Legal.{IsWhole};
 ghost use Rattle.tk_clock.specs.Limits.{listed_most};
 ghost use Rattle.tk_shared.specs.Opening.{IsOpened, IsOpenFault, IsReady, opening_fault, most_callers};
@@ -10,7 +10,7 @@ use std::alloc::{AllocError, Global};
 use std::marker::Model;
 use std::sync::Wait;
 use std::sync::ledger::Blank;
-use tk_clock::Timespec;
+use tk_clock::{Clock, Timespec};
 use tk_counter::CounterDesc;
 use tk_keeper::Timekeeper;
 use tk_latch::{Latch, LatchReader, LatchWriter};
@@ -84,9 +84,9 @@ impl<C: Counter> Model for Prepared<C> {
 ///
 /// An `OpenFault`, which contains the counter, with the first error that applies:
 ///
-/// - `Count` if `callers` is less than 1 or more than 64.
-/// - `Invalid` if REALTIME may not be set to `real`.
-/// - `Memory` if an allocation fails.
+/// - `Count` if `callers` is less than 1 or more than 64. The counter wasn't read.
+/// - `Invalid` if REALTIME may not be set to `real`. The counter wasn't read.
+/// - `Memory` if an allocation fails. The counter was read at most once.
 pub fn prepare<C: Counter, R: Wait>(
     alloc: Global,
     rt: &R,
@@ -99,7 +99,8 @@ pub fn prepare<C: Counter, R: Wait>(
     ensures { MatchResult result
         (λ prepared. (opening_fault callers real ≡ None) × (prepared.callers ≡ callers)
         × IsOpened desc real prepared.journal × (min room listed_most ≤ prepared.spare))
-        (λ fault. IsOpenFault callers real fault.error) }
+        (λ fault. IsOpenFault callers real fault.error
+        × (fault.error ≢ OpenError.Memory → fault.counter ≡ counter)) }
 {
     if callers < 1 || callers > CALLERS_LIMIT {
         return Err(OpenFault {
@@ -107,15 +108,17 @@ pub fn prepare<C: Counter, R: Wait>(
             counter,
         });
     }
-    let mut counter = counter;
-    let mask = desc.mask();
-    let reading = counter.read() & mask;
-    let Ok(keeper) = Timekeeper::open(alloc, desc, reading, real) else {
+    // Reading 0 is never above the mask, so this tests `real` alone, before the counter is read.
+    if Clock::open(desc, 0, real).is_err() {
         return Err(OpenFault {
             error: OpenError::Invalid,
             counter,
         });
-    };
+    }
+    let mut counter = counter;
+    let mask = desc.mask();
+    let reading = counter.read() & mask;
+    let keeper = Timekeeper::open(alloc, desc, reading, real).unwrap();
     let Ok(parts) = assemble(alloc, rt, keeper, callers, room) else {
         return Err(OpenFault {
             error: OpenError::Memory,
@@ -159,7 +162,7 @@ fn assemble<R: Wait>(
         return Err(AllocError);
     }
     let snapshot = keeper.snapshot();
-    let Ok((page, publisher, viewer)) = Page::open(rt, alloc, snapshot) else {
+    let Ok((page, publisher, viewer)) = Page::open(alloc, rt, snapshot) else {
         return Err(AllocError);
     };
     let Ok((latch, writer, readers)) = Latch::open(alloc, snapshot, callers) else {

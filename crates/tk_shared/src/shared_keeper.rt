@@ -1,11 +1,12 @@
 //! The lock, the page and the latch, and the calls on them.
-ghost use Rattle.std.specs.Prelude.{◌≡◌, ◌≤◌, length, replicate, IfOk, MatchResult};
+ghost use Rattle.std.specs.Prelude.{◌≡◌, ◌+◌, ◌≤◌, length, replicate, IfOk, MatchResult};
 ghost use mathlib.Core.List.{IsPrefix};
 ghost use Rattle.tk_clock.specs.Snapshot.{snapshot_of};
 ghost use Rattle.tk_keeper.specs.Keeper.{ReadsAs};
 ghost use Rattle.tk_page.specs.History.{Begins};
 ghost use Rattle.tk_latch.specs.Latch.{IsRead, IsMoved, opened_reader};
 ghost use Rattle.tk_shared.specs.Callers.{IsAccepted, IsRefused, IsSameCaller, newcomers};
+ghost use Rattle.tk_shared.specs.History.{IsFold};
 ghost use Rattle.tk_shared.specs.Opening.{IsNamed, most_callers};
 
 use crate::caller::Caller;
@@ -41,7 +42,8 @@ impl<L: Named, C: Counter> Model for SharedKeeper<L, C> {
     ghost view = { λ k. k.callers };
 
     ghost invariant = { λ k.
-        (k.page ≡ L.page) × (k.latch ≡ L.latch) × (k.callers ≡ L.callers) };
+        (k.page ≡ L.page) × (k.latch ≡ L.latch) × (k.callers ≡ L.callers)
+        × (L.callers ≡ L.parts) };
 }
 
 impl<L: Named, C: Counter> SharedKeeper<L, C> {
@@ -137,6 +139,7 @@ impl<L: Named, C: Counter> SharedKeeper<L, C> {
     /// It doesn't take the lock and allocates nothing. If its first try fails, it waits for whoever
     /// holds the words of the page.
     pub fn read<R: Wait>(&self, rt: &R, caller: &mut Caller<L>) -> Snapshot
+        ensures reads { caller.new.reads ≡ caller.old.reads + 1 }
         ensures extends { Begins caller.old.seen caller.new.seen }
         ensures answer { result ≡ snapshot_of caller.new.seen }
         ensures clocks { ReadsAs caller.new.seen result.base }
@@ -164,6 +167,7 @@ impl<L: Named, C: Counter> SharedKeeper<L, C> {
             (λ moved. IsMoved caller.old.learnt caller.new.learnt moved.first moved.last) }
         ensures same { (caller.new.id ≡ caller.old.id)
             × (caller.new.accepted ≡ caller.old.accepted)
+            × (caller.new.reads ≡ caller.old.reads)
             × (caller.new.seen ≡ caller.old.seen) }
     {
         caller.reader.try_read(&self.latch)
@@ -174,7 +178,9 @@ impl<L: Named, C: Counter> SharedKeeper<L, C> {
     ///
     /// It waits for the lock and allocates nothing. It publishes nothing, and no answer to a reader
     /// changes.
-    pub fn fold<R: Wait>(&self, rt: &R, keep: u64) -> u64 {
+    pub fn fold<R: Wait>(&self, rt: &R, keep: u64) -> u64
+        ensures { IsFold L.latch.counter keep result }
+    {
         self.locked.lock(rt).fold(keep)
     }
 }
@@ -188,6 +194,7 @@ fn make_callers<L: Named>(
     shares: &mut Share<L>,
 ) -> Result<Vec<Caller<L>>, AllocError>
     requires page { (viewer.page ≡ page.now) × (viewer.page ≡ L.page) }
+    requires reads { viewer.reads ≡ 0 }
     requires readers { readers.items
         ≡ replicate (length readers.items) (opened_reader L.latch (snapshot_of viewer.journal)) }
     requires few { length readers.items ≤ most_callers }

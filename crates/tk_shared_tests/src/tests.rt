@@ -53,7 +53,19 @@ fn ready<C: Counter, R: Wait>(
 ) -> Result<Prepared<C>, Fail>
     ensures { IfOk result (λ prepared. prepared.callers ≡ callers) }
 {
-    let desc = nanosecond_counter()?;
+    ready_on(rt, alloc, nanosecond_counter()?, counter, callers)
+}
+
+/// The same over a counter of this description.
+fn ready_on<C: Counter, R: Wait>(
+    rt: &R,
+    alloc: Global,
+    desc: CounterDesc,
+    counter: C,
+    callers: usize,
+) -> Result<Prepared<C>, Fail>
+    ensures { IfOk result (λ prepared. prepared.callers ≡ callers) }
+{
     match prepare(alloc, rt, desc, OPENED_TIME, counter, callers, 0) {
         Ok(prepared) => Ok(prepared),
         Err(_) => Err(Fail::from("not prepared")),

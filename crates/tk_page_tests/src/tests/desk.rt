@@ -37,7 +37,7 @@ pub fn opened<R: Wait>(rt: &R, alloc: Global) -> Result<(Page, Desk, Viewer), Fa
     ensures viewer { IfOk result (λ opened. opened.2.page ≡ opened.0) }
 {
     let clock = Clock::open(nanosecond_counter()?, 0, OPENED_TIME)?;
-    let (page, publisher, viewer) = Page::open(rt, alloc, clock.snapshot(0))?;
+    let (page, publisher, viewer) = Page::open(alloc, rt, clock.snapshot(0))?;
     let desk = Desk {
         clock,
         publisher,

@@ -22,7 +22,7 @@ fn raced<R: Threads + Wait + Sync>(
         nsec: 0,
     };
     let desc = CounterDesc::new(32, 16_777_216, 24).ok()?;
-    race(rt, alloc, desc, 0, real, 1_000, actors, &NoGate).ok()
+    race(alloc, rt, desc, 0, real, 1_000, actors, &NoGate).ok()
 }
 
 /// Three orders of one actor, and four actions of another.

@@ -69,8 +69,8 @@ fn actors_act_at_once(rt: HostRuntime) -> Result<(), Fail> {
         ended: AtomicU64::new(0),
     };
     let report = race(
-        &rt,
         rt.alloc(),
+        &rt,
         desc,
         0,
         OPENED_TIME,
@@ -128,8 +128,8 @@ fn a_gate_is_told_round_all_actions_of_an_actor(rt: HostRuntime) -> Result<(), F
         late: Flag::new(),
     };
     let report = race(
-        &rt,
         rt.alloc(),
+        &rt,
         desc,
         0,
         OPENED_TIME,
@@ -184,8 +184,8 @@ fn an_actor_reads_what_another_did_before_it_began(rt: HostRuntime) -> Result<()
         late: Flag::new(),
     };
     let report = race(
-        &rt,
         rt.alloc(),
+        &rt,
         desc,
         0,
         OPENED_TIME,

@@ -29,8 +29,8 @@ fn refused_requests_are_told_before_any_actor_begins(rt: HostRuntime) -> Result<
     };
     let gate = Begun(AtomicU64::new(0));
     match race(
-        &rt,
         rt.alloc(),
+        &rt,
         desc,
         0,
         OPENED_TIME,

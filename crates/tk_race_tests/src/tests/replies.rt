@@ -13,8 +13,8 @@ fn two_actors_of_three_updates_make_six_entries(rt: HostRuntime) -> Result<(), F
     let desc = nanosecond_counter()?;
     let actors = alike(rt.alloc(), 2, UPDATE, 3)?;
     let report = race(
-        &rt,
         rt.alloc(),
+        &rt,
         desc,
         0,
         OPENED_TIME,
@@ -56,8 +56,8 @@ fn one_actor_is_answered_as_on_one_thread(rt: HostRuntime) -> Result<(), Fail> {
     ]?;
     let actors = vec![in rt.alloc(); actions]?;
     let report = race(
-        &rt,
         rt.alloc(),
+        &rt,
         desc,
         5,
         OPENED_TIME,
@@ -97,8 +97,8 @@ fn error_of<R: Abort + std::thread::Threads + std::sync::Wait + Sync>(
 ) -> Result<Option<RaceError>, Fail> {
     let actors = alike(alloc, actors, UPDATE, 0)?;
     Ok(race(
-        rt,
         alloc,
+        rt,
         desc,
         reading,
         real,

@@ -42,9 +42,45 @@ fn fills_with<L: Named, R: Wait + Abort>(
     assert!(rt; is_good);
     let refused = commanded(rt, keeper, caller, Command::Update);
     assert_same(rt, &refused, &Err(Refusal::Full));
+    // a refused command folds nothing
+    assert_same(rt, &keeper.fold(rt, 1_048_576), &0);
     assert_same(rt, &keeper.fold(rt, 1), &1_048_575);
     let accepted = commanded(rt, keeper, caller, Command::Update);
     assert_same(rt, &accepted, &Ok(1_048_577));
+    Ok(())
+}
+
+#[test]
+fn a_fold_keeps_as_many_entries_as_asked(rt: HostRuntime) -> Result<(), Fail> {
+    let prepared = ready(&rt, rt.alloc(), Ticker::new(0, 1_000), 1)?;
+    keeps::<Brand, _>(&rt, rt.alloc(), prepared)
+}
+
+fn keeps<L: Named, R: Wait + Abort>(
+    rt: &R,
+    alloc: Global,
+    prepared: Prepared<Ticker>,
+) -> Result<(), Fail>
+    requires named { IsNamed prepared L.page L.latch L.name L.parts L.callers }
+{
+    let (keeper, mut callers) = opened::<L, Ticker>(alloc, prepared)?;
+    keeps_of_five(rt, &keeper, callers.as_mut_slice())
+}
+
+fn keeps_of_five<L: Named, R: Wait + Abort>(
+    rt: &R,
+    keeper: &SharedKeeper<L, Ticker>,
+    callers: &mut [Caller<L>],
+) -> Result<(), Fail> {
+    let caller = callers.first_mut().ok_or("a caller")?;
+    for number in 1..=5 {
+        let answer = commanded(rt, keeper, caller, Command::Update);
+        assert_same(rt, &answer, &Ok(number));
+    }
+    // how many are to be listed, and how many are folded then
+    for (keep, folded) in [(u64::MAX, 0), (5, 0), (2, 3), (4, 3), (0, 5)] {
+        assert_same(rt, &keeper.fold(rt, keep), &folded);
+    }
     Ok(())
 }
 

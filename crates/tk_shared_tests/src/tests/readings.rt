@@ -1,13 +1,14 @@
 //! What the counter answers.
 ghost use Rattle.tk_shared.specs.Opening.{IsNamed};
 
-use super::{assert_same, commanded, opened, read_by, ready, time};
+use super::{assert_same, commanded, opened, read_by, ready, ready_on, time};
 use std::alloc::Global;
 use std::marker::Brand;
 use std::process::Abort;
 use std::sync::Wait;
 use std::test::Fail;
 use tk_clock::{ClockId, Command, Refusal};
+use tk_counter::CounterDesc;
 use tk_shared::{Caller, Counter, Named, Prepared, SharedKeeper, Ticker};
 
 /// Answers one reading, and then others.
@@ -74,6 +75,14 @@ fn answers_above_the_mask_are_masked(rt: HostRuntime) -> Result<(), Fail> {
     };
     let prepared = ready(&rt, rt.alloc(), counter, 1)?;
     updated::<Brand, _, _>(&rt, rt.alloc(), prepared, Ok(1), 7, 2)
+}
+
+#[test]
+fn readings_of_48_bits_keep_their_upper_bits(rt: HostRuntime) -> Result<(), Fail> {
+    let desc = CounterDesc::new(48, 16_777_216, 24)?;
+    let start = (1 << 32) + 5;
+    let prepared = ready_on(&rt, rt.alloc(), desc, Ticker::new(start, 1_000), 1)?;
+    updated::<Brand, _, _>(&rt, rt.alloc(), prepared, Ok(1), (1 << 32) + 1_005, 1_000)
 }
 
 #[test]

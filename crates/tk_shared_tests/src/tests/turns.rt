@@ -10,7 +10,7 @@ use std::sync::Wait;
 use std::test::Fail;
 use tk_clock::{ClockId, Command, Timespec};
 use tk_keeper::Timekeeper;
-use tk_shared::{Caller, Missing, Named, Prepared, SharedKeeper, Ticker};
+use tk_shared::{Caller, Closed, Counter, Missing, Named, Prepared, SharedKeeper, Ticker};
 
 /// What the first caller sets REALTIME to.
 const SET: Command = Command::SetTime(Timespec {
@@ -34,7 +34,13 @@ fn reads<L: Named, R: Wait + Abort>(
 {
     let (keeper, mut one, mut two) = open_two::<L, Ticker>(alloc, prepared)?;
     both_read(rt, &keeper, &mut one, &mut two);
-    is_journal(rt, &closed_late(rt, alloc, keeper, one, two)?)
+    let Closed {
+        keeper,
+        mut counter,
+    } = closed_late(rt, alloc, keeper, one, two)?;
+    // it was read at the opening and by each command
+    assert_same(rt, &counter.read(), &3_000);
+    is_journal(rt, &keeper)
 }
 
 /// Each caller gives a command, and the first one's is read by both.
@@ -73,8 +79,7 @@ fn closed_late<L: Named, R: Wait>(
     keeper: SharedKeeper<L, Ticker>,
     one: Caller<L>,
     two: Caller<L>,
-) -> Result<Timekeeper, Fail>
-    requires parts { L.callers ≡ L.parts }
+) -> Result<Closed<Ticker>, Fail>
     requires callers { (one.id ≡ 0) × (two.id ≡ 1) }
 {
     let Err(missing) = keeper.close(rt, alone(alloc, one)?) else {
@@ -86,7 +91,7 @@ fn closed_late<L: Named, R: Wait>(
     } = missing;
     callers.push(two).ok().ok_or("memory")?;
     match keeper.close(rt, callers) {
-        Ok(closed) => Ok(closed.keeper),
+        Ok(closed) => Ok(closed),
         Err(_) => Err(Fail::from("not closed")),
     }
 }

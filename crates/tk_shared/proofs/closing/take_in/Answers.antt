@@ -11,6 +11,7 @@ returns-clause-seen g c =
     let known : Known = record {
       id = caller.id;
       accepted = caller.accepted;
+      reads = caller.viewer.reads;
       seen = caller.viewer.journal;
       learnt = caller.reader;
     } in

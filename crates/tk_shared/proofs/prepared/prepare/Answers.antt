@@ -1,9 +1,25 @@
-use Rattle.std.proofs.Common.{sym, subst}
+use Rattle.std.proofs.Common.{length, rules, sym, ap, subst, ◌∙◌, bit_and}
+use Rattle.std.proofs.lemmas.List.{length-replicate}
 use Rattle.tk_clock.specs.Legal.{IsWhole}
 use Rattle.tk_clock.proofs.Legal.{IsWhole-opened}
+use Rattle.tk_shared.specs.Opening.{IsOpened}
 use Rattle.tk_shared.proofs.prepared.prepare.Goals as goal
 
 pub assemble-requires-clause-whole : goal.assemble-requires-clause-whole
 assemble-requires-clause-whole g c =
-    let answer = c.in-Ok.ensures.answer in
-    subst IsWhole (sym answer.1) (IsWhole-opened _ _ _ c.open.ensures.counter answer.0)
+    let answer = rw c.unwrap-keeper.ensures at c.open-2.ensures.answer in
+    subst IsWhole (sym answer.1) (IsWhole-opened _ _ _ c.open-2.ensures.counter answer.0)
+
+pub returns : goal.returns
+returns g c =
+    let answer = rw c.unwrap-keeper.ensures at c.open-2.ensures.answer in
+    let whole = subst IsWhole (sym answer.1) (IsWhole-opened _ _ _ c.open-2.ensures.counter answer.0)
+    in
+    let opened : IsOpened c.args.desc c.args.real c.in-Ok.parts.keeper.journal =
+    record {
+      reading = bit_and c.read.result c.mask-mask.result;
+      masked = search rules;
+      opened = c.in-Ok.ensures.0 ∙ answer.1;
+      whole = subst IsWhole (sym c.in-Ok.ensures.0) whole;
+    } in
+    (search rules, ap length c.in-Ok.ensures.2.learnt ∙ length-replicate _ _, opened, c.in-Ok.ensures.1)

@@ -8,7 +8,9 @@ use Rattle.tk_shared.proofs.shared_keeper.make_callers.Given as goal
 
 abbrev pub invariant-loop-reader : goal.invariant-loop-reader
 invariant-loop-reader g l = record {
-  viewer : l.viewer ≡ l.fn.viewer;
+  page : l.viewer.page ≡ l.fn.viewer.page;
+  journal : l.viewer.journal ≡ l.fn.viewer.journal;
+  reads : l.viewer.reads ≡ 0;
   readers : into_iter_items l.reader-iterator
       ≡ replicate (length (into_iter_items l.reader-iterator))
       (opened_reader g.L.Named.latch (snapshot_of l.fn.viewer.journal));

@@ -4,7 +4,7 @@ use Rattle.tk_page.proofs.viewer.Viewer.join.Goals as goal
 
 pub split_pass-whole-requires : goal.split_pass-whole-requires
 split_pass-whole-requires c =
-    (search rules, (search rules, (search rules, viewer_leaves_as _ _ _ c.other.invariant.viewing)))
+    (search rules, (search rules, (search rules, viewer_leaves_as _ _ _ _ c.other.invariant.viewing)))
 
 pub join_pass-requires : goal.join_pass-requires
 join_pass-requires c =
@@ -12,6 +12,6 @@ join_pass-requires c =
       search rules,
       (
         search rules,
-        (search rules, keeps_longer_as _ _ _ _ _ _ c.self.invariant.viewing whole),
+        (search rules, keeps_longer_as _ _ _ _ _ _ _ _ c.self.invariant.viewing whole),
       ),
     )

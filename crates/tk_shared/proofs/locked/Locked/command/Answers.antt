@@ -1,8 +1,8 @@
-use Rattle.std.proofs.Common.{◌+◌, ◌++◌, ◌∷◌, [], sym, ap, ◌∙◌, subst, bit_and}
+use Rattle.std.proofs.Common.{ℕ, ◌+◌, ◌++◌, ◌∷◌, [], sym, ap, ◌∙◌, subst, bit_and}
 use Rattle.tk_clock.specs.declared.command.Entry.{Entry}
 use Rattle.tk_clock.specs.Journal.{Journal, followed_by, accepted_count}
 use Rattle.tk_clock.specs.Snapshot.{Snapshot, snapshot_of}
-use Rattle.tk_page.specs.History.{History}
+use Rattle.tk_page.specs.History.{History, Sight}
 use Rattle.tk_latch.specs.Latch.{Learnt, Published, told_reader}
 use Rattle.tk_shared.specs.Callers.{Known, IsAccepted, IsRefused}
 use Rattle.tk_shared.specs.Locked.{Guarded, Held, IsHeld}
@@ -19,6 +19,7 @@ returns-in-Err-clause-answer g c =
     let old : Known = record {
       id = caller.id;
       accepted = caller.accepted;
+      reads = caller.viewer.reads;
       seen = caller.viewer.journal;
       learnt = caller.reader;
     } in
@@ -31,19 +32,20 @@ returns-in-Err-clause-answer g c =
     } in
     let told = refused g.L.Named.page g.L.Named.latch held is old c.read.result c.args.cmd
     c.tell.ensures.begins c.in-Err.refusal c.in-Err.ensures.answer.0 in
-    let new : Journal → Known = λ seen. record old { seen = seen } in
-    let seen = ap (λ (h : History). h.journal) c.tell.ensures.viewer in
+    let new : Journal × ℕ → Known = λ p. record old { reads = p.1; seen = p.0 } in
+    let sight : Sight → Journal × ℕ = λ s. (s.journal, s.reads) in
+    let seen = ap sight c.tell.ensures.viewer in
     let history = ap (λ (h : History). h.journal) c.tell.ensures.publisher in
     let guarded : Journal × Journal → Guarded = λ p. record { history = p.0; journal = p.1 } in (
-      subst (λ (k : Known). IsRefused k (new c.tell.new.viewer.journal) c.args.cmd c.in-Err.refusal)
+      subst (λ (k : Known). IsRefused k (new (sight c.tell.new.viewer)) c.args.cmd c.in-Err.refusal)
           c.caller.view_is
-          (subst (λ (j : Journal). IsRefused old (new j) c.args.cmd c.in-Err.refusal) (sym seen) told),
+          (subst (λ (p : Journal × ℕ). IsRefused old (new p) c.args.cmd c.in-Err.refusal) (sym seen) told),
       ap guarded (λ i. (history i, ap (λ (k : Keeper). k.journal) c.in-Err.ensures.answer.1 i))
           ∙ c.self.view_is,
     )
 
-pub show_on_page-requires-clause-snapshot : goal.show_on_page-requires-clause-snapshot
-show_on_page-requires-clause-snapshot g c =
+pub publish-requires-clause-snapshot : goal.publish-requires-clause-snapshot
+publish-requires-clause-snapshot g c =
     let entry : Entry = record {
       who = c.caller.inside.id;
       reading = bit_and c.read.result c.self.inside.mask;
@@ -66,12 +68,12 @@ invariant_of-self-2 g c =
     let now = held_accepted g.L.Named.page g.L.Named.latch _ entry c.self.invariant.0
     c.in-Ok.ensures.answer.0 in
     let longer : History → History = λ h. record h { journal = followed_by h.journal entry } in
-    let shown = c.show_on_page.ensures.publisher ∙ ap longer c.tell.ensures.publisher in
+    let shown = c.tell-3.ensures.publisher ∙ c.publish.ensures ∙ ap longer c.tell.ensures.publisher in
     let snapshot = c.snapshot-snapshot.ensures.value ∙ ap snapshot_of c.in-Ok.ensures.answer.1
     ∙ kept_snapshot _ _ now.whole now.kept in
     let pushed : Published × Snapshot → Published =
     λ p. record p.0 { publications = p.0.publications ++ p.1 ∷ [] } in
-    let latched = c.show_on_latch.ensures.writer
+    let latched = c.tell-4.ensures.writer ∙ c.show_on_latch.ensures
     ∙ ap pushed (λ i. (c.tell-2.ensures.writer i, snapshot i)) in (
       subst (IsHeld g.L.Named.page g.L.Named.latch)
           (λ i. record {
@@ -93,6 +95,7 @@ returns-clause-answer g c =
     let old : Known = record {
       id = caller.id;
       accepted = caller.accepted;
+      reads = caller.viewer.reads;
       seen = caller.viewer.journal;
       learnt = caller.reader;
     } in
@@ -114,25 +117,28 @@ returns-clause-answer g c =
     c.tell.ensures.begins c.in-Ok.number c.tell-2.ensures.extends answer.0
     (answer.2 ∙ ap accepted_count answer.1) in
     let longer : History → History = λ h. record h { journal = followed_by h.journal entry } in
-    let seen = ap (λ (h : History). h.journal)
-    (c.show_on_page.ensures.viewer ∙ c.show_on_page.ensures.publisher
-    ∙ ap longer c.tell.ensures.publisher) in
+    let seen = ap (λ (s : Sight). s.journal) c.tell-3.ensures.viewer
+    ∙ ap (λ (h : History). h.journal) (c.publish.ensures ∙ ap longer c.tell.ensures.publisher) in
+    let reads = ap (λ (s : Sight). s.reads) c.tell-3.ensures.viewer
+    ∙ ap (λ (s : Sight). s.reads) c.tell.ensures.viewer in
     let snapshot = c.snapshot-snapshot.ensures.value ∙ ap snapshot_of answer.1
     ∙ kept_snapshot _ _ now.whole now.kept in
     let pushed : Published × Snapshot → Published =
     λ p. record p.0 { publications = p.0.publications ++ p.1 ∷ [] } in
-    let learnt = c.show_on_latch.ensures.reader
-    ∙ ap told_reader (c.show_on_latch.ensures.writer
+    let learnt = c.tell-4.ensures.reader
+    ∙ ap told_reader (c.show_on_latch.ensures
     ∙ ap pushed (λ i. (c.tell-2.ensures.writer i, snapshot i))) in
-    let new : Journal × Learnt → Known = λ p. record {
+    let new : ℕ × Journal × Learnt → Known = λ p. record {
       id = caller.id;
       accepted = caller.accepted + 1;
-      seen = p.0;
-      learnt = p.1;
+      reads = p.0;
+      seen = p.1;
+      learnt = p.2;
     } in
     subst
     (λ (k : Known).
-    IsAccepted k (new (c.show_on_page.new.viewer.journal, c.show_on_latch.new.reader)) c.args.cmd c.in-Ok.number)
+    IsAccepted k (new (c.tell-3.new.viewer.reads, c.tell-3.new.viewer.journal, c.tell-4.new.reader))
+    c.args.cmd c.in-Ok.number)
     c.caller.view_is
-    (subst (λ (p : Journal × Learnt). IsAccepted old (new p) c.args.cmd c.in-Ok.number)
-    (λ i. (sym seen i, sym learnt i)) told)
+    (subst (λ (p : ℕ × Journal × Learnt). IsAccepted old (new p) c.args.cmd c.in-Ok.number)
+    (λ i. (sym reads i, sym seen i, sym learnt i)) told)
