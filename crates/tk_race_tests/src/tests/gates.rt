@@ -1,9 +1,12 @@
 //! When the gate is told, and that actors act at once.
 
 use super::{OPENED_TIME, UPDATE, alike, assert_same, nanosecond_counter, rise};
+use std::alloc::Global;
+use std::process::Abort;
+use std::sync::Wait;
 use std::sync::atomic::{AtomicBool, AtomicU64, Ordering};
 use std::test::Fail;
-use std::thread;
+use std::thread::{self, Threads};
 use tk_gate::Gate;
 use tk_race::{Action, RaceReply, race};
 
@@ -35,23 +38,25 @@ impl Flag {
     }
 }
 
-/// Holds each of the pieces 0 and 1 until the other has come too.
+/// Holds each piece until as many have come as are expected, and counts those that have ended.
 #[derive(Drop)]
 struct Meeting {
-    came: [Flag; 2],
-    late: Flag,
+    expected: u64,
+    came: AtomicU64,
     ended: AtomicU64,
+    late: Flag,
 }
 
 impl Gate for Meeting {
-    fn before(&self, piece: usize) {
-        if piece > 1 {
-            return;
+    fn before(&self, _piece: usize) {
+        self.came.fetch_add(1, Ordering::SeqCst);
+        for _ in 0..TURNS {
+            if self.came.load(Ordering::SeqCst) >= self.expected {
+                return;
+            }
+            thread::yield_now();
         }
-        self.came[piece].set();
-        if !self.came[1 - piece].is_seen() {
-            self.late.set();
-        }
+        self.late.set();
     }
 
     fn after(&self, _piece: usize) {
@@ -61,16 +66,29 @@ impl Gate for Meeting {
 
 #[test]
 fn actors_act_at_once(rt: HostRuntime) -> Result<(), Fail> {
+    for actors in [2, 3, 64] {
+        all_meet(&rt, rt.alloc(), actors)?;
+    }
+    Ok(())
+}
+
+/// Races this many actors of three orders each, none of which begins before all have come.
+fn all_meet<R: Abort + Threads + Wait + Sync>(
+    rt: &R,
+    alloc: Global,
+    count: u32,
+) -> Result<(), Fail> {
     let desc = nanosecond_counter()?;
-    let actors = alike(rt.alloc(), 2, UPDATE, 3)?;
+    let actors = alike(alloc, count as usize, UPDATE, 3)?;
     let gate = Meeting {
-        came: [Flag::new(), Flag::new()],
-        late: Flag::new(),
+        expected: u64::from(count),
+        came: AtomicU64::new(0),
         ended: AtomicU64::new(0),
+        late: Flag::new(),
     };
     let report = race(
-        rt.alloc(),
-        &rt,
+        alloc,
+        rt,
         desc,
         0,
         OPENED_TIME,
@@ -80,14 +98,66 @@ fn actors_act_at_once(rt: HostRuntime) -> Result<(), Fail> {
     )
     .ok()
     .ok_or("a report")?;
-    assert_same(
-        &rt,
-        &(report.keeper.len(), gate.ended.load(Ordering::SeqCst)),
-        &(6, 2),
-    );
-    assert!(&rt; !gate.late.0.load(Ordering::SeqCst));
+    assert!(rt; !gate.late.0.load(Ordering::SeqCst));
+    let ended = gate.ended.load(Ordering::SeqCst);
+    assert_same(rt, &ended, &u64::from(count));
+    assert_same(rt, &(report.keeper.len() as u64), &ended.wrapping_mul(3));
     for replies in report.replies.as_slice() {
-        assert!(&rt; rise(0, replies.as_slice()));
+        assert!(rt; rise(0, replies.as_slice()));
+    }
+    Ok(())
+}
+
+/// Counts how many times each of three pieces has begun and ended.
+#[derive(Drop)]
+struct Tally {
+    begun: [AtomicU64; 3],
+    ended: [AtomicU64; 3],
+}
+
+/// Counts one more for this piece.
+fn count(pieces: &[AtomicU64], piece: usize) {
+    if let Some(count) = pieces.get(piece) {
+        count.fetch_add(1, Ordering::SeqCst);
+    }
+}
+
+impl Gate for Tally {
+    fn before(&self, piece: usize) {
+        count(&self.begun, piece);
+    }
+
+    fn after(&self, piece: usize) {
+        count(&self.ended, piece);
+    }
+}
+
+#[test]
+fn each_piece_begins_and_ends_once_even_without_actions(rt: HostRuntime) -> Result<(), Fail> {
+    let orders = vec![in rt.alloc(); UPDATE; 2]?;
+    let looks = vec![in rt.alloc(); Action::Look; 1]?;
+    let actors = vec![in rt.alloc(); orders, Vec::new(rt.alloc()), looks]?;
+    let gate = Tally {
+        begun: [AtomicU64::new(0), AtomicU64::new(0), AtomicU64::new(0)],
+        ended: [AtomicU64::new(0), AtomicU64::new(0), AtomicU64::new(0)],
+    };
+    let report = race(
+        rt.alloc(),
+        &rt,
+        nanosecond_counter()?,
+        0,
+        OPENED_TIME,
+        1,
+        actors.as_slice(),
+        &gate,
+    )
+    .ok()
+    .ok_or("a report")?;
+    assert_same(&rt, &report.keeper.len(), &2);
+    for pieces in [&gate.begun, &gate.ended] {
+        for times in pieces {
+            assert_same(&rt, &times.load(Ordering::SeqCst), &1);
+        }
     }
     Ok(())
 }

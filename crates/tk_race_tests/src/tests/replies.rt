@@ -1,9 +1,12 @@
 //! What actors are answered.
 
 use super::{OPENED_TIME, UPDATE, alike, assert_same, nanosecond_counter, rise};
+use std::alloc::Global;
 use std::process::Abort;
+use std::sync::Wait;
 use std::test::Fail;
-use tk_clock::{Command, Refusal, Timespec};
+use std::thread::Threads;
+use tk_clock::{ClockId, Command, Refusal, Timespec};
 use tk_counter::CounterDesc;
 use tk_gate::NoGate;
 use tk_race::{Action, RaceError, RaceReply, race};
@@ -35,6 +38,67 @@ fn two_actors_of_three_updates_make_six_entries(rt: HostRuntime) -> Result<(), F
             &rt,
             &(entry.reading, entry.cmd),
             &(1_000 * number, Command::Update),
+        );
+    }
+    Ok(())
+}
+
+/// The readings of three updates by one actor on a counter of one nanosecond a cycle, and MONOTONIC
+/// at the last one.
+fn three_updates<R: Threads + Wait + Sync>(
+    rt: &R,
+    alloc: Global,
+    bits: u32,
+    reading: u64,
+    step: u64,
+) -> Result<([u64; 3], Timespec), Fail> {
+    let desc = CounterDesc::new(bits, 16_777_216, 24)?;
+    let actors = alike(alloc, 1, UPDATE, 3)?;
+    let keeper = race(
+        alloc,
+        rt,
+        desc,
+        reading,
+        OPENED_TIME,
+        step,
+        actors.as_slice(),
+        &NoGate,
+    )
+    .ok()
+    .ok_or("a report")?
+    .keeper;
+    let mut readings = [0; 3];
+    for (number, place) in (1..).zip(&mut readings) {
+        *place = keeper.entry(number).ok_or("an entry")?.reading;
+    }
+    Ok((readings, keeper.get(ClockId::Monotonic, readings[2])?))
+}
+
+#[test]
+fn readings_and_steps_keep_their_upper_bits(rt: HostRuntime) -> Result<(), Fail> {
+    for (bits, reading, step, readings, sec, nsec) in [
+        (32, 0, 4_294_968_296, [1_000, 2_000, 3_000], 0, 3_000),
+        (
+            48,
+            4_294_967_301,
+            1_000,
+            [4_294_968_301, 4_294_969_301, 4_294_970_301],
+            0,
+            3_000,
+        ),
+        (
+            64,
+            4_294_967_301,
+            4_294_968_296,
+            [8_589_935_597, 12_884_903_893, 17_179_872_189],
+            12,
+            884_904_888,
+        ),
+    ] {
+        assert_same(
+            &rt,
+            &three_updates(&rt, rt.alloc(), bits, reading, step)?,
+            &(readings, Timespec { sec, nsec }),
         );
     }
     Ok(())
@@ -87,9 +151,9 @@ fn one_actor_is_answered_as_on_one_thread(rt: HostRuntime) -> Result<(), Fail> {
 }
 
 /// The error of a race of so many actors without actions.
-fn error_of<R: Abort + std::thread::Threads + std::sync::Wait + Sync>(
+fn error_of<R: Abort + Threads + Wait + Sync>(
     rt: &R,
-    alloc: std::alloc::Global,
+    alloc: Global,
     actors: usize,
     desc: CounterDesc,
     reading: u64,
