@@ -46,8 +46,8 @@ impl Job for Trace {
         self.text = Vec::new(self.alloc);
         let (mut script, mut stamps) = (self.script.as_slice(), self.stamps.as_slice());
         trace(
-            rt,
             self.alloc,
+            rt,
             &mut script,
             &mut stamps,
             ClockId::Tai,

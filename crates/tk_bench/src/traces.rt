@@ -51,7 +51,7 @@ impl Job for Trace {
             Form::Trace => self.made = keeper.trace(fronts, stamps, clock)?,
             Form::TraceInto => keeper.trace_into(fronts, stamps, clock, out)?,
             Form::TraceAll => {
-                self.made = trace_all(rt, self.alloc, keeper, fronts, stamps, clock)?;
+                self.made = trace_all(self.alloc, rt, keeper, fronts, stamps, clock)?;
             }
             Form::TraceAllInto => trace_all_into(rt, keeper, fronts, stamps, clock, out)?,
         }

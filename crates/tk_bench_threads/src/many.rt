@@ -50,7 +50,7 @@ pub fn turn<R: Threads + Wait + Hours + Sync>(
 ) -> Option<Turn> {
     let scripts = scripts(alloc, effort.of(PAIRS)).ok()?;
     let start = Instant::now(rt).ok()?;
-    let outcomes = replay_all(rt, alloc, scripts.as_slice(), workers, &NoGate).ok()?;
+    let outcomes = replay_all(alloc, rt, scripts.as_slice(), workers, &NoGate).ok()?;
     let time = start.elapsed(rt).ok()?;
     let mut check = 0u64;
     for outcome in &outcomes {

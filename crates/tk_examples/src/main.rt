@@ -85,7 +85,7 @@ fn check_trace(
     let mut stamps = fs::open(rt, format!(in alloc; "{name}.stamps")?)?;
     let expected = expected_of(rt, name, "trace")?;
     let mut told = Vec::new(alloc);
-    if let Err(fault) = trace(threads, alloc, &mut script, &mut stamps, clock, &mut told) {
+    if let Err(fault) = trace(alloc, threads, &mut script, &mut stamps, clock, &mut told) {
         told = fault_text(alloc, fault)?;
     }
     Ok(verdict_if(told.as_slice() == expected.as_slice()))

@@ -45,8 +45,8 @@ const REFUSED: u64 = u64::MAX;
 /// first item of the whole list that has a fault: `TraceError::Unknown`, `Folded`, `Invalid` or
 /// `Range`, tested in this order.
 pub fn trace_all<R: Threads + Sync, A: Allocator + Copy + Send + Sync, B: Allocator>(
-    rt: &R,
     alloc: B,
+    rt: &R,
     keeper: &Timekeeper<A>,
     fronts: &[u64],
     stamps: &[u64],

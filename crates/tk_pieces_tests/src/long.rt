@@ -25,7 +25,7 @@ fn a_long_list_is_told_as_by_one_thread(rt: HostRuntime) -> Result<(), Fail> {
             place.wrapping_mul(1_021) % ABOVE,
         );
     }
-    let values = asked(&rt, alloc, &keeper, &lists)?;
+    let values = asked(alloc, &rt, &keeper, &lists)?;
     let (fronts, stamps) = (lists.fronts.as_slice(), lists.stamps.as_slice());
     if fronts.len() != stamps.len() {
         return Err("lists of two lengths".into());
@@ -56,7 +56,7 @@ fn the_first_fault_of_a_long_list_decides(rt: HostRuntime) -> Result<(), Fail> {
     ] {
         put(&mut lists.fronts, place, front);
         put(&mut lists.stamps, place, stamp);
-        assert_same(&rt, &asked(&rt, alloc, &keeper, &lists).err(), &Some(fault));
+        assert_same(&rt, &asked(alloc, &rt, &keeper, &lists).err(), &Some(fault));
     }
     Ok(())
 }
@@ -68,12 +68,12 @@ fn a_long_list_is_told_where_its_keepers_memory_is_refused(rt: HostRuntime) -> R
     let lists = counted(rt.alloc(), LONG)?;
     for request in 1..=REQUESTS {
         heap.refuse(request);
-        let values = asked(&rt, rt.alloc(), &keeper, &lists)?;
+        let values = asked(rt.alloc(), &rt, &keeper, &lists)?;
         assert_same(&rt, &heap.grant_all(), &false);
         assert_same(&rt, &(values.as_slice() == lists.stamps.as_slice()), &true);
     }
     heap.refuse_all();
-    assert_same(&rt, &asked(&rt, rt.alloc(), &keeper, &lists)?.len(), &LONG);
+    assert_same(&rt, &asked(rt.alloc(), &rt, &keeper, &lists)?.len(), &LONG);
     assert_same(&rt, &heap.grant_all(), &true);
     Ok(())
 }

@@ -68,8 +68,8 @@ pub(crate) fn put(list: &mut Vec<u64>, place: usize, number: u64) {
 
 /// What `trace_all` answers, out of another allocator.
 pub(crate) fn asked<A: Allocator + Copy + Send + Sync, B: Allocator>(
-    rt: &(impl Threads + Sync),
     alloc: B,
+    rt: &(impl Threads + Sync),
     keeper: &Timekeeper<A>,
     lists: &Lists,
 ) -> Result<Vec<u64, B>, TraceError> {
@@ -78,13 +78,13 @@ pub(crate) fn asked<A: Allocator + Copy + Send + Sync, B: Allocator>(
     if fronts.len() != stamps.len() {
         return Err(TraceError::Range { index: usize::MAX });
     }
-    trace_all(rt, alloc, keeper, fronts, stamps, ClockId::Monotonic)
+    trace_all(alloc, rt, keeper, fronts, stamps, ClockId::Monotonic)
 }
 
 /// What both calls answer, which must be the same.
 fn answered(
-    rt: &(impl Threads + Sync),
     alloc: Global,
+    rt: &(impl Threads + Sync),
     keeper: &Timekeeper,
     lists: &mut Lists,
 ) -> Result<Result<Vec<u64>, TraceError>, Fail> {
@@ -95,7 +95,7 @@ fn answered(
         return Err("lists of several lengths".into());
     }
     let done = trace_all_into(rt, keeper, fronts, stamps, clock, lists.out.as_mut_slice());
-    let list = asked(rt, alloc, keeper, lists);
+    let list = asked(alloc, rt, keeper, lists);
     match &list {
         Ok(values) => {
             if done.is_err() || values.as_slice() != lists.out.as_slice() {
@@ -117,7 +117,7 @@ fn lists_of_each_length_are_converted(rt: HostRuntime) -> Result<(), Fail> {
     let keeper = steered(alloc)?;
     for many in [0, 1, 100_000, 131_071, 131_072, 131_073, 196_608, MANY] {
         let mut lists = counted(alloc, many)?;
-        let values = answered(&rt, alloc, &keeper, &mut lists)??;
+        let values = answered(alloc, &rt, &keeper, &mut lists)??;
         assert_same(&rt, &values.len(), &many);
         for (place, value) in values.iter().enumerate() {
             assert_same(&rt, value, &(place as u64));
@@ -143,14 +143,14 @@ fn the_first_fault_of_all_pieces_decides(rt: HostRuntime) -> Result<(), Fail> {
     ] {
         put(&mut lists.fronts, place, front);
         put(&mut lists.stamps, place, stamp);
-        let answer = answered(&rt, alloc, &keeper, &mut lists)?;
+        let answer = answered(alloc, &rt, &keeper, &mut lists)?;
         assert_same(&rt, &answer.err(), &Some(fault));
         for (at, value) in lists.out.iter().take(place).enumerate() {
             assert_same(&rt, value, &(at as u64));
         }
     }
     keeper.fold(1);
-    let answer = answered(&rt, alloc, &keeper, &mut lists)?;
+    let answer = answered(alloc, &rt, &keeper, &mut lists)?;
     assert_same(&rt, &answer.err(), &Some(TraceError::Folded { index: 0 }));
     Ok(())
 }
@@ -170,7 +170,7 @@ fn fronts_up_and_down_are_told_as_by_one_thread(rt: HostRuntime) -> Result<(), F
     }
     put(&mut lists.fronts, MANY - 1, 2);
     put(&mut lists.stamps, MANY - 1, 1_000_000_001);
-    let values = answered(&rt, alloc, &keeper, &mut lists)??;
+    let values = answered(alloc, &rt, &keeper, &mut lists)??;
     assert_same(&rt, &values.last(), &Some(&1_000_499_964));
     for ((front, stamp), value) in lists.fronts.iter().zip(&lists.stamps).zip(&values) {
         let alone = keeper.trace(&[*front], &[*stamp], ClockId::Monotonic)?;
@@ -189,11 +189,11 @@ fn room_is_asked_for_first(rt: HostRuntime) -> Result<(), Fail> {
         let mut lists = counted(alloc, many)?;
         put(&mut lists.fronts, 2, 7);
         heap.refuse_all();
-        let refused = asked(&rt, &heap, &keeper, &lists);
+        let refused = asked(&heap, &rt, &keeper, &lists);
         assert_same(&rt, &refused.err(), &Some(TraceError::Memory));
-        assert_same(&rt, &asked(&rt, &heap, &keeper, &none)?.len(), &0);
+        assert_same(&rt, &asked(&heap, &rt, &keeper, &none)?.len(), &0);
         heap.grant_all();
-        let fault = asked(&rt, &heap, &keeper, &lists);
+        let fault = asked(&heap, &rt, &keeper, &lists);
         assert_same(&rt, &fault.err(), &Some(TraceError::Unknown { index: 2 }));
     }
     Ok(())

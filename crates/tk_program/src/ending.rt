@@ -4,8 +4,7 @@ ghost use Rattle.tk_program.specs.Ending.{IsToldIn, ending_at, ending_of, ending
 use crate::command_line::WordsError;
 use std::io;
 use std::io::Write;
-use tk_race::RaceError;
-use tk_replay::{Fault, ManyError};
+use tk_replay::{Fault, ManyError, RaceError};
 use tk_script::ScriptError;
 
 /// Says how the program ends. Every variant with status 1 or 2, except `Faulty`, has one line of

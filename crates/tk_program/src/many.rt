@@ -11,14 +11,13 @@ use crate::reports_text::many_text;
 use std::alloc::Global;
 use std::sync::Wait;
 use std::thread::Threads;
-use tk_gate::NoGate;
-use tk_replay::{Fault, Sink, replay_all, write_whole};
+use tk_replay::{Fault, NoGate, Sink, replay_all, write_whole};
 use tk_script::ScriptError;
 
 /// Reads all files, makes the reports of their scripts on `workers` threads, and writes them.
 pub(crate) fn answer<E: Threads + Wait + Sync, D: Folder, W: Sink>(
-    rt: &E,
     alloc: Global,
+    rt: &E,
     folder: &D,
     writer: &mut W,
     workers: u64,
@@ -34,7 +33,7 @@ pub(crate) fn answer<E: Threads + Wait + Sync, D: Folder, W: Sink>(
         Ok(scripts) => scripts,
         Err(fault) => return Ending::Fault(fault),
     };
-    match replay_all(rt, alloc, scripts.as_slice(), workers as usize, &NoGate) {
+    match replay_all(alloc, rt, scripts.as_slice(), workers as usize, &NoGate) {
         Ok(outcomes) => tell(alloc, writer, outcomes.as_slice()),
         Err(error) => Ending::Many(error),
     }

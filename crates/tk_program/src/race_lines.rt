@@ -4,8 +4,7 @@ ghost use Rattle.tk_race.specs.Replies.{done_in};
 ghost use Rattle.tk_program.specs.RaceText.{actor_line, refused_in, race_lines};
 
 use std::alloc::{AllocError, Global};
-use tk_race::{RaceReply, RaceReport};
-use tk_replay::Fault;
+use tk_replay::{Fault, RaceReply, RaceReport};
 
 /// Makes the lines of a race: `entries,NUMBER`, the number of accepted commands, then for each
 /// actor, from 0, `actor,ID,ACCEPTED,REFUSED`, the numbers of its orders.

@@ -13,9 +13,7 @@ use crate::scripts::read_scripts;
 use std::alloc::{AllocError, Global};
 use std::sync::Wait;
 use std::thread::Threads;
-use tk_gate::NoGate;
-use tk_race::{Action, RaceError, RaceReport, race};
-use tk_replay::{Fault, Sink, write_whole};
+use tk_replay::{Action, Fault, NoGate, RaceError, RaceReport, Sink, race, write_whole};
 use tk_script::{Row, Script};
 
 /// Reads and parses the files, races an actor for each script, and writes the result.
@@ -23,8 +21,8 @@ use tk_script::{Row, Script};
 /// The clocks are opened as the scripts say, which must be the same for all. The counter moves on
 /// by `step` cycles at each command.
 pub(crate) fn answer<E: Threads + Wait + Sync, D: Folder, W: Sink>(
-    rt: &E,
     alloc: Global,
+    rt: &E,
     folder: &D,
     writer: &mut W,
     step: u64,
@@ -41,8 +39,8 @@ pub(crate) fn answer<E: Threads + Wait + Sync, D: Folder, W: Sink>(
     };
     match actors_of(alloc, scripts.as_slice()) {
         Ok(actors) => race_all(
-            rt,
             alloc,
+            rt,
             writer,
             step,
             scripts.as_slice(),
@@ -54,8 +52,8 @@ pub(crate) fn answer<E: Threads + Wait + Sync, D: Folder, W: Sink>(
 
 /// Races these actors, each of which plays the part of one script, if all openings are the same.
 fn race_all<E: Threads + Wait + Sync, W: Sink>(
-    rt: &E,
     alloc: Global,
+    rt: &E,
     writer: &mut W,
     step: u64,
     scripts: &[Script],
@@ -70,7 +68,7 @@ fn race_all<E: Threads + Wait + Sync, W: Sink>(
         return Ending::Race(RaceError::Count);
     };
     if open_alike(first, others) {
-        race_as(rt, alloc, writer, step, first, actors)
+        race_as(alloc, rt, writer, step, first, actors)
     } else {
         Ending::Openings
     }
@@ -78,8 +76,8 @@ fn race_all<E: Threads + Wait + Sync, W: Sink>(
 
 /// Races these actors on clocks that are opened as the script says, and writes the result.
 fn race_as<E: Threads + Wait + Sync, W: Sink>(
-    rt: &E,
     alloc: Global,
+    rt: &E,
     writer: &mut W,
     step: u64,
     first: &Script,

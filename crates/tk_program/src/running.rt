@@ -25,8 +25,8 @@ use tk_replay::{Sink, Source};
 /// `writer`. Reader and writer stay as they were if the words are refused. `many` waits for the
 /// threads that make the reports, and `race` for its actors'. Several threads convert a long trace.
 pub fn run<E: Threads + Wait + Sync, D: Folder, R: Source, W: Sink>(
-    rt: &E,
     alloc: Global,
+    rt: &E,
     words: &[String],
     folder: &D,
     reader: &mut R,
@@ -39,15 +39,15 @@ pub fn run<E: Threads + Wait + Sync, D: Folder, R: Source, W: Sink>(
         (Some (map string_bytes words.now)) result }
 {
     match asked(alloc, words) {
-        Ok(request) => answer(rt, alloc, &request, folder, reader, writer),
+        Ok(request) => answer(alloc, rt, &request, folder, reader, writer),
         Err(error) => Ending::from(error),
     }
 }
 
 /// Does what a request asks for, and returns how it ended.
 fn answer<E: Threads + Wait + Sync, D: Folder, R: Source, W: Sink>(
-    rt: &E,
     alloc: Global,
+    rt: &E,
     request: &Request<'_>,
     folder: &D,
     reader: &mut R,
@@ -66,12 +66,12 @@ fn answer<E: Threads + Wait + Sync, D: Folder, R: Source, W: Sink>(
             clock,
             script,
             stamps,
-        } => tracing::answer(rt, alloc, folder, writer, *clock, script, stamps),
+        } => tracing::answer(alloc, rt, folder, writer, *clock, script, stamps),
         Request::Many { workers, files } => {
-            many::answer(rt, alloc, folder, writer, *workers, files.as_slice())
+            many::answer(alloc, rt, folder, writer, *workers, files.as_slice())
         }
         Request::Race { step, files } => {
-            racing::answer(rt, alloc, folder, writer, *step, files.as_slice())
+            racing::answer(alloc, rt, folder, writer, *step, files.as_slice())
         }
     }
 }
@@ -110,7 +110,7 @@ where
         rt.now reader.old reader.new writer.old writer.new words result }
 {
     match words_of(rt) {
-        Ok(words) => run(rt, rt.alloc(), words.as_slice(), rt, reader, writer),
+        Ok(words) => run(rt.alloc(), rt, words.as_slice(), rt, reader, writer),
         Err(error) => Ending::from(error),
     }
 }

@@ -13,8 +13,8 @@ use tk_replay::{Fault, Sink, trace};
 /// It opens both files before it reads either. Both names may be those of one file, which it then
 /// opens twice.
 pub(crate) fn answer<E: Threads + Sync, D: Folder, W: Sink>(
-    rt: &E,
     alloc: Global,
+    rt: &E,
     folder: &D,
     writer: &mut W,
     clock: ClockId,
@@ -32,6 +32,6 @@ pub(crate) fn answer<E: Threads + Sync, D: Folder, W: Sink>(
     let Some(mut stamps) = folder.open_once(stamps) else {
         return Ending::Fault(Fault::Read);
     };
-    let outcome = trace(rt, alloc, &mut script, &mut stamps, clock, writer);
+    let outcome = trace(alloc, rt, &mut script, &mut stamps, clock, writer);
     Ending::from(outcome)
 }

@@ -223,7 +223,7 @@ fn told(
     let mut reader = script;
     let mut writer = Vec::new(alloc);
     let mut told = Vec::new(alloc);
-    let ending = run(rt, alloc, given.as_slice(), rt, &mut reader, &mut writer);
+    let ending = run(alloc, rt, given.as_slice(), rt, &mut reader, &mut writer);
     ending.tell(&mut told)?;
     Ok(told)
 }
@@ -263,8 +263,8 @@ fn refused_words_leave_the_script_and_the_report(rt: HostRuntime) -> Result<(), 
     let mut reader = script;
     let mut writer = b"-".to_vec(rt.alloc())?;
     let ending = run(
-        &rt,
         rt.alloc(),
+        &rt,
         given.as_slice(),
         &rt,
         &mut reader,

@@ -21,8 +21,8 @@ use tk_script::Stamps;
 /// fault of the script, then of the stamp file, then of its items. `Memory` may replace any other
 /// result.
 pub(crate) fn trace_of<E: Threads + Sync>(
-    rt: &E,
     alloc: Global,
+    rt: &E,
     script: &[u8],
     stamps: &[u8],
     clock: ClockId,
@@ -33,7 +33,7 @@ pub(crate) fn trace_of<E: Threads + Sync>(
 {
     let keeper = keeper_of(alloc, script)?;
     let items = items_of(alloc, stamps)?;
-    convert(rt, alloc, &keeper, &items, clock)
+    convert(alloc, rt, &keeper, &items, clock)
 }
 
 /// Parses the bytes of a stamp file.
@@ -62,8 +62,8 @@ fn items_of(alloc: Global, stamps: &[u8]) -> Result<Stamps, Fault>
 /// - `Fault::Trace`: the first item in the list that has a fault, with that fault
 /// - `Fault::Memory`: an allocation failed; it may replace any other result
 pub fn convert<E: Threads + Sync, A: Allocator + Copy + Send + Sync, B: Allocator + Copy>(
-    rt: &E,
     alloc: B,
+    rt: &E,
     keeper: &Timekeeper<A>,
     items: &Stamps,
     clock: ClockId,
@@ -75,7 +75,7 @@ pub fn convert<E: Threads + Sync, A: Allocator + Copy + Send + Sync, B: Allocato
         × IsItemsFault clock keeper.now.journal (spec.items items.now) error)) }
 {
     let (fronts, stamps) = (items.fronts.as_slice(), items.stamps.as_slice());
-    let values = trace_all(rt, alloc, keeper, fronts, stamps, clock)?;
+    let values = trace_all(alloc, rt, keeper, fronts, stamps, clock)?;
     Ok(lines_of(alloc, values.as_slice())?)
 }
 

@@ -14,6 +14,9 @@
 //! | `trace_all`, `trace_all_into` | convert lists of stamps on several threads; from `tk_pieces` |
 //! | `replay_all` | makes the reports of many scripts on several threads |
 //! | `ManyError` | says why `replay_all` made no reports |
+//! | `Gate`, `NoGate` | are called before and after each piece of `replay_all` and `race`; from `tk_gate` |
+//! | `race`, `RaceReport`, `RaceError` | actors in threads on one keeper; from `tk_race` |
+//! | `Action`, `RaceReply` | what an actor does, and the reply to it; from `tk_race` |
 //! | `read_to_end` | reads a whole input, up to one byte more than the largest script |
 //! | `write_whole` | writes a text and flushes |
 //! | `Fault` | says why `replay` or `trace` stopped, and how much of the text was written |
@@ -44,5 +47,7 @@ pub use replaying::{replay, replay_bounded};
 pub use reporting::{report, report_bounded, report_rows};
 pub use sink::{Sink, write_whole};
 pub use source::{Source, read_to_end};
+pub use tk_gate::{Gate, NoGate};
 pub use tk_pieces::{trace_all, trace_all_into};
+pub use tk_race::{Action, RaceError, RaceReply, RaceReport, race};
 pub use tracing::trace;

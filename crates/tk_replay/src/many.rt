@@ -32,8 +32,8 @@ const MOST_WORKERS: usize = 64;
 /// - `Threads`: a thread could not be started; the others take no further script, and have ended
 ///   when this returns
 pub fn replay_all<G: Gate + Sync, R: Threads + Wait + Sync>(
-    rt: &R,
     alloc: Global,
+    rt: &R,
     scripts: &[Vec<u8>],
     workers: usize,
     gate: &G,
@@ -44,13 +44,13 @@ pub fn replay_all<G: Gate + Sync, R: Threads + Wait + Sync>(
     if workers == 0 || workers > MOST_WORKERS {
         return Err(ManyError::Count);
     }
-    replay_shared::<Brand, G, R>(rt, alloc, scripts, workers, gate)
+    replay_shared::<Brand, G, R>(alloc, rt, scripts, workers, gate)
 }
 
 /// Does the same for the scripts that the type `S` names.
 fn replay_shared<S: NamesScripts + Send + Sync, G: Gate + Sync, R: Threads + Wait + Sync>(
-    rt: &R,
     alloc: Global,
+    rt: &R,
     scripts: &[Vec<u8>],
     workers: usize,
     gate: &G,
@@ -64,7 +64,7 @@ fn replay_shared<S: NamesScripts + Send + Sync, G: Gate + Sync, R: Threads + Wai
     };
     let shared = Mutex::new(worklist);
     let threads = workers.min(scripts.len());
-    if !work_all(rt, alloc, scripts, threads, &shared, gate) {
+    if !work_all(alloc, rt, scripts, threads, &shared, gate) {
         return Err(ManyError::Threads);
     }
     Ok(shared.into_inner().into_outcomes())
@@ -72,8 +72,8 @@ fn replay_shared<S: NamesScripts + Send + Sync, G: Gate + Sync, R: Threads + Wai
 
 /// Lets `threads` threads work until all scripts are done. Returns whether all could be started.
 fn work_all<S: NamesScripts + Send + Sync, G: Gate + Sync, R: Threads + Wait + Sync>(
-    rt: &R,
     alloc: Global,
+    rt: &R,
     scripts: &[Vec<u8>],
     threads: usize,
     shared: &Mutex<Worklist<S>>,
@@ -86,15 +86,15 @@ fn work_all<S: NamesScripts + Send + Sync, G: Gate + Sync, R: Threads + Wait + S
         rt,
         move |scope| -> bool
             requires { scripts.now ≡ S.scripts }
-        { start_all(scope, rt, alloc, scripts, threads, shared, gate) },
+        { start_all(alloc, scope, rt, scripts, threads, shared, gate) },
     )
 }
 
 /// Starts `threads` threads, and stops at the first one that can't be started.
 fn start_all<'s, 'e, S: NamesScripts + Send + Sync + 'e, G: Gate + Sync, R: Threads + Wait + Sync>(
+    alloc: Global,
     scope: &'s Scope<'s, &'e ()>,
     rt: &'e R,
-    alloc: Global,
     scripts: &'e [Vec<u8>],
     threads: usize,
     shared: &'e Mutex<Worklist<S>>,
@@ -105,7 +105,7 @@ fn start_all<'s, 'e, S: NamesScripts + Send + Sync + 'e, G: Gate + Sync, R: Thre
     for _ in 0..threads {
         let run = move || -> ()
             requires { scripts.now ≡ S.scripts }
-        { work(rt, alloc, scripts, shared, gate) };
+        { work(alloc, rt, scripts, shared, gate) };
         if scope.spawn(run).is_err() {
             shared.lock(rt).close();
             return false;
@@ -116,8 +116,8 @@ fn start_all<'s, 'e, S: NamesScripts + Send + Sync + 'e, G: Gate + Sync, R: Thre
 
 /// Takes scripts and makes their reports until none is left.
 fn work<S: NamesScripts, G: Gate, R: Wait>(
-    rt: &R,
     alloc: Global,
+    rt: &R,
     scripts: &[Vec<u8>],
     shared: &Mutex<Worklist<S>>,
     gate: &G,

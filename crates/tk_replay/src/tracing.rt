@@ -32,8 +32,8 @@ use tk_clock::ClockId;
 /// - `Fault::Trace`: the first stamp in the file that can't be converted
 /// - `Fault::Write`: a write or the flush failed; it contains the number of bytes written
 pub fn trace<E: Threads + Sync, R: Source, S: Source, W: Sink>(
-    rt: &E,
     alloc: Global,
+    rt: &E,
     script: &mut R,
     stamps: &mut S,
     clock: ClockId,
@@ -49,7 +49,7 @@ pub fn trace<E: Threads + Sync, R: Source, S: Source, W: Sink>(
 {
     let script = read_to_end(alloc, script)?;
     let stamps = read_to_end(alloc, stamps)?;
-    let text = trace_of(rt, alloc, script.as_slice(), stamps.as_slice(), clock)?;
+    let text = trace_of(alloc, rt, script.as_slice(), stamps.as_slice(), clock)?;
     match write_whole(writer, text.as_slice()) {
         Ok(()) => Ok(()),
         Err(written) => Err(Fault::Write { written }),

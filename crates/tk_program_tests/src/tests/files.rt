@@ -40,7 +40,7 @@ pub(super) fn outcome(
     let mut reader: &[u8] = b"never read";
     let mut writer = Vec::new(rt.alloc());
     let words = given.as_slice();
-    let ending = run(rt, rt.alloc(), words, &folder, &mut reader, &mut writer);
+    let ending = run(rt.alloc(), rt, words, &folder, &mut reader, &mut writer);
     assert_same(rt, &reader, &b"never read".as_slice());
     Ok((ending, writer))
 }

@@ -6,10 +6,8 @@ use std::test::Fail;
 use std::thread::Threads;
 use tk_clock::{Command, Timespec};
 use tk_counter::CounterDesc;
-use tk_gate::NoGate;
 use tk_program::race_text;
-use tk_race::{Action, RaceReport, race};
-use tk_replay::Fault;
+use tk_replay::{Action, Fault, NoGate, RaceReport, race};
 
 /// The race of these actors.
 fn raced<R: Threads + Wait + Sync>(

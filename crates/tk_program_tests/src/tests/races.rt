@@ -9,8 +9,7 @@ use std::sync::Wait;
 use std::test::Fail;
 use std::thread::Threads;
 use tk_program::{Ending, run};
-use tk_race::RaceError;
-use tk_replay::Fault;
+use tk_replay::{Fault, RaceError};
 use tk_script::ScriptError;
 
 /// Three updates. A race doesn't use their readings.
@@ -219,7 +218,7 @@ fn a_full_writer_is_told_with_what_went_out(rt: HostRuntime) -> Result<(), Fail>
         let mut reader: &[u8] = b"";
         let mut writer = Narrow { room };
         let given = words.as_slice();
-        let ending = run(&rt, rt.alloc(), given, &folder, &mut reader, &mut writer);
+        let ending = run(rt.alloc(), &rt, given, &folder, &mut reader, &mut writer);
         assert_same(&rt, &ending, &wanted);
     }
     Ok(())

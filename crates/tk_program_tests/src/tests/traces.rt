@@ -101,8 +101,8 @@ fn traces_files_of_the_system(rt: HostRuntime) -> Result<(), Fail> {
     let mut reader: &[u8] = b"";
     let mut text = Vec::new(rt.alloc());
     let ending = run(
-        &rt,
         rt.alloc(),
+        &rt,
         given.as_slice(),
         &rt,
         &mut reader,
@@ -113,8 +113,8 @@ fn traces_files_of_the_system(rt: HostRuntime) -> Result<(), Fail> {
     fs::remove_file(&rt, "tk_program_stamps")?;
     text.clear();
     let ending = run(
-        &rt,
         rt.alloc(),
+        &rt,
         given.as_slice(),
         &rt,
         &mut reader,

@@ -49,8 +49,8 @@ fn traces_two_files_into_a_third(rt: HostRuntime) -> Result<(), Fail> {
     let mut stamps = File::open(&rt, "tk_replay_stamps")?;
     let mut text = File::create(&rt, "tk_replay_trace")?;
     let outcome = trace(
-        &rt,
         rt.alloc(),
+        &rt,
         &mut script,
         &mut stamps,
         ClockId::Monotonic,

@@ -75,7 +75,7 @@ fn a_full_journal_has_no_later_front(rt: HostRuntime) -> Result<(), Fail> {
         let clock = ClockId::Monotonic;
         assert_same(
             &rt,
-            &trace(&rt, rt.alloc(), &mut reader, &mut stamps, clock, &mut text),
+            &trace(rt.alloc(), &rt, &mut reader, &mut stamps, clock, &mut text),
             &outcome,
         );
         assert_same(&rt, &text.as_slice(), &lines);
@@ -105,8 +105,8 @@ fn traces_stamps_by_the_million(rt: HostRuntime) -> Result<(), Fail> {
     assert_same(
         &rt,
         &trace(
-            &rt,
             rt.alloc(),
+            &rt,
             &mut script,
             &mut stamps,
             ClockId::Monotonic,
@@ -124,7 +124,7 @@ fn hands_on_traces_in_pieces(rt: HostRuntime) -> Result<(), Fail> {
     let real = Timespec { sec: 1, nsec: 0 };
     let keeper = Timekeeper::open(rt.alloc(), desc, 0, real)?;
     let clock = ClockId::Realtime;
-    let values = trace_all(&rt, rt.alloc(), &keeper, &[0, 0], &[7, 8], clock)?;
+    let values = trace_all(rt.alloc(), &rt, &keeper, &[0, 0], &[7, 8], clock)?;
     assert_same(
         &rt,
         &values.as_slice(),

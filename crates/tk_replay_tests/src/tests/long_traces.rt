@@ -56,14 +56,14 @@ fn values(alloc: Global) -> Result<Vec<u8>, AllocError> {
 
 /// What a trace of REALTIME by the steps comes to, and what it has written.
 fn traced(
-    rt: &(impl Threads + Sync),
     alloc: Global,
+    rt: &(impl Threads + Sync),
     stamps: &[u8],
 ) -> (Result<(), Fault>, Vec<u8>) {
     let (mut script, mut stamps) = (STEPPED, stamps);
     let mut text = Vec::new(alloc);
     let clock = ClockId::Realtime;
-    let outcome = trace(rt, alloc, &mut script, &mut stamps, clock, &mut text);
+    let outcome = trace(alloc, rt, &mut script, &mut stamps, clock, &mut text);
     (outcome, text)
 }
 
@@ -71,7 +71,7 @@ fn traced(
 fn stamps_of_many_pieces_have_their_values_in_order(rt: HostRuntime) -> Result<(), Fail> {
     let alloc = rt.alloc();
     let file = stamp_file(alloc, NOWHERE, NOWHERE)?;
-    let (outcome, text) = traced(&rt, alloc, file.as_slice());
+    let (outcome, text) = traced(alloc, &rt, file.as_slice());
     assert_same(&rt, &outcome, &Ok(()));
     assert!(rt; text.as_slice() == values(alloc)?.as_slice());
     Ok(())
@@ -87,7 +87,7 @@ fn the_first_fault_of_many_pieces_decides(rt: HostRuntime) -> Result<(), Fail> {
         (65_536, 65_535, TraceError::Invalid { index: 65_535 }),
     ] {
         let file = stamp_file(alloc, unknown, above)?;
-        let (outcome, text) = traced(&rt, alloc, file.as_slice());
+        let (outcome, text) = traced(alloc, &rt, file.as_slice());
         assert_same(&rt, &outcome, &Err(Fault::Trace(error)));
         assert!(rt; text.is_empty());
     }

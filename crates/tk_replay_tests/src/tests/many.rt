@@ -6,8 +6,7 @@ use std::process::Abort;
 use std::sync::atomic::{AtomicU64, Ordering};
 use std::test::Fail;
 use std::thread;
-use tk_gate::{Gate, NoGate};
-use tk_replay::{ManyError, replay_all, report};
+use tk_replay::{Gate, ManyError, NoGate, replay_all, report};
 use tk_script::ScriptError;
 
 /// A script whose second record has too few fields.
@@ -65,7 +64,7 @@ fn two_workers_are_at_work_at_once(rt: HostRuntime) -> Result<(), Fail> {
         came: [AtomicU64::new(0), AtomicU64::new(0)],
         late: AtomicU64::new(0),
     };
-    let outcomes = replay_all(&rt, alloc, scripts.as_slice(), 2, &gate)?;
+    let outcomes = replay_all(alloc, &rt, scripts.as_slice(), 2, &gate)?;
     assert_same(&rt, &outcomes.len(), &2);
     assert_same(&rt, &gate.late.load(Ordering::SeqCst), &0);
     Ok(())
@@ -76,7 +75,7 @@ fn as_many_workers_as_are_asked_for(rt: HostRuntime) -> Result<(), Fail> {
     let alloc = rt.alloc();
     let scripts = two(alloc)?;
     for workers in [1, 2, 64] {
-        let outcomes = replay_all(&rt, alloc, scripts.as_slice(), workers, &NoGate)?;
+        let outcomes = replay_all(alloc, &rt, scripts.as_slice(), workers, &NoGate)?;
         assert_eq!(rt; outcomes.len(), 2);
         let Ok(first) = &outcomes[0] else {
             return Err(Fail::from("the first script has a report"));
@@ -85,9 +84,9 @@ fn as_many_workers_as_are_asked_for(rt: HostRuntime) -> Result<(), Fail> {
         assert!(rt; matches!(outcomes[1], Err(ScriptError::Fields { row: 2 })));
     }
     for workers in [0, 65, usize::MAX] {
-        let refused = replay_all(&rt, alloc, scripts.as_slice(), workers, &NoGate);
+        let refused = replay_all(alloc, &rt, scripts.as_slice(), workers, &NoGate);
         assert!(rt; matches!(refused, Err(ManyError::Count)));
-        let none = replay_all(&rt, alloc, &[], workers, &NoGate);
+        let none = replay_all(alloc, &rt, &[], workers, &NoGate);
         assert!(rt; matches!(none, Err(ManyError::Count)));
     }
     Ok(())
@@ -96,7 +95,7 @@ fn as_many_workers_as_are_asked_for(rt: HostRuntime) -> Result<(), Fail> {
 #[test]
 fn no_scripts_have_no_reports(rt: HostRuntime) -> Result<(), Fail> {
     for workers in [1, 64] {
-        let outcomes = replay_all(&rt, rt.alloc(), &[], workers, &NoGate)?;
+        let outcomes = replay_all(rt.alloc(), &rt, &[], workers, &NoGate)?;
         assert!(rt; outcomes.is_empty());
     }
     Ok(())
@@ -107,7 +106,7 @@ fn reports_stand_in_the_order_of_their_scripts(rt: HostRuntime) -> Result<(), Fa
     let alloc = rt.alloc();
     let scripts = uneven(alloc, 40)?;
     for workers in [1, 3, 4, 64] {
-        let outcomes = replay_all(&rt, alloc, scripts.as_slice(), workers, &NoGate)?;
+        let outcomes = replay_all(alloc, &rt, scripts.as_slice(), workers, &NoGate)?;
         assert_same(&rt, &outcomes.len(), &scripts.len());
         for (outcome, script) in outcomes.iter().zip(&scripts) {
             let Ok(text) = outcome else {
@@ -187,7 +186,7 @@ fn the_gate_is_told_of_each_piece_once(rt: HostRuntime) -> Result<(), Fail> {
     for (count, workers) in [(0, 4), (1, 4), (3, 64), (40, 1), (40, 4)] {
         let scripts = uneven(alloc, count)?;
         let gate = Counts::new(alloc)?;
-        replay_all(&rt, alloc, scripts.as_slice(), workers, &gate)?;
+        replay_all(alloc, &rt, scripts.as_slice(), workers, &gate)?;
         assert_told_once(&rt, &gate, count);
     }
     Ok(())
@@ -220,7 +219,7 @@ fn no_more_at_work_than_there_are_workers(rt: HostRuntime) -> Result<(), Fail> {
             now: AtomicU64::new(0),
             most: AtomicU64::new(0),
         };
-        replay_all(&rt, alloc, scripts.as_slice(), workers, &gate)?;
+        replay_all(alloc, &rt, scripts.as_slice(), workers, &gate)?;
         assert!(rt; gate.most.load(Ordering::SeqCst) <= workers as u64);
         assert_same(&rt, &gate.now.load(Ordering::SeqCst), &0);
     }
@@ -252,7 +251,7 @@ fn many_reports_or_want_of_them(rt: HostRuntime) -> Result<(), Fail> {
     let gate = Bell {
         rung: AtomicU64::new(0),
     };
-    match replay_all(&rt, alloc, scripts.as_slice(), 2, &gate) {
+    match replay_all(alloc, &rt, scripts.as_slice(), 2, &gate) {
         Ok(outcomes) => {
             assert_eq!(rt; outcomes.len(), 2);
             match &outcomes[0] {

@@ -33,7 +33,7 @@ pub(super) fn traced(
     writer: &mut Writer,
 ) -> Result<(), Fault> {
     let (mut script, mut stamps) = (script, stamps);
-    trace(rt, rt.alloc(), &mut script, &mut stamps, clock, writer)
+    trace(rt.alloc(), rt, &mut script, &mut stamps, clock, writer)
 }
 
 /// A writer that takes all in pieces of ten bytes.
@@ -237,7 +237,7 @@ fn assert_unread<R: Read, S: Read>(
 ) {
     let mut writer = willing();
     let clock = ClockId::Monotonic;
-    let outcome = trace(rt, rt.alloc(), script, stamps, clock, &mut writer);
+    let outcome = trace(rt.alloc(), rt, script, stamps, clock, &mut writer);
     assert_same(rt, &outcome, &Err(Fault::Read));
     assert_same(rt, &writer.calls, &0);
 }
@@ -271,8 +271,8 @@ fn reads_both_inputs_to_the_limit(rt: HostRuntime) {
     let mut stamps = Endless { given: 0 };
     let mut writer = willing();
     let outcome = trace(
-        &rt,
         rt.alloc(),
+        &rt,
         &mut script,
         &mut stamps,
         ClockId::Tai,
