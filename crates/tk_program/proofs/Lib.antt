@@ -2,3 +2,4 @@ pub mod Worked
 pub mod ManyText
 pub mod RaceLines
 pub mod FilesRead
+pub mod Openable

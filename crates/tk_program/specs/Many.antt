@@ -1,5 +1,5 @@
 -- How the reports of many scripts end.
-use Rattle.std.specs.Prelude.{◌≡◌, ℕ, List, Option, Result, Bool, is_ok, if◌then◌else◌, ◌⊎◌}
+use Rattle.std.specs.Prelude.{◌≡◌, ◌≢◌, ℕ, List, Option, Result, Bool, is_ok, if◌then◌else◌, ◌⊎◌}
 use Rattle.std.specs.Borrow.{Bor}
 use Rattle.std.specs.Global.{Vec}
 use Rattle.std.specs.List.{list_all}
@@ -8,6 +8,7 @@ use Rattle.tk_script.specs.declared.script_error.ScriptError.{ScriptError}
 use Rattle.tk_replay.specs.declared.fault.Fault.{Fault}
 use Rattle.tk_replay.specs.declared.fault.Fault.TheVariants as faults
 use Rattle.tk_replay.specs.declared.many_error.ManyError.{ManyError}
+use Rattle.tk_replay.specs.declared.many_error.ManyError.TheVariants as manys
 use Rattle.tk_replay.specs.Many.{AreOutcomes}
 use Rattle.tk_replay.specs.Writing.{IsFlushed, IsWrittenUpTo, WriteFailed}
 use Rattle.tk_program.specs.declared.ending.Ending.{Ending}
@@ -39,11 +40,12 @@ module _ {W : Type 0} (contents : W → Option (List ℕ))
       ((ending ≡ endings.Fault faults.Memory) × (writer' ≡ writer))
       ⊎ EndsWriting (text_from 0 outcomes) (ending_of_outcomes outcomes) ending
 
-  -- the scripts of these texts were replayed: that had an error, and nothing is written; or what
-  -- they came to was told
+  -- the scripts of these texts were replayed: memory was refused or a thread was not started, and
+  -- nothing is written; or the outcomes were written. The number of workers is always in range
   abbrev pub EndsReplays : List (Vec ℕ) → Ending → Type 0
   EndsReplays texts ending =
-      ((error : ManyError) × (ending ≡ endings.Many error) × (writer' ≡ writer))
+      ((error : ManyError) × (ending ≡ endings.Many error) × (error ≢ manys.Count)
+      × (writer' ≡ writer))
       ⊎ ((outcomes : List (Result (Vec ℕ) ScriptError)) × AreOutcomes texts outcomes
       × EndsTelling outcomes ending)
 

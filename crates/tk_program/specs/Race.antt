@@ -1,8 +1,9 @@
 -- How a race of scripts ends.
-use Rattle.std.specs.Prelude.{◌≡◌, ℕ, ◌<◌, List, [], ◌∷◌, take, length, map, Bool, Option, None, Ok, ◌⊎◌, slice_index_or}
+use Rattle.std.specs.Prelude.{◌≡◌, ◌≢◌, ℕ, ◌<◌, List, [], ◌∷◌, take, length, map, Bool, Option, None, Ok, ◌⊎◌, slice_index_or}
 use Rattle.std.specs.Borrow.{Bor}
 use Rattle.std.specs.List.{All, AllZip}
 use Rattle.tk_clock.specs.Journal.{Journal, accepted_count}
+use Rattle.tk_clock.specs.Refusal.{opening_refusal}
 use Rattle.tk_script.specs.declared.row.Row.{Row}
 use Rattle.tk_script.specs.declared.row.Row.TheVariants as rows
 use Rattle.tk_script.specs.declared.script.Script.{Script}
@@ -35,14 +36,20 @@ action_of (rows.Look reading clock) = actions.Look
 abbrev pub part_of : Script → List Action
 part_of script = map action_of script.rows.items
 
+-- clocks can be opened as the script says
+abbrev pub IsOpenable : Script → Type 0
+IsOpenable script = opening_refusal script.desc script.reading script.real ≡ None
+
 -- of a folder and its files: what opening a name came to, what is known of a file's bytes, and what
 -- its reads came to
 module _ {D F : Type 0} (open_gives : D → List ℕ → Option F → Type 0)
     (remaining : F → Option (List ℕ)) (read_gives : F → Option ℕ → F → Type 0) (folder : D) where
-  -- a file of this name was read, and its bytes are this script
+  -- a file of this name was read, and its bytes are this script, by which clocks can be opened
   abbrev pub IsScriptFrom : List ℕ → Script → Type 0
-  IsScriptFrom name script = (text : List ℕ) × IsReadFrom open_gives remaining read_gives folder name text
-      × (parse_of text ≡ Ok (parse script))
+  IsScriptFrom name script =
+      ((text : List ℕ) × IsReadFrom open_gives remaining read_gives folder name text
+      × (parse_of text ≡ Ok (parse script)))
+      × IsOpenable script
 
   abbrev pub AreScriptsFrom : List (Bor (List ℕ)) → List Script → Type 0
   AreScriptsFrom names scripts = AllZip (λ name script. IsScriptFrom name.now script) names scripts
@@ -76,13 +83,13 @@ module _ {W : Type 0} (contents : W → Option (List ℕ))
       ⊎ EndsWriting contents write_gives flush_gives writer writer'
       (race_lines (accepted_count journal) replies) endings.Done ending
 
-  -- so many parts were raced on clocks that were opened as this script says; or that has an error,
-  -- and nothing is written
+  -- so many parts were raced on clocks that were opened as this script says; or there are too many,
+  -- memory was refused or a thread was not started, and nothing is written. The opening is always valid
   abbrev pub EndsParts : Script → ℕ → List (List Action) → Ending → Type 0
   EndsParts first count parts ending =
       ((error : RaceError) × (ending ≡ endings.Race error)
       × IsRaceError count first.desc first.reading first.real error
-      × (writer' ≡ writer))
+      × (error ≢ races.Invalid) × (writer' ≡ writer))
       ⊎ ((journal : Journal) × (replies : List (List RaceReply))
       × (race_error count first.desc first.reading first.real ≡ None)
       × IsRaced first.desc first.real parts journal replies

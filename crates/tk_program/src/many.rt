@@ -23,7 +23,7 @@ pub(crate) fn answer<E: Threads + Wait + Sync, D: Folder, W: Sink>(
     workers: u64,
     files: &[&str],
 ) -> Ending
-    requires { workers ≤ most_workers }
+    requires { (1 ≤ workers) × (workers ≤ most_workers) }
     ensures { EndsMany W.Write.contents W.Sink.write_gives W.Sink.flush_gives
         writer.old writer.new
         D.Folder.open_gives D.File.Read.remaining D.File.Source.read_gives folder.now

@@ -3,7 +3,7 @@ ghost use Rattle.std.specs.Prelude.{◌≡◌, ◌↔◌, length, map, IfOk, IsT
 ghost use Rattle.std.specs.List.{All};
 ghost use Rattle.tk_clock.specs.Journal.{accepted_count};
 ghost use Rattle.tk_program.specs.Openings.{AreSameOpenings};
-ghost use Rattle.tk_program.specs.Race.{EndsParts, EndsRace, EndsScripts, EndsTold, action_of, part_of};
+ghost use Rattle.tk_program.specs.Race.{EndsParts, EndsRace, EndsScripts, EndsTold, IsOpenable, action_of, part_of};
 
 use crate::ending::Ending;
 use crate::folder::Folder;
@@ -59,6 +59,7 @@ fn race_all<E: Threads + Wait + Sync, W: Sink>(
     scripts: &[Script],
     actors: &[Vec<Action>],
 ) -> Ending
+    requires opens { All IsOpenable scripts.now }
     requires count { length actors.now ≡ length scripts.now }
     requires parts { map (λ a. a.items) actors.now ≡ map part_of scripts.now }
     ensures { EndsScripts W.Write.contents W.Sink.write_gives W.Sink.flush_gives
@@ -83,6 +84,7 @@ fn race_as<E: Threads + Wait + Sync, W: Sink>(
     first: &Script,
     actors: &[Vec<Action>],
 ) -> Ending
+    requires { IsOpenable first.now }
     ensures { EndsParts W.Write.contents W.Sink.write_gives W.Sink.flush_gives
         writer.old writer.new
         first.now (length actors.now) (map (λ a. a.items) actors.now) result }
