@@ -1,15 +1,17 @@
 #!/usr/bin/env python3
-"""What the program writes, by the definitions alone: sums over the whole journal, in whole numbers without bounds.
+"""Computes the program's output from the definitions alone: sums over the whole journal, in
+unbounded integers.
 
-It shares no code and no method with the program, which keeps a running state. The examples' outputs were made by it and
-read by hand, and `tools/compare.py` runs random scripts and stamps through both.
+It shares no code and no method with the program, which keeps a running state. The examples' outputs
+were made by it and checked manually, and `tools/compare.py` runs random scripts and stamps through
+both.
 
     tools/model.py < script
     tools/model.py trace CLOCK SCRIPT STAMPS
     tools/model.py many WORKERS FILE..
     tools/model.py race STEP FILE
 
-A race is modelled for one actor, whose commands come in one order only.
+A race is modelled for one actor only, since its commands have a single possible order.
 """
 import csv
 import datetime
@@ -26,11 +28,11 @@ CLOCKS = ["realtime", "monotonic", "boottime", "tai", "realtime_coarse", "monoto
 
 
 class Fault(Exception):
-    """The first fault, as the program tells it."""
+    """The first fault, with the program's text."""
 
 
 def named(name, read, *given):
-    """What `read` gives, or its fault behind the name of what it reads."""
+    """Returns the result of `read`. Its fault gets the name of the input as a prefix."""
     try:
         return read(*given)
     except Fault as fault:
@@ -59,7 +61,10 @@ class Counter:
 
 
 def from_hz(bits, hz, maxsec):
-    """The counter of a frequency, or None: the first shift from 32 down whose mult doesn't overflow in maxsec seconds."""
+    """Returns the counter of a frequency in Hz, or None.
+
+    Its shift is the first one from 32 down whose mult doesn't overflow in maxsec seconds.
+    """
     if not (8 <= bits <= 64 and hz >= 1 and 1 <= maxsec <= 600):
         return None
     room = 32 - ((maxsec * hz) >> 32).bit_length()
@@ -101,7 +106,10 @@ class Journal:
         return self.counter.multiplier(self.in_force("freq", place, 0), self.in_force("tick", place, 10_000))
 
     def units(self):
-        """MONOTONIC at the last entry, in 2^-shift ns: cycles times multiplier, summed over the frequency stretches."""
+        """Returns MONOTONIC at the last entry, in 2^-shift ns.
+
+        It is the sum of cycles times multiplier over the stretches.
+        """
         steers = [k for k, e in enumerate(self.entries, 1) if e[0] in ("freq", "tick")]
         bounds = [0] + steers + [len(self.entries)]
         return sum((self.awake_cycles(b) - self.awake_cycles(a)) * self.multiplier(a) for a, b in zip(bounds, bounds[1:]))
@@ -155,7 +163,7 @@ def is_settable(sec, nsec):
 
 
 def is_bad_setting(word, fields):
-    """Is what a command asks for outside its range?"""
+    """Returns whether a command's operand is out of range."""
     if word == "set":
         return not is_settable(*fields)
     if word == "step":
@@ -197,7 +205,7 @@ def first_refusal(journal, word, reading, fields, is_bounded):
 
 
 def value_of(word, fields):
-    """What an entry keeps of a command: nanoseconds of a time, or the number."""
+    """Returns the operand that an entry keeps: a time in nanoseconds, or the number."""
     if word in ("set", "step", "resume"):
         return fields[0] * NANOS + fields[1]
     return fields[0] if fields else None
@@ -267,14 +275,14 @@ def look(journal, reading, clock):
 
 
 def records_of(text):
-    """The records of a file's bytes, as the csv module has them."""
+    """Returns the records of a file's bytes, as the csv module reads them."""
     if len(text) > 2**24:
         raise Fault("larger than 16777216 bytes")
     return [r for r in csv.reader(io.StringIO(text.decode("utf-8-sig"), newline="")) if r]
 
 
 def parsed(text):
-    """What a script says: its journal as it is opened, and the rows behind the opening."""
+    """Returns a script's journal at the opening, and the rows after the opening."""
     records = records_of(text)
     if not records:
         raise Fault("no record")
@@ -283,7 +291,7 @@ def parsed(text):
 
 
 def done(journal, word, reading, fields, is_bounded):
-    """What a command comes to: the journal after it, and its line."""
+    """Returns the journal after a command, and the command's line."""
     refusal = first_refusal(journal, word, reading, fields, is_bounded)
     if refusal:
         return journal, f"no,{refusal}"
@@ -292,7 +300,7 @@ def done(journal, word, reading, fields, is_bounded):
 
 
 def report(text, is_bounded=False):
-    """The lines of a script's report. `is_bounded`: the journal is folded in time, so it is never full."""
+    """Returns the lines of a script's report. If `is_bounded`, the journal is never full."""
     journal, rows = parsed(text)
     counter = journal.counter
     lines = [f"open,{counter.bits},{counter.mult},{counter.shift}"]
@@ -306,7 +314,7 @@ def report(text, is_bounded=False):
 
 
 def items_of(text):
-    """The fronts and the stamps of a stamp file."""
+    """Returns the fronts and the stamps of a stamp file, in pairs."""
     items = []
     for row, record in enumerate(records_of(text), 1):
         if len(record) != 2:
@@ -319,7 +327,7 @@ def items_of(text):
 
 
 def converted(journal, clock, index, front, stamp):
-    """The value of an item: the clock's, as the journal was when so many commands were accepted."""
+    """Returns the value of an item in ns, by the first `front` accepted commands."""
     if front > len(journal.entries):
         raise Fault(f"item {index}: unknown front")
     if stamp >= 2**journal.counter.bits:
@@ -331,7 +339,7 @@ def converted(journal, clock, index, front, stamp):
 
 
 def trace(clock, script, stamps):
-    """The lines of a trace: the value of each item in nanoseconds."""
+    """Returns the lines of a trace: the value of each item in nanoseconds."""
     journal, rows = named("script", parsed, script)
     items = named("stamps", items_of, stamps)
     for word, (reading, *fields) in rows:
@@ -341,7 +349,7 @@ def trace(clock, script, stamps):
 
 
 def many(scripts):
-    """The status of so many scripts, and their lines."""
+    """Returns the exit status for these scripts, and the lines of their reports."""
     status, lines = 0, []
     for index, script in enumerate(scripts):
         lines.append(f"file,{index}")
@@ -354,7 +362,10 @@ def many(scripts):
 
 
 def race(step, script):
-    """The lines of a race of one actor. Its counter is read at the opening and then once in each command."""
+    """Returns the lines of a race of one actor.
+
+    The counter is read at the opening, and then once for each command.
+    """
     journal, rows = named("file 0", parsed, script)
     start, reads, answers = journal.opened_at, 0, []
     for word, (_, *fields) in rows:
@@ -373,7 +384,7 @@ def bytes_of(name):
 
 
 def answer(words):
-    """The status and the lines of what these words ask for."""
+    """Returns the exit status and the lines for these command-line words."""
     if not words:
         return 0, named("script", report, sys.stdin.buffer.read())
     task, first, *names = words

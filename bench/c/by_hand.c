@@ -1,5 +1,5 @@
 /* SPDX-License-Identifier: MIT OR Apache-2.0 */
-/* The jobs by plain.h. */
+/* The jobs, done by the hand-written clocks of plain.h. */
 #include "jobs.h"
 #include "plain.h"
 

@@ -1,7 +1,7 @@
 /* SPDX-License-Identifier: MIT OR Apache-2.0 */
-/* Times the jobs of jobs.h, as the library does them or as one does them by hand, and prints them
- * as crates/tk_bench does: with no word a line JOB<tab>CHECK for each, with `time` a line
- * JOB<tab>NUMBER<tab>UNIT<tab>CHECK for each, with `time JOB..` for these alone. */
+/* Times the jobs of jobs.h, by the library or by hand-written code, and prints them as
+ * crates/tk_bench does. Without words it prints a line JOB<tab>CHECK for each job, with `time` a
+ * line JOB<tab>NUMBER<tab>UNIT<tab>CHECK for each, and with `time JOB..` for these jobs alone. */
 #define _POSIX_C_SOURCE 200809L
 
 #include "jobs.h"
@@ -13,7 +13,7 @@
 #include <time.h>
 
 enum {
-	CALLS = 200000, /* at least so many in a turn */
+	CALLS = 200000, /* the fewest calls in a turn */
 	NEAR = 4096,	/* stamps that stay in the cache */
 	FAR = 10000000,
 	CHECKED_TURNS = 2,
@@ -23,7 +23,7 @@ struct job {
 	const char *name, *unit;
 	void (*turn)(struct list *list);
 	size_t count;
-	uint64_t span; /* the readings lie within so many cycles of the opening */
+	uint64_t span; /* the readings lie within this many cycles after the opening */
 	int turns;
 };
 
@@ -64,7 +64,7 @@ static void make_stamps(uint64_t *stamps, size_t count, uint64_t span)
 	}
 }
 
-/* As digest.rt of crates/tk_bench. */
+/* The same digest as in digest.rt of crates/tk_bench. */
 static uint64_t digest(const uint64_t *numbers, size_t count)
 {
 	uint64_t digest = 0;
@@ -74,7 +74,7 @@ static uint64_t digest(const uint64_t *numbers, size_t count)
 	return digest;
 }
 
-/* The least time of so many turns, in ns for each of the list. */
+/* The least time of the given number of turns, in ns per item of the list. */
 static double least_of(const struct job *job, struct list *list, int turns)
 {
 	size_t repeats = job->count < CALLS ? CALLS / job->count : 1;

@@ -1,6 +1,7 @@
 /* SPDX-License-Identifier: MIT OR Apache-2.0 */
-/* The jobs that calls.c times. library.c has them by the calls of the library, by_hand.c by
- * plain.h: a program is calls.c with one of the two. Each goes once over a list of readings. */
+/* The jobs that calls.c times. library.c does them by calls of the library, by_hand.c by the
+ * hand-written clocks of plain.h: a program is calls.c with one of the two. Each job goes once over
+ * a list of readings. */
 #ifndef JOBS_H
 #define JOBS_H
 
@@ -15,20 +16,21 @@ struct list {
 	size_t count;
 };
 
-/* Opens the clocks of a counter of 64 bits, HZ a second. */
+/* Opens clocks over a counter of 64 bits at HZ cycles per second. */
 void open_clocks(void);
 
-/* MONOTONIC at each reading: seconds ^ nanoseconds. The second looks at ten words each time. */
+/* MONOTONIC at each reading: seconds ^ nanoseconds. The second job reads ten words each time. */
 void get_each(struct list *list);
 void get_words_each(struct list *list);
-/* As many updates, a microsecond apart; and then words of the clocks. */
+/* One update per item, a microsecond apart; then words of the clocks. */
 void update_each(struct list *list);
-/* MONOTONIC in ns: with a test of each stamp, and, by hand, with none; a copy of the same bytes. */
+/* MONOTONIC in ns: with a test of each stamp, and without a test (in the hand-written program); and
+ * a copy of the same bytes. */
 void convert_all(struct list *list);
 void convert_untested(struct list *list);
 void copy_all(struct list *list);
 
-/* Does copy_all copy? Then its check can't be the library's. */
+/* Whether copy_all copies. Its check then differs from the library's. */
 extern const int copies;
 
 void fail(const char *what);

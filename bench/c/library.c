@@ -1,5 +1,5 @@
 /* SPDX-License-Identifier: MIT OR Apache-2.0 */
-/* The jobs by the calls of the library. */
+/* The jobs, done by calls of the library. */
 #include "jobs.h"
 
 #include <tk.h>
@@ -35,7 +35,7 @@ void get_each(struct list *list)
 	}
 }
 
-/* The words are tested at each read, as by a reader of a page. */
+/* Tests the words at each read, as a reader of a page does. */
 void get_words_each(struct list *list)
 {
 	struct tk_snapshot taken;

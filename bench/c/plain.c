@@ -5,7 +5,7 @@ static const uint64_t SECOND = 1000000000;
 
 typedef unsigned __int128 u128;
 
-/* The cycles since the last command; none where the reading lies behind it. */
+/* The cycles since the last command, or 0 if the reading is behind it. */
 static inline uint64_t cycles_since(const struct plain_clock *clock, uint64_t reading)
 {
 	uint64_t gap = (reading - clock->last) & clock->mask;

@@ -1,6 +1,6 @@
 /* SPDX-License-Identifier: MIT OR Apache-2.0 */
-/* The same clocks in plain C, as one writes them by hand: what the calls of the library are
- * measured against. They are handed good numbers only, and test no more than a reading. */
+/* The same clocks as hand-written plain C, with which the library's calls are compared. They get
+ * valid numbers only, and test nothing except the reading. */
 #ifndef PLAIN_H
 #define PLAIN_H
 
@@ -26,10 +26,10 @@ enum plain_code plain_get(struct plain_time *out, const struct plain_clock *cloc
 			  uint64_t reading);
 enum plain_code plain_update(struct plain_clock *clock, uint64_t reading);
 
-/* Stops at the first stamp above the mask, and returns its place. */
+/* Stops at the first stamp above the mask, and returns its index. */
 size_t plain_convert(uint64_t *out, const struct plain_clock *clock, const uint64_t *stamps,
 		     size_t count);
-/* Tests no stamp at all, and has products of 64 bits (timecounter_cyc2time). */
+/* Tests no stamp, and uses products of 64 bits (as timecounter_cyc2time). */
 void plain_loop(uint64_t *out, const struct plain_clock *clock, const uint64_t *stamps,
 		size_t count);
 

@@ -1,4 +1,5 @@
-//! Lists of stamps by one line: with a test of each stamp, without, and a copy of the same bytes.
+//! Lists of stamps, converted by one line: with a test of each stamp, without a test, and a copy of
+//! the same bytes for comparison.
 
 use crate::bench::{Bench, Job, Unit};
 use crate::digest::of_numbers;

@@ -1,34 +1,35 @@
-//! How jobs are chosen, run and told: as in `crates/tk_bench/src/bench.rt`.
+//! Selects, runs and prints jobs, as `crates/tk_bench/src/bench.rt` does.
 
 use std::time::Instant;
 
 const CHECKED_TURNS: u32 = 2;
 
-/// Something to be timed. Each turn does the same.
+/// A job to be timed. Each turn does the same work.
 pub trait Job {
-    /// Makes ready for a turn, and isn't timed.
+    /// Prepares a turn. This is not timed.
     fn ready(&mut self) {}
 
-    /// Does it once.
+    /// Does the work once.
     fn turn(&mut self);
 
-    /// A number drawn from all that the last turn gave, or None where ours gives something else.
+    /// A number computed from all results of the last turn, or `None` if Jomrezal's job gives
+    /// another one.
     fn check(&self) -> Option<u64>;
 }
 
-/// What a figure tells.
+/// The unit of a figure.
 #[derive(Clone, Copy)]
 pub enum Unit {
-    /// Nanoseconds for each of so many, in a turn, of what it names.
+    /// Nanoseconds for each of the items of a turn: their number and their name.
     Each(u64, &'static str),
     /// Milliseconds for a turn.
     Whole,
 }
 
-/// What is asked for.
+/// The jobs that the command line asks for.
 pub struct Bench {
     is_timed: bool,
-    /// The names of the jobs, or none for all jobs.
+    /// The names of the jobs; empty for all jobs.
     names: Vec<String>,
 }
 
@@ -43,12 +44,12 @@ impl Bench {
         Some(Bench { is_timed, names })
     }
 
-    /// Is a job asked for whose name begins so?
+    /// Whether a job is asked for whose name begins with `beginning`.
     pub fn wants_any(&self, beginning: &str) -> bool {
         self.names.is_empty() || self.names.iter().any(|name| name.starts_with(beginning))
     }
 
-    /// Runs a job, if it is asked for, and tells of it.
+    /// Runs a job, if it is asked for, and prints its figures.
     pub fn run(&self, name: &str, unit: Unit, turns: u32, job: &mut impl Job) {
         if !(self.names.is_empty() || self.names.iter().any(|wanted| wanted == name)) {
             return;
@@ -69,7 +70,7 @@ impl Bench {
     }
 }
 
-/// The least time of so many turns, in ns.
+/// The least time of `turns` turns, in ns.
 fn least(turns: u32, job: &mut impl Job) -> u128 {
     let turn = |_| {
         job.ready();

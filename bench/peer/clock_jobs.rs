@@ -1,4 +1,4 @@
-//! Reads of a base, and updates of running clocks.
+//! Reads from a base, and updates of running clocks.
 
 use crate::bench::{Bench, Job, Unit};
 use crate::clocks::{Base, Clock, ClockId, Command, Desc, Timespec};

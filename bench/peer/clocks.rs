@@ -1,4 +1,4 @@
-//! The clocks: products of 128 bits, and no division where less than a second has passed.
+//! The clocks: products of 128 bits, and no division if less than a second has passed.
 
 pub const NANOS: u64 = 1_000_000_000;
 const LIMIT: u64 = 9_223_372_036 * NANOS;
@@ -22,7 +22,7 @@ impl Desc {
         is_described.then_some(Desc { bits, mult, shift })
     }
 
-    /// As `clocks_calc_mult_shift` of the kernel.
+    /// Picks mult and shift as the kernel's `clocks_calc_mult_shift` does.
     pub fn from_hz(bits: u32, hz: u32, maxsec: u32) -> Option<Desc> {
         if !(8..=64).contains(&bits) || hz == 0 || !(1..=600).contains(&maxsec) {
             return None;
@@ -131,7 +131,7 @@ impl Command {
         }
     }
 
-    /// How long a suspension lasted, in ns.
+    /// The length of a suspension, in ns.
     fn away(self) -> u64 {
         match self {
             Command::Resume(away) => away.nanos(),
@@ -139,7 +139,7 @@ impl Command {
         }
     }
 
-    /// The offset of TAI that it sets.
+    /// The offset of TAI that the command sets, in seconds.
     fn tai(self) -> Option<u32> {
         match self {
             Command::Tai(seconds) => Some(seconds as u32),
@@ -162,7 +162,7 @@ pub enum Refusal {
     Range,
 }
 
-/// Whole seconds, and below a second in `2^-shift` ns.
+/// Whole seconds, and the rest below a second in `2^-shift` ns.
 #[derive(Clone, Copy)]
 struct Amount {
     sec: u64,
@@ -195,7 +195,7 @@ impl Amount {
     }
 }
 
-/// What reading the clocks takes.
+/// The numbers that a read of the clocks needs.
 #[derive(Clone, Copy)]
 pub struct Base {
     pub desc: Desc,
@@ -262,7 +262,7 @@ impl Base {
         })
     }
 
-    /// MONOTONIC and MONOTONIC_RAW at a reading that lies ahead.
+    /// MONOTONIC and MONOTONIC_RAW at a later reading.
     fn grown(&self, reading: u64) -> Option<(Amount, Amount)> {
         let cycles = self.desc.gap(self.last, reading);
         let monotonic = self.monotonic.grown(&self.desc, cycles, self.mult)?;
@@ -339,8 +339,8 @@ impl Clock {
         self.act(reading, cmd)
     }
 
-    /// Does a command whose reading and numbers are good: each change is written once all tests are
-    /// passed.
+    /// Applies a command whose reading and numbers are valid. It writes nothing before all tests
+    /// have passed.
     fn act(&mut self, reading: u64, cmd: Command) -> Result<(), Refusal> {
         let base = &mut self.base;
         let (monotonic, raw) = match cmd {
@@ -383,7 +383,7 @@ impl Clock {
     }
 }
 
-/// REALTIME less MONOTONIC after a step, if it may be that.
+/// REALTIME less MONOTONIC after a step, in ns, if the result is allowed.
 fn stepped(now: u64, real_offset: u64, by: Timespec) -> Option<u64> {
     let moved = i128::from(by.sec) * i128::from(NANOS) + i128::from(by.nsec);
     let real = i128::from(now) + i128::from(real_offset) + moved;

@@ -1,10 +1,11 @@
-//! Records of fields, by the rules of crates.io's csv crate as it is set up by default: fields end
-//! at commas, records at line ends, and empty lines are none. A field that begins with a quote goes
-//! on to the quote that ends it, where two quotes stand for one. A byte order mark is dropped.
+//! Records of fields, by the rules of crates.io's csv crate with its default settings. Fields end
+//! at commas and records at line ends, and empty lines are no records. A field that begins with a
+//! quote continues to its closing quote; two quotes in it stand for one. A byte order mark is
+//! dropped.
 
 use std::borrow::Cow;
 
-/// How many bytes a file may have.
+/// The greatest size of a file, in bytes.
 pub const SIZE_LIMIT: usize = 16_777_216;
 
 pub struct Records<'a> {
@@ -20,7 +21,7 @@ impl<'a> Records<'a> {
         }
     }
 
-    /// The fields of the next record, which takes the memory of the last one.
+    /// The fields of the next record. They reuse the memory of the record before.
     pub fn next_record(&mut self) -> Option<&[Cow<'a, [u8]>]> {
         self.fields.clear();
         while let [b'\r' | b'\n', rest @ ..] = self.rest {
@@ -54,7 +55,7 @@ impl<'a> Records<'a> {
         field
     }
 
-    /// A field behind its first quote. What follows its last quote belongs to it too.
+    /// A field after its first quote. The bytes after its closing quote belong to it too.
     fn quoted(&mut self) -> Vec<u8> {
         let mut field = Vec::new();
         loop {

@@ -1,4 +1,4 @@
-//! Numbers drawn from lists: as in `crates/tk_bench/src/digest.rt`.
+//! Numbers computed from lists, as in `crates/tk_bench/src/digest.rt`.
 
 const FACTOR: u64 = 0x0000_0100_0000_01b3;
 

@@ -1,8 +1,8 @@
-//! What jobs are handed: as in `crates/tk_bench/src/inputs.rt`.
+//! The inputs of the jobs, as in `crates/tk_bench/src/inputs.rt`.
 
 pub const OPENING: u64 = 12_345;
 
-/// Stamps that jump about in the 275 seconds after the opening.
+/// Pseudo-random stamps within the 275 seconds after the opening.
 pub fn stamps(count: usize) -> Vec<u64> {
     let mut state = 88172645463325252u64;
     let next = |_| {
@@ -14,7 +14,7 @@ pub fn stamps(count: usize) -> Vec<u64> {
     (0..count).map(next).collect()
 }
 
-/// Updates 10 ns apart, and a read of the clock behind each, if there is one.
+/// Updates 10 ns apart, each followed by a read of the clock, if there is one.
 pub fn script(updates: u64, clock: Option<&str>) -> Vec<u8> {
     let mut script = "open,64,16777216,24,0,1700000000,0\n".to_string();
     for n in 0..updates {
@@ -27,7 +27,8 @@ pub fn script(updates: u64, clock: Option<&str>) -> Vec<u8> {
     script.into_bytes()
 }
 
-/// Fronts that rise by one each `stretch` stamps, or jump about below it.
+/// Fronts that rise by one every `stretch` stamps, or that run through 0 to `stretch - 1` again and
+/// again.
 pub fn stamp_file(count: u64, stretch: u64, rises: bool) -> Vec<u8> {
     let mut file = String::new();
     for n in 0..count {

@@ -1,11 +1,11 @@
-//! Clocks with a journal in a vector, and a copy of the clocks at each 256th entry.
+//! Clocks with a journal in a vector, and a copy of the clocks at every 256th entry.
 
 use crate::clocks::{Base, Clock, Command, Desc, Refusal, Timespec};
 
 pub const LISTED_LIMIT: usize = 1_048_576;
 const KEPT_EVERY: usize = 256;
 
-/// An accepted command: who gave it, at which reading, and what it was.
+/// An accepted command: its caller, its reading, and the command itself.
 #[derive(Clone, Copy)]
 pub struct Entry {
     _who: u32,
@@ -61,7 +61,7 @@ impl Keeper {
         Ok(self.len() as u64)
     }
 
-    /// The clocks after so many commands, unless they are folded or still to come.
+    /// The clocks after `front` commands, unless these are folded or not yet accepted.
     pub fn clock_at(&self, front: usize) -> Option<Clock> {
         if front < self.folded || front > self.len() {
             return None;

@@ -1,4 +1,4 @@
-//! Commands of a keeper, with folds, and its past.
+//! Commands of a keeper, with folds, and reads of its past.
 
 use crate::bench::{Bench, Job, Unit};
 use crate::clocks::{Command, Desc, Timespec};

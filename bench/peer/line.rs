@@ -1,5 +1,5 @@
-//! A clock as a line over the cycles since the last command, as far as its numbers stay in a word
-//! and in range.
+//! A clock as a line over the cycles since the last command, while its numbers fit a word and stay
+//! in range.
 
 use crate::inputs::OPENING;
 use std::hint::black_box;
@@ -16,7 +16,7 @@ pub struct Line {
     limit: u64,
 }
 
-/// What is wrong with an item, and its place, which only a panic tells.
+/// The fault of an item with its index, which only a panic prints.
 #[allow(dead_code)]
 #[derive(Debug)]
 pub enum Fault {
@@ -26,7 +26,7 @@ pub enum Fault {
 }
 
 impl Line {
-    /// The line of the jobs' clocks, whose numbers the compiler can't know.
+    /// The line of the jobs' clocks. The compiler cannot know its numbers.
     pub fn opened() -> Line {
         black_box(Line {
             last: OPENING,
@@ -55,7 +55,7 @@ impl Line {
         self.far(cycles).ok_or(Fault::Range(index))
     }
 
-    /// The clock at a stamp beyond the span.
+    /// The clock at a stamp beyond the span, by products of 128 bits.
     #[cold]
     fn far(&self, cycles: u64) -> Option<u64> {
         let units = u128::from(cycles) * u128::from(self.mult) + u128::from(self.frac);
@@ -63,7 +63,7 @@ impl Line {
         (nanos < u128::from(self.limit)).then_some(nanos as u64)
     }
 
-    /// The same without a test: what it makes of a stamp that should be refused is wrong.
+    /// The same without a test. For a stamp that should be rejected, the result is wrong.
     #[inline(always)]
     pub fn untested(&self, stamp: u64) -> u64 {
         let gap = stamp.wrapping_sub(self.last) & self.mask;

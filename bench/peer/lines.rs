@@ -88,7 +88,7 @@ fn add_time(out: &mut Vec<u8>, time: Timespec) {
     add_nanos(out, time.nsec);
 }
 
-/// Nine digits.
+/// A number in nine digits.
 fn add_nanos(out: &mut Vec<u8>, nsec: u32) {
     let nsec = u64::from(nsec);
     out.push(b'0' + (nsec / 100_000_000) as u8);
@@ -118,7 +118,7 @@ fn add_utc(out: &mut Vec<u8>, time: Timespec) {
     out.push(b'Z');
 }
 
-/// The date of a day counted from 1970-01-01, by eras of 400 years that begin in March.
+/// The date of a day counted from 1970-01-01, by periods of 400 years that begin in March.
 fn date(day: u64) -> (u64, u64, u64) {
     let day = day + 719_468;
     let (era, of_era) = (day / 146_097, day % 146_097);

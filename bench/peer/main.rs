@@ -1,12 +1,12 @@
-//! The jobs of `crates/tk_bench` in plain Rust, as one writes them by hand with std alone, and the
-//! reports and traces of `tkcore` as a whole program. Nothing here is proved.
+//! The jobs of `crates/tk_bench` as hand-written Rust with std alone, and the reports and traces of
+//! `tkcore` as a whole program. Nothing here is proved.
 //!
-//! | Words | What it does |
+//! | Words | What the program does |
 //! |---|---|
-//! | none | each job a few times: for each a line `JOB<tab>CHECK` |
-//! | `time`, `time JOB..` | for each job, or for these: `JOB<tab>NUMBER<tab>UNIT<tab>CHECK` |
-//! | `replay` | the report of the script on standard input |
-//! | `trace CLOCK SCRIPT STAMPS` | the clock at each stamp of a file |
+//! | none | runs each job a few times, and prints a line `JOB<tab>CHECK` for each |
+//! | `time`, `time JOB..` | times all jobs, or these: `JOB<tab>NUMBER<tab>UNIT<tab>CHECK` |
+//! | `replay` | writes the report of the script on standard input |
+//! | `trace CLOCK SCRIPT STAMPS` | writes the clock at each stamp of a file |
 
 mod batch_jobs;
 mod bench;

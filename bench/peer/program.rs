@@ -1,4 +1,4 @@
-//! The whole program: files in, a text out, and a fault on standard error.
+//! The whole program: it reads files, writes a text, and writes a fault to standard error.
 
 use crate::csv::SIZE_LIMIT;
 use crate::script::clock_of;
@@ -8,7 +8,7 @@ use std::fs::File;
 use std::io::{self, Read, Write};
 use std::process::ExitCode;
 
-/// The report of the script on standard input.
+/// Writes the report of the script on standard input.
 pub fn replay() -> ExitCode {
     let told = whole(io::stdin().lock()).map_err(|_| "cannot read".to_string());
     finish(
@@ -16,7 +16,7 @@ pub fn replay() -> ExitCode {
     )
 }
 
-/// The clock at each stamp of a file.
+/// Writes the clock at each stamp of a file.
 pub fn trace(clock: &str, script: &str, stamps: &str) -> ExitCode {
     let Some(clock) = clock_of(clock.as_bytes()) else {
         return refused();
@@ -28,13 +28,13 @@ pub fn trace(clock: &str, script: &str, stamps: &str) -> ExitCode {
     }))
 }
 
-/// Other words.
+/// Handles all other words.
 pub fn refused() -> ExitCode {
     eprintln!("tkcore: words refused");
     ExitCode::from(2)
 }
 
-/// All bytes, up to one more than a script may have.
+/// Reads all bytes, up to one more than a script may have.
 fn whole(reader: impl Read) -> io::Result<Vec<u8>> {
     let mut bytes = Vec::new();
     reader.take(SIZE_LIMIT as u64 + 1).read_to_end(&mut bytes)?;

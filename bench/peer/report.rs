@@ -5,7 +5,7 @@ use crate::keeper::LISTED_LIMIT;
 use crate::lines::{add_at, add_no, add_ok, add_open};
 use crate::script::{self, Row, ScriptError};
 
-/// A line for the opening, and one for each record behind it. Commands are counted, and not kept.
+/// A line for the opening, and one for each later record. Commands are counted, and not kept.
 pub fn report(script: &[u8]) -> Result<Vec<u8>, ScriptError> {
     let (mut clock, mut rows) = script::open(script)?;
     let mut text = Vec::new();
@@ -29,7 +29,7 @@ pub fn report(script: &[u8]) -> Result<Vec<u8>, ScriptError> {
     Ok(text)
 }
 
-/// Does a command, unless so many were accepted that a journal would be full.
+/// Applies a command, unless as many were accepted as a journal can list.
 pub fn act(clock: &mut Clock, accepted: u64, reading: u64, cmd: Command) -> Result<(), Refusal> {
     if accepted >= LISTED_LIMIT as u64 {
         return Err(Refusal::Full);

@@ -1,4 +1,4 @@
-//! Scripts and stamp files from records.
+//! Scripts and stamp files, parsed from records.
 
 use crate::clocks::{Clock, ClockId, Command, Desc, Timespec};
 use crate::csv::{Records, SIZE_LIMIT};
@@ -29,14 +29,14 @@ impl fmt::Display for ScriptError {
     }
 }
 
-/// What a record behind the first one asks for.
+/// The command or the read of a record after the first one.
 #[derive(Clone, Copy)]
 pub enum Row {
     Act { reading: u64, cmd: Command },
     Look { reading: u64, clock: ClockId },
 }
 
-/// The rows of a script, read one after the other.
+/// The rows of a script, read one at a time.
 pub struct Rows<'a> {
     records: Records<'a>,
     row: u64,
@@ -134,7 +134,7 @@ pub fn clock_of(word: &[u8]) -> Option<ClockId> {
     })
 }
 
-/// A record with its number.
+/// A record and its number.
 struct Fields<'r, 'a> {
     row: u64,
     fields: &'r [Cow<'a, [u8]>],
@@ -190,7 +190,7 @@ impl Fields<'_, '_> {
     }
 }
 
-/// One digit or more, within 64 bits. Up to nineteen digits fit a word.
+/// At least one digit, within 64 bits. Up to nineteen digits fit a word.
 fn number(field: &[u8]) -> Option<u64> {
     if field.is_empty() || !field.iter().all(u8::is_ascii_digit) {
         return None;

@@ -1,4 +1,4 @@
-//! Reports of scripts and traces by stamp files, from bytes to text.
+//! Reports of scripts and traces of stamp files, from bytes to text.
 
 use crate::bench::{Bench, Job, Unit};
 use crate::clocks::ClockId;

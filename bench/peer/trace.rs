@@ -1,4 +1,5 @@
-//! A clock at each stamp of a file. What reading takes is kept for each number of commands.
+//! A clock at each stamp of a file. The numbers that a read needs are kept for each number of
+//! commands.
 
 use crate::clocks::{Base, ClockId, Refusal};
 use crate::lines::add_number;
@@ -6,7 +7,7 @@ use crate::report::act;
 use crate::script::{self, Row, ScriptError};
 use std::fmt;
 
-/// The first fault, the script's before the stamp file's, and an item's with its place.
+/// The first fault: the script's before the stamp file's, and an item's with its index.
 #[derive(Debug)]
 pub enum TraceError {
     Script(ScriptError),
@@ -47,7 +48,7 @@ pub fn trace(script: &[u8], stamps: &[u8], clock: ClockId) -> Result<Vec<u8>, Tr
     Ok(text)
 }
 
-/// What reading takes at the opening, and after each accepted command.
+/// The numbers that a read needs, at the opening and after each accepted command.
 fn bases(script: &[u8]) -> Result<Vec<Base>, ScriptError> {
     let (mut clock, mut rows) = script::open(script)?;
     let mut bases = vec![clock.base];

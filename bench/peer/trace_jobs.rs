@@ -1,5 +1,5 @@
-//! Lists of stamps, each by the line of its front: into a new list and into memory that is there,
-//! by one thread and by as many as there are processors.
+//! Lists of stamps, each converted by the line of its front: into a new list and into existing
+//! memory, by one thread and by one thread for each processor.
 
 use crate::bench::{Bench, Job, Unit};
 use crate::digest::of_numbers;
@@ -27,7 +27,7 @@ struct Trace {
 }
 
 impl Job for Trace {
-    /// The list that was made last is freed: that isn't part of the job.
+    /// Frees the list of the last turn, which is no part of the job.
     fn ready(&mut self) {
         self.made = Vec::new();
     }
@@ -55,7 +55,7 @@ impl Job for Trace {
     }
 }
 
-/// The line of each front.
+/// The line of a front.
 #[inline(always)]
 fn line_at(lines: &[Line], index: usize, front: u64) -> Result<&Line, Fault> {
     lines.get(front as usize).ok_or(Fault::Unknown(index))
@@ -70,7 +70,7 @@ fn new_list(lines: &[Line], fronts: &[u64], stamps: &[u64]) -> Result<Vec<u64>, 
     Ok(values)
 }
 
-/// Items whose first one has the place `first` in the whole list.
+/// Converts items, of which the first has the index `first` in the whole list.
 #[inline(never)]
 fn in_place(
     lines: &[Line],
@@ -85,7 +85,7 @@ fn in_place(
     Ok(())
 }
 
-/// A piece for each thread; the first fault in the list's order.
+/// Gives each thread a piece. The result is the first fault in the order of the list.
 fn shared(
     threads: usize,
     lines: &[Line],

@@ -1,17 +1,17 @@
 /* SPDX-License-Identifier: MIT OR Apache-2.0 */
-/* Clocks as far as updates need them, by a product of 128 bits. */
+/* The part of the clocks that updates need, by products of 128 bits. */
 #include "jobs.h"
 #include <stdlib.h>
 
 #define NANOS 1000000000ull
 
-/* How many seconds MONOTONIC may come to, and how many nanoseconds the other clocks. */
+/* The limits of MONOTONIC in seconds, and of the other clocks in nanoseconds. */
 #define MONOTONIC_SEC_LIMIT 946080000ull
 #define LIMIT (9223372036ull * NANOS)
 
 enum { STEP = 1000 };
 
-/* How many updates are made in one opening: the counter doesn't wrap. */
+/* The number of updates in one opening. The counter does not wrap on the way. */
 enum { UPDATES_LIMIT = 1000000 };
 
 __attribute__((noinline)) struct clock clock_opened(void) {
@@ -25,7 +25,7 @@ __attribute__((noinline)) struct clock clock_opened(void) {
     };
 }
 
-/* So many cycles later. Within the second nothing is divided. */
+/* The amount after further cycles. Within the second nothing is divided. */
 static inline struct amount grown(const struct clock *clock, struct amount now, uint64_t cycles,
                                   uint32_t mult) {
     unsigned __int128 units = (unsigned __int128)cycles * mult + now.frac;

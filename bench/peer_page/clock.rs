@@ -1,4 +1,4 @@
-//! As much of the clocks as updates need, by integers of 128 bits.
+//! The part of the clocks that updates need, by integers of 128 bits.
 #![allow(dead_code)]
 
 use crate::turns::{Effort, Turn};
@@ -9,17 +9,17 @@ use std::time::Instant;
 /// and raw_sec.
 pub type Words = [u64; 10];
 
-/// How many cycles lie between two commands.
+/// The number of cycles between two commands.
 pub const STEP: u64 = 1_000;
 
 const UPDATES: u64 = 10_000_000;
 
-/// How many of them are made in one opening: the counter doesn't wrap.
+/// The number of updates in one opening. The counter does not wrap on the way.
 const UPDATES_LIMIT: u64 = 1_000_000;
 
 const NANOS: u128 = 1_000_000_000;
 
-/// How many seconds MONOTONIC may come to, and how many nanoseconds the other clocks.
+/// The limits of MONOTONIC in seconds, and of the other clocks in nanoseconds.
 const MONOTONIC_SEC_LIMIT: u64 = 946_080_000;
 const LIMIT: u128 = 9_223_372_036 * NANOS;
 
@@ -72,7 +72,7 @@ pub enum Command {
     Resume(Timespec),
 }
 
-/// Seconds, and what is below one in `2^-shift` ns.
+/// Whole seconds, and the rest below a second in `2^-shift` ns.
 #[derive(Clone, Copy)]
 struct Amount {
     sec: u64,
@@ -80,7 +80,7 @@ struct Amount {
 }
 
 impl Amount {
-    /// So many cycles later. Within the second nothing is divided.
+    /// The amount after `cycles` further cycles. Within the second nothing is divided.
     fn grown(self, desc: &Desc, cycles: u64, mult: u32) -> Option<Amount> {
         let units = self.frac as u128 + cycles as u128 * mult as u128;
         if units < desc.second() {
@@ -120,8 +120,8 @@ pub struct Clock {
 }
 
 impl Clock {
-    /// Clocks that were just opened, of a counter of 32 bits and a nanosecond a cycle. The compiler
-    /// isn't told the numbers.
+    /// Clocks that were just opened, with a counter of 32 bits at 1 ns per cycle. `black_box` hides
+    /// the numbers from the compiler.
     pub fn opened() -> Clock {
         let zero = Amount { sec: 0, frac: 0 };
         black_box(Clock {
@@ -143,7 +143,8 @@ impl Clock {
         })
     }
 
-    /// Does an update, with the tests that any command has. Others are as good as updates here.
+    /// Applies a command, with the tests that every command has. Any other accepted command has
+    /// the effect of an update here.
     pub fn apply(&mut self, reading: u64, cmd: Command) -> Result<(), Refusal> {
         let is_resume = matches!(cmd, Command::Resume(_));
         if self.asleep && !is_resume {
@@ -199,8 +200,8 @@ impl Clock {
     }
 }
 
-/// All ten words in one number. It is the same at each update, since each is a step later than the
-/// one before; words of two snapshots mostly give another.
+/// All ten words in one number. It is the same for every update, since each update is one step
+/// later than the one before. Words mixed from two snapshots mostly give another number.
 pub fn weight(words: &Words) -> u64 {
     let [front, last, mult, frac, sec, real_offset, boot_offset, tai, raw_frac, raw_sec] = *words;
     let steps = last.wrapping_sub(front.wrapping_mul(STEP));
@@ -215,14 +216,14 @@ pub fn weight(words: &Words) -> u64 {
         .wrapping_add(tai)
 }
 
-/// The words in one number, each in its own place.
+/// The words in one number, each with its own weight.
 pub fn weighed(words: &Words) -> u64 {
     words
         .iter()
         .fold(0u64, |sum, word| sum.wrapping_mul(31).wrapping_add(*word))
 }
 
-/// Clocks that are updated a step further each time.
+/// Clocks that each update moves on by one step.
 pub struct Desk {
     clock: Clock,
     front: u64,
@@ -236,7 +237,7 @@ impl Desk {
         }
     }
 
-    /// The words after one update more.
+    /// The words after one more update.
     pub fn update(&mut self) -> Option<Words> {
         let front = self.front.checked_add(1)?;
         let reading = front.wrapping_mul(STEP);
@@ -246,7 +247,7 @@ impl Desk {
     }
 }
 
-/// Times updates that are published nowhere.
+/// Times updates that are not published.
 pub fn unpublished(effort: Effort) -> Turn {
     let count = effort.of(UPDATES);
     let each = count.min(UPDATES_LIMIT);

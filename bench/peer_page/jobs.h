@@ -1,5 +1,5 @@
 /* SPDX-License-Identifier: MIT OR Apache-2.0 */
-/* The jobs of crates/tk_bench_page in C, and what they share. */
+/* The jobs of crates/tk_bench_page in C, and the declarations that they share. */
 #pragma once
 #include <pthread.h>
 #include <stdatomic.h>
@@ -8,14 +8,14 @@
 
 enum { WORDS = 10, READS = 10000000, PUBLICATIONS = 1000000, UPDATES = 10000000 };
 
-/* What a turn came to: its time, how often that was done which is timed, and a number that is
-   worked out of the results. */
+/* The result of a turn: its time, the number of repetitions, and a number that is computed from the
+   results. */
 struct turn {
     double nanos;
     uint64_t count, check;
 };
 
-/* Clocks of a counter of 32 bits and a nanosecond a cycle, as much of them as updates need. */
+/* The part of the clocks that updates need, with a counter of 32 bits at 1 ns per cycle. */
 struct amount {
     uint64_t sec, frac;
 };
@@ -26,23 +26,23 @@ struct clock {
     struct amount monotonic, raw;
 };
 
-/* The clocks as they are opened. It isn't inlined: the compiler isn't told the numbers. */
+/* Opens the clocks. It is not inlined, so that the compiler cannot know their numbers. */
 struct clock clock_opened(void);
 
-/* Updates the clocks, a step after the last time, and gives their words; false where that is
-   refused. */
+/* Updates the clocks one step after the last update, and stores their words. Returns false if the
+   update is refused. */
 bool clock_update(struct clock *clock, uint64_t words[WORDS]);
 
 void clock_words(const struct clock *clock, uint64_t words[WORDS]);
 
-/* All ten words in one number, which is the same at each update. */
+/* All ten words in one number, which is the same for every update. */
 static inline uint64_t weight(const uint64_t w[WORDS]) {
     return w[1] - w[0] * 1000 + w[2] + (w[3] - w[8]) + (w[4] - w[9]) + w[5] + w[6] + w[7];
 }
 
 double nanoseconds(void);
 
-/* Calls update a thousand times a second in a thread of its own, until it is stopped. */
+/* A thread that calls update a thousand times per second, until it is stopped. */
 struct slow {
     pthread_t thread;
     void (*update)(void *of);
@@ -53,7 +53,7 @@ struct slow {
 void start_slow(struct slow *slow);
 void stop_slow(struct slow *slow);
 
-/* The jobs: each does a thousandth of a full turn, or all of it. */
+/* The jobs. Each does the given part of a full turn: all of it for 1, a thousandth for 1000. */
 struct turn page_read(uint64_t part), page_read_beside(uint64_t part), page_publish(uint64_t part);
 struct turn latch_read(uint64_t part), latch_read_beside(uint64_t part);
 struct turn latch_publish(uint64_t part), unpublished(uint64_t part);

@@ -1,6 +1,6 @@
 /* SPDX-License-Identifier: MIT OR Apache-2.0 */
-/* A latch of ten words in C: reads in the weakest order that is right, publications by stores in
-   sequentially consistent order. */
+/* A latch of ten words in C. Reads have the weakest ordering that is correct; publications are
+   sequentially consistent stores. */
 #include "jobs.h"
 #include <stdlib.h>
 
@@ -49,8 +49,7 @@ static void update(void *of) {
     publish(latch, words);
 }
 
-/* Reads with the usual weight in the place of one that wasn't read since a publication came
-   between. */
+/* Times reads. A read that failed because of a publication counts with the usual weight. */
 static struct turn timed_reads(struct latch *latch, uint64_t usual, uint64_t count) {
     uint64_t check = 0, words[WORDS];
     double start = nanoseconds();

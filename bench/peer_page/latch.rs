@@ -1,5 +1,5 @@
-//! A latch of ten words, as the kernel's `seqcount_latch_t`: a sequence and two copies, of which
-//! readers take the one that isn't being written.
+//! A latch of ten words, as the kernel's `seqcount_latch_t`: a sequence and two copies. Readers
+//! read the copy that is not being written.
 use crate::clock::{weight, Clock, Desk, Words};
 use crate::turns::{Effort, Turn};
 use std::array;
@@ -13,8 +13,8 @@ const PUBLICATIONS: u64 = 1_000_000;
 
 #[repr(align(128))]
 pub struct Latch {
-    /// Even at rest, when copy 0 is the latest publication; odd while that is written, when copy 1
-    /// is.
+    /// Even at rest, when copy 0 is the latest publication; odd while copy 0 is written, when copy
+    /// 1 is the latest.
     sequence: AtomicU64,
     copies: [[AtomicU64; 10]; 2],
 }
@@ -28,7 +28,7 @@ impl Latch {
         }
     }
 
-    /// Publishes words. One thread alone does so.
+    /// Publishes words. Only one thread may do so.
     pub fn publish(&self, words: &Words) {
         let sequence = self.sequence.load(Ordering::Relaxed);
         self.turn(sequence.wrapping_add(1));
@@ -37,7 +37,7 @@ impl Latch {
         self.write(1, words);
     }
 
-    /// Turns readers to the other copy, which is whole by then.
+    /// Directs readers to the other copy, which is whole at that time.
     fn turn(&self, sequence: u64) {
         self.sequence.store(sequence, Ordering::Release);
         fence(Ordering::Release);
@@ -49,7 +49,7 @@ impl Latch {
         }
     }
 
-    /// The latest publication, or the two sequences that were found.
+    /// The latest publication, or the two sequences that were read.
     pub fn try_read(&self) -> Result<Words, (u64, u64)> {
         let first = self.sequence.load(Ordering::Acquire);
         let copy = &self.copies[(first & 1) as usize];
@@ -74,7 +74,7 @@ fn update(latch: &Latch, desk: &mut Desk) {
     latch.publish(&desk.update().expect("an update is accepted"));
 }
 
-/// Reads with `usual` in the place of one that wasn't read since a publication came between.
+/// Times reads. A read that failed because of a publication counts with the weight `usual`.
 fn timed_reads(latch: &Latch, usual: u64, count: u64) -> Turn {
     let start = Instant::now();
     let mut check = 0u64;
@@ -95,7 +95,7 @@ pub fn quiet(effort: Effort) -> Turn {
     timed_reads(&latch, 0, effort.of(READS))
 }
 
-/// Times reads beside a writer that publishes a thousand times a second.
+/// Times reads while a writer publishes a thousand times per second.
 pub fn beside(effort: Effort) -> Turn {
     let (latch, mut desk) = opened();
     let usual = weight(&latch.try_read().expect("nobody publishes"));
@@ -113,7 +113,7 @@ pub fn beside(effort: Effort) -> Turn {
     })
 }
 
-/// Times updates of clocks, each published.
+/// Times updates of clocks that are published each time.
 pub fn publishing(effort: Effort) -> Turn {
     let (latch, mut desk) = opened();
     let count = effort.of(PUBLICATIONS);

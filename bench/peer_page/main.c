@@ -1,5 +1,5 @@
 /* SPDX-License-Identifier: MIT OR Apache-2.0 */
-/* The jobs of crates/tk_bench_page in C. Words and lines are those of turns.rs beside this. */
+/* The jobs of crates/tk_bench_page in C. turns.rs in this folder describes the words and lines. */
 #define _GNU_SOURCE
 #include "jobs.h"
 #include <stdio.h>

@@ -1,9 +1,9 @@
-//! The jobs of `crates/tk_bench_page` in plain Rust, by std alone: reads and publications of a page
-//! and of a latch.
+//! The jobs of `crates/tk_bench_page` as hand-written Rust with std alone: reads and publications
+//! of a page and of a latch.
 //!
-//! Words are published in the weakest order that is right by the memory model of the language,
-//! where Jomrezal's are sequentially consistent: on x86-64 a store is a plain one here, and an
-//! exchange there.
+//! Words are published with the weakest ordering that the language's memory model allows;
+//! Jomrezal's publications are sequentially consistent. On x86-64 a store is a plain store here,
+//! and an exchange there.
 mod clock;
 mod latch;
 mod page;

@@ -1,6 +1,6 @@
 /* SPDX-License-Identifier: MIT OR Apache-2.0 */
-/* A page of ten words in C: a version word that is odd while one writes. Its publications are
-   stores in sequentially consistent order, its reads loads of the weakest order that is right. */
+/* A page of ten words in C, with a version word that is odd during a write. Its publications are
+   sequentially consistent stores; its reads are loads with the weakest ordering that is correct. */
 #include "jobs.h"
 #include <stdlib.h>
 #include <string.h>

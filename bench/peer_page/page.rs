@@ -1,6 +1,6 @@
-//! A page of ten words as crossbeam-utils keeps an `AtomicCell<[u64; 10]>`, with a version of its
-//! own: 1 while one writes, a volatile copy of the words as a block, and for a reader that meets a
-//! writer the writer's own lock.
+//! A page of ten words in the way of crossbeam-utils' `AtomicCell<[u64; 10]>`, with its own
+//! version: 1 during a write, a volatile copy of the words as a block, and the writer's lock for a
+//! reader that meets a writer.
 use crate::clock::{weight, Clock, Desk, Words};
 use crate::turns::{Effort, Turn};
 use std::cell::UnsafeCell;
@@ -16,7 +16,7 @@ const PUBLICATIONS: u64 = 1_000_000;
 
 #[repr(align(128))]
 pub struct Page {
-    /// 1 while one writes. Else it goes up by 2 at each write.
+    /// 1 during a write. Otherwise each write raises it by 2.
     version: AtomicUsize,
     words: UnsafeCell<MaybeUninit<Words>>,
 }
@@ -94,7 +94,7 @@ pub fn quiet(effort: Effort) -> Turn {
     timed_reads(&page, effort.of(READS))
 }
 
-/// Times reads beside a writer that publishes a thousand times a second.
+/// Times reads while a writer publishes a thousand times per second.
 pub fn beside(effort: Effort) -> Turn {
     let (page, mut desk) = opened();
     let enough = AtomicBool::new(false);
@@ -111,7 +111,7 @@ pub fn beside(effort: Effort) -> Turn {
     })
 }
 
-/// Times updates of clocks, each published.
+/// Times updates of clocks that are published each time.
 pub fn publishing(effort: Effort) -> Turn {
     let (page, mut desk) = opened();
     let count = effort.of(PUBLICATIONS);

@@ -1,16 +1,17 @@
-//! What the peers' programs have in common: the jobs that their words ask for, done and told.
+//! The common part of the peer programs: it runs the jobs that the words ask for, and prints their
+//! figures.
 //!
-//! With no word they print `JOB`, `CHECK` of each job after short turns. With `time` they print
-//! `JOB`, `NUMBER`, `UNIT`, `CHECK` after long ones, and with `time JOB..` of these jobs alone.
-//! Columns stand apart by tabs, and a job's check is the same as Jomrezal's.
+//! Without words it prints `JOB`, `CHECK` of each job after short turns. With `time` it prints
+//! `JOB`, `NUMBER`, `UNIT`, `CHECK` after long turns, and with `time JOB..` for these jobs alone.
+//! Tabs separate the columns. The check of a job is the same as Jomrezal's.
 use std::env;
 use std::process::ExitCode;
 use std::time::Duration;
 
-/// How many turns of a job are made.
+/// The number of turns of a job.
 const TURNS: u32 = 2;
 
-/// How long a turn is.
+/// The length of a turn.
 #[derive(Clone, Copy)]
 pub enum Effort {
     Short,
@@ -18,7 +19,7 @@ pub enum Effort {
 }
 
 impl Effort {
-    /// As many as a full turn has, or a thousandth of them.
+    /// The number of repetitions in a full turn, or a thousandth of it.
     pub fn of(self, full: u64) -> u64 {
         match self {
             Effort::Short => full / 1_000,
@@ -27,8 +28,8 @@ impl Effort {
     }
 }
 
-/// What a turn came to: its time, how often that was done which is timed, and a number that is
-/// worked out of the results.
+/// The result of a turn: its time, the number of repetitions, and a number that is computed from
+/// the results.
 pub struct Turn {
     pub time: Duration,
     pub count: u64,
@@ -41,10 +42,10 @@ impl Turn {
     }
 }
 
-/// A job's name, its unit and a turn of it.
+/// A job's name, its unit, and the function that runs a turn.
 pub type Job = (&'static str, &'static str, fn(Effort) -> Turn);
 
-/// Does the jobs that the words of the command line ask for.
+/// Runs the jobs that the words of the command line ask for.
 pub fn run_jobs(jobs: &[Job]) -> ExitCode {
     let words: Vec<String> = env::args().skip(1).collect();
     let (effort, names) = match words.as_slice() {

@@ -1,4 +1,4 @@
-//! A race: actors in threads of their own on one shared keeper, and what each was answered.
+//! A race: actors in separate threads on one shared keeper, and the replies of each.
 use crate::clock::{weighed, Command, Refusal};
 use crate::shared::{Caller, Locked, SharedKeeper};
 use crate::turns::{Effort, Turn};
@@ -72,7 +72,7 @@ fn race(actors: &[Vec<Action>]) -> (Locked, Vec<Vec<Reply>>) {
     (keeper.close(), replies)
 }
 
-/// Times a race, with the opening of its keeper and its closing.
+/// Times a race, including the opening and the closing of its keeper.
 pub fn four_actors(effort: Effort) -> Turn {
     let orders = effort.of(ORDERS) as usize;
     let actors = vec![vec![Action::Order(Command::Update); orders]; ACTORS];

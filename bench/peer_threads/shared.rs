@@ -1,4 +1,4 @@
-//! A shared keeper: a lock of std, a journal in a vector with a copy of the clocks at each 256th
+//! A shared keeper: a lock of std, a journal in a vector with a copy of the clocks at every 256th
 //! entry, a page and a latch.
 use crate::clock::{weighed, weight, Clock, Command, Refusal, Words, STEP};
 use crate::latch::Latch;
@@ -12,14 +12,14 @@ use std::time::Instant;
 
 const COMMANDS: u64 = 300_000;
 
-/// How many entries a journal may list, and how many commands it may count.
+/// The greatest number of entries that a journal lists, and of commands that it counts.
 const LISTED_LIMIT: usize = 1_048_576;
 const COUNTED_LIMIT: u64 = (1 << 63) - 1;
 
-/// The clocks are kept at each such entry.
+/// The number of entries between two copies of the clocks.
 const KEPT_EVERY: u64 = 256;
 
-/// How many reads are made between two looks at whether the others have ended.
+/// The number of reads between two checks whether the other threads have ended.
 const READS_BETWEEN: u64 = 64;
 
 #[derive(Clone, Copy)]
@@ -64,7 +64,7 @@ impl Locked {
         Ok(number)
     }
 
-    /// How many commands were accepted.
+    /// The number of accepted commands.
     pub fn count(&self) -> u64 {
         self.entries.len() as u64
     }
@@ -147,7 +147,7 @@ fn gives(keeper: &SharedKeeper, caller: &mut Caller, count: u64) {
     }
 }
 
-/// A keeper with five callers, the last apart.
+/// A keeper with five callers, of which the last is returned separately.
 fn opened() -> (Box<SharedKeeper>, Vec<Caller>, Caller) {
     let (keeper, mut callers) = SharedKeeper::opened(5, COMMANDS as usize);
     let caller = callers.pop().unwrap();
@@ -180,8 +180,8 @@ pub fn four_threads(effort: Effort) -> Turn {
     Turn { time, count, check }
 }
 
-/// Reads until all four have ended: how often, and how far the sum of the weights is from so many
-/// times the usual one, which is 0 where each read was whole.
+/// Reads until all four threads have ended. Returns the number of reads, and the sum of their
+/// weights less that number times the usual weight, which is 0 if each read was whole.
 fn reads(keeper: &SharedKeeper, caller: &mut Caller, usual: u64, ended: &AtomicU64) -> (u64, u64) {
     let (mut count, mut sum) = (0u64, 0u64);
     while ended.load(Ordering::SeqCst) < 4 {
@@ -193,7 +193,7 @@ fn reads(keeper: &SharedKeeper, caller: &mut Caller, usual: u64, ended: &AtomicU
     (count, sum.wrapping_sub(count.wrapping_mul(usual)))
 }
 
-/// The same with fast reads, of which only those count that answer.
+/// The same with fast reads. Only reads that succeed count.
 fn fast_reads(
     keeper: &SharedKeeper,
     caller: &mut Caller,
@@ -212,7 +212,7 @@ fn fast_reads(
     (count, sum.wrapping_sub(count.wrapping_mul(usual)))
 }
 
-/// Times reads beside four threads that give commands.
+/// Times reads while four threads give commands.
 fn beside(
     effort: Effort,
     read: impl FnOnce(&SharedKeeper, &mut Caller, u64, &AtomicU64) -> (u64, u64),

@@ -1,6 +1,6 @@
 #!/usr/bin/env python3
-"""Runs random scripts through examples/c/report.c and through the definitions in Python. Stops at
-the first report or fault that differs.
+"""Runs random scripts through examples/c/report.c and through the definitions in Python, and stops
+at the first report or fault that differs.
 
     tests/c/compare_report.py PROGRAM [SCRIPTS [SEED]]
 """

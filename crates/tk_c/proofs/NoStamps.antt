@@ -1,4 +1,5 @@
--- Of no stamps none is converted, whatever room there is, and all of the list stays as it was.
+-- A list without stamps: nothing is converted, whatever the size of the output list, which stays
+-- unchanged.
 use Rattle.std.proofs.Common.{◌≡◌, ◌<◌, ◌≤◌, ◌⊎◌, ℕ, List, [], length, Option, Some, None, MatchOption, Ok, refl, inr, zero-le, not-suc-le-zero}
 use Rattle.tk_clock.specs.State.{ReadBase}
 use Rattle.tk_clock.specs.declared.clock_id.ClockId.{ClockId}

@@ -1,4 +1,4 @@
--- The numbers that C has for what a call answers: enum tk_code of include/tk.h.
+-- The codes that a call returns to C: enum tk_code of include/tk.h.
 use Rattle.std.specs.Prelude.{ℕ}
 use Rattle.tk_counter.specs.declared.desc_error.DescError.{DescError}
 use Rattle.tk_counter.specs.declared.desc_error.DescError.TheVariants as faults
@@ -44,7 +44,7 @@ abbrev pub code_of_read : ReadError → Code
 code_of_read reads.Invalid = Invalid
 code_of_read reads.Range = Range
 
--- the code of numbers that describe no counter
+-- the code of a fault of a counter's description
 abbrev pub code_of_fault : DescError → Code
 code_of_fault faults.Bits = BadBits
 code_of_fault faults.Shift = BadShift

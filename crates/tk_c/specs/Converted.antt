@@ -1,4 +1,4 @@
--- What a list of stamps is converted to, as C is told it.
+-- The result of converting a list of stamps, as a C caller gets it.
 use Rattle.std.specs.Prelude.{◌≡◌, ◌<◌, ◌≤◌, ◌⊎◌, ℕ, ⊤, List, length, MatchOption, Result, Ok, Err}
 use Rattle.tk_clock.specs.declared.clock_id.ClockId.{ClockId}
 use Rattle.tk_clock.specs.State.{ReadBase}
@@ -16,14 +16,14 @@ code_of_answer (Ok done) = Done
 code_of_answer (Err (errors.Invalid index)) = Invalid
 code_of_answer (Err (errors.Range index)) = Range
 
--- how many of so many stamps are converted: all, or those before the first that is refused
+-- how many of `count` stamps are converted: all, or those before the first that is refused
 abbrev pub converted_of : ℕ → Result ⊤ BatchError → ℕ
 converted_of count (Ok done) = count
 converted_of count (Err (errors.Invalid index)) = index
 converted_of count (Err (errors.Range index)) = index
 
--- the stamps have this answer, which the code and the number of converted ones tell; what is
--- converted is written, and all else is as it was
+-- the stamps have an answer, which `code` and `converted` report; the converted items are written,
+-- and all others are unchanged
 pub record IsConverted (base : ReadBase) (clock : ClockId) (stamps old new : List ℕ)
     (converted code : ℕ) : Type 0 where
   pub answer : Result ⊤ BatchError
@@ -31,8 +31,9 @@ pub record IsConverted (base : ReadBase) (clock : ClockId) (stamps old new : Lis
   pub count : converted ≡ converted_of (length stamps) answer
   pub told : code ≡ number_of (code_of_answer answer)
 
--- the answer to a clock's number, a list and a list of stamps, and what it leaves of the list and of
--- how many were converted
+-- the answer for a clock's number, an output list and a list of stamps. For an unknown clock, or if
+-- the output list is shorter than the stamps, that list and the number of converted stamps are
+-- unchanged
 abbrev pub IsAnswered : ReadBase → ℕ → List ℕ → List ℕ → List ℕ → ℕ → ℕ → ℕ → Type 0
 IsAnswered base clock stamps old new before after code = MatchOption (clock_named clock)
     ((code ≡ number_of BadClock) × (new ≡ old) × (after ≡ before))

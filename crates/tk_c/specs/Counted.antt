@@ -9,19 +9,19 @@ use Rattle.tk_clock.specs.Snapshot.{Snapshot}
 use Rattle.tk_clock.specs.State.{effect}
 use Rattle.tk_c.specs.declared.counted.CountedClock.{CountedClock}
 
--- why a command is refused: want of room in the count first
+-- why a command is refused; the test for a full count comes first
 abbrev pub counted_refusal : CountedClock → ℕ → Command → Option Refusal
 counted_refusal counted reading cmd =
     if nat_le counted_most counted.front then Some Full
     else state_refusal counted.clock reading cmd
 
--- what an accepted command does: it is counted
+-- the effect of an accepted command: it is counted too
 abbrev pub counted_effect : CountedClock → ℕ → Command → CountedClock
 counted_effect counted reading cmd = record {
   clock = effect counted.clock reading cmd;
   front = counted.front + 1;
 }
 
--- their snapshot
+-- the snapshot of clocks that count their commands
 abbrev pub counted_snapshot : CountedClock → Snapshot
 counted_snapshot counted = record { front = counted.front; base = counted.clock.base }

@@ -1,5 +1,4 @@
--- The numbers that C has for commands and clocks: enum tk_command and enum tk_clock_id of
--- include/tk.h.
+-- The numbers of commands and clocks in C: enum tk_command and enum tk_clock_id of include/tk.h.
 use Rattle.std.specs.Prelude.{ℕ, ℤ, Option, Some, None, nat_eq, if◌then◌else◌}
 use Rattle.tk_clock.specs.declared.timespec.Timespec.{Timespec}
 use Rattle.tk_clock.specs.declared.command.Command.{Command}
@@ -7,8 +6,8 @@ use Rattle.tk_clock.specs.declared.command.Command.TheVariants.{Update, SetTime,
 use Rattle.tk_clock.specs.declared.clock_id.ClockId.{ClockId}
 use Rattle.tk_clock.specs.declared.clock_id.ClockId.TheVariants.{Realtime, Monotonic, Boottime, Tai as TaiClock, RealtimeCoarse, MonotonicCoarse, MonotonicRaw}
 
--- the command of a number; its own number is the seconds of a time, a frequency, a tick or a TAI
--- offset
+-- the command with this number, if there is one; `number` is the seconds of a time, a frequency, a
+-- tick or a TAI offset
 abbrev pub command_named : ℕ → ℤ → ℕ → Option Command
 command_named command number nsec =
     let time : Timespec = record { sec = number; nsec = nsec } in
@@ -22,7 +21,7 @@ command_named command number nsec =
     else if nat_eq command 7 then Some (Resume time)
     else None
 
--- the clock of a number, as clock_gettime(2) has it
+-- the clock with this number, as in clock_gettime(2), if there is one
 abbrev pub clock_named : ℕ → Option ClockId
 clock_named clock =
     if nat_eq clock 0 then Some Realtime

@@ -1,4 +1,4 @@
--- What is written where C wants a value: the value's own fields.
+-- The fields that are written to C's storage for a value.
 use Rattle.std.specs.Prelude.{ℕ, ◌/◌, ◌%◌, unsigned_abs, if◌then◌else◌}
 use Rattle.tk_counter.specs.Counter.{Counter, second}
 use Rattle.tk_clock.specs.Snapshot.{Snapshot}
@@ -16,7 +16,8 @@ counter_storage counter = record {
   shift = counter.shift;
 }
 
--- what reading the clocks takes; amounts as seconds, and units of 2^-shift nanoseconds
+-- the numbers needed to read the clocks; an amount is written as seconds, and units of 2^-shift
+-- nanoseconds below a second
 abbrev pub base_storage : ReadBase → BaseStorage
 base_storage base = record {
   counter = counter_storage base.counter;
@@ -39,7 +40,7 @@ snapshot_storage snapshot = record {
   base = base_storage snapshot.base;
 }
 
--- clocks that have accepted so many commands
+-- clocks that have accepted `front` commands
 abbrev pub clock_storage : ℕ → State → ClockStorage
 clock_storage front clock = record {
   base = base_storage clock.base;

@@ -1,4 +1,4 @@
--- The version of the library, as include/tk.h has it.
+-- The version of the library, as in include/tk.h.
 use Rattle.std.specs.Prelude.{ℕ, ◌+◌, ◌*◌, ◌^◌}
 
 -- major, minor and patch: 0.1.0

@@ -1,4 +1,4 @@
--- Journals that come to the same state tell the same, now and after every command.
+-- Journals with the same state agree, now and after every command.
 use Rattle.std.proofs.Common.{◌≡◌, ◌∙◌, ℕ, refl, sym, ap, arith}
 use Rattle.std.specs.Prelude.{None}
 use Rattle.std.proofs.lemmas.List.{length_push}
@@ -14,7 +14,7 @@ use Rattle.tk_clock.specs.State.{ReadBase, State, state_of, base_value, base_mon
 use Rattle.tk_clock.proofs.Ledger.{base_value-base_of, clock_refusal-state}
 use Rattle.tk_clock.proofs.Legal.{state_of-followed_by}
 
--- each clock tells the same at each reading
+-- each clock has the same value at each reading
 pub clock_value-alike : (journal other : Journal) → state_of journal ≡ state_of other →
     (clock : ClockId) (reading : ℕ) →
     clock_value journal clock reading ≡ clock_value other clock reading
@@ -27,7 +27,7 @@ pub monotonic-alike : (journal other : Journal) → state_of journal ≡ state_o
     (reading : ℕ) → monotonic journal reading ≡ monotonic other reading
 monotonic-alike journal other same reading = ap (λ (s : State). base_monotonic s.base reading) same
 
--- a command is refused alike
+-- both refuse a command for the same reason
 pub clock_refusal-alike : (journal other : Journal) → state_of journal ≡ state_of other →
     (entry : Entry) → clock_refusal journal entry ≡ clock_refusal other entry
 clock_refusal-alike journal other same entry =
@@ -35,7 +35,7 @@ clock_refusal-alike journal other same entry =
     ∙ ap (λ s. state_refusal s entry.reading entry.cmd) same
     ∙ sym (clock_refusal-state other entry.who entry.reading entry.cmd)
 
--- an accepted one leaves the same state again
+-- an accepted command leaves the same state in both
 pub state_of-next : (journal other : Journal) → state_of journal ≡ state_of other →
     (entry : Entry) → clock_refusal journal entry ≡ None →
     state_of (followed_by journal entry) ≡ state_of (followed_by other entry)
@@ -50,7 +50,7 @@ state_of-next journal other same entry accepted =
 pub IsAlike-self : (journal : Journal) → IsAlike journal journal
 IsAlike-self journal = record { state = refl; count = refl }
 
--- and like what the one like it is like
+-- if a is like b and b is like c, a is like c
 pub IsAlike-trans : (a b c : Journal) → IsAlike a b → IsAlike b c → IsAlike a c
 IsAlike-trans a b c first second =
     record { state = first.state ∙ second.state; count = first.count ∙ second.count }

@@ -1,4 +1,4 @@
--- The tests of values after the early ones, by the base that was brought forward.
+-- The tests of the clocks' values, which follow the early tests, in terms of the forwarded base.
 use Rattle.std.proofs.Common.{◌≡◌, ℕ, ◌+◌, ◌*◌, ◌/◌, ◌^◌, ◌≤◌, ◌∙◌, refl, sym, ap, subst, arith, Bool, true, false, Result, Ok, Err}
 use Rattle.std.specs.Prelude.{ℤ, pos, int_lt, nat_lt, Some, None, not, ◌&&◌, ◌||◌, if◌then◌else◌}
 use Rattle.std.proofs.lemmas.Int.{ints}
@@ -19,7 +19,7 @@ use Rattle.tk_clock.specs.Effect.{IsEarly, IsEffect, IsSettled, is_settled_past}
 use Rattle.tk_clock.proofs.Forwarding.{base_monotonic-last}
 use Rattle.tk_clock.proofs.Values.{now_of}
 
--- what the early tests let pass
+-- what the early tests show if they pass
 early_split : (asleep resumes above well behind : Bool) →
     first_of (if asleep && not resumes then Some Asleep else if not asleep
     && resumes then Some Awake else None)
@@ -59,7 +59,7 @@ ready state reading cmd early =
       ahead = parts.3;
     }
 
--- awake, a reading ahead counts the whole gap
+-- while awake, a reading that is not behind counts the whole gap
 cycles-ahead : (counter : Counter) (asleep : Bool) (last reading : ℕ) → asleep ≡ false →
     nat_lt (half counter) (gap counter last reading) ≡ false →
     cycles_since counter asleep last reading ≡ gap counter last reading
@@ -68,7 +68,7 @@ cycles-ahead counter asleep last reading awake ahead =
     else gap counter last reading) awake
     ∙ ap (λ b. if b then 0 else gap counter last reading) ahead
 
--- so MONOTONIC before the command, read at its reading, is that of the base brought forward
+-- so MONOTONIC before the command, at its reading, is that of the forwarded base
 pub monotonic-before : (state : State) (reading : ℕ) (cmd : Command) → IsEarly state reading cmd →
     is_resume cmd ≡ false →
     base_monotonic state.base reading ≡ now_of (forwarded state.base reading)
@@ -91,7 +91,7 @@ effect-last state reading (Tai seconds) = refl
 effect-last state reading Suspend = refl
 effect-last state reading (Resume away) = refl
 
--- and MONOTONIC of the base brought forward, unless it wakes the clocks
+-- MONOTONIC after a command is that of the forwarded base, unless the command wakes the clocks
 monotonic-after : (state : State) (reading : ℕ) (cmd : Command) → is_resume cmd ≡ false →
     base_monotonic (effect state reading cmd).base reading ≡ now_of (forwarded state.base reading)
 monotonic-after state reading Update awake = base_monotonic-last (effect state reading Update).base
@@ -109,7 +109,7 @@ monotonic-after state reading Suspend awake =
     base_monotonic-last (effect state reading Suspend).base
 monotonic-after state reading (Resume away) awake = absurd cc
 
--- the tests of values, told by their answers
+-- the refusal by the tests of values, from the result of each test
 pub told_range : (before after : ClockId → ℤ) (cmd : Command) → is_past_limit after cmd ≡ true →
     value_refusal before after cmd ≡ Some Range
 told_range before after cmd past =
@@ -132,7 +132,7 @@ told_none before after cmd past good =
     else None) past
     ∙ ap (λ (b : Bool). if b then Some Invalid else None) good
 
--- MONOTONIC at its limit is past it
+-- if MONOTONIC is at its limit, the test of limits fails
 past_monotonic : (after : ClockId → ℤ) (cmd : Command) (now : ℕ) → after Monotonic ≡ pos now →
     monotonic_end * 10 ^ 9 ≤ now → is_past_limit after cmd ≡ true
 unfolding is_past_limit
@@ -149,7 +149,7 @@ past_effect state reading cmd awake far =
     (past_monotonic after cmd (now_of (forwarded state.base reading))
     (ap pos (monotonic-after state reading cmd awake)) far)
 
--- a command that doesn't set REALTIME sets it to no bad time
+-- a command that doesn't set REALTIME passes the test of settings
 plain_good : (before : ClockId → ℤ) (cmd : Command) → sets_real cmd ≡ false →
     is_bad_setting before cmd ≡ false
 unfolding is_bad_setting
@@ -162,7 +162,7 @@ plain_good before (Tai seconds) plain = refl
 plain_good before Suspend plain = refl
 plain_good before (Resume away) plain = refl
 
--- such a command gives what settling its state gives
+-- the result of such a command is that of settling its state
 settled_result : (state : State) (reading : ℕ) (cmd : Command) (result : Result State Refusal) →
     sets_real cmd ≡ false →
     is_settled_past (effect state reading cmd) cmd

@@ -1,4 +1,4 @@
--- Folding keeps a journal legal, adds up, and leaves what the journal comes to.
+-- Folding keeps a journal legal and keeps its state; two folds equal one fold of both parts.
 use Rattle.std.proofs.Common.{◌≡◌, ℕ, ◌+◌, ◌≤◌, List, [], ◌∷◌, ◌++◌, length, take, drop, sym, ◌∙◌, ap, subst, arith, length-append, length-drop, drop-drop}
 use Rattle.std.specs.Prelude.{Some, slice_get}
 use Rattle.std.proofs.lemmas.List.{take-append-drop, length-take-le, take_all, take-append-le, drop-append-le}
@@ -15,7 +15,7 @@ use Rattle.tk_clock.proofs.Alike.{clock_refusal-alike, snapshot_of-alike}
 use Rattle.tk_clock.proofs.Later.{extended_by, Follows, Follows-accepted, Follows-take, Follows-alike, IsAccepted-extended, state_of-alike}
 use Rattle.tk_clock.proofs.Start.{state_of-started}
 
--- the entries that are left follow the folded ones
+-- the entries that are left are accepted after the folded ones
 left : (journal : Journal) (n : ℕ) → IsAccepted journal →
     Follows (prefix n journal) (drop n journal.entries)
 left journal n all =
@@ -23,7 +23,7 @@ left journal n all =
     (subst (λ (es : List Entry). IsAccepted (record journal { entries = es }))
     (sym (take-append-drop n journal.entries)) all)
 
--- a folded journal, so far, comes to what the journal came to
+-- a prefix of a folded journal has the state of the matching prefix before the fold
 pub state_of-folded : (journal : Journal) (n p : ℕ) → IsAccepted journal →
     state_of (prefix p (folded_by n journal)) ≡ state_of (prefix (n + p) journal)
 state_of-folded journal n p all =
@@ -49,7 +49,7 @@ accepted-folded journal n all =
     (Follows-alike before start (drop n journal.entries)
     (sym (state_of-started (journal.opening.count + n) before)) (left journal n all))
 
--- a legal journal stays legal
+-- a legal journal stays legal when it is folded
 pub IsLegal-folded : (journal : Journal) (n : ℕ) → n ≤ length journal.entries → IsLegal journal →
     IsLegal (folded_by n journal)
 IsLegal-folded journal n within legal =
@@ -89,7 +89,7 @@ IsLegal-folded journal n within legal =
       accepted = accepted-folded journal n legal.accepted;
     }
 
--- the whole folded journal comes to what the whole journal came to
+-- folding keeps the state after all entries
 pub state_of-whole : (journal : Journal) (n : ℕ) → n ≤ length journal.entries → IsAccepted journal →
     state_of (folded_by n journal) ≡ state_of journal
 state_of-whole journal n within all =
@@ -103,7 +103,7 @@ state_of-whole journal n within all =
     (take_all (n + length rest) journal.entries (omega arith)) in
     sym (ap state_of after) ∙ state_of-folded journal n (length rest) all ∙ ap state_of before
 
--- a folded journal is like the one before
+-- a folded journal is like the journal before the fold
 pub IsAlike-folded : (journal : Journal) (n : ℕ) → n ≤ length journal.entries → IsAccepted journal →
     IsAlike (folded_by n journal) journal
 IsAlike-folded journal n within all = record {
@@ -111,21 +111,21 @@ IsAlike-folded journal n within all = record {
   count = omega (arith, length-drop n journal.entries);
 }
 
--- so it refuses an entry alike, want of room apart
+-- so both refuse an entry for the same reason, except for a full journal
 pub clock_refusal-folded : (journal : Journal) (n : ℕ) → n ≤ length journal.entries →
     IsAccepted journal →
     (entry : Entry) → clock_refusal (folded_by n journal) entry ≡ clock_refusal journal entry
 clock_refusal-folded journal n within all entry =
     clock_refusal-alike (folded_by n journal) journal (state_of-whole journal n within all) entry
 
--- has the same snapshot
+-- both have the same snapshot
 pub snapshot_of-folded : (journal : Journal) (n : ℕ) → n ≤ length journal.entries →
     IsAccepted journal →
     snapshot_of (folded_by n journal) ≡ snapshot_of journal
 snapshot_of-folded journal n within all =
     snapshot_of-alike (folded_by n journal) journal (IsAlike-folded journal n within all)
 
--- and the same frequency and tick in force
+-- both have the same frequency and tick in force
 pub frequency-folded : (journal : Journal) (n : ℕ) → n ≤ length journal.entries →
     IsAccepted journal →
     current_frequency (folded_by n journal) ≡ current_frequency journal
@@ -154,7 +154,7 @@ folded_by-nothing journal legal =
     ap (λ (o : Opening). let j : Journal = record { opening = o; entries = journal.entries }
     in j) opening
 
--- an entry may come before the fold or after it
+-- an entry may be appended before the fold or after it
 pub followed_by-folded : (journal : Journal) (n : ℕ) → n ≤ length journal.entries →
     (entry : Entry) →
     followed_by (folded_by n journal) entry ≡ folded_by n (followed_by journal entry)
@@ -169,7 +169,7 @@ followed_by-folded journal n within entry =
 sum_of_three : (a b c : ℕ) → a + b + c ≡ a + (b + c)
 sum_of_three a b c = omega arith
 
--- folds add up
+-- folding n entries and then m more is folding n + m entries
 pub folded_by-folded : (journal : Journal) (n m : ℕ) → IsAccepted journal →
     folded_by m (folded_by n journal) ≡ folded_by (n + m) journal
 folded_by-folded journal n m all =

@@ -1,4 +1,4 @@
--- A read base at its own last reading, and brought forward to another.
+-- A read base at its own last reading, and forwarded to another reading.
 use Rattle.std.proofs.Common.{◌≡◌, ◌+◌, ◌*◌, ◌/◌, ◌^◌, ◌∙◌, ap}
 use Rattle.tk_clock.specs.State.{ReadBase, base_monotonic}
 use Rattle.tk_clock.proofs.Offsets.{cycles_since-self, plus_nothing}

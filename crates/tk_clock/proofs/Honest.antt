@@ -1,4 +1,4 @@
--- With a counter that tells true counts, the cycles of a journal are true ones.
+-- With an honest counter, the cycles of a journal are true cycles.
 use Rattle.std.proofs.Common.{◌≡◌, ℕ, zero, suc, ◌+◌, ◌-◌, ◌/◌, ◌%◌, ◌^◌, ◌<◌, ◌≤◌, length, refl, ◌∙◌, ap, arith, Bool, true, false}
 use Rattle.std.specs.Prelude.{if◌then◌else◌}
 use Rattle.std.proofs.lemmas.Nat.{pow_pos}
@@ -11,7 +11,7 @@ use Rattle.tk_clock.specs.Honest.{IsHonest, counted_cycles}
 below : (d : ℕ) (n : ℕ) → 0 < d → n ≤ (d - 1) / 2 → n < d
 below d n some low = omega arith
 
--- the gap of two readings that were honestly taken
+-- the gap between two readings of an honest counter
 honest_gap : (journal : Journal) (count : ℕ → ℕ) (place : ℕ) → IsHonest journal count →
     suc place ≤ length journal.entries →
     is_asleep_at journal place ≡ false →

@@ -1,4 +1,4 @@
--- Entries after a journal: what they come to depends on the journal's state alone.
+-- Entries after a journal: the state that they leave depends on the journal's state alone.
 use Rattle.std.proofs.Common.{◌≡◌, ℕ, zero, suc, List, [], ◌∷◌, ◌++◌, length, take, refl, sym, ◌∙◌, ap, subst, append_assoc}
 use Rattle.std.specs.Prelude.{Some, None, slice_get}
 use Rattle.std.proofs.lemmas.List.{append-nil}
@@ -21,7 +21,7 @@ Follows journal [] = Unit {0}
 Follows journal (entry ∷ entries) = (clock_refusal journal entry ≡ None)
     × Follows (followed_by journal entry) entries
 
--- the first of more entries is the next one
+-- to append entries is to append the first one, and then the others
 regroup : (journal : Journal) (entry : Entry) (entries : List Entry) →
     extended_by journal (entry ∷ entries) ≡ extended_by (followed_by journal entry) entries
 regroup journal entry entries =
@@ -33,7 +33,7 @@ slice_get-seam : {X : Type 0} (xs : List X) (y : X) (ys : List X) →
 slice_get-seam [] y ys = refl
 slice_get-seam (x ∷ xs) y ys = slice_get-seam xs y ys
 
--- the later entries of an accepted journal
+-- the later entries of a journal whose entries were all accepted
 pub Follows-accepted : (journal : Journal) (entries : List Entry) →
     IsAccepted (extended_by journal entries) → Follows journal entries
 Follows-accepted journal [] all = tt

@@ -1,4 +1,4 @@
--- One more entry changes what a journal comes to by the effect of its command.
+-- One more entry changes a journal's state by the effect of its command.
 use Rattle.std.proofs.Common.{◌≡◌, ℕ, ◌+◌, ◌*◌, ◌/◌, ◌^◌, refl, sym, ◌∙◌, ap, arith, Bool, true, false}
 use Rattle.std.specs.Prelude.{ℤ, pos, ◌+ℤ◌, ◌-ℤ◌, if◌then◌else◌, Option, Some, None, not, ◌&&◌}
 use Rattle.std.proofs.lemmas.Int.{ints}
@@ -86,7 +86,7 @@ cycles_asleep journal reading asleep =
 pub no_more : (x : ℤ) → x +ℤ pos 0 ≡ x
 no_more x = omega (arith, ints)
 
--- what each command but Resume does to the amount
+-- what each command except Resume does to the amount
 grown : (journal : Journal) (entry : Entry) → false ≡ is_asleep journal →
     monotonic_units (followed_by journal entry)
     ≡ monotonic_units journal + gap journal.opening.counter
@@ -96,7 +96,7 @@ grown journal entry awake =
     ∙ ap (λ k. monotonic_units journal + k * current_multiplier journal)
     (cycles_awake journal entry.reading awake)
 
--- and to the raw amount
+-- what each command except Resume does to the raw amount
 raw_grown : (journal : Journal) (entry : Entry) → false ≡ is_asleep journal →
     raw_units (followed_by journal entry)
     ≡ raw_units journal + gap journal.opening.counter
@@ -109,7 +109,7 @@ raw_grown journal entry awake =
 plus_nothing : (x u : ℕ) → x + 0 * u ≡ x
 plus_nothing x u = omega arith
 
--- the frequency and the tick that a command leaves, and the multiplier with them
+-- the frequency and the tick after a command, and the multiplier with them
 abbrev frequency_left : Journal → Command → ℤ
 frequency_left journal cmd = option_map_or (λ x. x) (frequency_set cmd) (current_frequency journal)
 
@@ -122,7 +122,7 @@ multiplier_left journal cmd =
     (tick_left journal cmd)
     else current_multiplier journal
 
--- what every command but Resume does alike; what it makes of REALTIME and of sleep is its own
+-- what every command except Resume has in common; REALTIME and sleep depend on the command
 forward : (journal : Journal) (entry : Entry) (real' : ℤ) (asleep' : Bool) →
     false ≡ is_asleep journal →
     boot_amount entry.cmd ≡ pos 0 → real_offset (followed_by journal entry) ≡ real' →
@@ -200,7 +200,7 @@ ledger journal who reading (Resume away) asleep =
     (tai_offset-followed_by journal entry) (is_asleep-followed_by journal entry)
     (current_frequency-followed_by journal entry) (current_tick-followed_by journal entry)
 
--- a clock of a journal is that of its read base
+-- the value of a journal's clock is that of its read base
 pub base_value-base_of : (journal : Journal) (clock : ClockId) (reading : ℕ) →
     base_value (base_of journal) clock reading ≡ clock_value journal clock reading
 base_value-base_of journal Realtime reading = refl
@@ -211,7 +211,7 @@ base_value-base_of journal RealtimeCoarse reading = refl
 base_value-base_of journal MonotonicCoarse reading = refl
 base_value-base_of journal MonotonicRaw reading = refl
 
--- an accepted command fits the clock's sleep
+-- an accepted command comes at the right time: a resume while asleep, another one while awake
 pub fits_sleep : (asleep resumes : Bool) (later : Option Refusal) →
     first_of (if asleep && not resumes then Some Asleep else if not asleep
     && resumes then Some Awake else None) later ≡ None →
@@ -221,7 +221,7 @@ fits_sleep true false later e = cc
 fits_sleep false true later e = cc
 fits_sleep false false later e = refl
 
--- where an early test fails, no later one decides
+-- if an early test fails, no later test decides
 by_first : (early x y : Option Refusal) → (early ≡ None → x ≡ y) →
     first_of early x ≡ first_of early y
 by_first None x y same = same refl

@@ -1,4 +1,4 @@
--- An accepted entry keeps a journal legal, and its state the one that it comes to.
+-- An accepted entry keeps a journal legal, and leaves the state of the longer journal.
 use Rattle.std.proofs.Common.{◌≡◌, ℕ, zero, suc, ◌+◌, ◌<◌, ◌≤◌, List, [], ◌∷◌, ◌++◌, length, take, take-take, refl, sym, ◌∙◌, ap, subst, arith, false, inl, inr}
 use Rattle.std.specs.Prelude.{ℤ, pos, ◌-◌, ◌*◌, Option, Some, None, slice_get}
 use Rattle.std.proofs.lemmas.List.{take_at, take_all, length-take, length_push}
@@ -25,7 +25,7 @@ early_none : (early later : Option Refusal) → first_of early later ≡ None �
 early_none None later e = refl
 early_none (Some refusal) later e = e
 
--- a journal that has room refuses an entry as its state does
+-- a journal that has room refuses an entry for the reason that its state gives
 pub first_refusal-state : (journal : Journal) (state : State) (who reading : ℕ) (cmd : Command)
     (told : Option Refusal) →
     state ≡ state_of journal → is_full journal ≡ false → state_refusal state reading cmd ≡ told →
@@ -37,7 +37,7 @@ first_refusal-state journal state who reading cmd told running room e =
     ∙ ap (λ s. state_refusal s reading cmd) (sym running)
     ∙ e
 
--- an accepted command leaves the state that the longer journal comes to
+-- an accepted command leaves the state of the longer journal
 pub state_of-followed_by : (journal : Journal) (state : State) (who reading : ℕ) (cmd : Command) →
     state ≡ state_of journal → state_refusal state reading cmd ≡ None →
     effect state reading cmd
@@ -97,7 +97,7 @@ slice_get-take (suc n) [] k x e = e
 slice_get-take (suc n) (y ∷ xs) zero x e = e
 slice_get-take (suc n) (y ∷ xs) (suc k) x e = slice_get-take n xs k x e
 
--- and so are those that came first
+-- if each entry of a journal was accepted, so was each entry of a prefix
 pub IsAccepted-prefix : (journal : Journal) (n : ℕ) → IsAccepted journal →
     IsAccepted (prefix n journal)
 IsAccepted-prefix journal n all =
@@ -110,7 +110,7 @@ IsAccepted-prefix journal n all =
     ap (λ (j : Journal). clock_refusal j entry) same
     ∙ all k entry (slice_get-take n journal.entries k entry found)
 
--- a legal journal stays legal
+-- a legal journal stays legal after an accepted entry
 pub IsLegal-followed_by : (journal : Journal) (entry : Entry) → IsLegal journal →
     clock_refusal journal entry ≡ None →
     IsLegal (followed_by journal entry)
@@ -120,7 +120,7 @@ IsLegal-followed_by journal entry legal accepted =
       accepted = IsAccepted-followed_by journal entry legal.accepted accepted;
     }
 
--- and a whole one whole
+-- a whole journal stays whole after an accepted entry
 pub IsWhole-followed_by : (journal : Journal) (entry : Entry) → IsWhole journal →
     clock_refusal journal entry ≡ None →
     IsWhole (followed_by journal entry)
@@ -130,7 +130,7 @@ IsWhole-followed_by journal entry whole accepted = record {
   accepted = IsAccepted-followed_by journal entry whole.accepted accepted;
 }
 
--- what came first of a whole journal is whole
+-- a prefix of a whole journal is whole
 pub IsWhole-prefix : (journal : Journal) (n : ℕ) → IsWhole journal → IsWhole (prefix n journal)
 IsWhole-prefix journal n whole = record {
   described = whole.described;
@@ -138,7 +138,7 @@ IsWhole-prefix journal n whole = record {
   accepted = IsAccepted-prefix journal n whole.accepted;
 }
 
--- a journal without entries comes to its opening
+-- a journal without entries has the state of its opening
 nothing : (u : ℕ) → 0 + (0 - 0) * u ≡ 0
 nothing u = omega arith
 
@@ -214,7 +214,7 @@ nothing_before journal none =
     ap (λ (es : List Entry). record journal { entries = es })
     (take_all 0 journal.entries (omega arith))
 
--- a legal journal before whose first entry no command was accepted is whole
+-- a legal journal is whole if no command was accepted before its first entry
 pub IsWhole-legal : (journal : Journal) → IsLegal journal → journal.opening.count ≡ 0 →
     IsWhole journal
 IsWhole-legal journal legal none =

@@ -1,4 +1,4 @@
--- Units that don't fit a word, by halves of 32 bits.
+-- Units that don't fit a word of 64 bits, in halves of 32 bits.
 use Rattle.std.proofs.Common.{◌≡◌, ℕ, ◌+◌, ◌-◌, ◌*◌, ◌/◌, ◌%◌, ◌^◌, ◌<◌, ◌≤◌, sym, ◌∙◌, ap, arith}
 use Rattle.std.proofs.lemmas.Nat.{pow_pos, pow-add, div_below}
 use Rattle.std.proofs.Math.Nat.{div-add-mod, mul-add-div, mul-le-mul_left, mul-le-mul_right, mod-lt}
@@ -36,7 +36,7 @@ long_nanos-parts upper rest shift low =
     turned : (a b upper rest : ℕ) → a * b * upper + rest ≡ a * (upper * b) + rest
     turned a b upper rest = omega arith
 
--- an upper half below the test's bound stays in 63 bits as nanoseconds, and another one doesn't
+-- as nanoseconds, an upper half below the test's bound fits 63 bits, and a greater one doesn't
 powers : (shift : ℕ) → shift ≤ 32 → 2 ^ (31 + shift) * 2 ^ (32 - shift) ≡ 2 ^ 63
 powers shift low =
     let whole : 31 + shift + (32 - shift) ≡ 63 = omega arith in
@@ -76,14 +76,14 @@ shifted_low rest shift =
     mul-le-mul_right (rest / 2 ^ shift) (pow_pos shift) in
     omega (arith, more, div-add-mod rest (2 ^ shift))
 
--- the nanoseconds of an amount and further units
+-- the nanoseconds of an amount with further units
 pub more_nanos : (sec frac grown shift : ℕ) →
     sec * 10 ^ 9 + (frac + grown) / 2 ^ shift
     ≡ (sec * (10 ^ 9 * 2 ^ shift) + frac + grown) / 2 ^ shift
 more_nanos sec frac grown shift =
     nanos-parts sec (frac + grown) shift ∙ ap (λ n. n / 2 ^ shift) (omega arith)
 
--- cycles that are full 2^shift times, as whole nanoseconds, and the rest
+-- cycles as a multiple of 2^shift, which gives whole nanoseconds, and a rest
 spread : (frac mult cycles p q r : ℕ) → p * q + r ≡ cycles →
     p * (q * mult) + (frac + r * mult) ≡ frac + cycles * mult
 spread frac mult cycles p q r e = let grown = ap (λ c. c * mult) e in omega arith
@@ -97,7 +97,7 @@ far_nanos-parts frac cycles mult shift =
     ∙ ap (λ n. n / p)
     (spread frac mult cycles p (cycles / p) (cycles % p) (div-add-mod cycles p))
 
--- the rest comes to less than a cycle's units and what there was
+-- the rest has at most as many nanoseconds as a cycle and the amount have units
 pub far_rest-low : (frac cycles mult shift : ℕ) →
     (frac + cycles % 2 ^ shift * mult) / 2 ^ shift < frac + mult + 1
 far_rest-low frac cycles mult shift =

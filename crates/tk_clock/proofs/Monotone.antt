@@ -54,7 +54,7 @@ at_most : (b : Bool) (x y : ℕ) → x ≤ y → (if b then 0 else x) ≤ y
 at_most true x y low = omega arith
 at_most false x y low = low
 
--- while an entry is not yet reached, its prefix tells no more than the entry's own journal
+-- before the next entry's reading, a prefix counts at most the cycles up to that entry
 since_low : (counter : Counter) (asleep : Bool) (last reading next : ℕ) →
     (asleep ≡ true) ⊎ (half counter < gap counter last reading)
     ⊎ (gap counter last reading ≤ gap counter last next) →
@@ -86,7 +86,7 @@ pub units_at-≤ : (journal : Journal) (reading : ℕ) →
     monotonic_units journal ≤ monotonic_units_at journal reading
 units_at-≤ journal reading = omega arith
 
--- at its end a prefix tells what the journal tells there
+-- up to its end a prefix has the values of the journal
 taken : {X : Type 0} (x d : X) (f : Entry → X) (entries : List Entry) (n : ℕ) → n ≤ length entries →
     get_or (x ∷ map f (take n entries)) n d ≡ get_or (x ∷ map f entries) n d
 taken x d f entries zero within = refl
@@ -110,7 +110,7 @@ last_reading-prefix : (journal : Journal) (n : ℕ) → n ≤ length journal.ent
 last_reading-prefix journal n within =
     at_end journal.opening.reading (λ (e : Entry). e.reading) journal.entries n within
 
--- the life of a prefix, by the prefix and the entry behind it
+-- the life of a prefix, in terms of the prefix and the next entry
 life_of : (journal : Journal) (n reading next : ℕ) → n < length journal.entries →
     reading_at journal (n + 1) ≡ next → IsInLife journal n reading →
     (is_asleep (prefix n journal) ≡ true)
@@ -126,8 +126,7 @@ life_of journal n reading next within e (inr (inr (inl behind))) =
 life_of journal n reading next within e (inr (inr (inr low))) =
     let last = last_reading-prefix journal n (omega arith) in inr (inr (rw (last, sym e) low))
 
--- MONOTONIC of a prefix, read in its life, is no later than that of the whole journal at any
--- reading
+-- MONOTONIC of a prefix, read in its life, is at most MONOTONIC of the journal at any reading
 pub never_falls : (journal : Journal) → NeverFalls journal
 never_falls journal n reading reading' within life =
     let next = prefix-next journal n within in
@@ -152,7 +151,7 @@ never_falls journal n reading reading' within life =
     shr_mono journal.opening.counter.shift
     (chain _ _ _ first (chain _ _ _ to_end (units_at-≤ journal reading')))
 
--- the cycles that an accepted command counts are those that a read at its reading counts
+-- an accepted command counts the cycles that a read at its reading counts
 counted_alike : (asleep resumes invalid behind : Bool) (gap : ℕ) (later : Option Refusal) →
     first_of (first_of (if asleep && not resumes then Some Asleep else if not asleep
     && resumes then Some Awake else None)

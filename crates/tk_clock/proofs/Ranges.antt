@@ -1,4 +1,4 @@
--- What the tests of times say of them.
+-- What the tests of times show if they pass.
 use Rattle.std.proofs.Common.{◌≡◌, ℕ, ◌^◌, ◌<◌, arith, true}
 use Rattle.std.specs.Prelude.{ℤ, pos, ◌≤ℤ◌, ◌<ℤ◌}
 use Rattle.std.proofs.lemmas.Grind.{common_steps}
@@ -41,13 +41,13 @@ pub tai-between : (seconds : ℤ) → is_well_formed (Tai seconds) ≡ true →
 unfolding is_well_formed
 tai-between seconds e = (grind (arith, common_steps), grind (arith, common_steps))
 
--- a setting is to a time that may be set
+-- a well-formed setting has a time to which REALTIME may be set
 pub set-below : (time : Timespec) → is_well_formed (SetTime time) ≡ true →
     IsTimeBelow time settable_end
 unfolding is_well_formed
 set-below time e = settable-below time e
 
--- a resume ends a suspension that a clock outlasts
+-- a well-formed resume has a suspension shorter than the clocks last
 pub resumed-below : (away : Timespec) → is_well_formed (Resume away) ≡ true →
     IsTimeBelow away clock_end
 unfolding is_well_formed

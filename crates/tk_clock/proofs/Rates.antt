@@ -17,7 +17,7 @@ swapped cycles mult units slow low =
     let e : cycles * units * mult ≡ cycles * mult * units = omega arith in
     rw e (mul-le-mul_left (cycles * mult) low)
 
--- a base that is brought forward at no less than the slowest multiplier stays rated
+-- a base that is forwarded at the slowest multiplier or a greater one stays rated
 pub IsRated-forwarded : (base : ReadBase) (reading : ℕ) → slowest base.counter ≤ base.mult →
     IsRated base → IsRated (forwarded base reading)
 IsRated-forwarded base reading slow rated =
@@ -52,12 +52,12 @@ raw_low base described rated low =
     (omega (arith, described.mult_low))
     (mul-pos {m = 10 ^ 9} (omega arith) (pow_pos base.counter.shift))
 
--- an amount below so many seconds has fewer of them
+-- an amount below `end` seconds has fewer than `end` whole seconds
 pub fewer_seconds : (sec frac end second : ℕ) → sec * second + frac < end * second → sec < end
 fewer_seconds sec frac end second low =
     lt_of_mul-lt-mul_left second (omega arith)
 
--- fewer seconds, and less than one on top
+-- an amount with fewer than `end` whole seconds, and a rest below a second, is below `end` seconds
 pub below_seconds : (sec frac end second : ℕ) → sec < end → frac < second →
     sec * second + frac < end * second
 below_seconds sec frac end second few rest =

@@ -1,4 +1,4 @@
--- Which answers tell of room, and which the clocks' own tests give.
+-- Which refusals report a lack of room or of memory, and which the clocks' own tests give.
 use Rattle.std.proofs.Common.{◌≡◌, ◌∙◌, refl, sym, ap, Bool, true, false}
 use Rattle.std.specs.Prelude.{Option, Some, None, not, ◌&&◌, nat_lt, ◌||◌, if◌then◌else◌}
 use Rattle.tk_counter.specs.Counter.{mask, half, gap}
@@ -11,7 +11,7 @@ use Rattle.tk_clock.specs.Journal.{Journal, followed_by, is_asleep, last_reading
 use Rattle.tk_clock.specs.Limits.{is_well_formed, is_past_limit, is_bad_setting}
 use Rattle.tk_clock.specs.Refusal.{first_of, clock_refusal, first_refusal, is_full, IsRefusal}
 
--- does an answer tell of want, of room or of memory?
+-- whether a refusal reports a lack of room or of memory
 abbrev tells_want : Option Refusal → Bool
 tells_want (Some Full) = true
 tells_want (Some Memory) = true
@@ -30,7 +30,7 @@ tests_alone false false false false true f = refl
 tests_alone false false false false false true = refl
 tests_alone false false false false false false = refl
 
--- the clocks' own tests tell neither Full nor Memory
+-- the clocks' own tests give neither Full nor Memory
 never_want : (journal : Journal) (entry : Entry) → tells_want (clock_refusal journal entry) ≡ false
 never_want journal entry =
     tests_alone
@@ -50,7 +50,7 @@ pub never_memory : (journal : Journal) (entry : Entry) →
     clock_refusal journal entry ≡ Some Memory → ⊥
 never_memory journal entry told = cc (sym (never_want journal entry) ∙ ap tells_want told)
 
--- a journal with room refuses what the clocks' tests refuse
+-- a journal with room has the refusal of the clocks' tests
 pub first_refusal-room : (journal : Journal) (entry : Entry) → is_full journal ≡ false →
     first_refusal journal entry ≡ clock_refusal journal entry
 first_refusal-room journal entry room =
@@ -66,13 +66,13 @@ room_if : (full : Bool) (told answer : Option Refusal) → (answer ≡ Some Full
 room_if true told answer other answered = absurd (other (sym answered))
 room_if false told answer other answered = refl
 
--- what is answered as full is full
+-- if the refusal is Full, the journal is full
 pub is_full-refused : (journal : Journal) (entry : Entry) →
     first_refusal journal entry ≡ Some Full → is_full journal ≡ true
 is_full-refused journal entry refused =
     full_if (is_full journal) (clock_refusal journal entry) (never_full journal entry) refused
 
--- what is answered otherwise has room, and is the clocks' own answer
+-- if the refusal is not Full, the journal has room, and the refusal is that of the clocks' tests
 pub has_room : (journal : Journal) (entry : Entry) (told : Option Refusal) →
     (told ≡ Some Full → ⊥) → first_refusal journal entry ≡ told → is_full journal ≡ false
 has_room journal entry told other answered =
@@ -84,7 +84,7 @@ pub clock_refusal-told : (journal : Journal) (entry : Entry) (told : Option Refu
 clock_refusal-told journal entry told other answered =
     sym (first_refusal-room journal entry (has_room journal entry told other answered)) ∙ answered
 
--- an entry that nothing refuses is taken where there is room, and passes the clocks' tests
+-- if an entry is not refused, the journal has room, and the entry passes the clocks' tests
 pub accepts_room : (journal : Journal) (entry : Entry) → first_refusal journal entry ≡ None →
     is_full journal ≡ false
 accepts_room journal entry accepted = has_room journal entry None (λ e. cc e) accepted
@@ -94,7 +94,7 @@ pub passes_clock : (journal : Journal) (entry : Entry) → first_refusal journal
 passes_clock journal entry accepted =
     clock_refusal-told journal entry None (λ e. cc e) accepted
 
--- the answer to a refused entry is told as such
+-- the first test that fails gives the refusal of the entry
 pub IsRefusal-told : (journal : Journal) (entry : Entry) (refusal : Refusal) →
     is_full journal ≡ false →
     first_refusal journal entry ≡ Some refusal → IsRefusal journal entry refusal

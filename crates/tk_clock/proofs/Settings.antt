@@ -1,4 +1,4 @@
--- REALTIME set and stepped, by the base that was brought forward.
+-- Setting and stepping REALTIME, in terms of the forwarded base.
 use Rattle.std.proofs.Common.{◌≡◌, ℕ, ◌+◌, ◌*◌, ◌^◌, ◌<◌, ◌∙◌, refl, sym, ap, subst, arith, Bool, true, false, ◌⊎◌, inl, inr}
 use Rattle.std.specs.Prelude.{ℤ, pos, ◌≤ℤ◌, ◌<ℤ◌, ◌+ℤ◌, ◌-ℤ◌, int_lt, Some, None, not, ◌&&◌, ◌||◌}
 use Rattle.std.proofs.lemmas.Int.{ints}
@@ -28,7 +28,7 @@ not_below x y high = grind (arith, common_steps, ints)
 pub below-of : (x y : ℤ) → int_lt x y ≡ true → x <ℤ y
 below-of x y e = grind (arith, common_steps, ints)
 
--- what the test of limits says where it passes
+-- what the test of limits shows if it passes
 pub both : (a b c : Bool) → (not a || not b || c) ≡ false → (a ≡ true) × (b ≡ true) × (c ≡ false)
 both true true false e = (refl, refl, refl)
 both true true true e = absurd cc
@@ -63,7 +63,7 @@ within_plain values cmd plain e =
       below-of (values TaiClock) (limit TaiClock) parts.1,
     )
 
--- a setting of REALTIME doesn't move the clocks that its test of limits looks at
+-- a setting of REALTIME doesn't move the clocks that its test of limits reads
 set_past : (state : State) (now : ReadBase) (time : Timespec) (b : Bool) →
     now ≡ forwarded state.base now.last →
     is_past_limit (λ clock. base_value now clock now.last) (SetTime time) ≡ b →
@@ -96,7 +96,7 @@ pub step_range : (state : State) (now : ReadBase) (by : Timespec) →
     state_value_refusal state now.last (Step by) ≡ Some Range
 step_range state now by e past = told_range _ _ _ (step_past state now by true e past)
 
--- MONOTONIC before the command is that of the base brought forward
+-- MONOTONIC before the command is that of the forwarded base
 same_now : (state : State) (now : ReadBase) (cmd : Command) → now ≡ forwarded state.base now.last →
     base_monotonic state.base now.last ≡ now_of (forwarded state.base now.last) →
     base_monotonic state.base now.last ≡ now_of now
@@ -132,7 +132,7 @@ set_none state now time early e past high =
     (set_setting state now time false early e
     (not_below (nanoseconds time) (pos (now_of now)) high))
 
--- the new state
+-- the state after a setting of REALTIME
 pub set_state : (state : State) (now : ReadBase) (time : Timespec) (offset : ℕ) →
     now ≡ forwarded state.base now.last →
     pos offset ≡ nanoseconds time -ℤ pos (now_of now) →
@@ -144,7 +144,7 @@ set_state state now time offset e told =
     ap (λ (b : ReadBase). put b (pos offset)) e
     ∙ ap (λ z. put fwd z) (told ∙ ap (λ (b : ReadBase). nanoseconds time -ℤ pos (now_of b)) e)
 
--- a step: what REALTIME becomes
+-- REALTIME after a step, in nanoseconds
 abbrev pub stepped : ReadBase → Timespec → ℤ
 stepped now by = pos (now_of now) +ℤ now.real_offset +ℤ nanoseconds by
 
@@ -209,7 +209,7 @@ step_state state now by offset e told =
     ap (λ (b : ReadBase). put b (pos offset)) e
     ∙ ap (λ z. put fwd z) (told ∙ ap (λ (b : ReadBase). b.real_offset +ℤ nanoseconds by) e)
 
--- running clocks whose REALTIME is set to a time that may be set
+-- clocks still run after REALTIME is set to a time to which it may be set
 pub IsRunning-set : (base now : ReadBase) (frequency tick : ℤ) (offset : ℕ) →
     IsRunning base frequency tick → now ≡ forwarded base now.last → IsRated now →
     now_of now + offset < settable_end * 10 ^ 9 → now.tai ≤ℤ pos greatest_tai →

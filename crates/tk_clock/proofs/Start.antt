@@ -1,4 +1,4 @@
--- A journal that begins with a state comes to that state.
+-- A journal that begins in a state, and has no entries, has that state.
 use Rattle.std.proofs.Common.{◌≡◌, ℕ, zero, suc, ◌+◌, ◌-◌, ◌*◌, ◌≤◌, List, [], length, refl, sym, ◌∙◌, ap, subst, arith}
 use Rattle.std.specs.Prelude.{ℤ, pos, ◌+ℤ◌, if◌then◌else◌}
 use Rattle.std.proofs.lemmas.Int.{ints}
@@ -22,7 +22,7 @@ IsSteered journal =
     current_multiplier journal ≡ multiplier journal.opening.counter (current_frequency journal)
     (current_tick journal)
 
--- what each command leaves of it
+-- each command keeps the multiplier so
 steered : (counter : Counter) (cmd : Command) (mult : ℕ) (frequency tick : ℤ) →
     mult ≡ multiplier counter frequency tick →
     (if sets_multiplier cmd then multiplier counter
@@ -98,7 +98,7 @@ same_parts : (state : State) (mult amount raw : ℕ) (real boot : ℤ) → state
     }
 same_parts state mult amount raw real boot p q r s t = rw (← p, q, r, s, t) refl
 
--- a journal without entries that begins with what another one comes to
+-- a journal without entries that begins in the state of another journal has that state
 pub state_of-started : (count : ℕ) (journal : Journal) →
     state_of (journal_from count (state_of journal) []) ≡ state_of journal
 state_of-started count journal =

@@ -13,7 +13,7 @@ max_low a b = omega (arith, ints, int_max_is a b)
 clamped_low : (frequency : ℤ) → neg_ℤ greatest_frequency ≤ℤ clamped frequency
 clamped_low frequency = max_low (neg_ℤ greatest_frequency) (int_min frequency greatest_frequency)
 
--- a tick that may be set runs no slower than the slowest
+-- at a tick that may be set, the rate is at least the slowest one
 rate_low : (frequency tick : ℤ) → least_tick ≤ℤ tick → 58949632000 ≤ rate frequency tick
 rate_low frequency tick low = let held = clamped_low frequency in omega (arith, ints, held)
 

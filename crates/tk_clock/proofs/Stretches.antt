@@ -69,7 +69,7 @@ awake_cycles-≤ journal i k low =
     subst (λ n. awake_cycles journal i ≤ awake_cycles journal n) e
     (awake_cycles-grow journal i (k - i))
 
--- the multiplier of a stretch that began before
+-- the multiplier of a stretch that began earlier
 pub multiplier_at-within : (journal : Journal) (entry : Entry) (k : ℕ) →
     k ≤ length journal.entries →
     multiplier_at (followed_by journal entry) k ≡ multiplier_at journal k
@@ -144,7 +144,7 @@ stretches-grow journal entry from (to ∷ later) low all =
     add_up _ _ _ _ _ (earlier_stretch journal entry from to low all.0)
     (stretches-grow journal entry to later all.0 all.1)
 
--- or ends there, where a new one begins
+-- the last of the stretches ends at the new entry if a new stretch begins there
 pub stretches-end : (journal : Journal) (entry : Entry) (from : ℕ) (later : List ℕ) (place : ℕ) →
     place ≡ length journal.entries + 1 →
     from ≤ length journal.entries → AtMost (length journal.entries) later →
@@ -255,8 +255,7 @@ multiplier_told journal entry true =
     (option_map_or (λ x. x) (frequency_set entry.cmd) (current_frequency journal)))
     (current_tick-followed_by journal entry)
 
--- a setting of the frequency or the tick begins a stretch, and another command goes on with the
--- last one
+-- a setting of the frequency or the tick begins a stretch; any other command continues the last one
 pub current_multiplier-followed_by : (journal : Journal) (entry : Entry) →
     current_multiplier (followed_by journal entry)
     ≡ (if sets_multiplier entry.cmd then multiplier journal.opening.counter

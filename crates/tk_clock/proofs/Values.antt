@@ -36,14 +36,14 @@ pub usual_rate : (counter : Counter) (mult : ℕ) → mult ≡ counter.mult →
     mult ≡ multiplier counter (pos 0) usual_tick
 usual_rate counter mult e = omega (arith, e)
 
--- nothing is no nanoseconds
+-- an amount of 0 has 0 nanoseconds
 nothing-nanos : (second shift : ℕ) → (0 * second + 0) / 2 ^ shift ≡ 0
 nothing-nanos second shift =
     let low : (0 * second + 0) / 2 ^ shift < 1 =
     div_below (0 * second + 0) (2 ^ shift) 1 (pow_pos shift) (omega (arith, pow_pos shift)) in
     omega arith
 
--- the clocks as they are opened
+-- clocks that were just opened run
 pub IsRunning-opened : (counter : Counter) (reading mult real : ℕ) → mult ≡ counter.mult →
     real < settable_end * 10 ^ 9 →
     IsRunning (record {
@@ -84,7 +84,7 @@ IsRunning-opened counter reading mult real same low =
       };
     }
 
--- REALTIME below its limit is no further than that from MONOTONIC
+-- if REALTIME is below its limit, its offset from MONOTONIC is below that limit too
 pub real_offset_low : (base : ReadBase) (offset : ℕ) → base.real_offset ≡ pos offset →
     base_value base Realtime base.last <ℤ limit Realtime →
     offset < clock_end * 10 ^ 9

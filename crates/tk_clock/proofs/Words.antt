@@ -1,4 +1,4 @@
--- Ten words and the snapshot that they tell.
+-- Ten words and the snapshot that they encode.
 use Rattle.std.proofs.Common.{◌≡◌, ℕ, ◌+◌, ◌*◌, ◌/◌, ◌%◌, ◌<◌, ◌≤◌, ◌∙◌, refl, ap, arith, Bool, true, false, List, [], ◌∷◌, length, get_or}
 use Rattle.std.specs.Prelude.{ℤ, zero, suc, ◌==◌, pos, ◌<ℤ◌, int_lt, ◌&&◌, ◌||◌, not, Some, None, IsSome, if◌then◌else◌}
 use Rattle.std.proofs.lemmas.Int.{ints}
@@ -19,7 +19,7 @@ use Rattle.tk_clock.proofs.Values.{monotonic-last}
 use Rattle.tk_clock.proofs.Settings.{both, either, is_below, below-of}
 use Rattle.tk_clock.specs.Words.{words_of, are_in_range, is_within, snapshot_told, restored}
 
--- the words of a snapshot, by the parts that it is kept in
+-- the words of a snapshot, from the parts that the code keeps
 abbrev pub parts : ℕ → ℕ → ℕ → Amount → Amount → ℕ → ℕ → ℕ → List ℕ
 parts front last mult monotonic raw real boot tai =
     front ∷ last ∷ mult ∷ monotonic.frac ∷ monotonic.sec ∷ real ∷ boot ∷ tai ∷ raw.frac ∷ raw.sec
@@ -74,7 +74,7 @@ shared n =
     bit_is (suc zero) low = refl
     bit_is (suc (suc r)) low = absurd (omega arith)
 
--- what the test of ranges says where it passes
+-- what the test of ranges shows if it passes
 pub record IsInRange (counter : Counter) (words : List ℕ) : Type 0 where
   pub last_low : get_or words 1 0 ≤ mask counter
   pub mult_some : 1 ≤ get_or words 2 0
@@ -117,7 +117,7 @@ in_range counter words e =
 both_true : (a b : Bool) → a ≡ true → b ≡ true → (a && b) ≡ true
 both_true a b p q = ap (λ x. x && b) p ∙ q
 
--- and the parts of a snapshot pass it
+-- words in their ranges pass the test of ranges
 pub passes_range : (counter : Counter) (words : List ℕ) → IsInRange counter words →
     are_in_range counter words ≡ true
 unfolding are_in_range
@@ -129,7 +129,7 @@ passes_range counter words held =
     (lt-ltb _ _ held.sec_low)) (le-leb _ _ held.tai_low)) (lt-ltb _ _ held.raw_frac_low))
     (lt-ltb _ _ held.raw_sec_low)
 
--- the test of limits, where MONOTONIC is below its own
+-- the test of limits, if MONOTONIC is below its limit
 three_true : (b r t : Bool) → b ≡ true → r ≡ true → t ≡ true → (b && r && t) ≡ true
 three_true b r t p q s = both_true (b && r) t (both_true b r p q) s
 
@@ -179,7 +179,7 @@ monotonic_within base monotonic e sec_low frac_low =
     let low = below_nanos monotonic_end base.amount base.counter.shift units in
     rw (monotonic-last base) (omega (arith, ints, low))
 
--- the words of the snapshot that words tell are those words
+-- the words of the snapshot that ten words encode are those words
 ten : (words : List ℕ) → length words ≡ 10 →
     get_or words 0 0 ∷ get_or words 1 0 ∷ get_or words 2 0 ∷ get_or words 3 0 ∷ get_or words 4 0
     ∷ get_or words 5 0 ∷ get_or words 6 0
@@ -210,7 +210,7 @@ words_again counter words all held =
     (get_or words 5 0) (get_or words 6 0) n) (shared (get_or words 7 0))
     ∙ ten words all
 
--- words that tell a snapshot
+-- words that pass both tests restore the snapshot that they encode
 pub restored-told : (counter : Counter) (words : List ℕ) → are_in_range counter words ≡ true →
     is_within (snapshot_told counter words).base ≡ true →
     restored counter words ≡ Some (snapshot_told counter words)
@@ -228,7 +228,7 @@ restored-none counter words without =
     by true b e = e
     by false b e = refl
 
--- a snapshot's own words give it back
+-- a snapshot's own words restore it
 pub restored-words : (counter : Counter) (front last mult : ℕ) (monotonic raw : Amount)
     (real boot tai : ℕ) (asleep : Bool) →
     IsReadBase counter last mult monotonic raw tai →
@@ -273,7 +273,7 @@ restored-words counter front last mult monotonic raw real boot tai asleep held w
     (ap (λ (s : Snapshot). is_within s.base) same ∙ passes_within snapshot.base within)
     ∙ ap (λ (s : Snapshot). Some s) same
 
--- no clock of words that tell a snapshot is at its limit
+-- if the test of limits passes, none of its clocks is at its limit
 pub is_within-told : (base : ReadBase) → is_within base ≡ true → IsWithin base
 unfolding is_within
 is_within-told base e =
@@ -285,7 +285,7 @@ is_within-told base e =
       tai_low = below-of (at TaiClock) (limit TaiClock) (then_true _ _ e);
     }
 
--- what is known of words that tell a snapshot
+-- what is known of words that encode a snapshot
 pub record IsTold (counter : Counter) (words : List ℕ) : Type 0 where
   pub range : are_in_range counter words ≡ true
   pub within : is_within (snapshot_told counter words).base ≡ true

@@ -1,4 +1,4 @@
--- Worked journals, by computation: what the definitions give is what was worked out by hand.
+-- Worked journals: the definitions compute the values that were worked out manually.
 use Rattle.std.proofs.Common.{◌≡◌, ℕ, ◌-◌, List, [], ◌∷◌, refl, false}
 use Rattle.std.specs.Prelude.{ℤ, pos, negsuc, neg_ℤ, Some, None}
 use Rattle.tk_counter.specs.Counter.{Counter}
@@ -16,11 +16,11 @@ use Rattle.tk_clock.specs.State.{base_of, state_of}
 use Rattle.tk_clock.specs.Limits.{settable_end, clock_end, monotonic_end, is_settable, is_suspension, is_well_formed, is_past_limit, is_bad_setting}
 use Rattle.tk_clock.specs.Refusal.{first_refusal, read_refusal, opening_refusal}
 
--- one nanosecond a cycle, readings of 32 bits
+-- a counter of one nanosecond a cycle, with readings of 32 bits
 abbrev nanosecond_counter : Counter
 nanosecond_counter = record { bits = 32; mult = 16777216; shift = 24 }
 
--- a slow wide counter: 4,194,304 nanoseconds a cycle, readings of 64 bits
+-- a slow counter of 4,194,304 nanoseconds a cycle, with readings of 64 bits
 abbrev wide_counter : Counter
 wide_counter = record { bits = 64; mult = 4194304; shift = 0 }
 
@@ -41,7 +41,7 @@ wide_journal entries = record (opened wide_counter 0 (time (pos 1700000000) 0)) 
   entries = entries;
 }
 
--- REALTIME may be set until as long before its end as MONOTONIC lasts
+-- the end of the settable times is the end of the clocks less the end of MONOTONIC
 settable_until : settable_end ≡ clock_end - monotonic_end
 settable_until = refl
 
@@ -85,7 +85,8 @@ wraps = refl
 wraps-monotonic : monotonic (record near_wrap { entries = at 10 Update ∷ [] }) 10 ≡ 16
 wraps-monotonic = refl
 
--- a reading behind the last command gets the value at that command, and a coarse clock always does
+-- a reading behind the last command gets the value at that command; a coarse clock always has that
+-- value
 
 stands-behind : monotonic (journal_of (at 100 Update ∷ [])) 99 ≡ 100
 stands-behind = refl
@@ -118,7 +119,7 @@ below_limit-monotonic = refl
 above_mask : read_refusal (base_of (journal_of [])) Monotonic 4294967296 ≡ Some InvalidReading
 above_mask = refl
 
--- a frequency holds from its reading on, is clamped, and keeps what is below a nanosecond
+-- a frequency takes effect at its reading, is clamped, and keeps the units below a nanosecond
 
 abbrev faster : Journal
 faster = journal_of (at 0 (Freq (pos 65536000)) ∷ [])
@@ -150,7 +151,7 @@ within_life : monotonic (journal_of (at 0 (Freq (pos 32768000))
     ∷ at 1000 (Freq (neg_ℤ (pos 32768000))) ∷ [])) 1000000000 ≡ 999499977
 within_life = refl
 
--- the wall clock is set and stepped
+-- REALTIME is set and stepped
 
 set-real : clock_value (journal_of (at 2000000000 (SetTime (time (pos 2) 0)) ∷ [])) Realtime
     2000000000 ≡ pos 2000000000
@@ -176,7 +177,7 @@ negative-tai : first_refusal (journal_of []) (at 0 (Tai (negsuc 0))) ≡ Some In
 unfolding is_well_formed is_past_limit is_bad_setting
 negative-tai = refl
 
--- asleep, the clocks stand still, and only a resume is taken
+-- while asleep, the clocks stand still and accept only a resume
 
 abbrev asleep : Journal
 asleep = journal_of (at 1000 Suspend ∷ [])
@@ -222,7 +223,8 @@ awake-resume : first_refusal (journal_of []) (at 0 (Resume (time (pos 0) 0))) �
 unfolding is_well_formed is_past_limit is_bad_setting
 awake-resume = refl
 
--- a tick keeps the frequency and a frequency the tick, and neither steers MONOTONIC_RAW
+-- a tick keeps the frequency, a frequency keeps the tick, and neither changes the rate of
+-- MONOTONIC_RAW
 
 abbrev ticked : Journal
 ticked = journal_of (at 0 (Tick (pos 11000)) ∷ [])

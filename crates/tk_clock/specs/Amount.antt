@@ -1,4 +1,4 @@
--- An amount of time in seconds and what is left of them.
+-- An amount of time as whole seconds and a rest below a second.
 use Rattle.std.specs.Prelude.{◌≡◌, ℕ, ◌+◌, ◌*◌, ◌/◌, ◌%◌, ◌<◌}
 use Rattle.std.proofs.Common.{ap, ◌∙◌}
 use Rattle.std.proofs.lemmas.Nat.{div-mul-add, mod-mul-add}
@@ -9,11 +9,11 @@ use Rattle.tk_clock.specs.declared.amount.Amount.{Amount}
 abbrev pub units_of : Counter → Amount → ℕ
 units_of counter amount = amount.sec * second counter + amount.frac
 
--- so many units as seconds and what is left of them
+-- a number of units of 2^-shift nanoseconds, as whole seconds and the units left over
 abbrev pub amount_of : Counter → ℕ → Amount
 amount_of counter units = record { sec = units / second counter; frac = units % second counter }
 
--- an amount with less than a second left is that of its units
+-- an amount with a rest below a second is the amount of its own units
 pub amount_of-units_of : (counter : Counter) (amount : Amount) → amount.frac < second counter →
     amount_of counter (units_of counter amount) ≡ amount
 amount_of-units_of counter amount low =

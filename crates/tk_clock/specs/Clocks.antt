@@ -1,4 +1,4 @@
--- The other clocks: how far they are from MONOTONIC, and MONOTONIC_RAW
+-- The other clocks: their offsets from MONOTONIC, and MONOTONIC_RAW
 -- (Documentation/core-api/timekeeping.rst).
 use Rattle.std.specs.Prelude.{ℕ, ◌+◌, ◌*◌, ◌/◌, ◌^◌, ℤ, pos, ◌+ℤ◌, ◌-ℤ◌, ◌*ℤ◌, List, [], ◌∷◌, map, drop, length, is_some}
 use Rattle.std.specs.List.{filter_map}
@@ -15,12 +15,12 @@ abbrev pub sum_of : List ℤ → ℤ
 sum_of [] = pos 0
 sum_of (x ∷ xs) = x +ℤ sum_of xs
 
--- the place of the last setting of the time, or 0
+-- the place of the last entry that sets the time, or 0 if no entry does
 abbrev pub set_place : Journal → ℕ
 set_place journal = latest 0 (places (λ (e : Entry). is_some (time_set e.cmd)) 0 journal.entries)
 
--- the offset that was set there, in nanoseconds: the time less MONOTONIC then; at 0 that of the
--- opening
+-- the offset that the entry at a place sets, in nanoseconds: the time that it sets, less MONOTONIC
+-- at its reading; at place 0, the offset of the opening
 abbrev pub offset_set : Journal → ℕ → ℤ
 offset_set journal place =
     at_place journal.opening.real_offset
@@ -28,18 +28,19 @@ offset_set journal place =
     (time_set e.cmd) (pos 0))
     journal.entries place
 
--- REALTIME less MONOTONIC, in nanoseconds: what was set last, and all steps and suspensions since
+-- REALTIME less MONOTONIC, in nanoseconds: the offset that was set last, plus all steps and
+-- suspensions since
 abbrev pub real_offset : Journal → ℤ
 real_offset journal =
     offset_set journal (set_place journal)
     +ℤ sum_of (map (λ (e : Entry). real_amount e.cmd) (drop (set_place journal) journal.entries))
 
--- BOOTTIME less MONOTONIC, in nanoseconds: all suspensions
+-- BOOTTIME less MONOTONIC, in nanoseconds: the offset of the opening, plus all suspensions
 abbrev pub boot_offset : Journal → ℤ
 boot_offset journal =
     journal.opening.boot_offset +ℤ sum_of (map (λ (e : Entry). boot_amount e.cmd) journal.entries)
 
--- TAI less REALTIME, in seconds: the last number set
+-- TAI less REALTIME, in seconds: the last offset set, or that of the opening
 abbrev pub tai_offset : Journal → ℤ
 tai_offset journal =
     latest journal.opening.tai (filter_map (λ (e : Entry). tai_set e.cmd) journal.entries)
@@ -57,7 +58,7 @@ monotonic_raw journal reading =
     (raw_units journal + cycles_after journal reading * journal.opening.counter.mult)
     / 2 ^ journal.opening.counter.shift
 
--- a clock at a reading, in nanoseconds
+-- the value of a clock at a reading, in nanoseconds (clock_gettime(2))
 abbrev pub clock_value : Journal → ClockId → ℕ → ℤ
 clock_value journal Monotonic reading = pos (monotonic journal reading)
 clock_value journal Realtime reading = pos (monotonic journal reading) +ℤ real_offset journal

@@ -1,24 +1,23 @@
--- Folding: the first entries of a journal go into its opening, and what is told later stays as it
--- was.
+-- Folding puts the first entries of a journal into its opening, so that each later value stays.
 use Rattle.std.specs.Prelude.{◌≡◌, ℕ, ◌+◌, List, drop}
 use Rattle.tk_clock.specs.declared.command.Entry.{Entry}
 use Rattle.tk_clock.specs.Journal.{Journal, prefix, accepted_count}
 use Rattle.tk_clock.specs.Legal.{folded_opening}
 use Rattle.tk_clock.specs.State.{State, state_of}
 
--- the journal that begins with a state, so many commands after the clocks were opened
+-- the journal that begins in a state, `count` commands after the clocks were opened
 abbrev pub journal_from : ℕ → State → List Entry → Journal
 journal_from count start entries =
     record { opening = folded_opening count start; entries = entries }
 
--- the journal with its first entries, so many, folded into its opening
+-- the journal with its first `places` entries folded into its opening
 abbrev pub folded_by : ℕ → Journal → Journal
 folded_by places journal =
     journal_from (journal.opening.count + places) (state_of (prefix places journal))
     (drop places journal.entries)
 
--- two journals of as many commands come to the same clocks, with the same frequency and tick in
--- force
+-- two journals with the same number of accepted commands and the same state: the same clocks, and
+-- the same frequency and tick in force
 pub record IsAlike (journal other : Journal) : Type 0 where
   pub state : state_of journal ≡ state_of other
   pub count : accepted_count journal ≡ accepted_count other

@@ -6,12 +6,12 @@ use Rattle.tk_clock.specs.declared.timespec.Timespec.{Timespec}
 use Rattle.tk_clock.specs.Time.{nanoseconds}
 use Rattle.tk_clock.specs.Command.{is_suspend}
 
--- the clocks as a journal begins
+-- the clocks at the start of a journal
 pub record Opening : Type 0 where
-  -- the counter and its reading
+  -- the counter, and its reading at the opening
   pub counter : Counter
   pub reading : ℕ
-  -- how many commands were accepted before, and are no longer listed
+  -- the number of commands that were accepted before the opening; the journal doesn't list them
   pub count : ℕ
   -- MONOTONIC and MONOTONIC_RAW at the reading, in units of 2^-shift nanoseconds
   pub amount : ℕ
@@ -26,13 +26,13 @@ pub record Opening : Type 0 where
   pub tai : ℤ
   pub asleep : Bool
 
--- how the clocks were opened, and each command that was accepted since, in order
+-- an opening, and the entries that were accepted since, in order
 pub record Journal : Type 0 where
   pub opening : Opening
   pub entries : List Entry
 
--- a journal without entries: MONOTONIC is 0, REALTIME is handed in, and the clocks are awake at
--- their usual rate
+-- the journal of newly opened clocks, without entries: MONOTONIC is 0, REALTIME is as given, and
+-- the clocks are awake and run at their usual rate
 abbrev pub opened : Counter → ℕ → Timespec → Journal
 opened counter reading real =
     record {
@@ -52,11 +52,11 @@ opened counter reading real =
       entries = [];
     }
 
--- how many commands were accepted, the folded ones among them
+-- the number of accepted commands, including the folded ones
 abbrev pub accepted_count : Journal → ℕ
 accepted_count journal = journal.opening.count + length journal.entries
 
--- the journal as it was after the first n of its entries
+-- the journal with only its first n entries
 abbrev pub prefix : ℕ → Journal → Journal
 prefix n journal = record journal { entries = take n journal.entries }
 
@@ -64,7 +64,7 @@ prefix n journal = record journal { entries = take n journal.entries }
 abbrev pub followed_by : Journal → Entry → Journal
 followed_by journal entry = record journal { entries = journal.entries ++ entry ∷ [] }
 
--- what f tells of the entry at a place, the first being at 1, and the opening's value at 0
+-- the value of f for the entry at a place; places count from 1, and place 0 has the opening's value
 abbrev pub at_place : {X : Type 0} → X → (Entry → X) → List Entry → ℕ → X
 at_place opening f entries place = get_or (opening ∷ map f entries) place opening
 
@@ -73,26 +73,26 @@ abbrev pub reading_at : Journal → ℕ → ℕ
 reading_at journal place =
     at_place journal.opening.reading (λ (e : Entry). e.reading) journal.entries place
 
--- is the clock asleep from this place on? A suspension puts it to sleep, and the entry after that
--- is a resume
+-- whether the clocks are asleep from a place on: the entry there is a suspend, or at place 0 the
+-- opening says so. A resume is the next entry that can be accepted
 abbrev pub is_asleep_at : Journal → ℕ → Bool
 is_asleep_at journal place =
     at_place journal.opening.asleep (λ (e : Entry). is_suspend e.cmd) journal.entries place
 
--- the reading of the last entry
+-- the reading of the last entry, or of the opening if there is no entry
 abbrev pub last_reading : Journal → ℕ
 last_reading journal = reading_at journal (length journal.entries)
 
--- is the clock asleep after the last entry?
+-- whether the clocks are asleep after the last entry
 abbrev pub is_asleep : Journal → Bool
 is_asleep journal = is_asleep_at journal (length journal.entries)
 
--- the last value of a list, and without one the value before it
+-- the last value of a list, or the value before the list if it is empty
 abbrev pub latest : {X : Type 0} → X → List X → X
 latest before [] = before
 latest before (value ∷ values) = latest value values
 
--- the places, counted on from one, of the entries for which a test holds
+-- the places of the entries for which a test holds; the first entry is at place `before` + 1
 abbrev pub places : (Entry → Bool) → ℕ → List Entry → List ℕ
 places test before [] = []
 places test before (entry ∷ entries) =

@@ -1,4 +1,5 @@
--- Which journals can be: those that were opened well, and of which each entry was accepted.
+-- Which journals can exist: the opening is one that some whole journal leaves, and each entry was
+-- accepted.
 use Rattle.std.specs.Prelude.{◌≡◌, ℕ, length, slice_get, Some, None}
 use Rattle.tk_counter.specs.Counter.{IsCounter}
 use Rattle.tk_clock.specs.declared.timespec.Timespec.{Timespec}
@@ -21,7 +22,7 @@ pub record IsWhole (journal : Journal) : Type 0 where
       × (journal.opening ≡ (opened journal.opening.counter reading real).opening)
   pub accepted : IsAccepted journal
 
--- the opening that a journal leaves, once its n entries are folded into it
+-- the opening that a journal leaves when its n entries are folded into it
 abbrev pub folded_opening : ℕ → State → Opening
 folded_opening n state = record {
   counter = state.base.counter;
@@ -37,7 +38,8 @@ folded_opening n state = record {
   asleep = state.base.asleep;
 }
 
--- a journal that begins where some whole one left off, at its opening if no entry was folded
+-- a journal that begins in the state that some whole journal leaves, and of which each entry was
+-- accepted; if no entry was folded, the whole journal has no entries
 pub record IsLegal (journal : Journal) : Type 0 where
   pub past : (whole : Journal) × IsWhole whole
       × (journal.opening ≡ folded_opening (length whole.entries) (state_of whole))

@@ -8,21 +8,21 @@ use Rattle.tk_clock.specs.declared.clock_id.ClockId.{ClockId}
 use Rattle.tk_clock.specs.declared.clock_id.ClockId.TheVariants.{Realtime, Monotonic, Boottime, Tai as TaiClock, RealtimeCoarse, MonotonicCoarse, MonotonicRaw}
 use Rattle.tk_clock.specs.Time.{nanoseconds}
 
--- where clocks end, in seconds: as many as 63 bits of nanoseconds hold (KTIME_SEC_MAX)
+-- the end of the clocks, in seconds: 63 bits of nanoseconds hold this many (KTIME_SEC_MAX)
 abbrev pub clock_end : ℕ
 clock_end = seconds_end
 
--- where MONOTONIC ends, in seconds: 30 years of 365 days (TIME_UPTIME_SEC_MAX)
+-- the end of MONOTONIC, in seconds: 30 years of 365 days (TIME_UPTIME_SEC_MAX)
 abbrev pub monotonic_end : ℕ
 monotonic_end = 946080000
 
--- what MONOTONIC_RAW stays below, in seconds, while MONOTONIC is below its end: it gains most on
--- MONOTONIC at the least tick and frequency
+-- a bound of MONOTONIC_RAW, in seconds, while MONOTONIC is below its end: MONOTONIC_RAW gains most
+-- on MONOTONIC at the least tick and frequency
 abbrev pub raw_end : ℕ
 raw_end = 1060000000
 
--- where the times end that REALTIME may be set to, in seconds: as long before its own end as
--- MONOTONIC lasts (TIME_SETTOD_SEC_MAX)
+-- the end of the times that REALTIME may be set to, in seconds: the end of REALTIME less the 30
+-- years of MONOTONIC (TIME_SETTOD_SEC_MAX)
 abbrev pub settable_end : ℕ
 settable_end = 8277292036
 
@@ -34,11 +34,11 @@ greatest_tai = 100000
 abbrev pub listed_most : ℕ
 listed_most = 1048576
 
--- the most commands that it counts: as many as 63 bits tell
+-- the most commands that a journal counts: the greatest number of 63 bits
 abbrev pub counted_most : ℕ
 counted_most = 2 ^ 63 - 1
 
--- the nanoseconds at which a clock ends
+-- the limit of a clock, in nanoseconds: a read gives only values below it
 abbrev pub limit : ClockId → ℤ
 limit Monotonic = pos (monotonic_end * 10 ^ 9)
 limit MonotonicCoarse = pos (monotonic_end * 10 ^ 9)
@@ -48,17 +48,18 @@ limit Boottime = pos (clock_end * 10 ^ 9)
 limit TaiClock = pos (clock_end * 10 ^ 9)
 limit MonotonicRaw = pos (clock_end * 10 ^ 9)
 
--- a time that may be set leaves REALTIME room for 30 years (TIME_SETTOD_SEC_MAX)
+-- whether REALTIME may be set to this time: from 0 s to below settable_end, which leaves it 30
+-- years (TIME_SETTOD_SEC_MAX)
 unfoldable pub is_settable : Timespec → Bool
 is_settable time =
     int_le (pos 0) time.sec && int_lt time.sec (pos settable_end) && nat_lt time.nsec (10 ^ 9)
 
--- a suspension is none of negative length, and is shorter than a clock lasts
+-- whether a suspension may have this length: from 0 s to below the end of the clocks
 unfoldable pub is_suspension : Timespec → Bool
 is_suspension away =
     int_le (pos 0) away.sec && int_lt away.sec (pos clock_end) && nat_lt away.nsec (10 ^ 9)
 
--- are the command's numbers in range?
+-- whether the command's numbers are in range
 unfoldable pub is_well_formed : Command → Bool
 is_well_formed (SetTime time) = is_settable time
 is_well_formed (Step by) = nat_lt by.nsec (10 ^ 9)
@@ -69,14 +70,14 @@ is_well_formed Update = true
 is_well_formed (Freq frequency) = true
 is_well_formed Suspend = true
 
--- does the command set REALTIME, so that a test of its own bounds it?
+-- whether the command sets or steps REALTIME, so that its own test bounds the new time
 abbrev pub sets_real : Command → Bool
 sets_real (SetTime time) = true
 sets_real (Step by) = true
 sets_real _ = false
 
--- is a clock, by its value after the command, at its limit or beyond it? Where the command sets
--- REALTIME, that and TAI are left to the test below
+-- whether the command leaves a clock at its limit or past it, by the clocks' values after the
+-- command. If the command sets or steps REALTIME, its own tests bound REALTIME and TAI
 unfoldable pub is_past_limit : (ClockId → ℤ) → Command → Bool
 is_past_limit after cmd =
     not (int_lt (after Monotonic) (limit Monotonic))
@@ -85,8 +86,8 @@ is_past_limit after cmd =
     && (not (int_lt (after Realtime) (limit Realtime))
     || not (int_lt (after TaiClock) (limit TaiClock))))
 
--- would the command, by the clocks' values before it, set REALTIME below MONOTONIC or beyond what
--- may be set?
+-- whether the command sets REALTIME below MONOTONIC, or steps it to settable_end or later, by the
+-- clocks' values before the command
 unfoldable pub is_bad_setting : (ClockId → ℤ) → Command → Bool
 is_bad_setting before (SetTime time) = int_lt (nanoseconds time) (before Monotonic)
 is_bad_setting before (Step by) =

@@ -10,8 +10,8 @@ pub record Reply : Type 0 where
   pub answer : Result ℕ Refusal
   pub journal : Journal
 
--- a refused event leaves the journal; another one is its next entry, and the answer is that entry's
--- number
+-- a refused event leaves the journal unchanged; an accepted one becomes its next entry, and the
+-- answer is the number of that entry
 abbrev pub reply_if : Journal → Entry → Option Refusal → Reply
 reply_if journal event None = record {
   answer = Ok (accepted_count journal + 1);
@@ -28,7 +28,7 @@ pub record Run : Type 0 where
   pub answers : List (Result ℕ Refusal)
   pub journal : Journal
 
--- each event is answered in order, over what the ones before it left
+-- answers the events in order, each after the journal that the earlier ones left
 abbrev pub run : Journal → List Entry → Run
 run journal [] = record { answers = []; journal = journal }
 run journal (event ∷ events) =

@@ -1,4 +1,4 @@
--- The running state: what a journal comes to, and what a command does to it
+-- The running state: what a journal leaves, and what a command does to it
 -- (kernel/time/timekeeping.c).
 use Rattle.std.specs.Prelude.{ℕ, ◌+◌, ◌*◌, ◌/◌, ◌^◌, ℤ, pos, ◌+ℤ◌, ◌-ℤ◌, ◌*ℤ◌, Bool, true, false}
 use Rattle.tk_counter.specs.Counter.{Counter, gap, multiplier}
@@ -11,10 +11,10 @@ use Rattle.tk_clock.specs.Journal.{Journal, last_reading, is_asleep}
 use Rattle.tk_clock.specs.Monotonic.{monotonic_units, current_multiplier, current_frequency, current_tick, cycles_since}
 use Rattle.tk_clock.specs.Clocks.{real_offset, boot_offset, tai_offset, raw_units}
 
--- what reading the clocks takes, as the kernel's struct tk_read_base
+-- the numbers needed to read the clocks, like the kernel's struct tk_read_base
 pub record ReadBase : Type 0 where
   pub counter : Counter
-  -- the last reading, and the units that a cycle adds from it on
+  -- the last reading, and the multiplier from it on: the units that a cycle adds
   pub last : ℕ
   pub mult : ℕ
   -- MONOTONIC and MONOTONIC_RAW at the last reading, in units of 2^-shift nanoseconds
@@ -33,7 +33,7 @@ pub record State : Type 0 where
   pub frequency : ℤ
   pub tick : ℤ
 
--- the read base that a journal comes to
+-- the read base that a journal leaves
 abbrev pub base_of : Journal → ReadBase
 base_of journal = record {
   counter = journal.opening.counter;
@@ -47,7 +47,7 @@ base_of journal = record {
   asleep = is_asleep journal;
 }
 
--- the state that a journal comes to
+-- the state that a journal leaves
 abbrev pub state_of : Journal → State
 state_of journal = record {
   base = base_of journal;
@@ -69,7 +69,7 @@ abbrev pub base_raw : ReadBase → ℕ → ℕ
 base_raw base reading =
     (base.raw_amount + base_cycles base reading * base.counter.mult) / 2 ^ base.counter.shift
 
--- a clock of a base at a reading, in nanoseconds
+-- the value of a clock of a base at a reading, in nanoseconds (clock_gettime(2))
 abbrev pub base_value : ReadBase → ClockId → ℕ → ℤ
 base_value base Monotonic reading = pos (base_monotonic base reading)
 base_value base Realtime reading = pos (base_monotonic base reading) +ℤ base.real_offset
@@ -80,7 +80,7 @@ base_value base RealtimeCoarse reading = pos (base_monotonic base base.last) +�
 base_value base MonotonicCoarse reading = pos (base_monotonic base base.last)
 base_value base MonotonicRaw reading = pos (base_raw base reading)
 
--- the base with its amounts brought forward to a reading (timekeeping_forward_now)
+-- the base with its amounts forwarded to a reading (timekeeping_forward_now)
 abbrev pub forwarded : ReadBase → ℕ → ReadBase
 forwarded base reading =
     let cycles = gap base.counter base.last reading in

@@ -1,4 +1,4 @@
--- A snapshot as ten words, for a page that readers take without the lock.
+-- A snapshot as ten words, for a page that is read without the lock.
 use Rattle.std.specs.Prelude.{ℕ, ◌+◌, ◌*◌, ◌/◌, ◌%◌, ◌==◌, pos, unsigned_abs, List, [], ◌∷◌, slice_index, Bool, ◌&&◌, nat_lt, nat_le, int_lt, Option, Some, None, if◌then◌else◌}
 use Rattle.tk_counter.specs.Counter.{Counter, mask, fastest, second}
 use Rattle.tk_clock.specs.declared.clock_id.ClockId.TheVariants.{Realtime, Boottime, Tai as TaiClock}
@@ -6,10 +6,10 @@ use Rattle.tk_clock.specs.State.{ReadBase, base_value}
 use Rattle.tk_clock.specs.Limits.{limit, monotonic_end, raw_end, greatest_tai}
 use Rattle.tk_clock.specs.Snapshot.{Snapshot}
 
--- the words of a snapshot: its front; the last reading; the multiplier; MONOTONIC there, below a
--- second in units of 2^-shift nanoseconds, and seconds; REALTIME and BOOTTIME less MONOTONIC, in
--- nanoseconds; the TAI offset in seconds times 2, plus 1 while asleep; and MONOTONIC_RAW as
--- MONOTONIC
+-- the words of a snapshot: word 0 is the front, 1 the last reading, 2 the multiplier; 3 and 4 are
+-- MONOTONIC at that reading, as units of 2^-shift nanoseconds below a second and as seconds; 5 and
+-- 6 are REALTIME and BOOTTIME less MONOTONIC, in nanoseconds; 7 is the TAI offset in seconds times
+-- 2, plus 1 while asleep; 8 and 9 are MONOTONIC_RAW, in the form of MONOTONIC
 abbrev pub words_of : Snapshot → List ℕ
 words_of snapshot =
     let base = snapshot.base in
@@ -20,11 +20,11 @@ words_of snapshot =
     ∷ (base.raw_amount % second base.counter) ∷ (base.raw_amount / second base.counter)
     ∷ []
 
--- the TAI offset that words tell, in seconds
+-- the TAI offset that the words encode, in seconds
 abbrev pub tai_told : List ℕ → ℕ
 tai_told words = slice_index words 7 / 2
 
--- does each word lie in its range?
+-- whether each word is in its range
 unfoldable pub are_in_range : Counter → List ℕ → Bool
 are_in_range counter words =
     nat_le (slice_index words 1) (mask counter)
@@ -33,7 +33,7 @@ are_in_range counter words =
     && nat_le (tai_told words) greatest_tai
     && nat_lt (slice_index words 8) (second counter) && nat_lt (slice_index words 9) raw_end
 
--- the snapshot that they tell
+-- the snapshot that the words encode
 abbrev pub snapshot_told : Counter → List ℕ → Snapshot
 snapshot_told counter words = record {
   front = slice_index words 0;
@@ -50,14 +50,15 @@ snapshot_told counter words = record {
   };
 }
 
--- are REALTIME, BOOTTIME and TAI below their limits at the last reading?
+-- whether REALTIME, BOOTTIME and TAI are below their limits at the last reading
 unfoldable pub is_within : ReadBase → Bool
 is_within base =
     int_lt (base_value base Boottime base.last) (limit Boottime)
     && int_lt (base_value base Realtime base.last) (limit Realtime)
     && int_lt (base_value base TaiClock base.last) (limit TaiClock)
 
--- the snapshot that words tell, if they tell one
+-- the snapshot that the words encode, if each word is in its range, and REALTIME, BOOTTIME and TAI
+-- are below their limits
 abbrev pub restored : Counter → List ℕ → Option Snapshot
 restored counter words =
     if are_in_range counter words && is_within (snapshot_told counter words).base

@@ -1,5 +1,5 @@
-//! The tests of `tk_clock`, by its public calls alone: a crate of their own, so that the gate proves
-//! what they test once.
+//! Tests `tk_clock` through its public calls alone. The tests are a separate crate, so that the
+//! gate proves `tk_clock` only once.
 #![tactic(auto)]
 
 #[cfg(test)]

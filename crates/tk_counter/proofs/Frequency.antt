@@ -1,4 +1,5 @@
--- The shift that a frequency gets: that there is one, and that its mult is neither long nor short.
+-- The shift that is chosen for a frequency: it exists, and its mult is neither too long nor too
+-- short.
 use Rattle.std.proofs.Common.{◌≡◌, ℕ, zero, suc, ◌+◌, ◌*◌, ◌/◌, ◌^◌, ◌<◌, ◌≤◌, ◌⊎◌, ⊎_elim, min, List, [], ◌∷◌, cond, find, Option, Some, refl, ap, arith}
 use Rattle.std.proofs.lemmas.Bool.{cases_lt, lt-ltb, le-ltb}
 use Rattle.std.proofs.lemmas.Nat.{leading_top, leading_length, mul-le, mul-lt, pow-add, le-div}
@@ -6,12 +7,12 @@ use Rattle.std.proofs.Math.Nat.{mul-le-mul_left, mul-div-le, mul-pos, lt_of_not-
 use Rattle.std.specs.Int.{leading_zeros, w64}
 use Rattle.tk_counter.specs.Frequency.{rounded_mult, mult_bits, fits, shifts, chosen_shift}
 
--- the numbers from one down to 1
+-- the numbers from a number down to 1
 down_from : ℕ → List ℕ
 down_from zero = []
 down_from (suc n) = suc n ∷ down_from n
 
--- the search from a shift down
+-- the search for a shift, from a given shift downward
 pub found_from : ℕ → ℕ → ℕ → Option ℕ
 found_from hz maxsec shift = find (fits hz maxsec) (down_from shift)
 
@@ -19,7 +20,7 @@ pub from_top : (hz maxsec : ℕ) → chosen_shift hz maxsec ≡ found_from hz ma
 unfolding shifts down_from found_from
 from_top hz maxsec = refl
 
--- it ends at a shift whose mult is short enough
+-- the search ends at a shift whose mult is short enough
 pub found : (hz maxsec shift : ℕ) → 1 ≤ shift → rounded_mult hz shift < 2 ^ mult_bits hz maxsec →
     found_from hz maxsec shift ≡ Some shift
 unfolding down_from found_from
@@ -27,7 +28,7 @@ found hz maxsec zero least short = absurd (omega arith)
 found hz maxsec (suc n) least short =
     ap (λ b. cond b (Some (suc n)) (find (fits hz maxsec) (down_from n))) (lt-ltb _ _ short)
 
--- and goes on below one whose mult is not
+-- the search continues below a shift whose mult is too long
 passed_one : (hz maxsec below : ℕ) → 2 ^ mult_bits hz maxsec ≤ rounded_mult hz (suc below) →
     found_from hz maxsec (suc below) ≡ found_from hz maxsec below
 unfolding down_from found_from
@@ -49,7 +50,7 @@ zeros_least z j p e low high =
     ⊎_elim {A = j < 42} {B = 42 ≤ j} (λ small. omega arith) (λ large. let some : 0 < 2 = omega arith
     in absurd (omega (arith, pow-le-pow_right some large))) (cases_lt j 42)
 
--- so a mult may have 22 bits or more
+-- so a mult may have at least 22 bits
 pub bits_least : (hz maxsec : ℕ) → 0 < hz → hz < 2 ^ 32 → 0 < maxsec → maxsec ≤ 600 →
     22 ≤ mult_bits hz maxsec
 bits_least hz maxsec runs small lasts short =
@@ -60,7 +61,7 @@ bits_least hz maxsec runs small lasts short =
     zeros_least (leading_zeros w64 (maxsec * hz)) top.0 (maxsec * hz) top.1 top.2 low in
     omega arith
 
--- the mult at a shift of 1 is short enough, whichever bound holds
+-- the mult at a shift of 1 is short enough, whichever bound applies
 last_wide : (hz m : ℕ) → 0 < hz → hz * m ≤ 4147483648 → m < 2 ^ 32
 last_wide hz m runs low = lt_of_not-le (λ long. let P : ℕ → Type 0 = λ n. n ≤ 4147483648
     in absurd (omega (arith, mul-le 1 4294967296 hz m runs long)))
@@ -97,7 +98,7 @@ last_fits hz maxsec runs small lasts short =
     omega (arith, mul-div-le (10 ^ 9 * 2 ^ 1 + hz / 2) hz) in
     last_either hz maxsec (rounded_mult hz 1) _ top.0 runs top.1 top.2 short low
 
--- the mult at one shift less is about the half
+-- the mult at one shift less is about half as large
 pub half_mult : (hz shift : ℕ) → 0 < hz → 4194304 ≤ rounded_mult hz (shift + 1) →
     512 ≤ rounded_mult hz shift
 half_mult hz shift runs long =
@@ -111,7 +112,7 @@ half_mult hz shift runs long =
 pub top_mult : (hz : ℕ) → 0 < hz → hz < 2 ^ 32 → 512 ≤ rounded_mult hz 32
 top_mult hz runs small = le-div 512 (10 ^ 9 * 2 ^ 32 + hz / 2) hz runs (omega arith)
 
--- so where the search ends the mult is long enough
+-- so the mult of the shift where the search ends is long enough
 pub ample : (hz maxsec shift above : ℕ) → above ≡ shift + 1 → 0 < hz → hz < 2 ^ 32 → 0 < maxsec →
     maxsec ≤ 600 →
     (above ≡ 33) ⊎ (2 ^ mult_bits hz maxsec ≤ rounded_mult hz above) → 512 ≤ rounded_mult hz shift
@@ -126,7 +127,7 @@ ample hz maxsec shift above next runs small lasts short reason =
     half_mult hz shift runs (rw next at enough))
     reason
 
--- with so few bits the cycles of that many seconds convert within a word
+-- with at most these bits, the cycles of `maxsec` seconds convert within 64 bits
 pub converts : (hz maxsec mult : ℕ) → hz < 2 ^ 32 → maxsec ≤ 600 → mult < 2 ^ mult_bits hz maxsec →
     maxsec * hz * mult < 2 ^ 64
 converts hz maxsec mult small short few =

@@ -6,15 +6,15 @@ use Rattle.tk_counter.specs.Description.{first_fault}
 use Rattle.tk_counter.specs.Frequency.{from_frequency, frequency_fault, shifts}
 use Rattle.tk_counter.specs.declared.desc_error.DescError.TheVariants.{Bits, Shift, Mult, Adjust, Rate}
 
--- a counter of 16,777,216 Hz and 32 bits
+-- a counter of one nanosecond a cycle, with readings of 32 bits
 abbrev usual : Counter
 usual = record { bits = 32; mult = 16777216; shift = 24 }
 
--- one of 24 MHz
+-- a counter of 24 MHz, with readings of 32 bits
 abbrev fast : Counter
 fast = record { bits = 32; mult = 699050667; shift = 24 }
 
--- one whose cycles last whole nanoseconds
+-- a counter of 4,194,304 nanoseconds a cycle, with readings of 64 bits
 abbrev whole : Counter
 whole = record { bits = 64; mult = 4194304; shift = 0 }
 
@@ -34,7 +34,7 @@ fast-max_adjustment = refl
 fast-max_cycles : max_cycles fast ≡ 4294967295
 fast-max_cycles = refl
 
--- ---- what is wrong with a description
+-- ---- the faults of a description
 few_bits : first_fault (record { bits = 7; mult = 16777216; shift = 24 }) ≡ Some Bits
 few_bits = refl
 
@@ -90,7 +90,7 @@ least_frequency = refl
 most_frequency : multiplier usual (pos 9223372036854775807) (pos 10000) ≡ 16785604
 most_frequency = refl
 
--- ---- seconds, and what is left
+-- ---- seconds, and the rest below a second
 below_second : ◌≡◌ {A = ℕ × ℕ} (
   (16777215 + 1 * 16777216) / second usual,
   (16777215 + 1 * 16777216) % second usual,

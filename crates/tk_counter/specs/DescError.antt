@@ -1,9 +1,9 @@
--- What a fault says in words.
+-- The texts of the faults of a counter's description.
 use Rattle.std.specs.Prelude.{ℕ, List, codes}
 use Rattle.tk_counter.specs.declared.desc_error.DescError.{DescError}
 use Rattle.tk_counter.specs.declared.desc_error.DescError.TheVariants.{Bits, Shift, Mult, Adjust, Rate}
 
--- the sentence that a fault is told in
+-- the text of a fault
 abbrev pub fault_text : DescError → List ℕ
 fault_text Bits = codes "a reading does not have 8 to 64 bits"
 fault_text Shift = codes "the shift is above 32"

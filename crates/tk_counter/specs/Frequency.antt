@@ -7,15 +7,15 @@ use Rattle.tk_counter.specs.Counter.{Counter, fastest}
 use Rattle.tk_counter.specs.declared.desc_error.DescError.{DescError}
 use Rattle.tk_counter.specs.declared.desc_error.DescError.TheVariants.{Bits, Rate}
 
--- a cycle at so many hz, in units of 2^-shift nanoseconds, to the nearest
+-- the length of a cycle at `hz` Hz, in units of 2^-shift nanoseconds, rounded to the nearest
 abbrev pub rounded_mult : ℕ → ℕ → ℕ
 rounded_mult hz shift = (10 ^ 9 * 2 ^ shift + hz / 2) / hz
 
--- the bits that a mult may have, so that the cycles of maxsec seconds convert within 64 bits
+-- the most bits that a mult may have, so that the cycles of `maxsec` seconds convert within 64 bits
 abbrev pub mult_bits : ℕ → ℕ → ℕ
 mult_bits hz maxsec = min 32 (leading_zeros w64 (maxsec * hz))
 
--- does the mult at a shift have no more bits than that?
+-- whether the mult at a shift has no more bits than that
 abbrev pub fits : ℕ → ℕ → ℕ → Bool
 fits hz maxsec shift = nat_lt (rounded_mult hz shift) (2 ^ mult_bits hz maxsec)
 
@@ -23,11 +23,12 @@ fits hz maxsec shift = nat_lt (rounded_mult hz shift) (2 ^ mult_bits hz maxsec)
 unfoldable pub shifts : List ℕ
 shifts = reverse (range_with_len 1 32)
 
--- the shift: the first one whose mult fits
+-- the first of these shifts whose mult fits, if there is one
 abbrev pub chosen_shift : ℕ → ℕ → Option ℕ
 chosen_shift hz maxsec = find (fits hz maxsec) shifts
 
--- a mult that leaves no room for a faster multiplier is halved (__clocksource_update_freq_scale)
+-- a description whose mult leaves no room for 11 percent more within 32 bits gets half the mult,
+-- and one less shift (__clocksource_update_freq_scale)
 abbrev pub halved : Counter → Counter
 halved counter =
     if nat_lt (2 ^ 32 - 1) (fastest counter) then record counter {
@@ -36,14 +37,15 @@ halved counter =
     }
     else counter
 
--- the description of a counter of so many bits at so many hz, for gaps of up to maxsec seconds
+-- the description of a counter with readings of `bits` bits at `hz` Hz, for gaps of up to `maxsec`
+-- seconds
 abbrev pub from_frequency : ℕ → ℕ → ℕ → Option Counter
 from_frequency bits hz maxsec =
     option_map
     (λ shift. halved (record { bits = bits; mult = rounded_mult hz shift; shift = shift }))
     (chosen_shift hz maxsec)
 
--- what is wrong with such numbers: first the bits, and then a frequency of 0 Hz or a span not of 1
+-- the first fault of such numbers: first the bits, then a frequency of 0 Hz or a span that is not 1
 -- to 600 seconds
 abbrev pub frequency_fault : ℕ → ℕ → ℕ → Option DescError
 frequency_fault bits hz maxsec =

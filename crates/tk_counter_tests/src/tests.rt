@@ -1,4 +1,4 @@
-//! Values from outside the contracts, and plain bodies to compare with.
+//! Tests values that come from outside the contracts, and compares with plain implementations.
 
 mod advances;
 mod copies;
@@ -12,28 +12,28 @@ use std::process::Abort;
 use std::test::Fail;
 use tk_counter::CounterDesc;
 
-/// Stops the test where what was found isn't what was wanted. (A call of its own, so that the proof
-/// of a test is short.)
+/// Stops the test if `found` is not equal to `wanted`. It is a separate call to keep the proof of
+/// each test short.
 fn assert_same<T: PartialEq + Debug>(rt: &impl Abort, found: &T, wanted: &T) {
     assert_eq!(rt; found, wanted);
 }
 
-/// A counter of 16,777,216 mult and 24 shift, of 32 bits.
+/// Returns a counter of one nanosecond a cycle, with readings of 32 bits.
 fn usual() -> Result<CounterDesc, Fail> {
     Ok(CounterDesc::new(32, 16_777_216, 24)?)
 }
 
-/// A counter of 24 MHz and 64 bits.
+/// Returns a counter of 24 MHz, with readings of 64 bits.
 fn quick() -> Result<CounterDesc, Fail> {
     Ok(CounterDesc::new(64, 699_050_667, 24)?)
 }
 
-/// A counter whose cycles last whole nanoseconds.
+/// Returns a counter of 4,194,304 nanoseconds a cycle, with readings of 64 bits.
 fn slow() -> Result<CounterDesc, Fail> {
     Ok(CounterDesc::new(64, 4_194_304, 0)?)
 }
 
-/// The next number of a xorshift.
+/// Returns the number after `seed` of a xorshift generator.
 fn next(seed: u64) -> u64 {
     let seed = seed ^ seed.wrapping_shl(13);
     let seed = seed ^ (seed >> 7);

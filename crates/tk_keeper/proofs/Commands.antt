@@ -1,4 +1,4 @@
--- What a command comes to, told of the journal that it found.
+-- The result of a command, in terms of the journal before it.
 use Rattle.std.proofs.Common.{◌≡◌, ◌∙◌, ℕ, sym, ap, false}
 use Rattle.std.specs.Prelude.{Option, Some, None, Result, Ok, Err, MatchResult, IfOk, IsErrOf}
 use Rattle.tk_clock.specs.declared.command.Entry.{Entry}
@@ -19,19 +19,19 @@ IsAccepted before after entry number =
     (first_refusal before entry ≡ None) × (after ≡ followed_by before entry)
     × (number ≡ accepted_count after)
 
--- what a keeper with room answers
+-- the answer of a keeper with room
 abbrev pub IsEntered : Keeper → Keeper → Entry → Result ℕ Refusal → Type 0
 IsEntered before after entry result =
     MatchResult result (IsAccepted before.journal after.journal entry)
     (λ refusal. (first_refusal before.journal entry ≡ Some refusal) × (after ≡ before))
 
--- and what any keeper does
+-- the answer of any keeper
 abbrev pub IsApplied : Keeper → Keeper → Entry → Result ℕ Refusal → Type 0
 IsApplied before after entry result =
     MatchResult result (IsAccepted before.journal after.journal entry)
     (λ refusal. IsRefusal before.journal entry refusal × (after ≡ before))
 
--- the tests of the clock never tell of want of memory
+-- the clocks' tests never report a lack of memory
 pub not_told : (journal : Journal) (entry : Entry) (refusal : Refusal) → is_full journal ≡ false →
     first_refusal journal entry ≡ Some refusal → refusal ≡ Memory → ⊥
 not_told journal entry refusal room told e =
@@ -54,7 +54,7 @@ not_memory-entered before after entry (Ok number) free told e = cc
 not_memory-entered before after entry (Err refusal) free told e =
     not_told before.journal entry refusal free told.0 cc
 
--- room that was made for an accepted command changes none of this
+-- room that is made for an accepted command doesn't change its answer
 pub IsApplied-grown : (before grown after : Keeper) (entry : Entry) (result : Result ℕ Refusal) →
     grown.journal ≡ before.journal → first_refusal before.journal entry ≡ None →
     IsEntered grown after entry result →
@@ -76,7 +76,7 @@ agrees-accepted before after entry Refused (Ok number) told =
     ∙ ap (λ (j : Journal). monotonic j entry.reading) (sym told.1)
 agrees-accepted before after entry Refused (Err refusal) told = tt
 
--- the clocks after a command that they accepted are those of the journal with its entry
+-- the clocks after an accepted command are those of the journal with its entry
 pub running-accepted : (journal : Journal) (before after : State) (entry : Entry) →
     before ≡ state_of journal →
     (state_refusal before entry.reading entry.cmd ≡ None)

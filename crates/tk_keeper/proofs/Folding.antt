@@ -1,4 +1,4 @@
--- A folded journal says of later fronts what the journal before said.
+-- A folded journal agrees at later fronts with the journal before the fold.
 use Rattle.std.proofs.Common.{◌≡◌, ℕ, ◌+◌, ◌-◌, ◌≤◌, length, drop, sym, ◌∙◌, ap, arith, length-drop, min}
 use Rattle.std.proofs.lemmas.List.{length-take}
 use Rattle.tk_clock.specs.Folding.{folded_by}
@@ -9,7 +9,7 @@ use Rattle.tk_clock.proofs.Alike.{clock_value-alike, snapshot_of-alike}
 use Rattle.tk_clock.proofs.Folding.{state_of-folded}
 use Rattle.tk_keeper.specs.Past.{at_front, IsFolded}
 
--- places of the folded journal, by fronts
+-- the places of the folded journal, by their fronts
 places_of : (front count n : ℕ) → count + n ≤ front → n + (front - (count + n)) ≡ front - count
 places_of front count n later = omega arith
 

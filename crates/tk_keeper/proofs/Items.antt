@@ -1,4 +1,4 @@
--- A snapshot of a front tells each item of it.
+-- A snapshot of a front gives the result of each of the front's items.
 use Rattle.std.proofs.Common.{◌≡◌, ℕ, Some, None, Ok, refl, sym, ap, ap₂, ◌∙◌, arith}
 use Rattle.std.specs.Prelude.{ℤ, pos, negsuc, ◌≤ℤ◌, unsigned_abs, Option, nat_lt, int_lt, not, if◌then◌else◌}
 use Rattle.std.proofs.lemmas.Int.{ints}
@@ -20,7 +20,7 @@ whole_again : (value : ℤ) → pos 0 ≤ℤ value → value ≡ pos (unsigned_a
 whole_again (pos n) since = refl
 whole_again (negsuc n) since = absurd (omega (arith, ints))
 
--- what a value comes to under a fault of its stamp, or under none
+-- the result of a value, if its stamp has a fault and if it has none
 told_unless : (index : ℕ) (value : ℤ) (fault : Option ReadError) → pos 0 ≤ℤ value →
     item_at index value fault ≡ told index (unless_refused fault value)
 told_unless index value None since = ap Ok (whole_again value since)
@@ -33,7 +33,7 @@ fault_by greatest stamp end value =
     else if not (int_lt value end) then Some Range
     else None
 
--- it tells them where its clocks are the journal's own and never below zero
+-- it does if its clocks have the journal's own values, and these are never below zero
 pub tells_items : (journal : Journal) (front : ℕ) (base : ReadBase) →
     front_refusal journal front ≡ None → ReadsAs (at_front front journal) base →
     base.counter ≡ journal.opening.counter →

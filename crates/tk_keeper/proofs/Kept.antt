@@ -12,7 +12,7 @@ use Rattle.tk_clock.proofs.Append.{slice_get-append, slice_get-push, prefix-foll
 use Rattle.tk_clock.proofs.Folding.{state_of-folded}
 use Rattle.tk_clock.specs.Folding.{folded_by}
 
--- the place of a kept state lies within the journal
+-- the place of a kept state is within the journal
 within : (kept count listed i place : ℕ) → kept + count / 256 ≡ (count + listed) / 256 → i < kept →
     count + place ≡ 256 * (count / 256 + 1 + i) → place ≤ listed
 within kept count listed i place all low here = omega arith
@@ -28,7 +28,7 @@ earlier journal entry start kept i place held low here =
     let same = prefix-followed_by journal entry place inside in
     held.told i place low here ∙ ap (λ (j : Journal). Some (state_of j)) (sym same)
 
--- an entry whose number is no multiple leaves the kept states
+-- an entry whose number is not a multiple of 256 leaves the kept states unchanged
 pub HasKept-same : (journal : Journal) (entry : Entry) (start : State) (kept : List State) →
     HasKept journal start kept →
     accepted_count (followed_by journal entry) % 256 ≢ 0 →
@@ -62,7 +62,7 @@ newest journal entry start kept i place held even last here =
     ap (slice_get (kept ++ state ∷ [])) last ∙ slice_get-push kept state
     ∙ ap (λ (j : Journal). Some (state_of j)) (sym whole)
 
--- one whose number is a multiple adds its state
+-- an entry whose number is a multiple of 256 adds its state
 pub HasKept-more : (journal : Journal) (entry : Entry) (start : State) (kept : List State) →
     HasKept journal start kept →
     accepted_count (followed_by journal entry) % 256 ≡ 0 →
@@ -91,7 +91,7 @@ slice_get-drop (suc m) [] i j e = refl
 slice_get-drop (suc m) (x ∷ xs) i zero e = absurd (omega arith)
 slice_get-drop (suc m) (x ∷ xs) i (suc j) e = slice_get-drop m xs i j (omega arith)
 
--- a kept state of the folded journal is one of those before
+-- a kept state of the folded journal is one of those before the fold
 kept_place : (count n kept i place dropped : ℕ) → dropped + count / 256 ≡ (count + n) / 256 →
     i < kept - dropped →
     count + n + place ≡ 256 * ((count + n) / 256 + 1 + i) →
@@ -104,7 +104,7 @@ kept_left : (count n listed kept dropped : ℕ) → dropped + count / 256 ≡ (c
     kept - dropped + (count + n) / 256 ≡ (count + n + (listed - n)) / 256
 kept_left count n listed kept dropped e within all = omega arith
 
--- folding drops the kept states up to the new opening, and leaves the later ones
+-- folding drops the kept states up to the new opening, and keeps the later ones
 pub HasKept-folded : (journal : Journal) (n dropped : ℕ) (start : State) (kept : List State) →
     n ≤ length journal.entries →
     IsAccepted journal → dropped + journal.opening.count / 256 ≡ (journal.opening.count + n) / 256 →

@@ -14,7 +14,7 @@ use Rattle.tk_clock.proofs.Folding.{IsLegal-folded, state_of-whole}
 use Rattle.tk_clock.specs.Limits.{listed_most, counted_most}
 use Rattle.tk_clock.specs.Folding.{folded_by}
 
--- a journal that isn't full lists and counts fewer than it may
+-- a journal that isn't full lists and counts less than it may
 pub not_full : (journal : Journal) → is_full journal ≡ false →
     (length journal.entries < listed_most) × (accepted_count journal < counted_most)
 not_full journal e = (grind (arith, common_steps), grind (arith, common_steps))
@@ -33,7 +33,7 @@ IsKept-followed_by journal entry before after held accepted running =
       counted = omega (arith, more.1, length_push journal.entries entry);
     }
 
--- and so does folding
+-- folding keeps the journal legal, and within its room
 pub IsKept-folded : (journal : Journal) (n : ℕ) (state : State) → n ≤ length journal.entries →
     IsKept journal state →
     IsKept (folded_by n journal) state

@@ -1,4 +1,4 @@
--- A list of events, answered one by one.
+-- A list of events, each answered in order.
 use Rattle.std.proofs.Common.{◌≡◌, ℕ, ◌+◌, ◌-◌, ◌<◌, ◌≤◌, min, List, [], ◌∷◌, ◌++◌, length, get_or, drop, refl, sym, ◌∙◌, ap, subst, arith, add-one, append_assoc}
 use Rattle.std.specs.Prelude.{Result, Ok, Err, Some, None, MatchResult, IfOk}
 use Rattle.std.proofs.Math.Seq.{drop-cons}
@@ -14,7 +14,7 @@ use Rattle.tk_keeper.specs.Keeper.{Keeper}
 use Rattle.tk_keeper.proofs.Room.{not_full}
 use Rattle.tk_clock.specs.Limits.{listed_most}
 
--- what `apply` answers and leaves
+-- what `apply` returns and leaves
 abbrev pub IsAnswer : Keeper → Entry → Result ℕ Refusal → Keeper → Type 0
 IsAnswer before entry result after =
     MatchResult result
@@ -32,7 +32,7 @@ refused before after entry refusal told same =
     ∙ ap (λ (k : Keeper). let reply : Reply = record { answer = Err refusal; journal = k.journal }
     in reply) (sym same)
 
--- unless memory was wanting, that is the definition's reply
+-- unless memory was refused, this is the definition's reply
 pub reply-answer : (before after : Keeper) (entry : Entry) (result : Result ℕ Refusal) →
     IsAnswer before entry result after →
     (result ≡ Err Memory → ⊥) →
@@ -58,7 +58,7 @@ reply-answer before after entry (Err Range) told enough =
     refused before after entry Range told.0 told.1
 reply-answer before after entry (Err Memory) told enough = absurd (enough refl)
 
--- where there is room for the events that are left, an accepted one finds room
+-- if there is room for the events that are left, there is room for an accepted one
 some_room : (left listed spare : ℕ) → 0 < left → listed < listed_most →
     min left (listed_most - listed) ≤ spare → 0 < spare
 some_room left listed spare some low enough = omega arith
@@ -87,7 +87,7 @@ never_short before after entry (Err Memory) left told short some enough e =
     let none = short refl in
     omega arith
 
--- and leaves room for those after it
+-- an accepted event leaves room for those after it
 less_room : (left listed listed' spare spare' : ℕ) → spare' + 1 ≡ spare → listed' ≡ listed + 1 →
     min left (listed_most - listed) ≤ spare →
     min (left - 1) (listed_most - listed') ≤ spare'
@@ -133,7 +133,7 @@ run-next journal after events k answer none within reply =
     } in
     ap (run journal) next ∙ ap from_reply reply
 
--- the answers so far with those that are left, after one more
+-- the answers so far and those that are left, after one more answer
 pub one_more : (all before left later after : List (Result ℕ Refusal)) (answer : Result ℕ Refusal) →
     all ≡ before ++ left →
     left ≡ answer ∷ later → after ≡ before ++ answer ∷ [] → all ≡ after ++ later

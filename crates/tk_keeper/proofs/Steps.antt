@@ -12,7 +12,7 @@ use Rattle.tk_clock.specs.State.{state_of, effect}
 use Rattle.tk_clock.proofs.Ledger.{clock_refusal-state}
 use Rattle.tk_clock.proofs.Legal.{state_of-followed_by}
 
--- the state before a listed entry refuses it for nothing
+-- the state before a listed entry doesn't refuse it
 pub passes : (journal : Journal) (k : ℕ) (entry : Entry) → IsAccepted journal →
     slice_get journal.entries k ≡ Some entry →
     state_refusal (state_of (prefix k journal)) entry.reading entry.cmd ≡ None
@@ -20,7 +20,7 @@ passes journal k entry all here =
     sym (clock_refusal-state (prefix k journal) entry.who entry.reading entry.cmd)
     ∙ all k entry here
 
--- and the entry leaves the state of the next place
+-- the entry leaves the state of the next place
 pub next_state : (journal : Journal) (k : ℕ) (entry : Entry) → IsAccepted journal →
     slice_get journal.entries k ≡ Some entry →
     effect (state_of (prefix k journal)) entry.reading entry.cmd ≡ state_of (prefix (k + 1) journal)
@@ -34,7 +34,7 @@ next_state journal k entry all here =
     entry.cmd refl (passes journal k entry all here)
     ∙ ap state_of (sym more)
 
--- a command that is refused for nothing is done
+-- a command that no test refuses is done
 pub is_done : (after : Type 0) (other : Refusal →
     Type 0) (told : Option Refusal) (result : Result (Unit {0}) Refusal) → told ≡ None →
     MatchResult result (λ _. (told ≡ None) × after) (λ refusal. (told ≡ Some refusal)
@@ -60,7 +60,7 @@ pub effect_of : (after : Type 0) (other : Refusal →
 effect_of after other told (Ok done) none e = e.1
 effect_of after other told (Err refusal) none e = let some = e.0 in absurd (cc (none, some))
 
--- a part of a list that has been gone through
+-- a part of a list after all its items were visited
 pub whole_part : {X : Type 0} (xs : List X) (from to k : ℕ) → from ≤ to → to ≤ length xs →
     k ≤ length (take (to - from) (drop from xs)) →
     length (take (to - from) (drop from xs)) ≤ k → from + k ≡ to

@@ -1,4 +1,4 @@
--- A trace that is converted up to a place, and a stretch of items with one front more.
+-- A trace that is converted up to a place, and a stretch of items with one more front.
 use Rattle.std.proofs.Common.{◌≡◌, ℕ, ◌+◌, ◌-◌, ◌<◌, ◌≤◌, List, ◌++◌, length, get_or, take, drop, Ok, Err, Result, refl, sym, ap, ◌∙◌, subst, arith, rules, inl, inr}
 use Rattle.std.specs.Prelude.{ℤ, pos, IsOk}
 use Rattle.std.proofs.lemmas.Bool.{cases_lt}
@@ -29,7 +29,7 @@ mid_above : (a n : ℕ) (xs ys : List ℕ) (i : ℕ) → a + n ≤ length xs →
     get_or (put_mid a n xs ys) i 0 ≡ get_or xs i 0
 mid_above a n xs ys i inside long high = search (rules, places)
 
--- a place of a part, in the whole list
+-- an item of a part, by its place in the whole list
 pub part_at : (from n i : ℕ) (xs : List ℕ) → from ≤ i → i - from < n →
     get_or (take n (drop from xs)) (i - from) 0 ≡ get_or xs i 0
 part_at from n i xs low high =
@@ -45,7 +45,7 @@ part_long from n xs inside =
 ok_is : {v : ℤ} (r : Result ℤ TraceError) → r ≡ Ok v → IsOk r
 ok_is r e = subst IsOk (sym e) refl
 
--- the fault of an item, where those before have values
+-- the first fault of a trace, if the items before it have values
 pub first_fault : (journal : Journal) (clock : ClockId) (fronts stamps values : List ℕ)
     (index : ℕ) (error : TraceError) → index < length stamps →
     AreValues journal clock fronts stamps index values →
@@ -72,12 +72,12 @@ fault_at journal clock fronts stamps values index (errors.Invalid place) low so_
 fault_at journal clock fronts stamps values index (errors.Range place) low so_far fault =
     (index, first_fault journal clock fronts stamps values index _ low so_far fault)
 
--- what is given back to a list whose items are all lent
+-- the items of a list that were all lent, after they are given back
 pub taken_back : (n k : ℕ) (xs ys : List ℕ) → length xs ≡ n → k < n →
     get_or (take n (xs ++ ys)) k 0 ≡ get_or xs k 0
 taken_back n k xs ys long low = search (rules, places)
 
--- the first fault lies from a place on, and all items before it are written
+-- the first fault is at a place or after it, and all items before the fault are written
 abbrev pub StopsFrom : Journal → ClockId → List ℕ → List ℕ → ℕ → List ℕ → List ℕ → TraceError →
     Type 0
 StopsFrom journal clock fronts stamps first old new error =
@@ -90,7 +90,7 @@ pub place_low : (base : ReadBase) (clock : ClockId) (stamps old new : List ℕ)
 place_low base clock stamps old new (batch.Invalid index) back = back.high
 place_low base clock stamps old new (batch.Range index) back = back.high
 
--- a stretch from `first` on, of `n` items with one front, whose snapshot has this base
+-- a stretch of `n` items from `first` on, with one front, whose snapshot has this base
 module _ (journal : Journal) (clock : ClockId) (fronts stamps out : List ℕ) (first n : ℕ)
     (base : ReadBase)
     (so_far : AreValues journal clock fronts stamps first out)
@@ -101,7 +101,7 @@ module _ (journal : Journal) (clock : ClockId) (fronts stamps out : List ℕ) (f
   abbrev stretch : List ℕ
   stretch = take n (drop first stamps)
 
-  -- each item of the stretch is told by the clock at its stamp
+  -- each item of the stretch has the clock's value at its stamp
   item_told : (k : ℕ) → first ≤ k → k < first + n →
       item_of journal clock fronts stamps k
       ≡ told k (read_of base clock (get_or stretch (k - first) 0))

@@ -13,7 +13,7 @@ use Rattle.tk_clock.specs.Journal.{Journal, opened}
 use Rattle.tk_keeper.specs.declared.trace_error.TraceError.TheVariants as errors
 use Rattle.tk_keeper.specs.Item.{item}
 
--- one nanosecond a cycle, readings of 32 bits
+-- a counter of one nanosecond a cycle, with readings of 32 bits
 abbrev nanosecond_counter : Counter
 nanosecond_counter = record { bits = 32; mult = 16777216; shift = 24 }
 
@@ -49,7 +49,7 @@ folded_front = refl
 at_the_fold : item (folded_by 1 steered) Monotonic 0 1 1000000000 ≡ Ok (pos 1000499963)
 at_the_fold = refl
 
--- a front's fault is told before its stamp's
+-- a fault of the front comes before a fault of the stamp
 front_first : item (folded_by 1 steered) Monotonic 7 0 4294967296 ≡ Err (errors.Folded 7)
 front_first = refl
 

@@ -1,4 +1,4 @@
--- An item of a trace: a clock at a stamp, as the journal was when so many commands were accepted.
+-- An item of a trace: the value of a clock at a stamp, in the journal as it was at a front.
 use Rattle.std.specs.Prelude.{ℕ, ℤ, Option, Some, None, Result, Ok, Err}
 use Rattle.tk_clock.specs.declared.clock_id.ClockId.{ClockId}
 use Rattle.tk_clock.specs.declared.refusal.ReadError.{ReadError}
@@ -12,12 +12,12 @@ use Rattle.tk_keeper.specs.declared.trace_error.TraceError.TheVariants as errors
 use Rattle.tk_keeper.specs.Past.{at_front, front_refusal}
 use Rattle.tk_keeper.specs.Read.{read_fault}
 
--- the fault of an item, by its place in the trace: of its front
+-- the fault of an item whose front has a fault, with the item's place in the trace
 abbrev pub fault_of_front : ℕ → FrontError → TraceError
 fault_of_front index Unknown = errors.Unknown index
 fault_of_front index Folded = errors.Folded index
 
--- and of its stamp
+-- the fault of an item whose stamp has a fault, with the item's place in the trace
 abbrev pub fault_of_stamp : ℕ → ReadError → TraceError
 fault_of_stamp index Invalid = errors.Invalid index
 fault_of_stamp index Range = errors.Range index
@@ -27,12 +27,12 @@ abbrev pub item_at : ℕ → ℤ → Option ReadError → Result ℤ TraceError
 item_at index value None = Ok value
 item_at index value (Some error) = Err (fault_of_stamp index error)
 
--- that, unless the front has a fault
+-- the result for the stamp, unless the front has a fault
 abbrev pub item_unless : ℕ → Result ℤ TraceError → Option FrontError → Result ℤ TraceError
 item_unless index told None = told
 item_unless index told (Some error) = Err (fault_of_front index error)
 
--- what the item of a front and a stamp comes to, the first fault being that of its front
+-- the result of the item of a front and a stamp; a fault of the front comes first
 abbrev pub item : Journal → ClockId → ℕ → ℕ → ℕ → Result ℤ TraceError
 item journal clock index front stamp =
     let there = at_front front journal in

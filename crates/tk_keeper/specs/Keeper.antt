@@ -10,20 +10,21 @@ use Rattle.tk_clock.specs.Legal.{IsLegal}
 use Rattle.tk_clock.specs.Limits.{listed_most, counted_most}
 use Rattle.tk_clock.specs.State.{ReadBase, State, base_value, state_of}
 
--- its journal, and how many accepted commands will take no memory
+-- its journal, and how many more accepted commands will take no memory
 pub record Keeper : Type 0 where
   pub journal : Journal
   pub spare : ℕ
 
--- the journal is legal, the running state is what it comes to, and it isn't overfull
+-- the journal is legal, the running state is that of the journal, and the journal lists and counts
+-- no more than it may
 pub record IsKept (journal : Journal) (state : State) : Type 0 where
   pub legal : IsLegal journal
   pub running : state ≡ state_of journal
   pub room : length journal.entries ≤ listed_most
   pub counted : accepted_count journal ≤ counted_most
 
--- the state before all entries is at hand, and that after each listed entry whose number is a
--- multiple of 256
+-- `start` is the state before all listed entries, and `kept` has the state after each listed entry
+-- whose number is a multiple of 256
 pub record HasKept (journal : Journal) (start : State) (kept : List State) : Type 0 where
   pub first : start ≡ state_of (prefix 0 journal)
   pub all : length kept + journal.opening.count / 256 ≡ accepted_count journal / 256
@@ -31,13 +32,13 @@ pub record HasKept (journal : Journal) (start : State) (kept : List State) : Typ
       journal.opening.count + place ≡ 256 * (journal.opening.count / 256 + 1 + i) →
       slice_get kept i ≡ Some (state_of (prefix place journal))
 
--- how many commands fit into so many free places for entries and for kept states, after so many
--- commands
+-- how many more commands fit, with capacity for `places` more entries and `kept` more states, after
+-- `count` commands
 abbrev pub room_for : ℕ → ℕ → ℕ → ℕ
 room_for places kept count = min places (256 * (kept + 1) - count % 256 - 1)
 
--- the entry of a number, counted from 1 over all accepted commands; none where it was folded or is
--- yet to come
+-- the entry with a number, counted from 1 over all accepted commands; `None` if it was folded or
+-- doesn't exist yet
 abbrev pub entry_at : Journal → ℕ → Option Entry
 entry_at journal number =
     if nat_lt journal.opening.count number
@@ -48,7 +49,7 @@ abbrev pub ReadsAs : Journal → ReadBase → Type 0
 ReadsAs journal base = (clock : ClockId) (reading : ℕ) →
     base_value base clock reading ≡ clock_value journal clock reading
 
--- where the counter's readings are true counts, the journal's cycles are true ones
+-- if the counter is honest, the journal's cycles are true cycles
 abbrev pub CountsTrue : Journal → Type 0
 CountsTrue journal =
     (count : ℕ → ℕ) → IsHonest journal count → (place : ℕ) → place ≤ length journal.entries →

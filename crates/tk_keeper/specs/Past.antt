@@ -1,4 +1,4 @@
--- What a journal says of its past, and how that outlasts folding.
+-- The past of a journal, and what folding keeps of it.
 use Rattle.std.specs.Prelude.{◌≡◌, ℕ, ◌+◌, ◌-◌, ◌≤◌, drop, Option, Some, None, nat_lt, if◌then◌else◌}
 use Rattle.tk_clock.specs.declared.clock_id.ClockId.{ClockId}
 use Rattle.tk_clock.specs.Journal.{Journal, prefix, accepted_count}
@@ -8,26 +8,28 @@ use Rattle.tk_clock.specs.State.{state_of}
 use Rattle.tk_keeper.specs.declared.front_error.FrontError.{FrontError}
 use Rattle.tk_keeper.specs.declared.front_error.FrontError.TheVariants.{Unknown, Folded}
 
--- the journal as it was when so many commands were accepted, the folded ones among them
+-- the journal as it was at a front: when this number of commands was accepted, including the folded
+-- ones
 abbrev pub at_front : ℕ → Journal → Journal
 at_front front journal = prefix (front - journal.opening.count) journal
 
--- why nothing can be said of a front: it is yet to come, or lies before the opening
+-- why a front is refused: it is not reached yet, or it is before the opening
 abbrev pub front_refusal : Journal → ℕ → Option FrontError
 front_refusal journal front =
     if nat_lt (accepted_count journal) front then Some Unknown
     else if nat_lt front journal.opening.count then Some Folded
     else None
 
--- a folded journal says of each front that it still has what the journal before said
+-- the folded journal agrees with the journal before the fold at each front that it still has
 pub record IsFolded (before after : Journal) : Type 0 where
   -- the same number of accepted commands
   pub all : accepted_count after ≡ accepted_count before
   -- the same entries after those that were folded
   pub entries : after.entries ≡ drop (after.opening.count - before.opening.count) before.entries
-  -- the same state, the frequency and tick in force among it
+  -- the same state, including the frequency and tick in force
   pub states : (front : ℕ) → after.opening.count ≤ front →
       state_of (at_front front after) ≡ state_of (at_front front before)
+  -- the same snapshot
   pub snapshots : (front : ℕ) → after.opening.count ≤ front →
       snapshot_of (at_front front after) ≡ snapshot_of (at_front front before)
   -- the same value of each clock at each reading, in nanoseconds

@@ -1,4 +1,4 @@
--- What a journal's own clocks tell a reader (clock_gettime(2)).
+-- The result of reading a journal's clocks (clock_gettime(2)).
 use Rattle.std.specs.Prelude.{◌≡◌, ℕ, ◌^◌, ◌<◌, ℤ, pos, ◌≤ℤ◌, not, nat_lt, int_lt, Option, Some, None, Result, MatchResult, if◌then◌else◌}
 use Rattle.tk_counter.specs.Counter.{mask}
 use Rattle.tk_clock.specs.declared.clock_id.ClockId.{ClockId}
@@ -10,19 +10,20 @@ use Rattle.tk_clock.specs.Journal.{Journal}
 use Rattle.tk_clock.specs.Limits.{limit}
 use Rattle.tk_clock.specs.Time.{nanoseconds}
 
--- why a clock of a journal can't be read: the reading is above the mask, or the clock has come to
--- its end
+-- why a clock of a journal can't be read: the reading is above the mask, or the clock is at its
+-- limit or past it
 abbrev pub read_fault : Journal → ClockId → ℕ → Option ReadError
 read_fault journal clock reading =
     if nat_lt (mask journal.opening.counter) reading then Some Invalid
     else if not (int_lt (clock_value journal clock reading) (limit clock)) then Some Range
     else None
 
--- so many nanoseconds, none before 1970, as whole seconds and what is left of them
+-- the time of a number of nanoseconds that is not negative, as whole seconds and nanoseconds below
+-- a second
 abbrev pub IsTimeOf : ℤ → Timespec → Type 0
 IsTimeOf nanos time = (nanoseconds time ≡ nanos) × (time.nsec < 10 ^ 9) × (pos 0 ≤ℤ time.sec)
 
--- the time that a clock of a journal tells at a reading, or why it tells none
+-- the result of reading a clock of a journal at a reading: its time, or why it can't be read
 abbrev pub IsRead : Journal → ClockId → ℕ → Result Timespec ReadError → Type 0
 IsRead journal clock reading result =
     MatchResult result

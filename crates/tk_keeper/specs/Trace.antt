@@ -1,5 +1,5 @@
--- What a trace is converted to: a clock at each of a list of stamps, as the journal was at the
--- fronts beside them.
+-- The result of converting a trace: the value of a clock at each stamp, in the journal as it was at
+-- the stamp's front.
 use Rattle.std.specs.Prelude.{◌≡◌, ℕ, ◌+◌, ◌<◌, ◌≤◌, ⊤, pos, ℤ, List, length, slice_index, Result, Ok, Err, IsOk}
 use Rattle.tk_clock.specs.declared.clock_id.ClockId.{ClockId}
 use Rattle.tk_clock.specs.declared.refusal.ReadError.{ReadError}
@@ -12,30 +12,30 @@ use Rattle.tk_keeper.specs.declared.trace_error.TraceError.{TraceError}
 use Rattle.tk_keeper.specs.declared.trace_error.TraceError.TheVariants as errors
 use Rattle.tk_keeper.specs.Item.{item, fault_of_stamp}
 
--- what the item at a place of a trace comes to
+-- the result of the item at a place of a trace
 abbrev pub item_of : Journal → ClockId → List ℕ → List ℕ → ℕ → Result ℤ TraceError
 item_of journal clock fronts stamps index =
     item journal clock index (slice_index fronts index) (slice_index stamps index)
 
--- each item before a place has this value, in nanoseconds
+-- the item at each place before `end` has this value, in nanoseconds
 abbrev pub AreValues : Journal → ClockId → List ℕ → List ℕ → ℕ → List ℕ → Type 0
 AreValues journal clock fronts stamps end values =
     (k : ℕ) → k < end → item_of journal clock fronts stamps k ≡ Ok (pos (slice_index values k))
 
--- the items before a place are written, and what stood from there on is kept
+-- the items before `end` are written, and the memory from there on is unchanged
 pub record IsWritten (journal : Journal) (clock : ClockId) (fronts stamps : List ℕ) (end : ℕ)
     (old new : List ℕ) : Type 0 where
   pub values : AreValues journal clock fronts stamps end new
   pub others : (k : ℕ) → end ≤ k → slice_index new k ≡ slice_index old k
 
--- the first item that has a fault is at this place, and that is its fault
+-- the first item that has a fault is at `index`, and `error` is its fault
 pub record IsFirstFault (journal : Journal) (clock : ClockId) (fronts stamps : List ℕ) (index : ℕ)
     (error : TraceError) : Type 0 where
   pub within : index < length stamps
   pub fault : item_of journal clock fronts stamps index ≡ Err error
   pub before : (k : ℕ) → k < index → IsOk (item_of journal clock fronts stamps k)
 
--- a trace that is converted into memory that is there: all its items, or those before the first
+-- a trace that is converted into the caller's memory: all its items, or those before the first
 -- fault
 abbrev pub IsTraced : Journal → ClockId → List ℕ → List ℕ → List ℕ → List ℕ →
     Result ⊤ TraceError → Type 0
@@ -50,28 +50,28 @@ abbrev pub IsConverted : Journal → ClockId → List ℕ → List ℕ → List 
 IsConverted journal clock fronts stamps values =
     (length values ≡ length stamps) × AreValues journal clock fronts stamps (length stamps) values
 
--- why a trace isn't converted: want of memory for what items there are, or the first fault
+-- why a trace isn't converted: allocation failure, if it has items at all, or its first fault
 abbrev pub IsFault : Journal → ClockId → List ℕ → List ℕ → TraceError → Type 0
 IsFault journal clock fronts stamps errors.Memory = 0 < length stamps
 IsFault journal clock fronts stamps error =
     (index : ℕ) × IsFirstFault journal clock fronts stamps index error
 
--- an item by what a clock of its front's snapshot tells at its stamp
+-- the result of an item, from a read of a clock of its front's snapshot at its stamp
 abbrev pub told : ℕ → Result ℕ ReadError → Result ℤ TraceError
 told index (Ok nanos) = Ok (pos nanos)
 told index (Err error) = Err (fault_of_stamp index error)
 
--- a read base tells every item of a front
+-- a read base gives the result of every item of a front
 abbrev pub TellsItems : Journal → ℕ → ReadBase → Type 0
 TellsItems journal front base = (clock : ClockId) (index stamp : ℕ) →
     item journal clock index front stamp ≡ told index (read_of base clock stamp)
 
--- the place of a stamp that a batch refused
+-- the place of the stamp that a batch refused
 abbrev pub place_of : BatchError → ℕ
 place_of (batch.Invalid index) = index
 place_of (batch.Range index) = index
 
--- the fault of a stamp of a batch that begins at a place of the trace
+-- the fault of a trace, from the fault of a batch that begins at place `first` of the trace
 abbrev pub fault_of_batch : ℕ → BatchError → TraceError
 fault_of_batch first (batch.Invalid index) = errors.Invalid (first + index)
 fault_of_batch first (batch.Range index) = errors.Range (first + index)

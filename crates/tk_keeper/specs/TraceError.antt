@@ -1,9 +1,9 @@
--- What a fault of a trace says in words.
+-- The texts of the faults of a trace.
 use Rattle.std.specs.Prelude.{ℕ, List, ◌++◌, Option, Some, codes, decimal}
 use Rattle.tk_keeper.specs.declared.trace_error.TraceError.{TraceError}
 use Rattle.tk_keeper.specs.declared.trace_error.TraceError.TheVariants as errors
 
--- the sentence that a fault is told in, with the number of its item
+-- the text of a fault, with the number of its item
 abbrev pub trace_text : TraceError → Option (List ℕ)
 trace_text (errors.Unknown index) = Some (codes "item " ++ decimal index ++ codes ": unknown front")
 trace_text (errors.Folded index) = Some (codes "item " ++ decimal index ++ codes ": folded front")

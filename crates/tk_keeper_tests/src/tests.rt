@@ -1,4 +1,4 @@
-//! Values from outside the contracts: worked out by hand, and the edges of each range.
+//! Tests values that were worked out manually, outside the contracts, and the edges of each range.
 
 mod copies;
 mod folding;
@@ -21,16 +21,16 @@ use tk_clock::{ClockId, Command, Refusal, Snapshot, Timespec};
 use tk_counter::CounterDesc;
 use tk_keeper::Timekeeper;
 
-/// REALTIME where the clocks are opened, in nanoseconds.
+/// REALTIME at the opening, in nanoseconds.
 const OPENED_REAL: u64 = 1_700_000_000_000_000_000;
 
 /// The words of the snapshot at the opening.
 const OPENED_WORDS: [u64; 10] = [0, 0, 16_777_216, 0, 0, OPENED_REAL, 0, 0, 0, 0];
 
-/// A thousand nanoseconds, in the units of MONOTONIC.
+/// A thousand nanoseconds, in units of 2^-24 ns.
 const THOUSAND: u64 = 16_777_216_000;
 
-/// After a Suspend at reading 1,000.
+/// The words after a Suspend at reading 1,000.
 const ASLEEP_WORDS: [u64; 10] = [
     1,
     1_000,
@@ -44,7 +44,7 @@ const ASLEEP_WORDS: [u64; 10] = [
     0,
 ];
 
-/// After a Resume at reading 5 as well, 5.5 s later.
+/// The words after that Suspend and a Resume at reading 5, 5.5 s later.
 const AWAKE_WORDS: [u64; 10] = [
     2,
     5,
@@ -58,7 +58,7 @@ const AWAKE_WORDS: [u64; 10] = [
     0,
 ];
 
-/// After a Tick to 11,000 at reading 0, and the highest frequency from reading 10^9 on.
+/// The words after a Tick to 11,000 at reading 0, and the highest frequency from reading 10^9 on.
 const TICKED_WORDS: [u64; 10] = [
     2,
     1_000_000_000,
@@ -72,18 +72,19 @@ const TICKED_WORDS: [u64; 10] = [
     1,
 ];
 
-/// Stops the test where what was found isn't what was wanted. (A call of its own, so that the proof
-/// of a test is short.)
+/// Stops the test if `found` is not equal to `wanted`. It is a separate call to keep the proof of
+/// each test short.
 fn assert_same<T: PartialEq + Debug>(rt: &impl Abort, found: &T, wanted: &T) {
     assert_eq!(rt; found, wanted);
 }
 
-/// A timekeeper of one nanosecond a cycle, opened at reading 0, 1,700,000,000 seconds after 1970.
+/// Returns a timekeeper of one nanosecond a cycle, opened at reading 0, with REALTIME at
+/// 1,700,000,000 s.
 fn opened<A: Allocator + Copy>(alloc: A) -> Result<Timekeeper<A>, Fail> {
     opened_at(alloc, 0)
 }
 
-/// The same, opened at another reading.
+/// Returns the same timekeeper, opened at another reading.
 fn opened_at<A: Allocator + Copy>(alloc: A, reading: u64) -> Result<Timekeeper<A>, Fail> {
     let desc = CounterDesc::new(32, 16_777_216, 24)?;
     let real = time(1_700_000_000, 0);
@@ -94,12 +95,12 @@ fn time(sec: i64, nsec: u32) -> Timespec {
     Timespec { sec, nsec }
 }
 
-/// How many commands were accepted, and the words of the snapshot.
+/// Returns how many commands were accepted, and the words of the snapshot.
 fn told<A: Allocator + Copy>(keeper: &Timekeeper<A>) -> (usize, [u64; 10]) {
     (keeper.len(), keeper.snapshot().words())
 }
 
-/// Applies a command, once more where memory was refused, which must have changed nothing.
+/// Applies a command. If memory was refused, checks that nothing changed, and applies it once more.
 fn applied<A: Allocator + Copy>(
     rt: &impl Abort,
     keeper: &mut Timekeeper<A>,
@@ -115,7 +116,7 @@ fn applied<A: Allocator + Copy>(
     keeper.apply(0, reading, cmd)
 }
 
-/// Applies commands in their order, each of which must be answered so.
+/// Applies commands in their order, and checks the answer to each.
 fn answers(
     rt: &impl Abort,
     keeper: &mut Timekeeper,
@@ -127,7 +128,7 @@ fn answers(
     }
 }
 
-/// Reads clocks, each of which must tell this time.
+/// Reads clocks, and checks the time of each.
 fn reads(rt: &impl Abort, snapshot: &Snapshot, values: &[(ClockId, u64, Timespec)]) {
     for (clock, reading, told) in values {
         let read = snapshot.get(*clock, *reading);

@@ -1,4 +1,4 @@
--- A line drawn from a snapshot is its clock.
+-- A line that is drawn from a snapshot has its clock's values.
 use Rattle.std.proofs.Common.{◌≡◌, ℕ, ◌+◌, ◌-◌, ◌*◌, ◌/◌, ◌%◌, ◌^◌, ◌<◌, ◌≤◌, Bool, true, false, bit_and, Ok, refl, sym, ap, ap₂, ◌∙◌, arith}
 use Rattle.std.specs.Prelude.{ℤ, pos, ◌+ℤ◌, int_lt, nat_lt, ◌||◌, if◌then◌else◌, unsigned_abs}
 use Rattle.std.proofs.lemmas.Bool.{le-ltb, lt-ltb}
@@ -38,7 +38,7 @@ pub record IsDrawn (base : ReadBase) (clock : ClockId) (line : Line) (sec room :
 abbrev gap_word : ℕ → ℕ → ℕ
 gap_word stamp last = (stamp + (2 ^ 64 - last)) % 2 ^ 64
 
--- its low bits, where they lead forward
+-- its low bits, if they lead forward, and otherwise 0
 abbrev ahead : ℕ → ℕ → ℕ → ℕ
 ahead m h word = let g = bit_and word m in if nat_lt h g then 0 else g
 
@@ -58,7 +58,7 @@ whole_gap counter m gap p low =
     ap (bit_and gap) p ∙ and_mask gap counter.bits
     ∙ mod-eq_of_lt (omega (arith, p, low, pow_pos counter.bits))
 
--- a clock that stands still has no units a cycle
+-- a clock that stands still has no units for a cycle
 same_units : (asleep coarse : Bool) (counter : Counter) (last stamp u : ℕ) →
     cycles_since counter false last stamp * (if asleep || coarse then 0 else u)
     ≡ cycles_since counter asleep last (if coarse then last else stamp) * u
@@ -155,7 +155,7 @@ module _ (base : ReadBase) (clock : ClockId) (line : Line) (sec room : ℕ)
       together : (a n b : ℕ) (o : ℤ) → pos b ≡ pos a +ℤ o → pos (a + n) +ℤ o ≡ pos (n + b)
       together a n b o e = omega (arith, ints)
 
-  -- the clock reads as the line
+  -- a read of the clock gives the line's value
   pub drawn_reads : read_of base clock stamp ≡ Ok (line_nanos line stamp)
   unfolding read_of
   drawn_reads =

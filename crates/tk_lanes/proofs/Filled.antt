@@ -1,4 +1,4 @@
--- What was converted so far, and some stamps more.
+-- The stamps that were converted so far, and some more stamps.
 use Rattle.std.proofs.Common.{◌≡◌, ℕ, ◌+◌, ◌-◌, ◌<◌, ◌≤◌, List, map, length, get_or, Ok, sym, ap, ◌∙◌, subst, arith, inl, inr, Fits, w64}
 use Rattle.std.proofs.lemmas.Bool.{cases_lt}
 use Rattle.std.proofs.lemmas.List.{length-map, get_or-map}
@@ -23,7 +23,7 @@ filled_joined base clock stamps first at end old mid new low high front back = r
   after = λ k late. back.after k late ∙ front.after k (omega arith);
 }
 
--- eight lanes more
+-- eight more lanes
 pub filled_lanes : (base : ReadBase) (clock : ClockId) (line : Line) (stamps : List ℕ) (at : ℕ)
     (out : List ℕ) →
     ((k : ℕ) → Fits w64 (get_or stamps k 0)) → length stamps ≡ length out →

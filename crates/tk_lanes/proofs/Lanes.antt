@@ -1,4 +1,4 @@
--- Eight lanes at a time: what is computed of each.
+-- Eight lanes at a time: the value that is computed in each.
 use Rattle.std.proofs.Common.{◌≡◌, ℕ, ◌+◌, ◌-◌, ◌*◌, ◌/◌, ◌%◌, ◌^◌, ◌<◌, ◌≤◌, Bool, cond, ltb, List, [], ◌∷◌, map, length, bit_and, bit_or, w64, replicate, refl, false, inl, inr, sym, ap, ap₂, ◌∙◌, subst, arith}
 use Rattle.std.proofs.lemmas.Nat.{le_or_l, le_or_r}
 use Rattle.std.proofs.lemmas.Simd.{zip2_of_maps, splat_is_map, tops_compared, Each1-weaker}
@@ -98,7 +98,7 @@ cycles-map line v long =
     (splat v long 0)
     (gaps-map line v long)
 
--- the lanes hold the line after so many cycles each
+-- each lane holds the line's value after its number of cycles
 pub nanos-map : (line : Line) (counts : List ℕ) → length counts ≡ 8 → (mult shift : ℕ) →
     mult ≡ line.mult → shift ≡ line.shift →
     nanos line counts mult shift ≡ map (nanos_after line) counts
@@ -114,7 +114,7 @@ nanos-map line counts long mult shift p q =
     (splat counts long line.shift))
     (splat counts long line.base)
 
--- where a gap is within the span, the stamp does not lie behind
+-- if a gap is within the span, the stamp is not behind
 near_gap : (line : Line) → line.span ≤ line.half → (x : ℕ) → gap_of line x ≤ line.span →
     gap_of line x ≡ line_cycles line x
 unfolding gap_of line_cycles
@@ -122,7 +122,7 @@ near_gap line leads x low =
     let ahead : ltb line.half (gap_of line x) ≡ false = le-ltb _ _ (omega (arith, low, leads)) in
     rw ahead refl
 
--- lists of lanes that agree at each stamp
+-- two functions that agree at each stamp give the same list of lanes
 same_maps : (f g : ℕ → ℕ) (P : ℕ → Type 0) → ((x : ℕ) → P x → f x ≡ g x) → (v : List ℕ) →
     Each1 P v → map f v ≡ map g v
 same_maps f g P same [] all = refl
@@ -133,7 +133,7 @@ pub cycles-long : (line : Line) (v : List ℕ) → length v ≡ 8 → length (cy
 cycles-long line v long = ap length (cycles-map line v long) ∙ length-map v (line_cycles line)
     ∙ long
 
--- the line after the cycles of each stamp is the line at each
+-- the line's values after the cycles of each stamp are its values at each stamp
 pub nanos_at_each : (line : Line) (v counts : List ℕ) → counts ≡ map (line_cycles line) v →
     map (nanos_after line) counts ≡ map (line_nanos line) v
 nanos_at_each line v counts e = ap (map (nanos_after line)) e ∙ fused v
@@ -156,7 +156,7 @@ words-map line v long =
 pub words-long : (line : Line) (v : List ℕ) → length v ≡ 8 → length (words line v) ≡ 8
 words-long line v long = ap length (words-map line v long) ∙ length-map v (word_of line) ∙ long
 
--- a stamp no farther ahead of the last reading than the line reaches
+-- a stamp that is no farther ahead of the last reading than `line.ahead`
 module _ (line : Line) (leads : line.span ≤ line.half) (near : line.ahead ≤ line.span)
     (read : line.last + line.ahead ≤ line.mask) (masked : line.mask < 18446744073709551616)
     (whole : (gap : ℕ) → gap ≤ line.mask → bit_and gap line.mask ≡ gap) where

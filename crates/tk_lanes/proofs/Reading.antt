@@ -1,4 +1,4 @@
--- A time that a snapshot tells, as nanoseconds.
+-- The time that a read of a snapshot returns, as nanoseconds.
 use Rattle.std.proofs.Common.{◌≡◌, ℕ, Some, None, Ok, Err, ap, ◌∙◌, sym}
 use Rattle.std.specs.Prelude.{pos, unsigned_abs}
 use Rattle.tk_clock.specs.declared.timespec.Timespec.{Timespec}
@@ -16,7 +16,7 @@ unfolding read_of
 refused_read base clock stamp refusal e =
     sym (ap (λ r. unless_refused r (base_value base clock stamp)) e)
 
--- another one gives its time in nanoseconds
+-- a read that is not refused gives its time in nanoseconds
 pub told_read : (base : ReadBase) (clock : ClockId) (stamp : ℕ) (time : Timespec) (nanos : ℕ) →
     pos nanos ≡ nanoseconds time → read_refusal base clock stamp ≡ None →
     nanoseconds time ≡ base_value base clock stamp →

@@ -1,4 +1,4 @@
--- What a list of stamps is converted to.
+-- The result of converting a list of stamps.
 use Rattle.std.specs.Prelude.{◌≡◌, ◌<◌, ◌≤◌, ℕ, ⊤, List, length, slice_index, Result, Ok, Err}
 use Rattle.tk_clock.specs.declared.clock_id.ClockId.{ClockId}
 use Rattle.tk_clock.specs.declared.refusal.ReadError.{ReadError}
@@ -8,8 +8,8 @@ use Rattle.tk_clock.specs.Read.{read_of}
 use Rattle.tk_lanes.specs.declared.batch_error.BatchError.{BatchError}
 use Rattle.tk_lanes.specs.declared.batch_error.BatchError.TheVariants as errors
 
--- the items from one place up to another are the clock at their stamps, in nanoseconds; all others
--- are as they were
+-- the items from `first` up to `end` are the clock's values at their stamps, in nanoseconds; all
+-- other items are unchanged
 pub record IsFilled (base : ReadBase) (clock : ClockId) (stamps : List ℕ) (first end : ℕ)
     (old new : List ℕ) : Type 0 where
   pub converted : (k : ℕ) → first ≤ k → k < end →
@@ -17,7 +17,8 @@ pub record IsFilled (base : ReadBase) (clock : ClockId) (stamps : List ℕ) (fir
   pub before : (k : ℕ) → k < first → slice_index new k ≡ slice_index old k
   pub after : (k : ℕ) → end ≤ k → slice_index new k ≡ slice_index old k
 
--- this place has the first stamp that is refused: the items before it are filled, and no other
+-- the stamp at `index` is the first one that is refused: the items before it are filled, and all
+-- other items are unchanged
 pub record IsRefusedAt (base : ReadBase) (clock : ClockId) (stamps : List ℕ) (first end : ℕ)
     (old new : List ℕ) (index : ℕ) (refusal : ReadError) : Type 0 where
   pub low : first ≤ index
@@ -25,7 +26,7 @@ pub record IsRefusedAt (base : ReadBase) (clock : ClockId) (stamps : List ℕ) (
   pub refused : read_of base clock (slice_index stamps index) ≡ Err refusal
   pub filled : IsFilled base clock stamps first index old new
 
--- the answer to the stamps from one place up to another
+-- the answer for the stamps from `first` up to `end`
 abbrev pub IsBatchFrom : ReadBase → ClockId → List ℕ → ℕ → ℕ →
     List ℕ → List ℕ → Result ⊤ BatchError → Type 0
 IsBatchFrom base clock stamps first end old new (Ok done) =
@@ -35,7 +36,7 @@ IsBatchFrom base clock stamps first end old new (Err (errors.Invalid index)) =
 IsBatchFrom base clock stamps first end old new (Err (errors.Range index)) =
     IsRefusedAt base clock stamps first end old new index Range
 
--- the answer to a list of stamps
+-- the answer for a list of stamps
 abbrev pub IsBatch : ReadBase → ClockId → List ℕ → List ℕ → List ℕ → Result ⊤ BatchError → Type 0
 IsBatch base clock stamps old new answer =
     IsBatchFrom base clock stamps 0 (length stamps) old new answer

@@ -11,13 +11,13 @@ use Rattle.tk_lanes.specs.declared.line.Line.{Line}
 abbrev pub lane_count : ℕ
 lane_count = 8
 
--- does a clock stand still between commands?
+-- whether a clock stands still between commands
 abbrev pub is_coarse : ClockId → Bool
 is_coarse RealtimeCoarse = true
 is_coarse MonotonicCoarse = true
 is_coarse _ = false
 
--- does a clock count at the counter's own rate?
+-- whether a clock runs at the counter's own rate
 abbrev pub is_raw : ClockId → Bool
 is_raw MonotonicRaw = true
 is_raw _ = false
@@ -30,11 +30,11 @@ units_at_last base clock = if is_raw clock then base.raw_amount else base.amount
 abbrev pub running_mult : ReadBase → ClockId → ℕ
 running_mult base clock = if is_raw clock then base.counter.mult else base.mult
 
--- the units that a cycle adds to a clock: none where it stands still
+-- the units that a cycle adds to a clock: 0 if the clock stands still
 abbrev pub mult_of : ReadBase → ClockId → ℕ
 mult_of base clock = if base.asleep || is_coarse clock then 0 else running_mult base clock
 
--- how far a clock is from what it counts, in nanoseconds
+-- the offset of a clock from the time that it counts, in nanoseconds
 abbrev pub offset_of : ReadBase → ClockId → ℤ
 offset_of base Monotonic = pos 0
 offset_of base Realtime = base.real_offset
@@ -44,19 +44,19 @@ offset_of base RealtimeCoarse = base.real_offset
 offset_of base MonotonicCoarse = pos 0
 offset_of base MonotonicRaw = pos 0
 
--- the cycles from the last reading to a stamp, in words of 64 bits: none where it lies behind
+-- the cycles from the last reading to a stamp, in words of 64 bits: 0 if the stamp is behind
 unfoldable pub line_cycles : Line → ℕ → ℕ
 line_cycles line stamp =
     let gap = bit_and ((stamp + (2 ^ 64 - line.last)) % 2 ^ 64) line.mask in
     if nat_lt line.half gap then 0 else gap
 
--- the line after so many cycles, in words of 64 bits
+-- the line's value after a number of cycles, in nanoseconds, in words of 64 bits
 unfoldable pub nanos_after : Line → ℕ → ℕ
 nanos_after line cycles =
     let units = ((cycles * line.mult) % 2 ^ 64 + line.frac) % 2 ^ 64 in
     (units / 2 ^ line.shift + line.base) % 2 ^ 64
 
--- the line at a stamp
+-- the line's value at a stamp, in nanoseconds
 abbrev pub line_nanos : Line → ℕ → ℕ
 line_nanos line stamp = nanos_after line (line_cycles line stamp)
 
@@ -65,10 +65,11 @@ pub record IsNear (line : Line) (stamp : ℕ) : Type 0 where
   pub near : line_cycles line stamp ≤ line.span
   pub read : stamp ≤ line.mask
 
+-- each stamp of a list is near
 abbrev pub IsEachNear : Line → List ℕ → Type 0
 IsEachNear line stamps = Each1 (IsNear line) stamps
 
--- within its span the line is the clock
+-- within its span the line has the clock's value
 abbrev pub IsLine : ReadBase → ClockId → Line → Type 0
 IsLine base clock line =
     (stamp : ℕ) → stamp < 2 ^ 64 → IsNear line stamp →

@@ -1,5 +1,5 @@
-//! The tests of `tk_lanes`, by its public calls alone: a crate of their own, so that the gate proves
-//! what they test once.
+//! Tests `tk_lanes` through its public calls alone. The tests are a separate crate, so that the
+//! gate proves `tk_lanes` only once.
 #![tactic(auto)]
 
 #[cfg(test)]

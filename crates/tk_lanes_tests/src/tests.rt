@@ -1,4 +1,5 @@
-//! Values from outside the contracts: worked out by hand, and one call against the other.
+//! Tests values that were worked out manually, outside the contracts, and compares one call with
+//! the other.
 
 mod random;
 mod refusals;
@@ -14,13 +15,13 @@ use tk_clock::{Clock, ClockId, Snapshot, Timespec};
 use tk_counter::CounterDesc;
 use tk_lanes::{BatchError, lane_batch, plain_batch};
 
-/// Stops the test where what was found isn't what was wanted. (A call of its own, so that the proof
-/// of a test is short.)
+/// Stops the test if `found` is not equal to `wanted`. It is a separate call to keep the proof of
+/// each test short.
 fn assert_same<T: PartialEq + Debug>(rt: &impl Abort, found: &T, wanted: &T) {
     assert_eq!(rt; found, wanted);
 }
 
-/// The clocks of a counter of 48 bits and one nanosecond a cycle, opened at reading 1000.
+/// Returns clocks of a counter of 48 bits and one nanosecond a cycle, opened at reading 1000.
 fn opened() -> Result<Clock, Fail> {
     let desc = CounterDesc::new(48, 16_777_216, 24)?;
     Ok(Clock::open(desc, 1_000, time(1_700_000_000, 0))?)
@@ -30,14 +31,14 @@ fn time(sec: i64, nsec: u32) -> Timespec {
     Timespec { sec, nsec }
 }
 
-/// As many sevens: what a list has where nothing was written.
+/// Returns a list of `n` sevens. An item that stays 7 was not written.
 fn sevens(alloc: Global, n: usize) -> Result<Vec<u64>, AllocError>
     ensures { IfOk result (λ v. vec_len v ≡ n) }
 {
     vec![in alloc; 7u64; n]
 }
 
-/// Both calls must give this answer, and leave these values.
+/// Checks that both calls return this answer and leave these values.
 fn converts(
     rt: &impl Abort,
     alloc: Global,
@@ -58,7 +59,7 @@ fn converts(
     Ok(())
 }
 
-/// Both calls must agree. Gives the answer.
+/// Checks that both calls agree, and returns their answer.
 fn agree(
     rt: &impl Abort,
     alloc: Global,

@@ -1,4 +1,4 @@
--- What every step of a latch has to keep.
+-- What every step of a latch must keep.
 use Rattle.std.proofs.Common.{◌≡◌, ◌≢◌, ℕ, ◌≤◌, List, get_or, set, sym, ◌∙◌, subst, ⊎_elim, arith, length-set}
 use Rattle.std.proofs.lemmas.List.{set-get_or}
 use mathlib.Core.Option.{some}
@@ -23,7 +23,7 @@ word s i = get_or s.words i 0
 abbrev pub history_of : View → History
 history_of view = view.history
 
--- what a seat other than the writer's knows stays so
+-- what any seat except the writer's knows stays true
 others_know : (n n' : ℕ) (history history' : History) (role role' : Role) (writer seat : ℕ) →
     seat ≢ writer → n ≤ n' → IsBeginning history history' →
     (known : History) (own : Role) → Knows n history role writer seat known own →
@@ -103,7 +103,7 @@ known_of s r id view is at same =
     subst (λ (w : View). Knows (word s 0) r.history r.role r.writer id w.history w.role) same
     (r.each id view at)
 
--- what the sequence says of the publications
+-- what the sequence shows of the publications
 pub counted : (words : List ℕ) (list : List Snapshot) (role : Role) → Copies words list role →
     Counts list (get_or words 0 0)
 counted words list Spent c = absurd c

@@ -1,4 +1,4 @@
--- Publications, one more of them, and the latest.
+-- Publications, one more publication, and the latest one.
 use Rattle.std.proofs.Common.{◌≡◌, ℕ, suc, ◌+◌, ◌-◌, ◌<◌, ◌≤◌, List, [], ◌∷◌, ◌++◌, length, Some, slice_get, refl, ap, sym, ◌∙◌, subst, arith}
 use Rattle.std.specs.Prelude.{Option, None, IsSome, IfSome, slice_index}
 use Rattle.std.proofs.lemmas.Option.{same_Some}
@@ -11,7 +11,7 @@ use Rattle.tk_latch.specs.Publications.{latest_words, IsPublication, AreNumbered
 use Rattle.tk_latch.specs.Look.{AreLatest}
 use Rattle.tk_latch.proofs.Prefixes.{prefix_self, prefix_trans, prefix_whole}
 
--- the snapshot that words tell is the one that they restore
+-- the snapshot that words encode is the one that they restore
 pub told_is : (counter : Counter) (words : List ℕ) (snapshot : Snapshot) →
     restored counter words ≡ Some snapshot →
     snapshot_told counter words ≡ snapshot
@@ -62,7 +62,8 @@ numbered_push c k (y ∷ ys) x all new = (
       (subst (λ (n : ℕ). IsPublication c n x) (omega arith) new),
 )
 
--- the latest publication stands last, has the last number, and its words are the latest
+-- the latest publication is the last of the list, has the last number, and its words are the latest
+-- words
 record IsLatest (c : Counter) (k : ℕ) (list : List Snapshot) : Type 0 where
   snapshot : Snapshot
   listed : slice_get list (length list - 1) ≡ Some snapshot

@@ -1,4 +1,4 @@
--- Each step of a reader keeps the rule, and what a whole read comes to.
+-- Each step of a reader keeps the rule, and the result of a whole read.
 use Rattle.std.proofs.Common.{◌≡◌, ℕ, ◌+◌, ◌*◌, ◌%◌, ◌<◌, ◌≤◌, List, [], ◌∷◌, ◌++◌, length, slice_get, Some, get_or, set, refl, sym, ap, ◌∙◌, subst, arith, append_assoc, length-set, get_or-set_other, get_or-set_same}
 use Rattle.std.proofs.lemmas.List.{ext_get_or}
 use Rattle.std.proofs.lemmas.Option.{same_Some}
@@ -38,7 +38,7 @@ named words list (Copying count) c n i here l =
     ap (λ (k : ℕ). get_or words k 0) even ∙ c.2 i l
 named words list (Noting note) c n i here l = absurd c
 
--- a reader that knows as many publications as there are knows them all
+-- a reader that knows as many publications as there are knows all of them
 all_known : (known history : History) (first n : ℕ) → IsBeginning known history →
     Counts known.list first → Counts history.list n → n ≡ first →
     known ≡ history
@@ -196,7 +196,7 @@ gathers_one begun first words old new i x g now is later inside right =
           (λ other. get_or-set_other words i j x 0 other ∙ g.4 (omega arith) j (omega arith)),
     )
 
--- what the first look told, and what the second
+-- what the first load of the sequence showed, and what the second one showed
 abbrev pub Begun : View → View → ℕ → Type 0
 Begun old begun first =
     (later : History) × (begun ≡ reading later (found_by old.role ++ first ∷ []) first first)

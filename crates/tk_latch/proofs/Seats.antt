@@ -1,4 +1,5 @@
--- Handing what the writer knows to a reader, and noting what a reader knew, keep the rule.
+-- A reader may get what the writer knows, and the writer may note what a reader knew: both keep the
+-- rule.
 use Rattle.std.proofs.Common.{◌≡◌, ◌≢◌, ℕ, List, [], set, refl, sym, ap, ◌∙◌, subst, ⊎_elim}
 use mathlib.Core.Option.{some, none}
 use lib.ListN.{get_elem?}
@@ -15,7 +16,7 @@ use Rattle.tk_latch.specs.Views.{resting, copying, noting, spent}
 use Rattle.tk_latch.proofs.Publications.{begins_self}
 use Rattle.tk_latch.proofs.Keeping.{word, history_of, known_of, seats_after, unmoved}
 
--- the writer's seat gives a reader's
+-- the writer's seat can be split into itself and a reader's seat
 pub hands : (id : ℕ) (view : View) (history : History) → view ≡ copying history 10 →
     Splits Latched id view view (resting view.history [])
 hands id view history is s r at =

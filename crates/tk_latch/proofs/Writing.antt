@@ -32,7 +32,7 @@ get_or-push_new [] x (suc i) h = absurd (omega arith)
 get_or-push_new (y ∷ ys) x zero h = absurd (omega arith)
 get_or-push_new (y ∷ ys) x (suc i) h = get_or-push_new ys x i (omega arith)
 
--- the rule's copies and history at the writer's view
+-- the copies and the history of the rule, in the writer's view
 copies_at : (s : Words) (r : Latched s) (history : History) (role : Role) → history ≡ r.history →
     r.role ≡ role →
     Copies s.words history.list role
@@ -154,7 +154,7 @@ commits slots id me history written even is next up s r _ at _ =
       λ history' written' is'. ap (λ (v : View). with_publication v.history v.role) (sym is ∙ is'),
     )
 
--- a word of it goes into copy 1
+-- a word of the publication goes into copy 1
 pub copies_word : (slots id : ℕ) (me : Seated) (history : History) (count i x : ℕ) →
     me.0 ≡ copying history count → i ≡ count + 11 → count < 10 →
     x ≡ get_or (latest_words history.list) count 0 →

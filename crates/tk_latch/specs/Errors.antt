@@ -1,4 +1,4 @@
--- What the errors of a latch say in words.
+-- The texts of a latch's errors.
 use Rattle.std.specs.Prelude.{ℕ, ◌++◌, List, codes, decimal}
 use Rattle.tk_latch.specs.declared.errors.LatchError.{LatchError}
 use Rattle.tk_latch.specs.declared.errors.LatchError.TheVariants.{Count, Memory}
@@ -12,6 +12,6 @@ fault_text Memory = codes "out of memory"
 abbrev pub full_text : List ℕ
 full_text = codes "page full"
 
--- why none was read: the sequence numbers that were found
+-- why no snapshot was read: the two sequence numbers that the read found
 abbrev pub moved_text : ℕ → ℕ → List ℕ
 moved_text first last = codes "moved from " ++ decimal first ++ codes " to " ++ decimal last

@@ -1,11 +1,11 @@
--- What a latch's writer and readers know, and what a read tells (seqcount_latch_t in
+-- What a latch's writer and readers know, and what a read returns (seqcount_latch_t in
 -- Documentation/locking/seqlock.rst).
 use Rattle.std.specs.Prelude.{◌≡◌, ℕ, ◌-◌, ◌*◌, ◌/◌, ◌^◌, ◌<◌, ◌≤◌, List, [], ◌∷◌, ◌++◌, length, slice_get, Some}
 use Rattle.atomic_table.specs.Seated.{TableId}
 use Rattle.tk_counter.specs.Counter.{Counter}
 use Rattle.tk_clock.specs.Snapshot.{Snapshot}
 
--- which latch it is, and the counter that all its snapshots are of
+-- which latch it is, and the counter of all its snapshots
 pub record LatchId : Type 0 where
   pub table : TableId
   pub counter : Counter
@@ -22,31 +22,33 @@ pub record Learnt : Type 0 where
   pub publications : List Snapshot
   pub found : List ℕ
 
--- how many readers a latch may be opened with
+-- how many readers a latch may be opened with: 1 to 64
 abbrev pub IsReaderCount : ℕ → Type 0
 IsReaderCount count = (1 ≤ count) × (count ≤ 64)
 
--- the number of the latest of these publications, the opening being number 0
+-- the number of the latest of these publications; the opening is number 0
 abbrev pub mark_of : List Snapshot → ℕ
 mark_of publications = length publications - 1
 
--- the most publications that a latch's sequence can count
+-- the most publications that the sequence of a latch can count
 abbrev pub most_publications : ℕ
 most_publications = 2 ^ 63 - 1
 
--- the writer and each reader of a latch that was just opened
+-- the writer of a latch that was just opened
 abbrev pub opened_writer : LatchId → Snapshot → Published
 opened_writer latch opening = record { latch = latch; publications = opening ∷ [] }
 
+-- each reader of a latch that was just opened
 abbrev pub opened_reader : LatchId → Snapshot → Learnt
 opened_reader latch opening = record { latch = latch; publications = opening ∷ []; found = [] }
 
--- a reader that was told of all that the writer published
+-- a reader that has learnt of all that the writer published
 abbrev pub told_reader : Published → Learnt
 told_reader writer = record { latch = writer.latch; publications = writer.publications; found = [] }
 
--- a read that found one sequence number at both of its looks: the answer is publication k, whole
--- and with front k; it is the latest that the reader now knows of, and not earlier than its mark
+-- a read whose two loads of the sequence found one number: the answer is publication k, whole and
+-- with front k. It is the latest one that the reader now knows of, and not earlier than the
+-- reader's old mark
 pub record IsRead (old new : Learnt) (snapshot : Snapshot) : Type 0 where
   pub whole : slice_get new.publications snapshot.front ≡ Some snapshot
   pub counter : snapshot.base.counter ≡ new.latch.counter
@@ -56,8 +58,8 @@ pub record IsRead (old new : Learnt) (snapshot : Snapshot) : Type 0 where
   pub found : new.found ≡ old.found ++ sequence ∷ sequence ∷ []
   pub half : sequence / 2 ≡ snapshot.front
 
--- a read whose looks found two sequence numbers, the first not before the mark: the mark is then
--- the latest publication when the second was found
+-- a read whose two loads of the sequence found two numbers, the first of which is not before the
+-- old mark: the new mark is the publication that was the latest when the second number was found
 pub record IsMoved (old new : Learnt) (first last : ℕ) : Type 0 where
   pub found : new.found ≡ old.found ++ first ∷ last ∷ []
   pub from : 2 * mark_of old.publications ≤ first

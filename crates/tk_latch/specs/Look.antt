@@ -8,8 +8,8 @@ use Rattle.tk_latch.specs.Publications.{latest_words, IsBeginning}
 use Rattle.tk_latch.specs.Rule.{Counts}
 use Rattle.tk_latch.specs.Views.{resting, reading, found_by}
 
--- the first so many words that were loaded are the latest publication's, where the sequence is
--- still that of the beginning
+-- the first `count` words that were loaded are those of the latest publication, if the sequence is
+-- still that of the read's beginning
 abbrev pub Gathered : View → ℕ → List ℕ → View → ℕ → Type 0
 Gathered begun first words view count =
     (now : ℕ) × (view ≡ reading begun.history (found_by begun.role) first now) × (first ≤ now)
@@ -17,14 +17,14 @@ Gathered begun first words view count =
     × (now ≤ first → (i : ℕ) → i < count →
     slice_index words i ≡ slice_index (latest_words begun.history.list) i)
 
--- these words are a publication's, the latest of the history
+-- these words are those of the latest publication of the history
 pub record AreLatest (history : History) (words : List ℕ) : Type 0 where
   pub snapshot : Snapshot
   pub told : restored history.counter words ≡ Some snapshot
   pub listed : slice_get history.list snapshot.front ≡ Some snapshot
   pub latest : snapshot.front + 1 ≡ length history.list
 
--- both looks and the words between them
+-- a whole read: both loads of the sequence, and the words between them
 pub record IsLook (old new : View) (first : ℕ) (words : List ℕ) (last : ℕ) : Type 0 where
   pub reader : new ≡ resting new.history (found_by new.role)
   pub found : found_by new.role ≡ found_by old.role ++ first ∷ last ∷ []

@@ -12,7 +12,7 @@ latest_words [] = []
 latest_words (snapshot ∷ []) = words_of snapshot
 latest_words (snapshot ∷ next ∷ more) = latest_words (next ∷ more)
 
--- publication k of a latch over this counter: its words tell it, and its front is k
+-- publication k of a latch over this counter: its words restore it, and its front is k
 pub record IsPublication (counter : Counter) (k : ℕ) (snapshot : Snapshot) : Type 0 where
   pub told : restored counter (words_of snapshot) ≡ Some snapshot
   pub front : snapshot.front ≡ k
@@ -23,23 +23,24 @@ AreNumbered counter k [] = Unit {0}
 AreNumbered counter k (snapshot ∷ more) =
     IsPublication counter k snapshot × AreNumbered counter (k + 1) more
 
--- a history over the same counter, with the first of the publications
+-- a history is a beginning of a later one: it has the same counter, and the first of the later
+-- one's publications
 abbrev pub IsBeginning : History → History → Type 0
 IsBeginning history later = (history.counter ≡ later.counter) × IsPrefix history.list later.list
 
--- the history of an opening alone
+-- the history that has only the opening
 abbrev pub opening_of : Snapshot → History
 opening_of snapshot = record { counter = snapshot.base.counter; list = snapshot ∷ [] }
 
--- one publication more
+-- the history with one more publication
 abbrev pub pushed : History → Snapshot → History
 pushed history snapshot = record history { list = history.list ++ snapshot ∷ [] }
 
--- one publication more, the one that these words tell
+-- the history with one more publication, which these words encode
 abbrev pub pushed_told : History → List ℕ → History
 pushed_told history words = pushed history (snapshot_told history.counter words)
 
--- these words tell the next publication
+-- these words encode the next publication
 pub record IsNext (history : History) (words : List ℕ) : Type 0 where
   pub publication :
       IsPublication history.counter (length history.list) (snapshot_told history.counter words)

@@ -1,4 +1,5 @@
--- The rule of a latch: what its words are, and what each seat knows of them.
+-- The rule of a latch (seqcount_latch_t in Documentation/locking/seqlock.rst): what its words are,
+-- and what each seat knows of them.
 use Rattle.std.specs.Prelude.{◌≡◌, ℕ, ◌+◌, ◌*◌, ◌<◌, ◌≤◌, List, length, slice_index}
 use mathlib.Core.Option.{some}
 use lib.ListN.{get_elem?}
@@ -15,17 +16,18 @@ use Rattle.tk_latch.specs.Views.{copying}
 abbrev pub started : Snapshot → View
 started opening = copying (opening_of opening) 10
 
--- the first so many of these words stand in copy 0, which begins at word 1, or in copy 1, which
--- begins at word 11
+-- the first `count` of these words are in copy 0, which begins at word 1
 abbrev pub InCopy0 : List ℕ → ℕ → List ℕ → Type 0
 InCopy0 words count copy = (i : ℕ) → i < count → slice_index words (i + 1) ≡ slice_index copy i
 
+-- the first `count` of these words are in copy 1, which begins at word 11
 abbrev pub InCopy1 : List ℕ → ℕ → List ℕ → Type 0
 InCopy1 words count copy = (i : ℕ) → i < count → slice_index words (i + 11) ≡ slice_index copy i
 
--- Word 0 is the sequence: twice the number of the latest publication, and 1 more while one is being
--- made. While it is odd, copy 1 is the latest publication, and the words that the writer has
--- written are in copy 0. While it is even, copy 0 is it, and copy 1 agrees in so many words
+-- word 0 is the sequence: twice the number of the latest publication, plus 1 while the next one is
+-- being made. While it is odd, copy 1 is the latest publication, and copy 0 has the words that the
+-- writer has written. While it is even, copy 0 is the latest publication, and copy 1 has its first
+-- `count` words
 abbrev pub Copies : List ℕ → List Snapshot → Role → Type 0
 Copies words list (Making written) =
     (slice_index words 0 + 2 ≡ 2 * length list + 1) × (length written ≤ 10)
@@ -35,12 +37,12 @@ Copies words list (Copying count) =
     × InCopy0 words 10 (latest_words list) × InCopy1 words count (latest_words list)
 Copies words list _ = ⊥
 
--- the latest of these publications has half this sequence number, rounded down
+-- the number of the latest of these publications is half this sequence number, rounded down
 abbrev pub Counts : List Snapshot → ℕ → Type 0
 Counts list sequence = (2 * length list ≤ sequence + 2) × (sequence + 1 ≤ 2 * length list)
 
--- what holds of what a seat knows: a reader's history is a beginning of the publications, and the
--- writer's is all of them
+-- what a seat knows, by its role: a reader's history is a beginning of the publications, and the
+-- writer's history is all of them
 module _ (sequence : ℕ) (history : History) (role : Role) (writer seat : ℕ) where
   abbrev pub Knows : History → Role → Type 0
   Knows known Spent = Unit {0}
@@ -52,7 +54,7 @@ module _ (sequence : ℕ) (history : History) (role : Role) (writer seat : ℕ) 
   Knows known (Noting note) =
       (seat ≡ writer) × (known ≡ history) × (role ≡ Copying 10) × IsBeginning note history
 
--- the rule: there is one history and one writer, whose role tells what the copies hold
+-- the rule: there is one history and one writer, whose role determines what the copies contain
 pub record Latched (state : State (Unit {0}) View) : Type 0 where
   pub history : History
   pub role : Role

@@ -1,5 +1,5 @@
--- What each step of a latch tells the seat that takes it: of the step, the seat before, the number
--- found, and the seat after.
+-- What a seat learns from each step of a latch: a relation of the step, the seat before it, the
+-- number found, and the seat after it.
 use Rattle.std.specs.Prelude.{◌≡◌, ℕ, ◌+◌, ◌*◌, ◌%◌, ◌<◌, ◌≤◌, List, [], ◌∷◌, ◌++◌, slice_index}
 use Rattle.atomic_table.specs.Table.{Me, Step}
 use Rattle.tk_latch.specs.declared.rule.History.{History}
@@ -19,34 +19,34 @@ abbrev pub opened : Move → Seated → ℕ → Seated → Type 0
 opened move old found new =
     (history : History) → old.0 ≡ copying history 10 → new.0 ≡ making history []
 
--- one more of its words is in copy 0
+-- one more word of the publication is in copy 0
 abbrev pub wrote_word : Move → Seated → ℕ → Seated → Type 0
 wrote_word move old found new =
     (history : History) (written : List ℕ) → old.0 ≡ making history written →
     new.0 ≡ making history (written ++ move.first ∷ [])
 
--- it is the latest publication
+-- the publication is the latest one
 abbrev pub committed : Move → Seated → ℕ → Seated → Type 0
 committed move old found new =
     (history : History) (written : List ℕ) → old.0 ≡ making history written →
     new.0 ≡ copying (pushed_told history written) 0
 
--- one more of its words is in copy 1
+-- one more word of the publication is in copy 1
 abbrev pub copied_word : Move → Seated → ℕ → Seated → Type 0
 copied_word move old found new =
     (history : History) (count : ℕ) → old.0 ≡ copying history count →
     new.0 ≡ copying history (count + 1)
 
--- a read begins with a load of the sequence, which is listed; the reader knows all publications so
--- far
+-- a read begins with a load of the sequence, which is listed; the reader then knows all
+-- publications so far
 abbrev pub began : Move → Seated → ℕ → Seated → Type 0
 began move old found new = (move.word ≡ 0) × (new.1 ≡ old.1)
     × ((known : History) (before : List ℕ) → old.0 ≡ resting known before →
     (later : History) × (new.0 ≡ reading later (before ++ found ∷ []) found found)
     × IsBeginning known later × Counts later.list found × AreNumbered later.counter 0 later.list)
 
--- a word is loaded: where the sequence is still that of the beginning, it is the latest
--- publication's, if it is of the copy that the sequence names
+-- a word is loaded. If the sequence is still that of the beginning, and the word is one of the copy
+-- that the sequence names, it is a word of the latest publication
 abbrev pub loaded : Move → Seated → ℕ → Seated → Type 0
 loaded move old found new = (new.1 ≡ old.1)
     × ((known : History) (before : List ℕ) (first last : ℕ) →
@@ -55,8 +55,8 @@ loaded move old found new = (new.1 ≡ old.1)
     × (now ≤ first → (i : ℕ) → i < 10 → move.word ≡ i + (1 + 10 * (first % 2)) →
     found ≡ slice_index (latest_words known.list) i))
 
--- a read ends with a load of the sequence, which is listed; the reader knows all publications so
--- far, which are those of the beginning where the sequence is still the same
+-- a read ends with a load of the sequence, which is listed; the reader then knows all publications
+-- so far. If the sequence is still the same, they are those of the beginning
 abbrev pub ended : Move → Seated → ℕ → Seated → Type 0
 ended move old found new = (move.word ≡ 0) × (new.1 ≡ old.1)
     × ((known : History) (before : List ℕ) (first last : ℕ) →

@@ -9,7 +9,7 @@ use Rattle.tk_latch.specs.declared.rule.Role.TheVariants.{Spent, Resting, Readin
 abbrev pub resting : History → List ℕ → View
 resting history found = record { history = history; role = Resting found }
 
--- a reader that began at one sequence number, and knows that the sequence has come to another
+-- a reader that began at one sequence number, and knows that the sequence has reached another
 abbrev pub reading : History → List ℕ → ℕ → ℕ → View
 reading history found first now = record { history = history; role = Reading found first now }
 
@@ -17,7 +17,7 @@ reading history found first now = record { history = history; role = Reading fou
 abbrev pub making : History → List ℕ → View
 making history written = record { history = history; role = Making written }
 
--- the writer with so many words of the latest publication in copy 1
+-- the writer with the first `count` words of the latest publication in copy 1
 abbrev pub copying : History → ℕ → View
 copying history count = record { history = history; role = Copying count }
 
@@ -25,7 +25,7 @@ copying history count = record { history = history; role = Copying count }
 abbrev pub noting : History → History → View
 noting history note = record { history = history; role = Noting note }
 
--- a seat that was joined to another
+-- a seat that was joined to another one
 abbrev pub spent : View
 spent = record {
   history = record { counter = record { bits = 0; mult = 0; shift = 0 }; list = [] };

@@ -1,5 +1,5 @@
-//! The tests of `tk_latch`, by its public calls alone: a crate of their own, so that the gate proves
-//! what they test once.
+//! Tests `tk_latch` through its public calls alone. The tests are a separate crate, so that the
+//! gate proves `tk_latch` only once.
 #![tactic(auto)]
 
 #[cfg(test)]

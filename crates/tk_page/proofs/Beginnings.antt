@@ -25,7 +25,7 @@ module _ {X : Type 0} where
 pub begins-self : (journal : Journal) → Begins journal journal
 begins-self journal = (refl, prefix-self journal.entries)
 
--- and what goes on from one that it begins
+-- a journal that begins another one also begins it with one more entry
 pub begins-followed_by : (before journal : Journal) (entry : Entry) → Begins before journal →
     Begins before (followed_by journal entry)
 begins-followed_by before journal entry begins =

@@ -6,7 +6,7 @@ use Rattle.tk_clock.specs.Snapshot.{Snapshot, snapshot_of}
 use Rattle.tk_clock.specs.Words.{words_of, restored}
 use Rattle.tk_page.specs.Views.{Shows}
 
--- the words of a snapshot show the journal that it is of
+-- the words of a snapshot show the journal that the snapshot belongs to
 pub shows : (words : List ℕ) (snapshot : Snapshot) (journal : Journal) → words ≡ words_of snapshot →
     restored snapshot.base.counter (words_of snapshot) ≡ Some snapshot →
     snapshot ≡ snapshot_of journal → Shows words journal

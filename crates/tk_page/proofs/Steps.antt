@@ -48,7 +48,7 @@ opens by journal new shown words views kept at =
       refl,
     )
 
--- step 2
+-- step 2: the publisher publishes one more entry
 publishes : (by : ℕ) (own : Journal) (entry : Entry) (new : List ℕ) →
     Shows new (followed_by own entry) →
     Turns Kept by (Publishing own) (λ _. new) (Published entry)
@@ -74,7 +74,7 @@ reads by count seen words views kept at =
       (refl, kept.each by (Viewing count seen) at, kept.shown),
     )
 
--- step 7: the read of the publisher
+-- step 7: the publisher reads
 compares : (by : ℕ) (own noted : Journal) → Turns Kept by (Comparing own noted) (λ x. x) Compared
 compares by own noted words views kept at =
     let mine = kept.each by (Comparing own noted) at in
@@ -85,7 +85,7 @@ compares by own noted words views kept at =
       (refl, subst (Begins noted) whole mine.2, subst (Shows words) whole kept.shown),
     )
 
--- step 5: a pass that knows a journal gives a viewer that knows as much
+-- step 5: a pass that knows a journal makes a viewer with the same knowledge
 publisher_copies : (by : ℕ) (own : Journal) →
     Forks Kept by (Publishing own) (Publishing own) (Viewing 0 own)
 publisher_copies by own words views kept at =
@@ -123,7 +123,7 @@ notes by own other count seen words views kept at apart there =
     there refl refl
     (λ journal seat mine theirs. (mine.0, mine.1, theirs))
 
--- the same of a pass whose view is known
+-- the same steps for a pass whose view is known by an equation
 pub opens_as : (by : ℕ) (view : View) (journal : Journal) (new : List ℕ) → view ≡ Fresh →
     Shows new journal →
     Turns Kept by view (λ _. new) (Opened journal)

@@ -1,4 +1,4 @@
--- The views of a page's passes, one of which changes.
+-- The views of the passes to a page, when one of them changes.
 use Rattle.std.proofs.Common.{◌≡◌, ◌≢◌, ℕ, zero, suc, ◌<◌, List, [], ◌∷◌, ◌++◌, length, set, true, false, true≢false, sym, ap, ◌∙◌, subst, ⊎_elim, arith}
 use mathlib.Core.Option.{some, some-ne-none, some-injective}
 use lib.ListN.{get_elem?}
@@ -19,7 +19,7 @@ in_range [] by view at = absurd (some-ne-none view (sym at))
 in_range (v ∷ views) zero view at = omega arith
 in_range (v ∷ views) (suc by) view at = let low = in_range views by view at in omega arith
 
--- where there is one pass, any two are the same
+-- if there is one pass, any two are the same
 pub only_one : (views : List View) (one other : ℕ) (v u : View) → length views ≡ 1 →
     get_elem? views one ≡ some v → get_elem? views other ≡ some u → one ≡ other
 only_one views one other v u single at there =
@@ -27,7 +27,7 @@ only_one views one other v u single at there =
     let low' = in_range views other u there in
     omega arith
 
--- where a pass isn't fresh, none is
+-- if one pass is not fresh, no pass is fresh
 pub none_fresh : (words : List ℕ) (views : List View) (by : ℕ) (view : View) → Kept words views →
     get_elem? views by ≡ some view → is_fresh view ≡ false →
     (j : ℕ) (u : View) → get_elem? views j ≡ some u → is_fresh u ≡ true → ⊥
@@ -36,7 +36,7 @@ none_fresh words views by view kept at old j u there fresh =
     let here : some u ≡ some view = sym there ∙ ap (λ i. get_elem? views i) (sym same) ∙ at in
     not_fresh (sym (ap is_fresh (some-injective _ _ here) ∙ old) ∙ fresh)
 
--- what holds of each pass, once the view of one has changed
+-- a fact about every pass, after the view of one has changed
 pub after_set : (P : ℕ → View → Type 0) (views : List View) (by : ℕ) (view : View) →
     ((j : ℕ) (u : View) → j ≢ by → get_elem? views j ≡ some u → P j u) → P by view →
     (j : ℕ) (u : View) → get_elem? (set views by view) j ≡ some u → P j u
@@ -47,7 +47,7 @@ after_set P views by view others mine j u there =
     (λ (x : (j ≢ by) × (get_elem? views j ≡ some u)). others j u x.0 x.1)
     (at_set views by j view u there)
 
--- what fits a journal fits it with one entry more, but for the publisher's
+-- a view that fits a journal fits it with one more entry, except the publisher's
 pub fits_longer : (journal : Journal) (entry : Entry) (seat by : ℕ) (view : View) → by ≢ seat →
     Fits journal seat by view → Fits (followed_by journal entry) seat by view
 fits_longer journal entry seat by Fresh apart fits = tt
@@ -57,7 +57,7 @@ fits_longer journal entry seat by (Viewing count seen) apart fits =
 fits_longer journal entry seat by (Publishing own) apart fits = absurd (apart fits.0)
 fits_longer journal entry seat by (Comparing own noted) apart fits = absurd (apart fits.0)
 
--- one view changes, and the words become those of a journal that all fit
+-- one view changes, and the words become those of a journal that all views fit
 pub changed : (words new : List ℕ) (views : List View) (by : ℕ) (view view' : View)
     (journal : Journal) (seat : ℕ) →
     Kept words views → get_elem? views by ≡ some view → is_fresh view ≡ false →
@@ -75,7 +75,7 @@ changed words new views by view view' journal seat kept at old old' shown others
       (λ fresh. absurd (not_fresh (sym old' ∙ fresh)));
 }
 
--- one view is cut in two, and both halves fit
+-- one view is split in two, and both halves fit
 pub cut : (words : List ℕ) (views : List View) (by : ℕ) (view left right : View) →
     Kept words views → get_elem? views by ≡ some view → is_fresh view ≡ false →
     is_fresh left ≡ false → is_fresh right ≡ false →
@@ -103,7 +103,7 @@ cut words views by view left right kept at old old_left old_right lefts rights =
           (at_snoc (set views by left) right u j at'));
     }
 
--- one view takes in another, which is spent
+-- one view takes over the knowledge of another, which is spent
 pub merged : (words : List ℕ) (views : List View) (by : ℕ) (view : View) (other : ℕ)
     (view' both : View) →
     Kept words views → get_elem? views by ≡ some view → other ≢ by →

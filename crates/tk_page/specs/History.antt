@@ -22,8 +22,8 @@ pub record Sight : Type 0 where
 abbrev pub Begins : Journal → Journal → Type 0
 Begins before after = (after.opening ≡ before.opening) × IsPrefix before.entries after.entries
 
--- the journal without entries that a snapshot tells: no command was accepted, and the clocks run at
--- their usual rate
+-- the journal without entries that a snapshot describes: no command was accepted, the frequency is
+-- 0, and the tick is 10,000 microseconds
 abbrev pub opened_by : Snapshot → Journal
 opened_by snapshot =
     let base = snapshot.base in
@@ -48,7 +48,7 @@ opened_by snapshot =
 abbrev pub IsOpening : Snapshot → Type 0
 IsOpening snapshot = snapshot ≡ snapshot_of (opened_by snapshot)
 
--- the longer of two journals of a page, the first where they are equally long
+-- the longer of two journals of a page, or the first one if they are equally long
 abbrev pub longer : Journal → Journal → Journal
 longer one other =
     record one {
@@ -56,7 +56,7 @@ longer one other =
           if nat_lt (length one.entries) (length other.entries) then other.entries else one.entries;
     }
 
--- what stands for the journal of whoever knows none
+-- a placeholder: the journal of a pass that knows no journal
 abbrev pub no_journal : Journal
 no_journal = opened_by (record {
   front = 0;

@@ -33,21 +33,21 @@ abbrev pub is_fresh : View → Bool
 is_fresh Fresh = true
 is_fresh _ = false
 
--- a viewer's pass, the counter of its journal, and how many entries that has; none was folded
--- before the first
+-- a viewer's pass, the counter of its journal, and the number of entries of that journal; no entry
+-- was folded
 pub record IsViewer (view : View) (counter : Counter) (front : ℕ) : Type 0 where
   pub viewing : view ≡ Viewing (reads_of view) (journal_of view)
   pub counted : counter ≡ (journal_of view).opening.counter
   pub fronted : front ≡ length (journal_of view).entries
   pub whole : (journal_of view).opening.count ≡ 0
 
--- words are those of a journal's snapshot, and tell it back
+-- the words are those of a journal's snapshot, and the snapshot can be restored from them
 pub record Shows (words : List ℕ) (journal : Journal) : Type 0 where
   pub value : words ≡ words_of (snapshot_of journal)
   pub back : restored journal.opening.counter words ≡ Some (snapshot_of journal)
 
--- what the pass `by` knows is true of the journal published so far: a viewer's journal begins it,
--- and that of the one publisher, which is the pass `seat`, is all of it
+-- the knowledge of the pass `by` is true of the journal published so far: a viewer's journal begins
+-- it, and the journal of the one publisher, whose pass is `seat`, is all of it
 abbrev pub Fits : Journal → ℕ → ℕ → View → Type 0
 Fits published seat by Fresh = Unit {0}
 Fits published seat by Spent = Unit {0}
@@ -56,8 +56,8 @@ Fits published seat by (Publishing own) = (by ≡ seat) × (own ≡ published)
 Fits published seat by (Comparing own noted) =
     (by ≡ seat) × (own ≡ published) × Begins noted published
 
--- the words are those of the snapshot of the journal published so far, and each pass knows true
--- things of it; a fresh pass is the only one
+-- the words are those of the snapshot of the journal published so far, and the knowledge of each
+-- pass is true of it; if a pass is fresh, it is the only one
 pub record Kept (words : List ℕ) (views : List View) : Type 0 where
   pub published : Journal
   pub seat : ℕ
@@ -66,11 +66,11 @@ pub record Kept (words : List ℕ) (views : List View) : Type 0 where
   pub alone : (by : ℕ) (view : View) → get_elem? views by ≡ some view →
       is_fresh view ≡ true → length views ≡ 1
 
--- the page is opened: the pass is then the publisher's, of a journal without entries
+-- the page is opened: the pass becomes the publisher's, with a journal without entries
 abbrev pub Opened : Journal → View → List ℕ → List ℕ → View → Type 0
 Opened journal view before after view' = view' ≡ Publishing journal
 
--- the journal has one more entry
+-- the publisher's journal has one more entry
 abbrev pub Published : Entry → View → List ℕ → List ℕ → View → Type 0
 Published entry view before after view' = view' ≡ Publishing (followed_by (journal_of view) entry)
 
@@ -80,8 +80,8 @@ Seen view before after view' =
     (view' ≡ Viewing (reads_of view + 1) (journal_of view'))
     × Begins (journal_of view) (journal_of view') × Shows after (journal_of view')
 
--- the journal that was noted begins the publisher's, and the words are those of the snapshot of the
--- publisher's
+-- the noted journal begins the publisher's, and the words are those of the snapshot of the
+-- publisher's journal
 abbrev pub Compared : View → List ℕ → List ℕ → View → Type 0
 Compared view before after view' =
     (view' ≡ Publishing (journal_of view)) × Begins (noted_of view) (journal_of view)
@@ -96,6 +96,6 @@ abbrev pub longer_of : View → View → View
 longer_of one other =
     Viewing (reads_of one + reads_of other) (longer (journal_of one) (journal_of other))
 
--- the publisher, with what a viewer has seen beside its own journal
+-- the publisher, with the journal that a viewer has seen noted next to its own
 abbrev pub with_note : View → View → View
 with_note own noted = Comparing (journal_of own) (journal_of noted)

@@ -1,4 +1,4 @@
-//! Values from outside the contracts, and threads.
+//! Values that contracts do not fix, and threads.
 
 mod desk;
 mod many;
@@ -11,22 +11,22 @@ use tk_clock::{Clock, Timespec};
 use tk_counter::CounterDesc;
 use tk_page::{Page, PageError};
 
-/// REALTIME where the clocks are opened, in nanoseconds.
+/// REALTIME at the opening of the clocks, in nanoseconds.
 const OPENED_REAL: u64 = 1_700_000_000_000_000_000;
 
-/// The same in seconds.
+/// The same time as seconds and nanoseconds.
 const OPENED_TIME: Timespec = Timespec {
     sec: 1_700_000_000,
     nsec: 0,
 };
 
-/// Stops the test where what was found isn't what was wanted. (A call of its own, so that the proof
-/// of a test is short.)
+/// Stops the test if `found` differs from `wanted`. (This is a separate call, so that the proof of
+/// a test is short.)
 fn assert_same<T: PartialEq + Debug>(rt: &impl Abort, found: &T, wanted: &T) {
     assert_eq!(rt; found, wanted);
 }
 
-/// A counter of 32 bits, one nanosecond a cycle.
+/// Returns a counter of 32 bits at 1 ns per cycle.
 fn nanosecond_counter() -> Result<CounterDesc, Fail> {
     Ok(CounterDesc::new(32, 16_777_216, 24)?)
 }
@@ -38,7 +38,7 @@ fn a_fault_has_a_text(rt: HostRuntime) -> Result<(), Fail> {
     Ok(())
 }
 
-/// Under `rt try --test --fail-alloc N`, for each N in turn, it still passes.
+/// Also passes under `rt try --test --fail-alloc N`, for each N.
 #[test]
 fn a_page_opens_or_tells_of_memory(rt: HostRuntime) -> Result<(), Fail> {
     let clock = Clock::open(nanosecond_counter()?, 0, OPENED_TIME)?;

@@ -1,4 +1,5 @@
--- Pieces that are appended one by one: what holds at the end, and where one has a fault.
+-- Pieces that are appended one by one: what holds at the end, and what holds if a piece has a
+-- fault.
 use Rattle.std.proofs.Common.{◌≡◌, ℕ, ◌<◌, ◌≤◌, List, refl, length, get_or, Ok, Err, Result, sym, subst, arith, inl, inr}
 use Rattle.std.specs.Prelude.{ℤ, pos, IsOk}
 use Rattle.std.proofs.lemmas.Bool.{cases_lt}
@@ -10,7 +11,7 @@ use Rattle.tk_keeper.specs.Trace.{item_of, IsConverted, IsFault, IsFirstFault}
 use Rattle.tk_pieces.specs.Pieces.{Items, HoldFirst, IsFaultFrom}
 
 module _ (journal : Journal) (clock : ClockId) (fronts stamps : List ℕ) where
-  -- the first fault of a list is why it isn't converted
+  -- the first fault of a list is the reason why it isn't converted
   fault_told : (index : ℕ) (error : TraceError) →
       IsFirstFault journal clock fronts stamps index error →
       IsFault journal clock fronts stamps error

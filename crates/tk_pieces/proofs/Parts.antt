@@ -1,4 +1,4 @@
--- Items by their place in a part of a list, and a piece more.
+-- Items by their place in a part of a list, and one more piece.
 use Rattle.std.proofs.Common.{◌≡◌, ℕ, ◌+◌, ◌-◌, ◌*◌, ◌<◌, ◌≤◌, List, length, get_or, take, drop, ◌++◌, length-take, Some, None, Ok, Err, Result, refl, sym, ap, ap₂, ◌∙◌, subst, arith, rules, inl, inr}
 use Rattle.std.specs.Prelude.{ℤ, pos, IsOk, Option}
 use Rattle.std.proofs.lemmas.Bool.{cases_lt}
@@ -18,7 +18,7 @@ use Rattle.tk_keeper.specs.Trace.{item_of, AreValues, IsWritten, IsTraced}
 use Rattle.tk_keeper.proofs.Stretches.{part_at}
 use Rattle.tk_pieces.specs.Pieces.{ArePieces, IsFaultFrom, IsTracedInPieces, further_on, piece_items, refused_mark}
 
--- a value doesn't hang on the place of its item
+-- a value doesn't depend on the place of its item
 same_value : (index place : ℕ) (value v : ℤ) (stamp : Option ReadError)
     (front : Option FrontError) →
     item_unless index (item_at index value stamp) front ≡ Ok v →
@@ -38,7 +38,7 @@ abbrev moved_by : ℕ → Result ℤ TraceError → Result ℤ TraceError
 moved_by by (Ok v) = Ok v
 moved_by by (Err error) = Err (further_on error by)
 
--- a fault moves with its item
+-- a fault has the place of its item
 same_fault : (index by : ℕ) (value : ℤ) (error : TraceError) (stamp : Option ReadError)
     (front : Option FrontError) →
     item_unless index (item_at index value stamp) front ≡ Err error →
@@ -61,7 +61,7 @@ module _ (journal : Journal) (clock : ClockId) (fronts stamps : List ℕ) where
   abbrev pub IsDone : List ℕ → ℕ → Type 0
   IsDone out k = item_of journal clock fronts stamps k ≡ Ok (pos (get_or out k 0))
 
-  -- a place of a piece lies in the part of the list that is the piece
+  -- a place of a piece is in the part of the list that is the piece
   within : (at k : ℕ) (xs : List ℕ) → at ≤ k → k < length xs → k - at < piece_items →
       k - at < length (take piece_items (drop at xs))
   within at k xs from inside until =
@@ -84,7 +84,7 @@ module _ (journal : Journal) (clock : ClockId) (fronts stamps : List ℕ) where
       ap (item_of journal clock fronts stamps) (sym back) ∙ told
       ∙ ap (λ v. Ok (pos v)) (part_at at piece_items k out from until)
 
-  -- the items before a piece, and those of the piece
+  -- the items before a piece, and the items of the piece
   pub pieces_done : (n : ℕ) (out : List ℕ) → length stamps ≡ length out →
       ArePieces journal clock fronts stamps out →
       (n * piece_items < length stamps → get_or out (n * piece_items) 0 < refused_mark) →
@@ -104,14 +104,14 @@ module _ (journal : Journal) (clock : ClockId) (fronts stamps : List ℕ) where
       get_or (xs ++ ys) k 0 ≡ get_or ys (k - length xs) 0
   late_out xs ys k high = search (rules, places)
 
-  -- an item behind a place, by its number from there on
+  -- an item after a place, by its number from there on
   late_item : (m k place : ℕ) →
       item journal clock place (get_or (drop m fronts) k 0) (get_or (drop m stamps) k 0)
       ≡ item journal clock place (get_or fronts (m + k) 0) (get_or stamps (m + k) 0)
   late_item m k place =
       ap₂ (item journal clock place) (get_or-drop m fronts k 0) (get_or-drop m stamps k 0)
 
-  -- the items before a place, and some behind it
+  -- the items before a place, and some after it
   late_values : (m n : ℕ) (out xs ys : List ℕ) → length xs ≡ m → xs ≡ take m out →
       AreValues journal clock fronts stamps m out →
       AreValues journal clock (drop m fronts) (drop m stamps) n ys →

@@ -1,4 +1,4 @@
--- What a trace is converted to in pieces, side by side.
+-- The result of converting a trace in pieces, on several threads.
 use Rattle.std.specs.Prelude.{◌≡◌, ℕ, ℤ, ◌+◌, ◌*◌, ◌<◌, ◌≤◌, ⊤, pos, List, length, slice_index, Result, Ok, Err, IsOk}
 use Rattle.std.specs.Fork.{slice_chunk}
 use Rattle.tk_clock.specs.declared.clock_id.ClockId.{ClockId}
@@ -7,8 +7,8 @@ use Rattle.tk_keeper.specs.declared.trace_error.TraceError.{TraceError}
 use Rattle.tk_keeper.specs.declared.trace_error.TraceError.TheVariants as errors
 use Rattle.tk_keeper.specs.Trace.{item_of, AreValues, IsFirstFault}
 
--- a trace that is converted into memory that is there: all its items, or those before the first
--- fault; what stands there from the fault on isn't told
+-- a trace that is converted into the caller's memory: all its items, or those before the first
+-- fault; the contents of the memory from the fault on are not specified
 abbrev pub IsTracedInPieces : Journal → ClockId → List ℕ → List ℕ → List ℕ →
     Result ⊤ TraceError → Type 0
 IsTracedInPieces journal clock fronts stamps new (Ok done) =
@@ -17,34 +17,36 @@ IsTracedInPieces journal clock fronts stamps new (Err error) =
     (index : ℕ) × IsFirstFault journal clock fronts stamps index error
     × AreValues journal clock fronts stamps index new
 
--- what each item of a trace comes to, by its place
+-- the result of each item of a trace, by its place
 abbrev pub Items : Type 0
 Items = ℕ → Result ℤ TraceError
 
--- words that hold the value of each item from a place on
+-- the words contain the value of each item from place `at` on, in nanoseconds
 abbrev pub HoldFrom : Items → ℕ → List ℕ → Type 0
 HoldFrom item at words =
     (k : ℕ) → k < length words → item (at + k) ≡ Ok (pos (slice_index words k))
 
--- words that hold the value of each item from the first on
+-- the words contain the value of each item from the first on, in nanoseconds
 abbrev pub HoldFirst : Items → List ℕ → Type 0
 HoldFirst item words = (k : ℕ) → k < length words → item k ≡ Ok (pos (slice_index words k))
 
--- the first item from a place on that has a fault, and that is its fault
+-- the first item from place `at` on, and before place `count`, that has a fault, and `error` is its
+-- fault
 abbrev pub IsFaultFrom : Items → ℕ → ℕ → TraceError → Type 0
 IsFaultFrom item count at error =
     (index : ℕ) × (at ≤ index) × (index < count) × (item index ≡ Err error)
     × ((k : ℕ) → at ≤ k → k < index → IsOk (item k))
 
--- the items of a piece
+-- the number of items of a piece
 abbrev pub piece_items : ℕ
 piece_items = 65536
 
--- what the first word of a piece is where an item of it has a fault
+-- the first word of a piece if an item of the piece has a fault
 abbrev pub refused_mark : ℕ
 refused_mark = 18446744073709551615
 
--- a piece that begins at a place of the list: unless it is marked, it holds the value of each item
+-- a piece that begins at place `at` of the list: unless it is marked, it contains the value of each
+-- of its items
 abbrev pub IsPiece : Journal → ClockId → List ℕ → List ℕ → ℕ → List ℕ → Type 0
 IsPiece journal clock fronts stamps at piece =
     slice_index piece 0 < refused_mark → HoldFrom (item_of journal clock fronts stamps) at piece
@@ -55,7 +57,7 @@ ArePieces journal clock fronts stamps out =
     (n : ℕ) → n * piece_items < length stamps →
     IsPiece journal clock fronts stamps (n * piece_items) (slice_chunk out piece_items n)
 
--- the place that a fault tells
+-- the place that a fault reports
 abbrev pub place_told : TraceError → ℕ
 place_told (errors.Unknown index) = index
 place_told (errors.Folded index) = index
@@ -63,7 +65,7 @@ place_told (errors.Invalid index) = index
 place_told (errors.Range index) = index
 place_told errors.Memory = 0
 
--- the same fault of an item that stands further on
+-- the same fault, of an item that is `by` places later
 abbrev pub further_on : TraceError → ℕ → TraceError
 further_on (errors.Unknown index) by = errors.Unknown (by + index)
 further_on (errors.Folded index) by = errors.Folded (by + index)

@@ -82,7 +82,7 @@ acted_push start now next actions replies action reply acted answer = record {
       ));
 }
 
--- in a loop over the actions
+-- one step of the loop over the actions
 pub acted_next : (start now next : Known) (actions : List Action) (i : ℕ)
     (replies more : List RaceReply) (reply : RaceReply) (d : Action) → i < length actions →
     HasActed start now (take i actions) replies → IsAnswer now next (get_or actions i d) reply →

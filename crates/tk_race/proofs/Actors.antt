@@ -1,4 +1,4 @@
--- Lists of actors and of their actions, place by place.
+-- Lists of actors and of their actions, item by item.
 use Rattle.std.proofs.Common.{◌≡◌, ℕ, suc, ◌+◌, ◌<◌, ◌≤◌, append_assoc, map, take, get_or, List, [], ◌∷◌, ◌++◌, length, refl, sym, ap, ◌∙◌, subst, arith, length-append}
 use Rattle.std.specs.List.{AllZip}
 use Rattle.std.proofs.lemmas.List.{map-append, length-map, take_more}
@@ -29,7 +29,7 @@ module _ {A B : Type 0} (R : A → B → Type 0) where
   zip_last (w ∷ ws) x (z ∷ zs) y all =
       let rest = zip_last ws x zs y all.1 in ((all.0, rest.0), rest.1)
 
--- all but the last, and the last
+-- all actors except the last, and the last one
 pub ready_last : (whole rest : List (List Action)) (last : List Action) (actors others : List Actor)
     (actor : Actor) → AreReady whole actors → whole ≡ rest ++ last ∷ [] →
     actors ≡ others ++ actor ∷ [] → AreReady rest others × IsReady last actor
@@ -37,7 +37,7 @@ ready_last whole rest last actors others actor are a b =
     zip_last IsReady rest last others actor
     (subst (λ (t : List (List Action) × List Actor). AreReady t.0 t.1) (λ i. (a i, b i)) are)
 
--- acts many come back acts were sent
+-- as many actors come back as were sent
 pub acted_length : (actions : List (List Action)) (olds news : List Actor) →
     HaveActed actions olds news → length news ≡ length olds
 acted_length [] [] [] have = refl
@@ -68,7 +68,7 @@ acted_last whole rest last olds others old back before new a b d have acted =
     subst (λ (t : List (List Action) × List Actor × List Actor). HaveActed t.0 t.1 t.2)
     (λ i. (sym a i, sym b i, sym d i)) (acted_push rest last others old before new have acted)
 
--- one more actor that is ready
+-- one more actor is ready
 ready_next : {A : Type 0} (f : A → List Action) (xs : List A) (actors more : List Actor) (d : A)
     (actor : Actor) → length actors < length xs → AreReady (map f (take (length actors) xs)) actors →
     IsReady (f (get_or xs (length actors) d)) actor → more ≡ actors ++ actor ∷ [] →
@@ -83,7 +83,7 @@ ready_next f xs actors more d actor below are last is =
     subst (λ (t : List (List Action) × List Actor). AreReady t.0 t.1) (λ i. (sym taken i, sym is i))
     (zip_push IsReady (map f (take n xs)) (f here) actors actor are last)
 
--- in a loop over the callers
+-- one step of the loop over the callers
 pub next_actor : {A : Type 0} (f : A → List Action) (xs : List A) (actors more : List Actor)
     (actions : A) (index : ℕ) (actor : Actor) (all rest others : List Known) →
     length all ≡ length xs → map (λ a. a.caller) actors ++ rest ≡ all →
@@ -107,7 +107,7 @@ next_actor f xs actors more actions index actor all rest others many callers ste
           (empty, subst (λ b. length (f b) ≤ actor.room) got room) is,
     )
 
--- acts many are back acts there are lists of actions
+-- as many actors come back as there are lists of actions
 pub many_acted : {A : Type 0} (f : A → List Action) (xs : List A) (olds news : List Actor) →
     AreReady (map f xs) olds → HaveActed (map f xs) olds news → length news ≡ length xs
 many_acted f xs olds news are have =

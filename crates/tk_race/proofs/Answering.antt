@@ -1,4 +1,4 @@
--- One action's reply, by every history that is still possible.
+-- The reply to one action is right for every history that is still possible.
 use Rattle.std.proofs.Common.{◌≡◌, ℕ, ◌+◌, ◌-◌, ◌≤◌, true, Bool, List, [], ◌∷◌, ◌++◌, length, take, refl, sym, ap, ◌∙◌, subst, arith, append_assoc, length-append}
 use Rattle.std.specs.Prelude.{Some, None, slice_get, nat_lt, if◌then◌else◌}
 use Rattle.std.proofs.lemmas.Bool.{lt-ltb}
@@ -28,7 +28,7 @@ begins_trans a b d p q = (q.0 ∙ p.0, prefix_trans a.entries b.entries d.entrie
 pub begins_length : (a b : Journal) → Begins a b → length a.entries ≤ length b.entries
 begins_length a b p = prefix_length a.entries b.entries p.1
 
--- a beginning is the first entries, as many as it has
+-- a journal that begins another consists of the other's first entries
 begins_prefix : (before history : Journal) → Begins before history →
     before ≡ prefix (length before.entries) history
 begins_prefix before history begins =
@@ -44,7 +44,7 @@ get_at : (before rest : List Entry) (entry : Entry) →
 get_at [] rest entry = refl
 get_at (first ∷ before) rest entry = get_at before rest entry
 
--- the entry behind some others has the next number
+-- the entry after `before` has the next number
 numbered : (count number : ℕ) (entries before rest : List Entry) (entry : Entry) → count ≡ 0 →
     number ≡ length before + 1 → before ++ entry ∷ rest ≡ entries →
     (if nat_lt count number then slice_get entries (number - count - 1) else None) ≡ Some entry
@@ -56,7 +56,7 @@ numbered count number entries before rest entry none next is =
     ∙ ap (λ (l : List Entry). slice_get l (length before)) (sym is)
     ∙ get_at before rest entry
 
--- an order that was accepted
+-- the reply to an order that was accepted is right
 pub done : (old new : Known) (cmd : Command) (number : ℕ) → IsAccepted old new cmd number →
     IsSameCaller old new → IsAnswer old new (Order cmd) (Done number)
 done old new cmd number told same =
@@ -100,7 +100,7 @@ done old new cmd number told same =
           ));
     }
 
--- an order that was refused
+-- the reply to an order that was refused is right
 pub refused : (old new : Known) (cmd : Command) (refusal : Refusal) →
     IsRefused old new cmd refusal → IsSameCaller old new →
     IsAnswer old new (Order cmd) (Refused refusal)

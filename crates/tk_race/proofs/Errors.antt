@@ -1,4 +1,4 @@
--- Why a race isn't run.
+-- The reasons why a race is not run.
 use Rattle.std.proofs.Common.{◌≡◌, ℕ, ◌≤◌, Bool, true, false, refl}
 use Rattle.std.specs.Prelude.{Some, None, Result, Ok, Err, MatchResult, not, nat_lt, ◌||◌, if◌then◌else◌}
 use Rattle.std.proofs.lemmas.Bool.{le-ltb}
@@ -22,7 +22,7 @@ split false false false above told low = absurd (cc told)
 split false false true true told low = absurd (cc low)
 split false false true false told low = refl
 
--- a keeper that could be prepared, and a reading that the counter may have
+-- the race has no error, if the keeper can be prepared and the counter can have the reading
 pub nothing_wrong : (actors : ℕ) (counter : Counter) (reading : ℕ) (real : Timespec) →
     opening_fault actors real ≡ None → reading ≤ mask counter →
     race_error actors counter reading real ≡ None
@@ -30,7 +30,7 @@ nothing_wrong actors counter reading real none low =
     split (nat_lt actors 1) (nat_lt most_callers actors) (is_settable real)
     (nat_lt (mask counter) reading) none (le-ltb (mask counter) reading low)
 
--- then only what comes late may be told
+-- after that, only `Memory` and `Threads` may be returned
 late : (actors : ℕ) (counter : Counter) (reading : ℕ) (real : Timespec) (error : RaceError) →
     race_error actors counter reading real ≡ None → IsLate error →
     IsRaceError actors counter reading real error

@@ -1,4 +1,4 @@
--- What a race has come to, once its keeper is closed.
+-- The outcome of a race, after its keeper was closed.
 use Rattle.std.proofs.Common.{◌≡◌, ℕ, zero, suc, ◌+◌, ◌<◌, List, [], ◌∷◌, ◌++◌, All, length, map, sum_by, refl, sym, ap, ◌∙◌, subst, arith, length-append}
 use Rattle.std.proofs.lemmas.List.Sums.{sum_by-cons}
 use Rattle.tk_clock.specs.Journal.{Journal}
@@ -14,7 +14,7 @@ use Rattle.tk_race.specs.Race.{HaveAll, IsOutcome}
 use Rattle.tk_race.specs.Replies.{IsActed, done_in}
 use Rattle.tk_race.proofs.Answering.{begins_trans}
 
--- the newcomers k, k + 1, and so on
+-- the newcomers with the numbers k, k + 1 and so on
 newcomers_from : LatchId → Journal → ℕ → ℕ → List Known
 newcomers_from latch start k zero = []
 newcomers_from latch start k (suc n) =
@@ -48,7 +48,8 @@ length-newcomers latch start (suc n) =
     omega (arith, rest, more)
 
 module _ (latch : LatchId) (start : Journal) where
-  -- these actors were the newcomers k, k + 1, and so on, and have done their actions
+  -- these actors were the newcomers with the numbers k, k + 1 and so on, and have done their
+  -- actions
   abbrev HaveRaced : ℕ → List (List Action) → List Actor → Type 0
   HaveRaced k [] [] = Unit {0}
   HaveRaced k (actions ∷ others) (actor ∷ actors) =
@@ -78,7 +79,7 @@ module _ (latch : LatchId) (start : Journal) where
   all_raced n actions olds news is have =
       raced_from 0 n actions olds news (is ∙ from_all latch start n) have
 
-  -- different numbers are kept
+  -- the callers' numbers stay different
   apart_from : (id k : ℕ) → id < k → (actions : List (List Action)) (news : List Actor) →
       HaveRaced k actions news → IsApart id (map (λ a. a.caller) news)
   apart_from id k low [] [] have = tt
@@ -137,7 +138,7 @@ module _ (latch : LatchId) (start : Journal) where
         (λ i d l. parts (suc i) d (omega (arith, l))) (λ i d l. own (suc i) d (omega (arith, l))),
   )
 
-  -- as many orders were done as commands of the callers were accepted
+  -- the number of done orders is the number of accepted commands of the callers
   counted_from : (k : ℕ) (actions : List (List Action)) (news : List Actor) →
       HaveRaced k actions news →
       accepted_by (map (λ a. a.caller) news) ≡ sum_by done_in (map (λ a. a.replies) news)

@@ -1,4 +1,4 @@
--- An actor between its actions, and what they come to in the end.
+-- An actor between its actions, and the result of all of its actions.
 use Rattle.std.specs.Prelude.{◌≡◌, ℕ, ◌+◌, ◌≤◌, List, [], ◌∷◌, length}
 use Rattle.std.specs.List.{AllZip}
 use mathlib.Core.List.{IsPrefix}
@@ -12,21 +12,22 @@ use Rattle.tk_race.specs.declared.action.Action.{Action}
 use Rattle.tk_race.specs.declared.action.RaceReply.{RaceReply}
 use Rattle.tk_race.specs.Replies.{IsReply, AreReplies, front_after, mark_after, done_by, done_in, reads_by, reads_in}
 
--- an actor: what its caller knows, its replies so far, and the room for them
+-- an actor: the knowledge of its caller, its replies so far, and the number of replies that it has
+-- capacity for
 pub record Actor : Type 0 where
   pub caller : Known
   pub replies : List RaceReply
   pub room : ℕ
 
--- it has no replies yet, and room for those to these actions
+-- the actor has no replies yet, and capacity for the replies to these actions
 abbrev pub IsReady : List Action → Actor → Type 0
 IsReady actions actor = (actor.replies ≡ []) × (length actions ≤ actor.room)
 
 abbrev pub AreReady : List (List Action) → List Actor → Type 0
 AreReady actions actors = AllZip IsReady actions actors
 
--- a whole history that begins with what the caller has seen, and whose snapshots are the
--- publications that it has learnt of
+-- `history` is a whole journal that begins with the entries that the caller has seen, and the
+-- publications that the caller has learnt of are its snapshots
 pub record IsHistoryOf (caller : Known) (history : Journal) : Type 0 where
   pub whole : IsWhole history
   pub begins : Begins caller.seen history
@@ -41,12 +42,12 @@ pub record IsLater (old new : Known) (done looks : ℕ) : Type 0 where
   pub counted : new.accepted ≡ old.accepted + done
   pub looked : new.reads ≡ old.reads + looks
 
--- replies may tell of this front and this mark, if the caller knows of no less
+-- replies so far may state this front and this mark: the caller knows at least as much
 abbrev pub Knows : Known → ℕ → ℕ → Type 0
 Knows caller front mark =
     (front ≤ length caller.seen.entries) × (mark ≤ mark_of caller.learnt.publications)
 
--- an action and its reply, by every history that is still possible
+-- an action and its reply; the reply is right for every history that is still possible
 pub record IsAnswer (old new : Known) (action : Action) (reply : RaceReply) : Type 0 where
   pub later : IsLater old new (done_by reply) (reads_by reply)
   pub right : (history : Journal) → IsHistoryOf new history → (front mark : ℕ) →
@@ -63,7 +64,8 @@ abbrev pub last_mark : ℕ → List RaceReply → ℕ
 last_mark mark [] = mark
 last_mark mark (reply ∷ replies) = last_mark (mark_after mark reply) replies
 
--- an actor's actions and their replies, by every history that is still possible
+-- an actor's actions and their replies; the replies are right for every history that is still
+-- possible
 pub record HasActed (old new : Known) (actions : List Action) (replies : List RaceReply)
     : Type 0 where
   pub later : IsLater old new (done_in replies) (reads_in replies)
@@ -71,7 +73,7 @@ pub record HasActed (old new : Known) (actions : List Action) (replies : List Ra
       AreReplies history old.id 0 0 actions replies
       × Knows new (last_front 0 replies) (last_mark 0 replies)
 
--- each of these actors has done its actions
+-- each of these actors has done all of its actions
 abbrev pub HaveActed : List (List Action) → List Actor → List Actor → Type 0
 HaveActed [] [] [] = Unit {0}
 HaveActed (actions ∷ others) (old ∷ olds) (new ∷ news) =

@@ -1,4 +1,4 @@
--- What a race has come to.
+-- The outcome of a race.
 use Rattle.std.specs.Prelude.{◌≡◌, ℕ, ◌+◌, List, [], ◌∷◌, sum_by}
 use Rattle.tk_counter.specs.Counter.{Counter}
 use Rattle.tk_clock.specs.declared.timespec.Timespec.{Timespec}
@@ -27,9 +27,9 @@ HaveAll history id (actions ∷ others) (replies ∷ more) =
     IsActed history id actions replies × HaveAll history (id + 1) others more
 HaveAll history id _ _ = ⊥
 
--- what a race has come to from an opened journal on: a whole history that begins with it, of which
--- the keeper's journal is what it keeps. Each actor has its part in it, and there are as many
--- entries as orders that were done
+-- the outcome of a race that starts with an opened journal: there is a whole history that begins
+-- with it, and the keeper's journal is what it keeps of that history. The replies of each actor are
+-- right in the history, and there is one entry for each order that was done
 pub record IsOutcome (start : Journal) (actors : List (List Action)) (journal : Journal)
     (replies : List (List RaceReply)) : Type 0 where
   pub history : Journal
@@ -39,7 +39,8 @@ pub record IsOutcome (start : Journal) (actors : List (List Action)) (journal : 
   pub each : HaveAll history 0 actors replies
   pub counted : accepted_count journal ≡ sum_by done_in replies
 
--- a race on clocks that were opened over this counter, at some reading of it, with this REALTIME
+-- the outcome of a race on clocks that were opened over this counter, at some reading of it, with
+-- this REALTIME
 abbrev pub IsRaced : Counter → Timespec → List (List Action) → Journal → List (List RaceReply) →
     Type 0
 IsRaced counter real actors journal replies =

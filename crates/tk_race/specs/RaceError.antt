@@ -1,4 +1,4 @@
--- Why a race isn't run, and what that is called.
+-- The reasons why a race is not run, and their texts.
 use Rattle.std.specs.Prelude.{◌≡◌, ℕ, List, codes, nat_lt, not, ◌||◌, Option, Some, None, if◌then◌else◌}
 use Rattle.tk_counter.specs.Counter.{Counter, mask}
 use Rattle.tk_clock.specs.declared.timespec.Timespec.{Timespec}
@@ -8,30 +8,31 @@ use Rattle.tk_shared.specs.declared.fault.OpenError.TheVariants as faults
 use Rattle.tk_race.specs.declared.race_error.RaceError.{RaceError}
 use Rattle.tk_race.specs.declared.race_error.RaceError.TheVariants.{Count, Invalid, Memory, Threads}
 
--- the most actors of a race
+-- the greatest number of actors of a race
 abbrev pub most_actors : ℕ
 most_actors = 64
 
--- what is wrong with a race of so many actors, on clocks opened at this reading with this REALTIME
+-- the error of a race with `actors` actors, on clocks opened at this reading with this REALTIME, if
+-- there is one
 abbrev pub race_error : ℕ → Counter → ℕ → Timespec → Option RaceError
 race_error actors counter reading real =
     if nat_lt actors 1 || nat_lt most_actors actors then Some Count
     else if nat_lt (mask counter) reading || not (is_settable real) then Some Invalid
     else None
 
--- is this the error? Memory and Threads are told only where nothing is wrong
+-- the error may be returned: `Memory` and `Threads` only if the race has no other error
 abbrev pub IsRaceError : ℕ → Counter → ℕ → Timespec → RaceError → Type 0
 IsRaceError actors counter reading real Memory = race_error actors counter reading real ≡ None
 IsRaceError actors counter reading real Threads = race_error actors counter reading real ≡ None
 IsRaceError actors counter reading real error = race_error actors counter reading real ≡ Some error
 
--- the error that a keeper's opening gives
+-- the error that a fault of the keeper's opening becomes
 abbrev pub error_of : OpenError → RaceError
 error_of faults.Count = Count
 error_of faults.Invalid = Invalid
 error_of faults.Memory = Memory
 
--- what may still go wrong once nothing is wrong with a race
+-- the errors that can still occur after the arguments of a race were tested
 abbrev pub IsLate : RaceError → Type 0
 IsLate Memory = Unit {0}
 IsLate Threads = Unit {0}

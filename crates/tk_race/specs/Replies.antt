@@ -1,4 +1,4 @@
--- What an actor's replies say of the history, which is every command that was accepted.
+-- What an actor's replies state about the history, which lists every accepted command.
 use Rattle.std.specs.Prelude.{◌≡◌, ℕ, ◌<◌, ◌≤◌, List, [], ◌∷◌, length, sum_by, Some}
 use Rattle.tk_counter.specs.Counter.{mask}
 use Rattle.tk_clock.specs.declared.command.Command.{Command}
@@ -12,17 +12,17 @@ use Rattle.tk_race.specs.declared.action.Action.TheVariants.{Order, Look, Glance
 use Rattle.tk_race.specs.declared.action.RaceReply.{RaceReply}
 use Rattle.tk_race.specs.declared.action.RaceReply.TheVariants.{Done, Refused, Saw, Glanced, Moved}
 
--- a command of an actor at a reading, as an entry
+-- an actor's command at a reading, as an entry
 abbrev pub order_of : ℕ → ℕ → Command → Entry
 order_of id reading cmd = record { who = id; reading = reading; cmd = cmd }
 
--- the entry of this number is the actor's command, at some reading
+-- the entry with this number is the actor's command, at some reading
 abbrev pub HasEntry : Journal → ℕ → ℕ → Command → Type 0
 HasEntry history number id cmd =
     (reading : ℕ) × (entry_at history number ≡ Some (order_of id reading cmd))
 
--- at some reading of the counter the command is refused so after some first entries of the history,
--- no fewer than the actor knew of
+-- at some reading of the counter the command is refused for this reason after the first `front`
+-- entries of the history, which are at least as many as the actor knew of
 pub record IsRefusedIn (history : Journal) (id known : ℕ) (cmd : Command) (refusal : Refusal)
     : Type 0 where
   pub front : ℕ
@@ -32,7 +32,7 @@ pub record IsRefusedIn (history : Journal) (id known : ℕ) (cmd : Command) (ref
   pub masked : reading ≤ mask history.opening.counter
   pub reason : IsRefusalAfter (prefix front history) (order_of id reading cmd) refusal
 
--- a right reply to an action, where the actor's replies so far tell of this front and this mark
+-- the reply to an action is right, when the actor's replies so far state this front and this mark
 module _ (history : Journal) (id front mark : ℕ) where
   abbrev pub IsReply : Action → RaceReply → Type 0
   IsReply (Order cmd) (Done number) =
@@ -43,20 +43,21 @@ module _ (history : Journal) (id front mark : ℕ) where
   IsReply Glance Moved = Unit {0}
   IsReply _ _ = ⊥
 
--- the front is the number that the last order done or the last look has told, which none of those
--- before it exceeds
+-- the front after a reply: the number that the last done order or the last look stated; right
+-- replies never state a smaller one than before
 abbrev pub front_after : ℕ → RaceReply → ℕ
 front_after front (Done number) = number
 front_after front (Saw read) = read
 front_after front _ = front
 
--- the mark is the number that the last order done or the last glance has told, in the same way
+-- the mark after a reply: the number that the last done order or the last glance stated; right
+-- replies never state a smaller one than before
 abbrev pub mark_after : ℕ → RaceReply → ℕ
 mark_after mark (Done number) = number
 mark_after mark (Glanced read) = read
 mark_after mark _ = mark
 
--- one reply to each action, in order, and each is right
+-- there is one right reply to each action, in order
 abbrev pub AreReplies : Journal → ℕ → ℕ → ℕ → List Action → List RaceReply → Type 0
 AreReplies history id front mark [] [] = Unit {0}
 AreReplies history id front mark (action ∷ actions) (reply ∷ replies) =
@@ -64,7 +65,7 @@ AreReplies history id front mark (action ∷ actions) (reply ∷ replies) =
     × AreReplies history id (front_after front reply) (mark_after mark reply) actions replies
 AreReplies history id front mark _ _ = ⊥
 
--- how many orders were done, by these replies
+-- the number of orders that were done, in one reply and in a list of replies
 abbrev pub done_by : RaceReply → ℕ
 done_by (Done number) = 1
 done_by _ = 0

@@ -1,4 +1,4 @@
-//! Values from outside the contracts, and threads.
+//! Values that contracts do not fix, and threads.
 
 mod gates;
 mod memory;
@@ -12,27 +12,27 @@ use tk_clock::{Command, Timespec};
 use tk_counter::CounterDesc;
 use tk_race::{Action, RaceReply};
 
-/// REALTIME where the clocks are opened.
+/// REALTIME at the opening of the clocks.
 const OPENED_TIME: Timespec = Timespec {
     sec: 1_700_000_000,
     nsec: 0,
 };
 
-/// An order that forwards the clocks, and nothing more.
+/// An order that only brings the clocks to the reading.
 const UPDATE: Action = Action::Order(Command::Update);
 
-/// Stops the test where what was found isn't what was wanted. (A call of its own, so that the proof
-/// of a test is short.)
+/// Stops the test if `found` differs from `wanted`. (This is a separate call, so that the proof of
+/// a test is short.)
 fn assert_same<T: PartialEq + Debug>(rt: &impl Abort, found: &T, wanted: &T) {
     assert_eq!(rt; found, wanted);
 }
 
-/// A counter of 32 bits, one nanosecond a cycle.
+/// Returns a counter of 32 bits at 1 ns per cycle.
 fn nanosecond_counter() -> Result<CounterDesc, Fail> {
     Ok(CounterDesc::new(32, 16_777_216, 24)?)
 }
 
-/// So many actors, each with so many actions of one kind.
+/// Returns `actors` actors with `actions` copies of one action each.
 fn alike(
     alloc: Global,
     actors: usize,
@@ -46,7 +46,7 @@ fn alike(
     Ok(all)
 }
 
-/// Are all these orders done, under rising numbers above this one?
+/// Returns whether all these orders were done, with numbers that rise from above `last`.
 fn rise(mut last: u64, replies: &[RaceReply]) -> bool {
     for reply in replies {
         let RaceReply::Done(number) = *reply else {

@@ -1,4 +1,5 @@
--- Journals that come to the same clocks after as many commands tell the same.
+-- Two journals with the same number of commands and the same clocks give the same replies and
+-- lines.
 use Rattle.std.proofs.Common.{◌≡◌, ◌∙◌, ℕ, ◌+◌, List, refl, sym, ap, subst, Bool, true, false}
 use Rattle.std.specs.Prelude.{ℤ, Option, Some, None, Ok, not, nat_le, nat_lt, int_lt, if◌then◌else◌}
 use Rattle.tk_counter.specs.Counter.{mask}
@@ -25,7 +26,7 @@ use Rattle.tk_clock.specs.Folding.{IsAlike}
 use Rattle.tk_replay.specs.Folding.{counting_rule_of}
 use Rattle.tk_replay.specs.Report.{IsLine, IsLookLine, after, event, reply_by, reply_line}
 
--- what a rule lets through passes the clocks' tests
+-- a command that the rule accepts passes the tests of the clocks
 room_or_told : (full : Bool) (told : Option Refusal) → (if full then Some Full else told) ≡ None →
     told ≡ None
 room_or_told true told passed = cc passed
@@ -37,7 +38,7 @@ passes_clock None journal entry passed =
     room_or_told (nat_le listed_most (accepted_count journal)) (clock_refusal journal entry) passed
 passes_clock (Some keep) journal entry passed = passed
 
--- a command is refused alike
+-- both journals refuse the same commands
 rule-alike : (keep : Option ℕ) (journal whole : Journal) → IsAlike journal whole →
     (entry : Entry) → counting_rule_of keep journal entry ≡ counting_rule_of keep whole entry
 rule-alike None journal whole alike entry =
@@ -48,7 +49,7 @@ rule-alike None journal whole alike entry =
 rule-alike (Some keep) journal whole alike entry =
     clock_refusal-alike journal whole alike.state entry
 
--- a clock is refused alike
+-- both journals refuse the same reads
 pub read_fault-alike : (journal whole : Journal) → IsAlike journal whole →
     (clock : ClockId) (reading : ℕ) →
     read_fault journal clock reading ≡ read_fault whole clock reading
@@ -60,7 +61,7 @@ read_fault-alike journal whole alike clock reading =
     ap (λ s. told s (clock_value journal clock reading)) alike.state
     ∙ ap (told (state_of whole)) (clock_value-alike journal whole alike.state clock reading)
 
--- a reply leaves them alike, its answer is the same, and so is its line
+-- a reply leaves the journals alike, and its answer and its line are the same
 pub reply-alike : (journal whole : Journal) → IsAlike journal whole →
     (entry : Entry) (told : Option Refusal) →
     (told ≡ None → clock_refusal journal entry ≡ None) →
@@ -99,7 +100,7 @@ IsLookLine-alike journal whole alike clock reading None line (time, (nanos, valu
 )
 IsLookLine-alike journal whole alike clock reading (Some error) line text = text
 
--- the line of a record on a journal is that on one like it
+-- the line of a record is the same for both journals
 pub IsLine-alike : (keep : Option ℕ) (journal whole : Journal) → IsAlike journal whole →
     (row : Row) (line : List ℕ) → IsLine (counting_rule_of keep) journal row line →
     IsLine (counting_rule_of keep) whole row line
@@ -127,7 +128,7 @@ after-alike keep journal whole alike (Act reading cmd) =
     (passes_clock keep journal entry))
 after-alike keep journal whole alike (Look reading clock) = alike
 
--- and so is the journal after it
+-- the journals after a record are alike
 pub IsAlike-after : (keep : Option ℕ) (journal whole next : Journal) → IsAlike journal whole →
     (row : Row) → IsAlike next (after (counting_rule_of keep) journal row) →
     IsAlike next (after (counting_rule_of keep) whole row)

@@ -1,4 +1,5 @@
--- A journal that lists every command is full where so many were accepted as a journal lists.
+-- A journal that lists every command is full once it has accepted as many commands as a
+-- journal lists.
 use Rattle.std.proofs.Common.{◌≡◌, ◌∙◌, ℕ, List, [], ◌∷◌, refl, sym, ap, subst, arith, Bool, true, false}
 use Rattle.std.specs.Prelude.{Option, Some, None, nat_le, length, ◌||◌, if◌then◌else◌}
 use Rattle.std.proofs.lemmas.Grind.{common_steps}
@@ -31,7 +32,7 @@ is_full-counted journal whole =
     ap (λ k. nat_le listed_most k || nat_le counted_most n) listed
     ∙ full_if (nat_le listed_most n) (nat_le counted_most n) (most_listed n)
 
--- so either rule refuses the same
+-- both rules therefore refuse the same commands
 rule-counted : (keep : Option ℕ) (journal : Journal) (entry : Entry) →
     journal.opening.count ≡ 0 →
     counting_rule_of keep journal entry ≡ rule_of keep journal entry
@@ -85,7 +86,7 @@ lines-counted keep journal (row ∷ rows) text whole (line, rest, told, later, p
       parts,
     )
 
--- a report by the count of accepted commands is one by the journal
+-- a report by the number of accepted commands is a report by the journal
 pub IsReportOf-counted : (keep : Option ℕ) (parse : Parse) (text : List ℕ) →
     IsReportOf (counting_rule_of keep) parse text → IsReportOf (rule_of keep) parse text
 IsReportOf-counted keep parse text (lines, told, parts) = (

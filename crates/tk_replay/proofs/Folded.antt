@@ -1,4 +1,4 @@
--- A journal that was folded replies as the whole one does.
+-- A folded journal gives the same replies as the whole one.
 use Rattle.std.proofs.Common.{◌≡◌, ◌∙◌, ℕ, ◌-◌, ◌<◌, ◌≤◌, List, length, sym, ap, subst, arith, Bool, false}
 use Rattle.std.specs.Prelude.{Option, Some, Result, Ok, Err, max, nat_le, if◌then◌else◌}
 use Rattle.std.proofs.lemmas.Grind.{common_steps}
@@ -21,13 +21,13 @@ use Rattle.tk_clock.proofs.Refusals.{first_refusal-room}
 use Rattle.tk_replay.proofs.Alike.{answer-alike, reply-alike}
 use Rattle.tk_clock.specs.Limits.{listed_most, counted_most}
 
--- the journal at its own front
+-- a journal, up to its own front, is itself
 at_front-last : (journal : Journal) → at_front (accepted_count journal) journal ≡ journal
 at_front-last journal =
     ap (λ (es : List Entry). record journal { entries = es })
     (take_all (accepted_count journal - journal.opening.count) journal.entries (omega arith))
 
--- a folded journal is like the one before
+-- a folded journal is alike to the journal before the fold
 pub IsAlike-folded : (before after : Journal) → IsFolded before after → IsAlike after before
 IsAlike-folded before after folded = record {
   state = sym (ap state_of (at_front-last after))
@@ -37,7 +37,7 @@ IsAlike-folded before after folded = record {
   count = folded.all;
 }
 
--- and has room
+-- a journal that was folded to at most `greatest_keep` entries is not full
 pub has_room : (before after : Journal) (folded keep : ℕ) →
     folded ≡ max before.opening.count (accepted_count before - keep) →
     after.opening.count ≡ folded → IsAlike after before → keep ≤ greatest_keep →
@@ -48,13 +48,13 @@ has_room before after folded keep told same alike small few =
     let counted : accepted_count after < counted_most = omega (arith, alike.count) in
     grind (arith, common_steps)
 
--- where there is room, the clocks alone refuse
+-- if the journal is not full, only the clocks refuse
 not_full : (journal : Journal) (entry : Entry) → is_full journal ≡ false →
     reply_to journal entry ≡ reply_by clock_refusal journal entry
 not_full journal entry room =
     ap (reply_if journal entry) (first_refusal-room journal entry room)
 
--- what is answered where memory isn't wanting is the whole journal's reply
+-- without an allocation failure, the answer is the whole journal's
 replied : (whole : Journal) (kept after : Keeper) (entry : Entry) (result : Result ℕ Refusal) →
     IsAlike kept.journal whole → is_full kept.journal ≡ false → IsAnswer kept entry result after →
     (result ≡ Err Memory → ⊥) →
@@ -99,8 +99,8 @@ IsReplied-folded whole kept after entry (Err Range) alike room answered =
     replied whole kept after entry (Err Range) alike room answered (λ e. cc e)
 IsReplied-folded whole kept after entry (Err Memory) alike room answered = tt
 
--- where fewer commands were accepted than a journal lists, there is room, and the count alone
--- refuses nothing
+-- while fewer commands were accepted than a journal lists, the journal is not full, and the count
+-- alone refuses nothing
 counted_room : (journal : Journal) → accepted_count journal < listed_most →
     is_full journal ≡ false
 counted_room journal few = grind (arith, common_steps)

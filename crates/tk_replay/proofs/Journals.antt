@@ -12,21 +12,21 @@ use Rattle.tk_script.specs.Grammar.{Fails, Parse}
 use Rattle.tk_replay.specs.Report.{after}
 use Rattle.tk_replay.specs.Trace.{journal_after, journal_of}
 
--- a row is taken, and those after it are left
+-- one row is applied, and the rows after it are left
 pub journal_after-row : (journal : Journal) (row : Row) (later : Result (List Row) ScriptError) →
     journal_after journal (row_and row later)
     ≡ journal_after (after first_refusal journal row) later
 journal_after-row journal row (Ok rows) = refl
 journal_after-row journal row (Err fault) = refl
 
--- the rows of an opened script
+-- the journal of an opened script is that of its rows
 pub journal_of-opened : (start : Start) (rows : Result (List Row) ScriptError) →
     journal_of (opened_with start rows)
     ≡ journal_after (opened start.desc start.reading start.real) rows
 journal_of-opened start (Ok rows) = refl
 journal_of-opened start (Err fault) = refl
 
--- a fault of rows, or of a script, is one of its journal
+-- a fault of the rows, or of the script, is the fault of the journal
 pub Fails-journal_after : (journal : Journal) (rows : Result (List Row) ScriptError)
     (fault : ScriptError) → Fails fault rows → Fails fault (journal_after journal rows)
 Fails-journal_after journal rows errors.Memory fails = tt

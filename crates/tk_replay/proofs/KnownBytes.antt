@@ -4,7 +4,7 @@ use Rattle.std.proofs.Math.Seq.{take-add, take-append_seam}
 use Rattle.std.proofs.lemmas.List.{length-drop, take_all}
 use Rattle.std.specs.Io.KnownBytes.{Appends, Consumes}
 
--- one more piece of a text went out
+-- one more piece of a text was written
 pub appends-more : (old mid new : Option (List ℕ)) (text : List ℕ) (written count : ℕ) →
     Appends old mid (take written text) → Appends mid new (take count (drop written text)) →
     Appends old new (take (written + count) text)
@@ -32,7 +32,7 @@ consumes-more (Some xs) (Some ys) (Some zs) bytes filled count before piece =
     )
     (sym (append_assoc (take filled bytes) (take count (drop filled bytes)) zs))
 
--- one more piece of an input was read into room whose front was kept
+-- one more piece of an input was read into a buffer whose front did not change
 pub consumes-next : (old mid new : Option (List ℕ)) (before room rest : List ℕ)
     (filled count len : ℕ) →
     length room ≡ len → take filled room ≡ take filled before →
@@ -42,7 +42,7 @@ consumes-next old mid new before room rest filled count len same front first pie
     let whole : take len (room ++ rest) ≡ room = rw (← same) (take-append_seam room rest) in
     rw whole (consumes-more old mid new room filled count (rw front first) piece)
 
--- all that follows a place
+-- all bytes after a place
 pub take-rest : (text : List ℕ) (place : ℕ) →
     take (length text - place) (drop place text) ≡ drop place text
 take-rest text place =

@@ -25,7 +25,7 @@ use Rattle.tk_clock.proofs.Alike.{IsAlike-self, clock_value-alike}
 use Rattle.tk_replay.proofs.Alike.{IsAlike-after, IsLine-alike}
 use Rattle.tk_replay.proofs.Counted.{IsReportOf-counted}
 
--- the line of an accepted command, by the time that the journal tells which is kept
+-- the line of an accepted command has the time that the kept journal gives
 pub reply_line-accepted : (reply : Reply) (kept : Journal) (reading number : ℕ)
     (time : Timespec) →
     IsReplied reply (Ok number) kept → IsTimeAt kept Monotonic reading time →
@@ -43,8 +43,8 @@ reply_line-accepted reply kept reading number time replied (nanos, value, split)
 abbrev pub Rows : Type 0
 Rows = Result (List Row) ScriptError
 
--- a text that becomes the report of all rows when the lines of those to come are added; a fault to
--- come is theirs
+-- a text which becomes the report of all rows when the lines of the rows to come are appended; a
+-- fault of the rows to come is the fault of all rows
 pub record IsBegun (rule : Rule) (start : Start) (all : Rows) (journal : Journal) (to_come : Rows)
     (text : List ℕ) : Type 0 where
   pub told : (rows : List Row) (rest : List ℕ) → to_come ≡ Ok rows →
@@ -82,7 +82,7 @@ IsBegun-end rule start all journal to_come text begun none =
     let R : List ℕ → Type 0 = λ whole. IsReportOfRows rule start all whole in
     subst R (append-nil text) (begun.told [] [] none refl)
 
--- the same by a journal that is like one that lists every command
+-- the same for a kept journal that is alike to one which lists every command
 pub record IsBegunBy (keep : Option ℕ) (start : Start) (all : Rows) (kept : Journal)
     (to_come : Rows) (text : List ℕ) :
     Type 0 where
@@ -90,7 +90,7 @@ pub record IsBegunBy (keep : Option ℕ) (start : Start) (all : Rows) (kept : Jo
   pub alike : IsAlike kept whole
   pub begun : IsBegun (counting_rule_of keep) start all whole to_come text
 
--- after the opening's line all rows are to come
+-- after the opening's line, all rows are to come
 pub IsBegunBy-start : (keep : Option ℕ) (start : Start) (all : Rows) →
     IsBegunBy keep start all (opened start.desc start.reading start.real) all (open_line start.desc)
 IsBegunBy-start keep start all = record {
@@ -125,7 +125,7 @@ pub IsBegunBy-end : (keep : Option ℕ) (start : Start) (all : Rows) (kept : Jou
 IsBegunBy-end keep start all kept to_come text begun none =
     IsBegun-end (counting_rule_of keep) start all begun.whole to_come text begun.begun none
 
--- a reading's fault is that of another one which fails where it does
+-- if `to` has every fault of `from`, it also allows every error that `from` allows
 pub Fails-from : (from to : Rows) (fault : ScriptError) →
     ((told : ScriptError) → from ≡ Err told → to ≡ Err told) →
     Fails fault from → Fails fault to
@@ -137,7 +137,7 @@ Fails-from from to (errors.Word row) step fails = step (errors.Word row) fails
 Fails-from from to (errors.Fields row) step fails = step (errors.Fields row) fails
 Fails-from from to (errors.Number row) step fails = step (errors.Number row) fails
 
--- a fault of the rows to come is one of all
+-- a fault of the rows to come is the fault of all rows
 pub IsBegunBy-fault : (keep : Option ℕ) (start : Start) (all : Rows) (kept : Journal)
     (to_come : Rows) (text : List ℕ)
     (fault : ScriptError) → IsBegunBy keep start all kept to_come text → Fails fault to_come →
@@ -155,7 +155,8 @@ fails-opened bytes start all (errors.Word row) opens fails = opens ∙ ap (opene
 fails-opened bytes start all (errors.Fields row) opens fails = opens ∙ ap (opened_with start) fails
 fails-opened bytes start all (errors.Number row) opens fails = opens ∙ ap (opened_with start) fails
 
--- the report of the rows, or their fault, is that of the bytes which tell the opening and them
+-- the report of the rows, or their fault, is that of the bytes which contain the opening and the
+-- rows
 pub report-opened : {A : Type 0} (keep : Option ℕ) (bytes : List ℕ) (start : Start) (all : Rows)
     (text_of : A → List ℕ)
     (result : Result A ScriptError) → parse_of bytes ≡ opened_with start all →
@@ -168,7 +169,7 @@ report-opened keep bytes start all text_of (Ok text) opens (parse, told, report)
 report-opened keep bytes start all text_of (Err fault) opens fails =
     fails-opened bytes start all fault opens fails
 
--- a record is one command at most
+-- a record is at most one command
 counted : (journal : Journal) (entry : Entry) (told : Option Refusal) →
     accepted_count (reply_if journal entry told).journal ≤ accepted_count journal + 1
 counted journal entry None = omega (arith, length_push journal.entries entry)

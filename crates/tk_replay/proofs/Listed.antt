@@ -1,4 +1,4 @@
--- How many entries a journal lists that is folded where it is full.
+-- The number of entries that a journal lists, if it is folded whenever it is full.
 use Rattle.std.proofs.Common.{◌≡◌, ◌∙◌, ℕ, ◌-◌, ◌<◌, ◌≤◌, length, sym, ap, arith, Bool, true}
 use Rattle.std.specs.Prelude.{Result, Ok, Err, max, if◌then◌else◌}
 use Rattle.std.proofs.lemmas.Grind.{common_steps}
@@ -13,7 +13,7 @@ use Rattle.tk_keeper.proofs.Running.{IsAnswer}
 use Rattle.tk_clock.specs.Folding.{IsAlike}
 use Rattle.tk_replay.specs.Folding.{greatest_keep, listed_after, listed_then}
 
--- an accepted entry is one more
+-- an accepted command adds one entry
 pub listed-answered : (before after : Keeper) (entry : Entry) (answer : Result ℕ Refusal) →
     IsAnswer before entry answer after →
     length after.journal.entries ≡ listed_after (length before.journal.entries) answer
@@ -26,7 +26,7 @@ full_lists : (journal : Journal) → is_full journal ≡ true → accepted_count
     listed_most ≤ length journal.entries
 full_lists journal full few = grind (arith, common_steps)
 
--- and of a full one so many entries are kept
+-- a fold of a full journal keeps `keep` entries
 pub listed_then-folded : (before after : Journal) (folded keep : ℕ) →
     folded ≡ max before.opening.count (accepted_count before - keep) →
     after.opening.count ≡ folded → IsAlike after before → keep ≤ greatest_keep →

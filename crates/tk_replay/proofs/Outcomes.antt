@@ -1,4 +1,4 @@
--- Lists whose items are related place by place.
+-- Lists whose items are related pairwise.
 use Rattle.std.proofs.Common.{◌≡◌, ℕ, zero, suc, ◌<◌, ◌+◌, List, [], ◌∷◌, length, get_or, set, take, refl, sym, ap, subst, arith, ◌++◌}
 use Rattle.std.specs.List.{AllZip}
 use Rattle.std.proofs.lemmas.List.{take_more}
@@ -9,14 +9,14 @@ use Rattle.tk_script.specs.declared.script_error.ScriptError.TheVariants.{Memory
 use Rattle.tk_replay.specs.Many.{AreOutcomes, IsOutcome}
 
 module _ {A B : Type 0} (R : A → B → Type 0) where
-  -- as many of the one as of the other
+  -- both lists have the same length
   all_zip-length : (xs : List A) (ys : List B) → AllZip R xs ys → length xs ≡ length ys
   all_zip-length [] [] all = refl
   all_zip-length [] (y ∷ ys) all = absurd all
   all_zip-length (x ∷ xs) [] all = absurd all
   all_zip-length (x ∷ xs) (y ∷ ys) all = ap suc (all_zip-length xs ys all.1)
 
-  -- another item at a place, which is related to its item too
+  -- the item at a place is replaced by one that is related to its partner too
   all_zip-set : (xs : List A) (ys : List B) (place : ℕ) (x : A) (y : B) → AllZip R xs ys →
       x ≡ get_or xs place x → R x y →
       AllZip R xs (set ys place y)
@@ -36,12 +36,12 @@ module _ {A B : Type 0} (R : A → B → Type 0) where
   all_zip-push (w ∷ xs) [] x y all fits = absurd all
   all_zip-push (w ∷ xs) (z ∷ ys) x y all fits = (all.0, all_zip-push xs ys x y all.1 fits)
 
--- one outcome for each script
+-- there is one outcome for each script
 pub outcomes_length : (scripts : List (Vec ℕ)) (outcomes : List (Result (Vec ℕ) ScriptError)) →
     AreOutcomes scripts outcomes → length scripts ≡ length outcomes
 outcomes_length scripts outcomes all = all_zip-length IsOutcome scripts outcomes all
 
--- the outcome of one script is put in its place
+-- the outcome of a script replaces the one at its place
 pub outcome_set : (scripts : List (Vec ℕ)) (outcomes : List (Result (Vec ℕ) ScriptError))
     (place : ℕ) (script : Vec ℕ) (outcome : Result (Vec ℕ) ScriptError) →
     AreOutcomes scripts outcomes → script ≡ get_or scripts place script →
@@ -50,7 +50,7 @@ pub outcome_set : (scripts : List (Vec ℕ)) (outcomes : List (Result (Vec ℕ) 
 outcome_set scripts outcomes place script outcome all here fits =
     all_zip-set IsOutcome scripts outcomes place script outcome all here fits
 
--- want of memory stands for one script more
+-- an allocation failure is a placeholder for one more script's outcome
 pub outcome_waits : (scripts : List (Vec ℕ)) (outcomes : List (Result (Vec ℕ) ScriptError))
     (count : ℕ) → count < length scripts → AreOutcomes (take count scripts) outcomes →
     AreOutcomes (take (count + 1) scripts) (outcomes ++ Err Memory ∷ [])

@@ -1,4 +1,4 @@
--- After an accepted command MONOTONIC can be told.
+-- After an accepted command, a read of MONOTONIC at its reading is not refused.
 use Rattle.std.proofs.Common.{◌≡◌, ◌∙◌, ℕ, refl, Bool, true, false}
 use Rattle.std.specs.Prelude.{ℤ, Ok, Option, Some, None, not, ◌||◌, nat_lt, int_lt, if◌then◌else◌}
 use Rattle.tk_counter.specs.Counter.{mask}
@@ -45,7 +45,7 @@ neither_test true past not_above not_past = cc
 neither_test false true not_above not_past = cc
 neither_test false false not_above not_past = refl
 
--- after an accepted command MONOTONIC can be told at its reading
+-- after an accepted command, a read of MONOTONIC at its reading is not refused
 read_fault-accepted : (journal : Journal) (entry : Entry) → clock_refusal journal entry ≡ None →
     read_fault (followed_by journal entry) Monotonic entry.reading ≡ None
 read_fault-accepted journal entry accepted =
@@ -68,7 +68,7 @@ told_after keep journal kept entry number None accepted answered alike =
     ∙ read_fault-accepted journal entry (passes_clock keep journal entry accepted)
 told_after keep journal kept entry number (Some refusal) refused answered alike = cc answered
 
--- so the time of an accepted command's line can be told by the journal that is kept
+-- the journal that is kept therefore gives the time for the line of an accepted command
 pub read_fault-replied : (keep : Option ℕ) (journal kept : Journal) (entry : Entry) (number : ℕ) →
     IsReplied (reply_by (counting_rule_of keep) journal entry) (Ok number) kept →
     read_fault kept Monotonic entry.reading ≡ None

@@ -1,4 +1,4 @@
--- A clock's value is told by one time alone.
+-- A clock's value has exactly one time in seconds and nanoseconds.
 use Rattle.std.proofs.Common.{◌≡◌, ◌∙◌, ℕ, ◌+◌, ◌*◌, ◌%◌, ◌^◌, ◌<◌, refl, sym, ap, arith, Bool, true, false}
 use Rattle.std.specs.Prelude.{ℤ, pos, negsuc, ◌+ℤ◌, ◌*ℤ◌, ◌≤ℤ◌, ◌<ℤ◌, int_lt, unsigned_abs, not, Some, None, Result, Ok, Err, IsOk, if◌then◌else◌}
 use Rattle.std.proofs.lemmas.Int.{ints}
@@ -17,7 +17,7 @@ use Rattle.tk_keeper.specs.Read.{IsRead, IsTimeOf, read_fault}
 use Rattle.tk_script.specs.Lines.{IsWritable}
 use Rattle.tk_replay.specs.Report.{IsTimeAt}
 
--- seconds and nanoseconds in their ranges come back from their nanoseconds
+-- splitting nanoseconds gives back the seconds and nanoseconds that they were made of
 timespec_of-parts : (sec nsec : ℕ) → nsec < 10 ^ 9 →
     timespec_of (sec * 10 ^ 9 + nsec) ≡ record { sec = pos sec; nsec = nsec }
 timespec_of-parts sec nsec low =
@@ -35,14 +35,14 @@ is_time_at journal clock reading (pos sec) nsec same low start =
     (sec * 10 ^ 9 + nsec, sym same ∙ sum, sym (timespec_of-parts sec nsec low))
 is_time_at journal clock reading (negsuc less) nsec same low start = absurd (omega (arith, ints))
 
--- a time of as many nanoseconds as the clock tells is its time
+-- a time with as many nanoseconds as the clock's value is the clock's time
 pub IsTimeAt-nanoseconds : (journal : Journal) (clock : ClockId) (reading : ℕ) (time : Timespec) →
     nanoseconds time ≡ clock_value journal clock reading → time.nsec < 10 ^ 9 → pos 0 ≤ℤ time.sec →
     IsTimeAt journal clock reading time
 IsTimeAt-nanoseconds journal clock reading time same low start =
     is_time_at journal clock reading time.sec time.nsec same low start
 
--- no clock ends later
+-- no clock has a greater limit
 limit_most : (clock : ClockId) → limit clock ≤ℤ pos (clock_end * 10 ^ 9)
 limit_most Monotonic = omega (arith, ints)
 limit_most MonotonicCoarse = omega (arith, ints)
@@ -65,7 +65,7 @@ not_past true below told = cc
 not_past false true told = refl
 not_past false false told = cc
 
--- a time that a clock tells can be written
+-- the time of a read that is not refused can be written
 pub IsWritable-read : (journal : Journal) (clock : ClockId) (reading : ℕ) (time : Timespec) →
     read_fault journal clock reading ≡ None → IsTimeOf (clock_value journal clock reading) time →
     IsWritable time
@@ -77,13 +77,13 @@ IsWritable-read journal clock reading time free told =
     let end = below_end time.sec time.nsec (omega (arith, ints, told.0, below, most)) told.2 in
     (end.0, end.1, told.1)
 
--- and is the clock's time there
+-- this time is the clock's time at the reading
 pub IsTimeAt-read : (journal : Journal) (clock : ClockId) (reading : ℕ) (time : Timespec) →
     IsTimeOf (clock_value journal clock reading) time → IsTimeAt journal clock reading time
 IsTimeAt-read journal clock reading time told =
     IsTimeAt-nanoseconds journal clock reading time told.0 told.1 told.2
 
--- a clock without a fault is told
+-- a read without a fault gives a time
 pub IsOk-read : (journal : Journal) (clock : ClockId) (reading : ℕ)
     (result : Result Timespec ReadError) →
     IsRead journal clock reading result → read_fault journal clock reading ≡ None → IsOk result

@@ -1,4 +1,4 @@
--- What a trace of two inputs comes to, case by case.
+-- The result of a trace of two inputs, case by case.
 use Rattle.std.proofs.Common.{◌≡◌, ℕ, List, refl, sym, subst, inl, inr}
 use Rattle.std.specs.Prelude.{◌⊎◌, Option, Result, Ok, Err, IsOk, MatchResult}
 use Rattle.tk_clock.specs.declared.clock_id.ClockId.{ClockId}
@@ -15,18 +15,18 @@ use Rattle.tk_replay.specs.Reading.{IsReadToEnd}
 use Rattle.tk_replay.specs.Replay.{IsStopped}
 use Rattle.tk_replay.specs.Trace.{AreReadToEnd, IsItemsFault, IsItemsText, IsTrace, IsTraceFault, journal_of}
 
--- a script whose journal is told has no fault
+-- a script that has a journal has no fault
 parsed : (read : Result Parse ScriptError) (journal : Journal) → journal_of read ≡ Ok journal →
     IsOk read
 parsed (Ok parse) journal told = refl
 parsed (Err error) journal told = cc
 
--- memory was refused, or the bytes have this fault
+-- an allocation failed, or the bytes have this fault
 abbrev pub MayFault : ClockId → List ℕ → List ℕ → Fault → Type 0
 MayFault clock script stamps fault =
     (fault ≡ faults.Memory) ⊎ IsTraceFault clock script stamps fault
 
--- a fault of the stamp file, after a script without one
+-- a fault of the stamp file, after a script without a fault
 pub MayFault-stamps : (clock : ClockId) (script stamps : List ℕ) (journal : Journal)
     (error : ScriptError) → journal_of (parse_of script) ≡ Ok journal →
     Fails error (stamps_of stamps) → MayFault clock script stamps (fault_of_stamps error)
@@ -44,7 +44,7 @@ MayFault-stamps clock script stamps journal (errors.Fields row) told fails =
 MayFault-stamps clock script stamps journal (errors.Number row) told fails =
     inr (parsed (parse_of script) journal told, fails, λ e. cc e)
 
--- what the items come to is what the bytes come to which tell them
+-- the result for the items is the result for the bytes that contain them
 pub trace-converted : {A : Type 0} (clock : ClockId) (script stamps : List ℕ) (journal : Journal)
     (items : Items) (text_of : A → List ℕ) (result : Result A Fault) →
     journal_of (parse_of script) ≡ Ok journal → stamps_of stamps ≡ Ok items →
@@ -61,7 +61,7 @@ trace-converted clock script stamps journal items text_of (Err fault) told given
     let P : Fault → Type 0 = λ f. IsTraceFault clock script stamps f in
     inr (subst P (sym came.1) (journal, items, told, given, came.2))
 
--- a fault of all that was read stopped the trace before it wrote
+-- a fault of the bytes that were read stopped the trace before it wrote anything
 pub stopped-before : (clock : ClockId) (unread left stamps_unread stamps_left : Option (List ℕ))
     (read write same : Type 0) (WentOut : List ℕ → ℕ → Type 0) (script stamps : List ℕ)
     (fault : Fault) →

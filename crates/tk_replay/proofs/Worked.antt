@@ -18,14 +18,14 @@ use Rattle.tk_script.specs.Stamps.{Items, items_of}
 use Rattle.tk_replay.specs.Report.{event}
 use Rattle.tk_replay.specs.Trace.{IsItemsFault, IsItemsText, journal_of}
 
--- one nanosecond a cycle, readings of 32 bits
+-- one nanosecond per cycle, readings of 32 bits
 abbrev nanosecond_counter : Counter
 nanosecond_counter = record { bits = 32; mult = 16777216; shift = 24 }
 
 abbrev since : Timespec
 since = record { sec = pos 1700000000; nsec = 0 }
 
--- the second row is refused, its reading being above the mask, and the third one reads a clock
+-- the second row is refused, because its reading is above the mask, and the third one reads a clock
 abbrev script : Parse
 script = record {
   counter = nanosecond_counter;
@@ -35,7 +35,7 @@ script = record {
       ∷ Act 1000000000 (Freq (neg_ℤ (pos 32768000))) ∷ [];
 }
 
--- the others are its journal's entries
+-- the other two rows are the entries of its journal
 abbrev steered : Journal
 steered = record (opened nanosecond_counter 0 since) {
   entries = event 0 (Freq (pos 65536000))
@@ -46,7 +46,7 @@ left : journal_of (Ok script) ≡ Ok steered
 unfolding is_well_formed is_past_limit is_bad_setting
 left = refl
 
--- stamps of the opening, after one command, and after both
+-- stamps from the opening, after one command, and after both
 abbrev stamps : Items
 stamps = items_of ((0, 1000000000) ∷ (1, 1000000000) ∷ (2, 1000000001) ∷ [])
 
@@ -62,11 +62,11 @@ told =
     let first = below_more Told 0 (below_none Told) refl in
     (values, (refl, below_more Told 2 (below_more Told 1 first refl) refl), refl)
 
--- nothing is told of no stamps
+-- the text of no stamps is empty
 nothing : IsItemsText Monotonic steered (items_of []) []
 nothing = ([], (refl, λ k below. absurd (omega arith)), refl)
 
--- one stamp more, of a front that is yet to come
+-- one more stamp, with a front that the journal has not reached
 abbrev further : Items
 further = items_of ((0, 1000000000) ∷ (1, 1000000000) ∷ (2, 1000000001) ∷ (3, 0) ∷ [])
 

@@ -1,4 +1,4 @@
--- What a fault is called, and which fault an error of a script, a stamp file or an item is.
+-- The text of each fault, and the fault that an error of a script, a stamp file or an item becomes.
 use Rattle.std.specs.Prelude.{ℕ, List, Option, Some, None, codes}
 use Rattle.tk_script.specs.declared.script_error.ScriptError.{ScriptError}
 use Rattle.tk_script.specs.declared.script_error.ScriptError.TheVariants as errors
@@ -8,7 +8,7 @@ use Rattle.tk_keeper.specs.TraceError.{trace_text}
 use Rattle.tk_replay.specs.declared.fault.Fault.{Fault}
 use Rattle.tk_replay.specs.declared.fault.Fault.TheVariants as faults
 
--- the text of a fault; that of a script's or a stamp file's error is not said here
+-- the text of a fault; `None` leaves the text of a script's or a stamp file's error open
 abbrev pub fault_text : Fault → Option (List ℕ)
 fault_text faults.Read = Some (codes "cannot read")
 fault_text (faults.Script error) = None
@@ -17,7 +17,7 @@ fault_text (faults.Trace error) = trace_text error
 fault_text faults.Memory = Some (codes "out of memory")
 fault_text (faults.Write written) = Some (codes "cannot write")
 
--- want of memory is a fault of its own
+-- the fault that an error of a script becomes; an allocation failure is a separate fault
 abbrev pub fault_of : ScriptError → Fault
 fault_of errors.Memory = faults.Memory
 fault_of errors.TooLarge = faults.Script errors.TooLarge
@@ -27,7 +27,7 @@ fault_of (errors.Word row) = faults.Script (errors.Word row)
 fault_of (errors.Fields row) = faults.Script (errors.Fields row)
 fault_of (errors.Number row) = faults.Script (errors.Number row)
 
--- which fault an error of a stamp file is; want of memory again is a fault of its own
+-- the fault that an error of a stamp file becomes; an allocation failure is a separate fault
 abbrev pub fault_of_stamps : ScriptError → Fault
 fault_of_stamps errors.Memory = faults.Memory
 fault_of_stamps errors.TooLarge = faults.Stamps errors.TooLarge
@@ -37,7 +37,7 @@ fault_of_stamps (errors.Word row) = faults.Stamps (errors.Word row)
 fault_of_stamps (errors.Fields row) = faults.Stamps (errors.Fields row)
 fault_of_stamps (errors.Number row) = faults.Stamps (errors.Number row)
 
--- and which one an error of an item is
+-- the fault that an error of an item becomes; an allocation failure is a separate fault
 abbrev pub fault_of_trace : TraceError → Fault
 fault_of_trace items.Memory = faults.Memory
 fault_of_trace (items.Unknown index) = faults.Trace (items.Unknown index)

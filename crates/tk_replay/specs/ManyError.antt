@@ -1,4 +1,4 @@
--- What is told where there are no reports of many scripts.
+-- The texts of the errors of a call that makes reports of many scripts.
 use Rattle.std.specs.Prelude.{ℕ, List, codes}
 use Rattle.tk_replay.specs.declared.many_error.ManyError.{ManyError}
 use Rattle.tk_replay.specs.declared.many_error.ManyError.TheVariants.{Count, Memory, Threads}

@@ -1,5 +1,5 @@
--- What a call comes to that reads inputs, makes a text of them and writes it; and a replay, which
--- reads one script.
+-- The result of a call that reads inputs, makes a text from them and writes it; and the result of a
+-- replay, which reads one script.
 use Rattle.std.specs.Prelude.{◌≡◌, ◌≢◌, ℕ, List, Option, Bool, Result, Ok, Err}
 use Rattle.std.specs.Io.KnownBytes.{Appends}
 use Rattle.tk_script.specs.declared.script_error.ScriptError.TheVariants as errors
@@ -9,13 +9,16 @@ use Rattle.tk_replay.specs.declared.fault.Fault.TheVariants as faults
 use Rattle.tk_replay.specs.Reading.{IsReadToEnd, IsReadWithin}
 use Rattle.tk_replay.specs.Writing.{IsFlushed, IsWrittenUpTo, WriteFailed}
 
--- a text went out, and after it a flush went through
+-- a text was written completely, and then a flush succeeded
 abbrev pub IsDone : (List ℕ → Type 0) → Type 0 → (List ℕ → Type 0) → Type 0
 IsDone IsText flushed WentOut = ((text : List ℕ) × IsText text × WentOut text) × flushed
 
--- what stopped a call, and what it left: the last read failed, the inputs have a fault, memory was
--- refused, and the writer is as it was; or the last write or the flush failed, and so many bytes of
--- a text went out
+-- the fault that stopped a call, and the state that it left:
+-- - `Read`: the last read failed, and the writer is unchanged
+-- - `Script`, `Stamps`, `Trace`: the inputs have this fault, and the writer is unchanged
+-- - `Memory`: an allocation failed, and the writer is unchanged
+-- - `Write`: the last write or the flush failed, after the first `written` bytes of a text were
+--   written
 abbrev pub IsStopped :
     (List ℕ → Type 0) → (Fault → Type 0) → Type 0 → Type 0 → Type 0 → (List ℕ → ℕ → Type 0) →
     Fault → Type 0
@@ -30,9 +33,10 @@ IsStopped IsText IsFault read write same WentOut faults.Memory = same
 IsStopped IsText IsFault read write same WentOut (faults.Write written) =
     ((text : List ℕ) × IsText text × WentOut text written) × write
 
--- what such a call came to, whatever its inputs are: `IsText` says which text they tell, `IsFault`
--- which fault they have, and `read` that the last read of them failed. The writer is known by its
--- bytes and by what its calls came to
+-- the result of such a call, for any inputs: `IsText` is the relation that selects the text of the
+-- inputs, `IsFault` the relation that selects their fault, and `read` states that the last read of
+-- them failed. `contents` gives the bytes of the writer, and `write_gives` and `flush_gives` relate
+-- each of its calls to the result
 abbrev pub CameTo :
     (List ℕ → Type 0) → (Fault → Type 0) → Type 0 →
     {W : Type 0} → (W → Option (List ℕ)) → (W → List ℕ → Option ℕ → W → Type 0) →
@@ -43,14 +47,14 @@ CameTo IsText IsFault read contents write_gives flush_gives old new (Err fault) 
     IsStopped IsText IsFault read (WriteFailed write_gives flush_gives new) (new ≡ old)
     (IsWrittenUpTo (contents old) (contents new)) fault
 
--- the text of all that was read of one input, by the fact that tells which text is told of which
--- bytes
+-- the text that belongs to all bytes that were read from one input, by the relation `IsTold`
+-- between bytes and their text
 abbrev pub IsTextOfAll :
     (List ℕ → List ℕ → Type 0) → Option (List ℕ) → Option (List ℕ) → List ℕ → Type 0
 IsTextOfAll IsTold unread left text =
     (bytes : List ℕ) × IsReadToEnd unread left bytes × IsTold bytes text
 
--- the fault of a script, in all that was read of it
+-- the fault of a script, in all bytes that were read from it; an allocation failure is none
 abbrev pub IsScriptFault : Option (List ℕ) → Option (List ℕ) → Fault → Type 0
 IsScriptFault unread left (faults.Script error) =
     (bytes : List ℕ) × IsReadToEnd unread left bytes
@@ -61,8 +65,9 @@ IsScriptFault unread left (faults.Trace error) = ⊥
 IsScriptFault unread left faults.Memory = ⊥
 IsScriptFault unread left (faults.Write written) = ⊥
 
--- what a replay came to, by the fact that tells which text is the report of which bytes: of the
--- reader by the bytes that it had left and has, and by the fact that its last read failed
+-- the result of a replay, by the relation `IsTold` between the bytes of a script and their report:
+-- `unread` and `left` are the bytes that the reader had before and has after, and `read` states
+-- that its last read failed
 pub record IsReplayed
     {W : Type 0} (IsTold : List ℕ → List ℕ → Type 0) (unread left : Option (List ℕ)) (read : Type 0)
     (contents : W → Option (List ℕ)) (write_gives : W → List ℕ → Option ℕ → W → Type 0)

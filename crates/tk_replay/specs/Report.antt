@@ -21,15 +21,15 @@ use Rattle.tk_script.specs.Coming.{opened_with}
 use Rattle.tk_script.specs.Grammar.{Parse, parse_of}
 use Rattle.tk_script.specs.Lines.{open_line, ok_line, no_line, IsAtLine}
 
--- a script's command as an event: all of them come from one caller, 0
+-- a script's command as an event: all of them come from the caller 0
 abbrev pub event : ℕ → Command → Entry
 event reading cmd = record { who = 0; reading = reading; cmd = cmd }
 
--- why an event is refused after a journal
+-- the reason why an event is refused after a journal, if it is
 abbrev pub Rule : Type 0
 Rule = Journal → Entry → Option Refusal
 
--- the answer to an event, by a rule
+-- the reply to an event, by a rule
 abbrev pub reply_by : Rule → Journal → Entry → Reply
 reply_by rule journal event = reply_if journal event (rule journal event)
 
@@ -42,12 +42,13 @@ answer_line journal reading (Err refusal) = no_line refusal
 abbrev pub reply_line : ℕ → Reply → List ℕ
 reply_line reading reply = answer_line reply.journal reading reply.answer
 
--- the time of a clock at a reading: its nanoseconds, split
+-- the time of a clock at a reading: its nanoseconds, split into seconds and nanoseconds
 abbrev pub IsTimeAt : Journal → ClockId → ℕ → Timespec → Type 0
 IsTimeAt journal clock reading time =
     (nanos : ℕ) × (clock_value journal clock reading ≡ pos nanos) × (time ≡ timespec_of nanos)
 
--- the line of a clock at a reading: its time, or why it tells none
+-- the line of a read of a clock at a reading: the clock's time, or the reason why the read is
+-- refused
 abbrev pub IsLookLine : Journal → ClockId → ℕ → Option ReadError → List ℕ → Type 0
 IsLookLine journal clock reading None line =
     (time : Timespec) × IsTimeAt journal clock reading time × IsAtLine clock time line
@@ -60,12 +61,13 @@ IsLine rule journal (Act reading cmd) line =
 IsLine rule journal (Look reading clock) line =
     IsLookLine journal clock reading (read_fault journal clock reading) line
 
--- the journal after a record: an accepted command is its next entry, and a look leaves it
+-- the journal after a record: an accepted command becomes its next entry, and a read changes
+-- nothing
 abbrev pub after : Rule → Journal → Row → Journal
 after rule journal (Act reading cmd) = (reply_by rule journal (event reading cmd)).journal
 after rule journal (Look reading clock) = journal
 
--- the lines of records, each on the journal that those before it left
+-- the lines of records, each from the journal that the records before it left
 abbrev pub IsLines : Rule → Journal → List Row → List ℕ → Type 0
 IsLines rule journal [] text = text ≡ []
 IsLines rule journal (row ∷ rows) text =
@@ -73,26 +75,26 @@ IsLines rule journal (row ∷ rows) text =
     × IsLines rule (after rule journal row) rows rest
     × (text ≡ line ++ rest)
 
--- the report of what a script says
+-- the report of a parsed script
 abbrev pub IsReportOf : Rule → Parse → List ℕ → Type 0
 IsReportOf rule parse text =
     (lines : List ℕ) × IsLines rule (opened parse.counter parse.reading parse.real) parse.rows lines
     × (text ≡ open_line parse.counter ++ lines)
 
--- the report of an opening and of rows that were read without a fault
+-- the report of an opening and of rows that were parsed without a fault
 abbrev pub IsReportOfRows : Rule → Start → Result (List Row) ScriptError → List ℕ → Type 0
 IsReportOfRows rule start read text =
     (parse : Parse) × (opened_with start read ≡ Ok parse) × IsReportOf rule parse text
 
--- the report of a script's bytes, by a rule
+-- the report of a script with these bytes, by a rule
 abbrev pub IsReportBy : Rule → List ℕ → List ℕ → Type 0
 IsReportBy rule bytes text = (parse : Parse) × (parse_of bytes ≡ Ok parse)
     × IsReportOf rule parse text
 
--- the report of a script's bytes: a command is refused where the journal is full, too
+-- the report of a script with these bytes, if a full journal refuses every command
 abbrev pub IsReport : List ℕ → List ℕ → Type 0
 IsReport = IsReportBy first_refusal
 
--- the report of a script's bytes by a journal that lists every command and is never full
+-- the report of a script with these bytes, if the journal lists every command and is never full
 abbrev pub IsReportUnlimited : List ℕ → List ℕ → Type 0
 IsReportUnlimited = IsReportBy clock_refusal

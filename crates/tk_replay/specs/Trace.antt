@@ -1,5 +1,5 @@
 -- A trace: the journal that a script leaves, the items of a stamp file, and a line for the value of
--- each item; and what reading both, converting and writing come to.
+-- each item; and the result of reading both inputs, converting the items and writing the lines.
 use Rattle.std.specs.Prelude.{◌≡◌, ◌≢◌, ℕ, List, [], ◌∷◌, ◌++◌, flat_map, codes, decimal, Option, Bool, Result, Ok, Err, IsOk, ◌⊎◌}
 use Rattle.tk_clock.specs.declared.clock_id.ClockId.{ClockId}
 use Rattle.tk_clock.specs.Journal.{Journal, opened}
@@ -17,18 +17,18 @@ use Rattle.tk_replay.specs.Reading.{IsReadToEnd, IsReadWithin}
 use Rattle.tk_replay.specs.Replay.{CameTo}
 use Rattle.tk_replay.specs.Report.{after}
 
--- the journal after rows, each of them on the journal that those before it left
+-- the journal after all rows, each applied to the journal that the rows before it left
 abbrev pub after_all : Journal → List Row → Journal
 after_all journal [] = journal
 after_all journal (row ∷ rows) = after_all (after first_refusal journal row) rows
 
--- the same of rows that are read, or their fault
+-- the journal after the rows of a reading, or the fault of that reading
 abbrev pub journal_after : Journal → Result (List Row) ScriptError → Result Journal ScriptError
 journal_after journal (Ok rows) = Ok (after_all journal rows)
 journal_after journal (Err error) = Err error
 
--- the journal that a script leaves, or its fault: each command that isn't refused is an entry, and
--- where the journal is full all are refused
+-- the journal that a script leaves, or its fault: each accepted command becomes an entry, and a
+-- full journal refuses every command
 abbrev pub journal_of : Result Parse ScriptError → Result Journal ScriptError
 journal_of (Ok parse) =
     Ok (after_all (opened parse.counter parse.reading parse.real) parse.rows)
@@ -38,30 +38,30 @@ journal_of (Err error) = Err error
 abbrev pub value_line : ℕ → List ℕ
 value_line nanos = decimal nanos ++ codes "\n"
 
--- the text of items: a line for the value of each, in their order
+-- the text of items: a line for the value of each item, in order
 abbrev pub IsItemsText : ClockId → Journal → Items → List ℕ → Type 0
 IsItemsText clock journal items text =
     (values : List ℕ) × IsConverted journal clock items.fronts items.stamps values
     × (text ≡ flat_map value_line values)
 
--- the fault of items: that of the first one which has any
+-- the fault of items: that of the first item which has one
 abbrev pub IsItemsFault : ClockId → Journal → Items → TraceError → Type 0
 IsItemsFault clock journal items error =
     (index : ℕ) × IsFirstFault journal clock items.fronts items.stamps index error
 
--- a script's journal and the items of a stamp file, where neither has a fault, and a fact of both
+-- a script's journal and the items of a stamp file, if neither has a fault, and a fact about both
 abbrev pub AreRead : List ℕ → List ℕ → (Journal → Items → Type 0) → Type 0
 AreRead script stamps Holds =
     (journal : Journal) × (items : Items)
     × (journal_of (parse_of script) ≡ Ok journal) × (stamps_of stamps ≡ Ok items)
     × Holds journal items
 
--- the trace of the bytes of a script and of a stamp file
+-- the trace of a script with these bytes and of a stamp file with these bytes
 abbrev pub IsTrace : ClockId → List ℕ → List ℕ → List ℕ → Type 0
 IsTrace clock script stamps text =
     AreRead script stamps (λ journal items. IsItemsText clock journal items text)
 
--- the fault of such bytes: the script's, then that of the stamp file, then that of the items
+-- the fault of such bytes, in this order: the script's, that of the stamp file, that of the items
 abbrev pub IsTraceFault : ClockId → List ℕ → List ℕ → Fault → Type 0
 IsTraceFault clock script stamps (faults.Script error) =
     (parse_of script ≡ Err error) × (error ≢ errors.Memory)
@@ -73,8 +73,8 @@ IsTraceFault clock script stamps faults.Read = ⊥
 IsTraceFault clock script stamps faults.Memory = ⊥
 IsTraceFault clock script stamps (faults.Write written) = ⊥
 
--- what was read of one input and then of another: each to its end, or as much as is read at most,
--- and a fact of both
+-- the bytes that were read from one input and then from another, each to its end or to the reading
+-- limit, and a fact about both
 abbrev pub AreReadToEnd : (unread left later_unread later_left : Option (List ℕ)) →
     (List ℕ → List ℕ → Type 0) → Type 0
 AreReadToEnd unread left later_unread later_left Holds =
@@ -82,14 +82,15 @@ AreReadToEnd unread left later_unread later_left Holds =
     × IsReadToEnd unread left first × IsReadToEnd later_unread later_left later
     × Holds first later
 
--- the last read of two inputs failed: that of the first one, and the other is as it was; or that of
--- the other, when all of the first one was read
+-- the last read of two inputs failed: that of the first input, and the other input is unchanged; or
+-- that of the other input, after the first one was read to its end or to the reading limit
 abbrev pub EitherFailed : Option (List ℕ) → Option (List ℕ) → Type 0 → Type 0 → Type 0 → Type 0
 EitherFailed unread left failed same later_failed =
     (failed × same) ⊎ (((bytes : List ℕ) × IsReadToEnd unread left bytes) × later_failed)
 
--- what a trace came to: of the script and of the stamps by the bytes that each had left and has,
--- and by the fact that the last read of them failed
+-- the result of a trace: `unread` and `left` are the bytes that the script's reader had before and
+-- has after, `stamps_unread` and `stamps_left` those of the stamps' reader, and `read` states that
+-- the last read of them failed
 pub record IsTraceDone
     {W : Type 0} (clock : ClockId)
     (unread left stamps_unread stamps_left : Option (List ℕ)) (read : Type 0)

@@ -1,4 +1,4 @@
--- What a reader of rows has still to read, from one record to the next.
+-- The rows that a row reader has still to read, from one record to the next.
 use Rattle.std.proofs.Common.{◌≡◌, ◌∙◌, ◌≤◌, ◌+◌, ◌^◌, ℕ, zero, suc, List, [], ◌∷◌, length, Option, Some, None, IsSome, Bool, true, false, Result, Ok, Err, refl, sym, ap, arith, cond, ◌++◌, append_assoc}
 use Rattle.csv.specs.Machine.{Read, next_record}
 use Rattle.csv.specs.Reading.{default_config, is_bom, records_from, records_next, strip_bom}
@@ -18,12 +18,12 @@ use Rattle.tk_script.specs.declared.row_reader.RowReader.{RowReader}
 use Rattle.tk_script.specs.declared.script_error.ScriptError.{ScriptError}
 use Rattle.tk_script.specs.declared.script_error.ScriptError.TheVariants as errors
 
--- rows, and then those of a later reading, or its fault
+-- rows, followed by the rows of a later reading, or the fault of that reading
 abbrev pub rows_and : List Row → Result (List Row) ScriptError → Result (List Row) ScriptError
 rows_and front (Ok later) = Ok (front ++ later)
 rows_and front (Err fault) = Err fault
 
--- no more records than turns
+-- there are at most as many records as steps
 records_from-few : (cfg : Config) (n : ℕ) (s : State) (xs : List ℕ) →
     length (records_from cfg n s xs) ≤ n
 unfolding records_from
@@ -35,7 +35,7 @@ records_from-few cfg (suc n) s xs = by (next_record cfg s [] [] xs) (records_fro
     by None few = omega arith
     by (Some p) few = let less = few p.1 p.2 in omega arith
 
--- the mark of a text's byte order makes it no longer
+-- removing a byte order mark makes a text no longer
 strip_bom-shorter : (xs : List ℕ) → length (strip_bom xs) ≤ length xs
 unfolding strip_bom
 strip_bom-shorter [] = omega arith
@@ -48,7 +48,7 @@ strip_bom-shorter (a ∷ b ∷ c ∷ rest) = by (is_bom a b c)
     by true = omega arith
     by false = omega arith
 
--- a text has no more records than bytes, and one
+-- a text has at most one record more than it has bytes
 records_of-few : (bytes : List ℕ) → length (records_of bytes) ≤ length bytes + 1
 records_of-few bytes =
     let few = records_from-few default_config (length (strip_bom bytes) + 1) StartRecord
@@ -56,7 +56,7 @@ records_of-few bytes =
     let shorter = strip_bom-shorter bytes in
     omega arith
 
--- the records that are left, where the reader has not failed
+-- the records that are left, if the reader has not failed
 left-some : (o : Option (List (List (List ℕ)))) → IsSome o →
     (left : List (List (List ℕ))) × (o ≡ Some left)
 left-some (Some left) h = (left, refl)
@@ -66,7 +66,7 @@ pub left-known : (reader : RowReader) → IsReady reader →
     (left : List (List (List ℕ))) × (left_in reader.records ≡ Some left)
 left-known reader ready = left-some (left_in reader.records) ready.left
 
--- by the records that are left
+-- the rows to come and their number, by the records that are left
 coming-left : (reader : RowReader) (left : List (List (List ℕ))) → left_in reader.records ≡ Some left
     → coming reader ≡ rows_of reader.row left
 unfolding coming
@@ -78,7 +78,7 @@ records_left-left : (reader : RowReader) (left : List (List (List ℕ))) →
 unfolding records_left
 records_left-left reader left e = rw e refl
 
--- behind the opening
+-- the reader after the opening
 pub ready-open : (reader : RowReader) (bytes : List ℕ) (first : List (List ℕ))
     (left : List (List (List ℕ)))
     → IsCursor reader.records → left_in reader.records ≡ Some left → reader.row ≡ 2
@@ -126,7 +126,7 @@ unfolding each
 coming-fault reader left later first fault e split told = coming-left reader left e
     ∙ rw (split, told) refl
 
--- the next record tells a row
+-- the next record gives a row
 pub coming-row : (old new : RowReader) (left later : List (List (List ℕ))) (first : List (List ℕ))
     (row : Row)
     → left_in old.records ≡ Some left → left ≡ first ∷ later → row_of old.row first ≡ Ok row
@@ -156,7 +156,7 @@ pub ready-row : (old new : RowReader) (later : List (List (List ℕ)))
 ready-row old new later ready one reading rest next =
     record { reading = reading; left = rw rest refl; count = omega (arith, ready.count, one, next) }
 
--- with a row that was read behind those before it, the whole is the same
+-- appending a row that was read to the earlier rows leaves the result of the whole the same
 pub opened-row : (whole : Result Parse ScriptError) (start : Start) (front front' : List Row)
     (row : Row) (old new : RowReader)
     → whole ≡ opened_with start (rows_and front (coming old)) →
@@ -172,7 +172,7 @@ opened-row whole start front front' row old new told step e = told ∙ rw (step,
         (sym (append_assoc front (row ∷ []) rows))
     by (Err fault) = refl
 
--- a fault of what is to come is that of the whole
+-- a fault of the rows to come is the fault of the whole script
 pub opened-fault : (whole : Result Parse ScriptError) (start : Start) (front : List Row)
     (reader : RowReader) (fault : ScriptError)
     → whole ≡ opened_with start (rows_and front (coming reader)) → Fails fault (coming reader) →

@@ -1,4 +1,4 @@
--- What a step over a plain text takes.
+-- The records that a step over a plain text takes.
 use Rattle.std.proofs.Common.{◌≡◌, ℕ, List, Option, None, Some, Result, refl}
 use Rattle.std.specs.Option.{IfSome}
 use Rattle.csv.specs.declared.parser.State.TheVariants.{StartRecord}
@@ -11,7 +11,7 @@ use Rattle.tk_script.specs.declared.script_error.ScriptError.{ScriptError}
 use Rattle.tk_script.proofs.PlainLemmas.{front-record, record_of_line}
 use Rattle.tk_script.proofs.RecordLemmas.{records_after-some}
 
--- what the line at the front tells, the first record tells
+-- the line at the front of the text gives the same value as the first record
 pub takes-front : {A : Type 0} (tell : ℕ → List (List ℕ) → Result A ScriptError) (told : Option A)
     (old new : Lines)
     → IsPlain old.rest.now

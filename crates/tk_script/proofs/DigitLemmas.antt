@@ -1,4 +1,4 @@
--- The last nine digits of a number of ten.
+-- The last nine digits of a number of ten digits.
 use Rattle.std.proofs.Common.{◌≡◌, ◌∙◌, ℕ, ◌+◌, ◌/◌, ◌%◌, ◌^◌, ◌<◌, List, ◌∷◌, ◌++◌, length, drop, get_or, set, refl, sym, ap, arith, add-one, drop-cons, length-drop, decimal}
 use Rattle.std.proofs.lemmas.List.{drop-set}
 use Rattle.itoa.proofs.Decimal.{decimal_four, decimal_two}
@@ -23,7 +23,7 @@ decimal-marked n low =
       first,
     ) refl
 
--- where such a number ends up in bytes, its first digit is there
+-- if such a number is in bytes, its first digit is within them
 pub marked-within : (bytes rest : List ℕ) (start n : ℕ) → n < 10 ^ 9 →
     drop start bytes ≡ decimal (10 ^ 9 + n) ++ rest → start < length bytes
 marked-within bytes rest start n low told =
@@ -31,7 +31,7 @@ marked-within bytes rest start n low told =
     told ∙ ap (λ (digits : List ℕ). digits ++ rest) (decimal-marked n low) in
     omega (arith, ap length marked, length-drop start bytes)
 
--- and another byte in its place leaves the nine that follow
+-- if another byte replaces the first digit, the nine digits after it stay
 pub marked-replaced : (bytes rest : List ℕ) (start n byte : ℕ) → n < 10 ^ 9 →
     drop start bytes ≡ decimal (10 ^ 9 + n) ++ rest →
     drop start (set bytes start byte) ≡ byte ∷ nine_digits n ++ rest

@@ -1,28 +1,28 @@
--- What records tell, read one after the other and joined to what those before told.
+-- The values of records, parsed one after the other and appended to the earlier ones.
 use Rattle.std.proofs.Common.{◌≡◌, ◌∙◌, ◌+◌, ◌++◌, ℕ, List, [], ◌∷◌, Result, Ok, Err, refl, sym, ap, append_assoc}
 use Rattle.std.proofs.lemmas.List.{append-nil}
 use Rattle.tk_script.specs.Field.{◌>>=◌}
 use Rattle.tk_script.specs.Records.{each}
 use Rattle.tk_script.specs.declared.script_error.ScriptError.{ScriptError}
 
--- how a record with a number is read
+-- the parser of a record, by the record's number
 abbrev pub Tell : Type 0 → Type 0
 Tell A = ℕ → List (List ℕ) → Result A ScriptError
 
--- the whole reading is this front, and then what the records tell that are left, of which the first
--- is the nth
+-- the result of the whole reading is `front`, followed by the values of the records that are left,
+-- of which the first is the record `n`
 abbrev pub Goes : {A : Type 0} → Tell A → Result (List A) ScriptError → List A → ℕ →
     List (List (List ℕ)) → Type 0
 Goes tell whole front n left = whole ≡ (each tell n left >>= λ rest. Ok (front ++ rest))
 
--- the same at other records
+-- the same fact for an equal list of records
 goes-at : {A : Type 0} (tell : Tell A) (whole : Result (List A) ScriptError) (front : List A)
     (n : ℕ) (left left' : List (List (List ℕ)))
     → Goes tell whole front n left → left ≡ left' → Goes tell whole front n left'
 goes-at tell whole front n left left' g s = g
     ∙ ap (λ (rs : List (List (List ℕ))). each tell n rs >>= λ rest. Ok (front ++ rest)) s
 
--- one more record, read
+-- one more record was parsed
 pub goes-more : {A : Type 0} (tell : Tell A) (whole : Result (List A) ScriptError)
     (front front' : List A) (n : ℕ) (left : List (List (List ℕ))) (first : List (List ℕ))
     (later : List (List (List ℕ))) (told : A)

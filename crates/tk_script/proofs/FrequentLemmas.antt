@@ -1,4 +1,4 @@
--- What the frequent forms of a record tell.
+-- The rows of the frequent forms of a record.
 use Rattle.std.proofs.Common.{◌≡◌, ◌∙◌, ◌++◌, ℕ, List, [], ◌∷◌, length, Bool, true, false, Some, None, Ok, codes, refl, sym, ap, cond, arith, append_assoc, length-append}
 use Rattle.std.specs.Prelude.{◌==◌, ◌||◌, ◌&&◌, ◌^◌, ◌-◌, nat_le, not}
 use Rattle.std.specs.Char.{is_ascii_digit}
@@ -22,7 +22,7 @@ and-both : (a b : Bool) → (a && b) ≡ true → (a ≡ true) × (b ≡ true)
 and-both true b e = (refl, e)
 and-both false b e = cc e
 
--- digits lack each byte that is none
+-- digits do not contain a byte that is no digit
 digits-lack : (byte : ℕ) (digits : List ℕ) → is_ascii_digit byte ≡ false →
     list_all is_ascii_digit digits ≡ true → Lacks (is_byte byte) digits
 digits-lack byte [] other all = refl
@@ -32,21 +32,21 @@ digits-lack byte (digit ∷ digits) other all =
     (λ same. let e = eqb-true digit byte same in cc (parts.0, other, ap is_ascii_digit e)) in
     rw first (digits-lack byte digits other parts.1)
 
--- a number is of digits
+-- a field that spells a number has only digits
 picks : (some digits small : Bool) (value number : ℕ)
     → cond ((some && digits) && small) (Some value) None ≡ Some number → digits ≡ true
 picks true true small value number e = refl
 picks true false small value number e = cc e
 picks false digits small value number e = cc e
 
--- and so does a number
+-- a field that spells a number does not contain a byte that is no digit
 number-lacks : (byte : ℕ) (digits : List ℕ) (number : ℕ) → is_ascii_digit byte ≡ false →
     number_of digits ≡ Some number → Lacks (is_byte byte) digits
 number-lacks byte digits number other e =
     digits-lack byte digits other (picks (not (length digits == 0)) (list_all is_ascii_digit digits)
     (nat_le (digits_value 10 digits) (2 ^ 64 - 1)) (digits_value 10 digits) number e)
 
--- a text that lacks two bytes lacks each
+-- a text that lacks two bytes lacks each of them
 lacks-either : (a b : ℕ) (xs : List ℕ) → Lacks (is_byte2 a b) xs →
     Lacks (is_byte a) xs × Lacks (is_byte b) xs
 lacks-either a b [] e = (refl, refl)
@@ -56,7 +56,7 @@ lacks-either a b (x ∷ xs) e =
     let later = lacks-either a b xs parts.1 in
     (rw first.0 later.0, rw first.1 later.1)
 
--- an update
+-- the row of an update
 update-row : (n reading : ℕ) (digits : List ℕ) → number_of digits ≡ Some reading →
     row_of n (codes "update" ∷ digits ∷ []) ≡ Ok (Act reading Update)
 unfolding row_of plain_of field_at
@@ -78,7 +78,7 @@ front-update text rest end digits reading split number ends = (
       ∙ update-row n reading digits number,
 )
 
--- a read
+-- the row of a read of a clock
 look-row : (n reading : ℕ) (digits word : List ℕ) (clock : ClockId) →
     number_of digits ≡ Some reading → clock_of word ≡ Some clock →
     row_of n (codes "get" ∷ digits ∷ word ∷ []) ≡ Ok (Look reading clock)
@@ -119,7 +119,7 @@ front-look text rest end digits word reading clock split number told whole ends 
           ∙ look-row n reading digits word clock number told,
     )
 
--- an item of a stamp file
+-- the item in a record of a stamp file
 stamp-row : (n front stamp : ℕ) (digits more : List ℕ) →
     number_of digits ≡ Some front → number_of more ≡ Some stamp →
     stamp_of n (digits ∷ more ∷ []) ≡ Ok (front, stamp)

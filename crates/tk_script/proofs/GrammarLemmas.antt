@@ -1,4 +1,4 @@
--- The parse of a whole script, from that of its parts.
+-- The result for a whole script, from the results for its parts.
 use Rattle.std.proofs.Common.{◌≡◌, ◌<◌, ◌≤◌, ◌^◌, ℕ, List, [], ◌∷◌, length, nat_lt, Result, Err, true, false, refl, arith}
 use Rattle.std.proofs.lemmas.Grind.{common_steps}
 use Rattle.tk_script.specs.Opening.{start_of}
@@ -7,7 +7,7 @@ use Rattle.tk_script.specs.Grammar.{parse_of, parse_records, Fails}
 use Rattle.tk_script.specs.declared.script_error.ScriptError.{ScriptError}
 use Rattle.tk_script.specs.declared.script_error.ScriptError.TheVariants as errors
 
--- an error that is the reading's
+-- an error of the reading is an error that `Fails` allows
 pub fails-from : {Y : Type 0} (e : ScriptError) (read : Result Y ScriptError) → read ≡ Err e →
     Fails e read
 fails-from errors.Memory read h = tt
@@ -18,26 +18,26 @@ fails-from (errors.Word row) read h = h
 fails-from (errors.Fields row) read h = h
 fails-from (errors.Number row) read h = h
 
--- too many bytes
+-- a script with too many bytes
 pub parse-large : (bytes : List ℕ) → 2 ^ 24 < length bytes → parse_of bytes ≡ Err errors.TooLarge
 unfolding parse_of
 parse-large bytes h = let big : nat_lt (2 ^ 24) (length bytes) ≡ true = grind (arith, common_steps)
     in rw big refl
 
--- and no more than there may be
+-- a script with at most 16,777,216 bytes
 pub parse-small : (bytes : List ℕ) → length bytes ≤ 2 ^ 24 →
     parse_of bytes ≡ parse_records (records_of bytes)
 unfolding parse_of
 parse-small bytes h = let small : nat_lt (2 ^ 24) (length bytes) ≡ false =
     grind (arith, common_steps) in rw small refl
 
--- no record
+-- a script without a record
 pub parse-none : (records : List (List (List ℕ))) → records ≡ [] →
     parse_records records ≡ Err errors.Empty
 unfolding parse_records
 parse-none records e = rw e refl
 
--- a fault of the opening is that of the whole
+-- a fault of the opening is the fault of the whole script
 pub parse-start_fault : (records later : List (List (List ℕ))) (first : List (List ℕ))
     (fault : ScriptError)
     → records ≡ first ∷ later → start_of first ≡ Err fault → parse_records records ≡ Err fault

@@ -3,7 +3,7 @@ use Rattle.std.proofs.Common.{◌≡◌, ◌∙◌, ℕ, List, ◌++◌, length,
 use Rattle.std.proofs.Math.Seq.{take-append_seam}
 use Rattle.std.proofs.lemmas.List.{append_assoc, take-append-drop}
 
--- what stood in front before the first growth stands there after the second
+-- the front from before the first growth is still the front after the second one
 pub take-before : (old mid new more : List ℕ) → mid ≡ old ++ more → take (length mid) new ≡ mid →
     take (length old) new ≡ old
 take-before old mid new more e h =

@@ -14,7 +14,7 @@ use Rattle.csv.specs.Records.{field_at}
 use Rattle.memchr.specs.Find.{IsFirstByte, is_byte, is_byte2}
 use Rattle.tk_script.specs.Plain.{IsFront, IsPlain, Lacks, cut_at_commas, cut_behind}
 
--- the record of a line, and what is left behind it
+-- the record of a line, and the text that is left after it
 abbrev pub record_of_line : List ℕ → List ℕ → Read
 record_of_line line rest = (cut_at_commas line, st.StartRecord, rest)
 
@@ -26,7 +26,7 @@ pub not-true : (b : Bool) → (b ≡ true → ⊥) → b ≡ false
 not-true true wrong = absurd (wrong refl)
 not-true false wrong = refl
 
--- one more byte, which is neither of two
+-- one more byte, which is neither of the two
 pub lacks-more : (a b : ℕ) (text : List ℕ) (i : ℕ) → i < length text
     → Lacks (is_byte2 a b) (take i text) → (slice_index text i ≡ a → ⊥) →
     (slice_index text i ≡ b → ⊥) → Lacks (is_byte2 a b) (take (i + 1) text)
@@ -66,7 +66,7 @@ lacks-take test xs (suc n) h none =
     let one : suc n ≡ n + 1 = omega arith in
     rw one (list_any_more test xs n 0 (omega arith) ∙ rw (front, last) refl)
 
--- at the start of a field, a plain text is read as in it
+-- at the start of a field, a plain text is read as within the field
 start-field : (fields : List (List ℕ)) (field text : List ℕ) → IsPlain text
     → next_record default_config st.StartField fields field text
     ≡ next_record default_config st.InField fields field text
@@ -99,7 +99,7 @@ rest-of-line fields field (c ∷ line) end rest plain whole ends =
           (rest-of-line fields (field ++ c ∷ []) line end rest marks.1 feed.1 ends)
     ]
 
--- how a line ends
+-- the record of a line that ends at `end`
 ends-feed : (rest : List ℕ) (fs : List (List ℕ)) (f : List ℕ)
     → next_record default_config st.InField fs f (10 ∷ rest)
     ≡ Some (fs ++ f ∷ [], st.StartRecord, rest)
@@ -145,7 +145,7 @@ pub empty-line : (rest : List ℕ)
 unfolding next_record
 empty-line rest = refl
 
--- a line without commas is one field
+-- a line without commas is a single field
 pub cut-whole : (field line : List ℕ) → Lacks (is_byte 44) line →
     cut_behind field line ≡ (field ++ line) ∷ []
 unfolding cut_behind
@@ -165,7 +165,7 @@ cut-first field (c ∷ line) rest whole =
     rw parts.0 (cut-first (field ++ c ∷ []) line rest parts.1
     ∙ ap (λ (f : List ℕ). f ∷ cut_at_commas rest) (append_assoc field (c ∷ []) line))
 
--- how many fields come doesn't hang on the bytes before them
+-- the number of fields does not depend on the bytes that were read before
 pub cut-length : (field other line : List ℕ) →
     length (cut_behind field line) ≡ length (cut_behind other line)
 unfolding cut_behind
@@ -175,7 +175,7 @@ cut-length field other (c ∷ line) = elim (cases_Bool (c == 44)) [
   | inr no_comma ↦ rw no_comma (cut-length (field ++ c ∷ []) (other ++ c ∷ []) line)
 ]
 
--- a text that begins otherwise has no byte order mark
+-- a text that does not begin with 0xEF has no byte order mark
 pub no-mark : (text : List ℕ) → (0 < length text → slice_index text 0 ≡ 0xEF → ⊥) →
     strip_bom text ≡ text
 unfolding strip_bom
@@ -187,13 +187,13 @@ no-mark (a ∷ b ∷ c ∷ rest) other =
     (λ same. other (omega arith) (eqb-true a 0xEF same)) in
     rw no_mark refl
 
--- the bytes from a place on, by the first of them
+-- the bytes from an index on begin with the byte at this index
 byte-first : (text : List ℕ) (i byte : ℕ) → i < length text → slice_index text i ≡ byte →
     drop i text ≡ byte ∷ drop (i + 1) text
 byte-first text i byte inside same =
     rw add-one (drop-cons text i 0 inside ∙ ap (λ b. b ∷ drop (suc i) text) same)
 
--- the first byte of this kind parts a text
+-- the first byte of this kind splits a text
 pub found-at : (byte : ℕ) (text : List ℕ) (end : ℕ) → IsFirstByte (is_byte byte) text (Some end)
     → (end < length text) × (text ≡ take end text ++ byte ∷ drop (end + 1) text)
     × Lacks (is_byte byte) (take end text)
@@ -207,14 +207,14 @@ found-at byte text end (before, at) =
           (λ k less passes. before.before k (omega arith) less passes),
     )
 
--- and without one no byte passes the test
+-- if there is none, no byte passes the test
 pub found-none : (test : ℕ → Bool) (text : List ℕ) → IsFirstByte test text None → Lacks test text
 found-none test text none =
     let all : take (length text) text ≡ text = take-length text in
     rw all at (lacks-take test text (length text) (omega arith)
     (λ k less passes. none k (omega arith) less passes))
 
--- the fields behind the first comma
+-- the fields after the first comma
 pub field-next : (line front rest : List ℕ) (left : ℕ) → line ≡ front ++ 44 ∷ rest →
     Lacks (is_byte 44) front → 0 < left →
     field_at (cut_at_commas line) left ≡ field_at (cut_at_commas rest) (left - 1)
@@ -224,7 +224,7 @@ field-next line front rest (suc n) split whole some =
     let less : suc n - 1 ≡ n = omega arith in
     rw (less, split, cut-first [] front rest whole) refl
 
--- the field in front of it
+-- the field before the first comma
 pub field-first : (line front rest : List ℕ) → line ≡ front ++ 44 ∷ rest →
     Lacks (is_byte 44) front → field_at (cut_at_commas line) 0 ≡ Some front
 unfolding field_at
@@ -242,7 +242,7 @@ unfolding field_at
 field-past line zero whole some = absurd (omega arith)
 field-past line (suc n) whole some = rw (cut-whole [] line whole) refl
 
--- a comma ends a field, and another byte doesn't
+-- a comma ends a field, and no other byte does
 pub cut-comma : (line : List ℕ) (i : ℕ) → i < length line → slice_index line i ≡ 44
     → length (cut_behind [] (drop i line)) ≡ 1 + length (cut_behind [] (drop (i + 1) line))
 unfolding cut_behind
@@ -282,7 +282,7 @@ empty-more text i inside feed plain =
 pub range-to_end : (k : ℕ) (text : List ℕ) → take (length text - k) (drop k text) ≡ drop k text
 range-to_end k text = take_all (length text - k) (drop k text) (omega (arith, length-drop k text))
 
--- where a search finds nothing
+-- the text lacks such a byte, if a search finds none
 pub lacks-none : (test : ℕ → Bool) (text : List ℕ) (found : Option ℕ) (none : Bool)
     → IsFirstByte test text found → is_some found ≡ not none → none ≡ true → Lacks test text
 lacks-none test text None none first e is_none = found-none test text first
@@ -297,7 +297,7 @@ unfolding next_record
 first-none text [] same empty = sym same
 first-none text (c ∷ rest) same empty = absurd (omega arith)
 
--- the first line ends by a line feed
+-- the first line ends with a line feed
 pub first-ended : (text rest : List ℕ) (end : ℕ)
     → next_record default_config st.StartRecord [] [] rest
     ≡ next_record default_config st.StartRecord [] [] text

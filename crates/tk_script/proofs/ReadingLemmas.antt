@@ -1,4 +1,4 @@
--- What a read does to the records that are left.
+-- The effect of a read on the records that are left.
 use Rattle.std.proofs.Common.{◌≡◌, ℕ, List, [], Option, Some, None, Bool, Bor, refl}
 use Rattle.std.specs.Prelude.{option_map}
 use Rattle.csv.specs.Machine.{Read, next_record}
@@ -9,7 +9,7 @@ use Rattle.tk_script.specs.Records.{records_after, records_of}
 use Rattle.tk_script.specs.Reading.{IsReading, SliceReader, Takes, left_of}
 use Rattle.tk_script.proofs.RecordLemmas.{records_after-none, records_after-some}
 
--- by the machine's next record, if there is one
+-- by the next record of csv's state machine, if there is one
 takes-next : (old new : State) (xs ys : List ℕ) (found : Bool) (fields : List (List ℕ))
     (next : Option Read)
     → next_record default_config old [] [] xs ≡ next → NextIs next found fields new ys
@@ -18,7 +18,7 @@ takes-next old new xs ys found fields None q n = rw n (records_after-none old xs
 takes-next old new xs ys found fields (Some p) q n =
     rw (n.0, n.1, n.2, n.3) (records_after p.1 p.2, records_after-some old xs p q, refl)
 
--- by what the source has, as far as it is known
+-- by the bytes that the source has left, as far as they are known
 takes-known : (old new : State) (before after : Option (List ℕ)) (found : Bool)
     (fields : List (List ℕ)) (records : List (List (List ℕ)))
     → ReadsNext default_config old before after found fields new →

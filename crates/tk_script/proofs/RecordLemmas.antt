@@ -1,4 +1,4 @@
--- How many records a text has, and the records after the first one.
+-- The number of records of a text, and the records after the first one.
 use Rattle.std.proofs.Common.{◌≡◌, ◌≤◌, ◌+◌, ◌∙◌, ℕ, zero, suc, List, [], ◌∷◌, ◌++◌, length, Option, Some, None, Bool, true, false, refl, sym, ap, arith, cond, zero-add, add-one, ◌-◌}
 use Rattle.std.specs.Prelude.{◌==◌, ◌&&◌}
 use Rattle.csv.specs.Machine.{Read, next_record, step, is_end, ends_at_end, fields_after, field_after, in_field, start_field, start_record, ends_with, after_end, is_byte}
@@ -11,7 +11,7 @@ use Rattle.csv.specs.declared.parser.Terminator.{Terminator}
 use Rattle.csv.specs.declared.parser.Terminator.TheVariants as term
 use Rattle.tk_script.specs.Records.{records_after}
 
--- 1 where the end of the text would end a record
+-- 1 if the end of the text would end a record, 0 otherwise
 abbrev pub owed : State → ℕ
 owed s = cond (ends_at_end s) 1 0
 
@@ -64,7 +64,7 @@ owed-le s = by (ends_at_end s)
     by true = omega arith
     by false = omega arith
 
--- a record takes a byte, or the end of the text
+-- a record takes at least one byte, or the end of the text
 pub next_record-takes : (cfg : Config) (s : State) (fields : List (List ℕ)) (field xs : List ℕ) (p : Read)
     → next_record cfg s fields field xs ≡ Some p → length p.2 + owed p.1 + 1 ≤ length xs + owed s
 unfolding next_record
@@ -88,7 +88,7 @@ next_record-takes cfg s fields field (c ∷ rest) p e = by (is_end (step cfg s c
         let one : owed (step cfg s c).0 ≤ 1 = owed-le (step cfg s c).0 in
         omega arith
 
--- one turn more or less makes no difference, once there are enough
+-- one step more makes no difference, once the number of steps suffices
 turn-more : (cfg : Config) (n : ℕ) (s : State) (xs : List ℕ) → length xs + owed s ≤ n → records_from cfg n s xs ≡ records_from cfg (suc n) s xs
 unfolding records_from
 turn-more cfg zero s xs h = by (next_record cfg s [] [] xs) refl
@@ -118,7 +118,7 @@ pub records_after-none : (s : State) (xs : List ℕ) → next_record default_con
 unfolding records_from
 records_after-none s xs e = rw (add-one, e) refl
 
--- a record, and those after it
+-- a record, and the records after it
 pub records_after-some : (s : State) (xs : List ℕ) (p : Read) → next_record default_config s [] [] xs ≡ Some p → records_after s xs ≡ p.0 ∷ records_after p.1 p.2
 unfolding records_from
 records_after-some s xs p e =

@@ -11,13 +11,13 @@ use Rattle.tk_script.specs.declared.script_error.ScriptError.TheVariants as erro
 use Rattle.tk_script.proofs.EachLemmas.{Goes, goes-fault}
 use Rattle.tk_script.proofs.GrammarLemmas.{fails-from}
 
--- both lists grew by one
+-- each of the two lists has one more item
 pub paired-more : (xs ys xs' ys' : List ℕ) (x y : ℕ)
     → length xs ≡ length ys → xs' ≡ xs ++ x ∷ [] → ys' ≡ ys ++ y ∷ [] → length xs' ≡ length ys'
 paired-more xs ys xs' ys' x y e f g = rw (f, g) (length_push xs x ∙ ap (λ n. n + 1) e
     ∙ sym (length_push ys y))
 
--- one more pair, in two lists
+-- the items of one more pair, in two lists
 pub items-more : (pairs : List (ℕ × ℕ)) (fronts stamps fronts' stamps' : List ℕ) (p : ℕ × ℕ)
     → items_of pairs ≡ record { fronts = fronts; stamps = stamps }
     → fronts' ≡ fronts ++ p.0 ∷ [] → stamps' ≡ stamps ++ p.1 ∷ []
@@ -41,7 +41,7 @@ pub told-fault : (records : List (List (List ℕ))) (fault : ScriptError)
     → each stamp_of 1 records ≡ Err fault → told 1 records ≡ Err fault
 told-fault records fault e = rw e refl
 
--- a record that can't be told ends it too, and so does want of memory
+-- a record that cannot be parsed ends the reading, and so does an allocation failure
 pub told-fails : (records left : List (List (List ℕ))) (front : List (ℕ × ℕ)) (n : ℕ)
     (fault : ScriptError)
     → Goes stamp_of (each stamp_of 1 records) front n left → NextFails (stamp_of n) left fault →
@@ -51,13 +51,13 @@ told-fails records left front n fault goes (inr (first, later, split, e)) =
     fails-from fault (told 1 records) (told-fault records fault
     (goes-fault stamp_of (each stamp_of 1 records) front n left first later fault goes split e))
 
--- too many bytes
+-- a file with too many bytes
 pub stamps-large : (bytes : List ℕ) → 2 ^ 24 < length bytes → stamps_of bytes ≡ Err errors.TooLarge
 unfolding stamps_of
 stamps-large bytes h = let big : nat_lt (2 ^ 24) (length bytes) ≡ true = grind (arith, common_steps)
     in rw big refl
 
--- and no more than there may be
+-- a file with at most 16,777,216 bytes
 pub stamps-small : (bytes : List ℕ) → length bytes ≤ 2 ^ 24 →
     stamps_of bytes ≡ told 1 (records_of bytes)
 unfolding stamps_of

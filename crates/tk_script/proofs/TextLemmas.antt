@@ -25,14 +25,14 @@ IsAscii-nine_digits n h =
     (four_digits (n % 10000))
     (IsAscii-cons (48 + n / 100000000) (four_digits (n / 10000 % 10000)) (omega arith) high) low
 
--- a byte, two digits, and the rest
+-- a byte, two digits, and the rest are ASCII
 IsAscii-part : (b n : ℕ) (rest : List ℕ) → b < 128 → n < 100 → IsAscii rest →
     IsAscii (b ∷ two_digits n ++ rest)
 IsAscii-part b n rest h k a =
     IsAscii-cons b (two_digits n ++ rest) h
     (IsAscii-append (two_digits n) rest (IsAscii-two_digits n k) a)
 
--- the time of a day, which is therefore UTF-8
+-- the text of a time of day is ASCII, and therefore UTF-8
 pub IsUtf8-time_part : (second nsec : ℕ) → second < 86400 → nsec < 1000000000 →
     IsUtf8 (time_part second nsec)
 IsUtf8-time_part second nsec h k =
@@ -50,13 +50,13 @@ IsUtf8-time_part second nsec h k =
     (second % 60) ++ codes "." ++ nine_digits nsec ++ codes "Z")
     (omega arith) (omega arith) minutes)
 
--- a test whose failure is ruled out gives a value
+-- a result whose failure is impossible is a value
 pub IsOk-from_match : {T E : Type 0} (r : Result T E) (P : T → Type 0) (Q : E → Type 0) →
     ((e : E) → Q e → ⊥) → MatchResult r P Q → IsOk r
 IsOk-from_match (Ok x) P Q n m = search rules
 IsOk-from_match (Err e) P Q n m = absurd (n e m)
 
--- a date in ten bytes, or in thirteen before the year 0
+-- a date has ten bytes, or thirteen before the year 0
 pub length-date_text : (d : Date) (year : ℤ) → d.year ≡ year → length (date_text d) ≤ 13
 length-date_text d (pos n) e = rw e (omega arith)
 length-date_text d (negsuc n) e = rw e (omega arith)

@@ -1,4 +1,4 @@
--- What a reader of a script's rows has still to read.
+-- The records of a script that a row reader has not read yet, and the rows that they give.
 use Rattle.std.specs.Prelude.{◌≡◌, ℕ, ◌+◌, ◌<◌, ◌^◌, List, [], ◌∷◌, length, Option, Some, None, IsSome, Result, Ok, Err, unwrap_or}
 use Rattle.tk_script.specs.Cursor.{IsCursor, left_in}
 use Rattle.tk_script.specs.Grammar.{Parse}
@@ -8,33 +8,34 @@ use Rattle.tk_script.specs.declared.row.Row.{Row}
 use Rattle.tk_script.specs.declared.row_reader.RowReader.{RowReader}
 use Rattle.tk_script.specs.declared.script_error.ScriptError.{ScriptError}
 
--- how many records are left
+-- the number of records that are left
 unfoldable pub records_left : RowReader → ℕ
 records_left reader = length (unwrap_or (left_in reader.records) [])
 
--- the rows that these records tell, or their first fault
+-- the rows that the remaining records give, or their first fault
 unfoldable pub coming : RowReader → Result (List Row) ScriptError
 coming reader = rows_of reader.row (unwrap_or (left_in reader.records) [])
 
--- it has not failed, and there are numbers for the records that are left
+-- the reader has not failed, and each remaining record has a number below 2^32
 pub record IsReady (reader : RowReader) : Type 0 where
   pub reading : IsCursor reader.records
   pub left : IsSome (left_in reader.records)
   pub count : reader.row + records_left reader < 2 ^ 32
 
--- a row, and then those of a later reading, or its fault
+-- a row, followed by the rows of a later reading, or the fault of that reading
 abbrev pub row_and : Row → Result (List Row) ScriptError → Result (List Row) ScriptError
 row_and row (Ok later) = Ok (row ∷ later)
 row_and row (Err fault) = Err fault
 
--- what a read came to: this row, and the other records are left; or there was none
+-- the result of one read: `Some row` means that the next record gave this row and the other records
+-- are left; `None` means that no record was left
 abbrev pub Steps : Option Row → RowReader → RowReader → Type 0
 Steps None old new = coming old ≡ Ok []
 Steps (Some row) old new =
     IsReady new × (records_left old ≡ records_left new + 1)
     × (coming old ≡ row_and row (coming new))
 
--- a script that is opened so, with the rows of a reading, or its fault
+-- a script with this opening and the rows of a reading, or the fault of that reading
 abbrev pub opened_with : Start → Result (List Row) ScriptError → Result Parse ScriptError
 opened_with start (Ok rows) =
     Ok (record { counter = start.desc; reading = start.reading; real = start.real; rows = rows })

@@ -1,4 +1,5 @@
--- What is left of a text's records, whichever way they are read.
+-- The records that are left of a text, for both ways of reading it: by csv's reader, or as plain
+-- lines.
 use Rattle.std.specs.Prelude.{◌≡◌, ◌⊎◌, ℕ, List, [], ◌∷◌, Option, None, Some, true, Result, Ok, Err}
 use Rattle.csv.specs.Records as csv
 use Rattle.csv.specs.declared.parser.State.TheVariants.{StartRecord}
@@ -10,12 +11,12 @@ use Rattle.tk_script.specs.declared.records.Records.TheVariants.{Quoted, Plain}
 use Rattle.tk_script.specs.declared.script_error.ScriptError.{ScriptError}
 use Rattle.tk_script.specs.declared.script_error.ScriptError.TheVariants as errors
 
--- csv's reader reads on, or the text that is left is plain
+-- csv's reader is ready for the next record, or the remaining text is plain
 abbrev pub IsCursor : Records → Type 0
 IsCursor (Quoted quoted) = IsReading quoted.reader
 IsCursor (Plain lines) = IsPlain lines.rest.now
 
--- the records that are left, where csv's reader has not failed
+-- the records that are left; `None` means that csv's reader has failed
 abbrev pub left_in : Records → Option (List (List (List ℕ)))
 left_in (Quoted quoted) = left_of quoted.reader
 left_in (Plain lines) = Some (records_after StartRecord lines.rest.now)
@@ -25,7 +26,8 @@ abbrev pub fields_of : Records → List (List ℕ)
 fields_of (Quoted quoted) = csv.fields_of quoted.fields
 fields_of (Plain lines) = cut_at_commas lines.line.now
 
--- a step took the next record, which tells this, whatever its number, and left the others
+-- a step took the next record, which `tell` parses to `told` whatever the record's number, and left
+-- the other records
 abbrev pub TakesTold : {A : Type 0} → (ℕ → List (List ℕ) → Result A ScriptError) → A → Records →
     Records → Type 0
 TakesTold tell told old new = IsCursor new
@@ -33,14 +35,15 @@ TakesTold tell told old new = IsCursor new
     → (fields : List (List ℕ)) × Takes true fields records (left_in new)
     × ((n : ℕ) → tell n fields ≡ Ok told))
 
--- a step took the first of these records, which tells this, and left the others, or there was none
+-- a step took the first of these records, which `tell` parses to this value, and left the others;
+-- `None` means that there was no record
 abbrev pub NextTold : {A : Type 0} → (List (List ℕ) → Result A ScriptError) →
     List (List (List ℕ)) → Option A → Option (List (List (List ℕ))) → Type 0
 NextTold tell records None left = records ≡ []
 NextTold tell records (Some told) left = (fields : List (List ℕ)) × (rest : List (List (List ℕ)))
     × (records ≡ fields ∷ rest) × (left ≡ Some rest) × (tell fields ≡ Ok told)
 
--- want of memory, or the fault of the first of these records
+-- the error is an allocation failure, or the fault of the first of these records
 abbrev pub NextFails : {A : Type 0} → (List (List ℕ) → Result A ScriptError) →
     List (List (List ℕ)) → ScriptError → Type 0
 NextFails tell records error = (error ≡ errors.Memory)

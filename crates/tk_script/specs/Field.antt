@@ -1,5 +1,5 @@
--- The fields of a record, read from left to right: each is what its place wants, or the record's
--- fault.
+-- The fields of a record, read from left to right: each field has the form that its place requires,
+-- or it is the record's fault.
 use Rattle.std.specs.Prelude.{ℕ, ℤ, ◌+◌, List, [], Result, Ok, Err, unwrap_or}
 use Rattle.std.specs.Option.{ok_or}
 use Rattle.csv.specs.Records.{field_at}
@@ -10,36 +10,36 @@ use Rattle.tk_script.specs.Word.{clock_of}
 use Rattle.tk_script.specs.declared.script_error.ScriptError.{ScriptError}
 use Rattle.tk_script.specs.declared.script_error.ScriptError.TheVariants as errors
 
--- go on with what was read, or stop at its fault
+-- continue with the value that was read, or stop at its fault
 infixl 10 ◌>>=◌
 abbrev pub ◌>>=◌ : {A B : Type 0} → Result A ScriptError → (A → Result B ScriptError) →
     Result B ScriptError
 (Ok x) >>= f = f x
 (Err e) >>= f = Err e
 
--- the field at a place, counted from 0; no bytes behind the last
+-- the field at a place, counted from 0; empty if the record has no such field
 abbrev pub field : List (List ℕ) → ℕ → List ℕ
 field fields i = unwrap_or (field_at fields i) []
 
--- a number of 64 bits in the record `row`
+-- a number of 64 bits in field `i` of the record `row`
 abbrev pub number_at : ℕ → List (List ℕ) → ℕ → Result ℕ ScriptError
 number_at row fields i = ok_or (number_of (field fields i)) (errors.Number row)
 
--- a number of 32 bits
+-- a number of 32 bits in that field
 abbrev pub number32_at : ℕ → List (List ℕ) → ℕ → Result ℕ ScriptError
 number32_at row fields i = ok_or (number32_of (field fields i)) (errors.Number row)
 
--- a signed number of 64 bits
+-- a signed number of 64 bits in that field
 abbrev pub signed_at : ℕ → List (List ℕ) → ℕ → Result ℤ ScriptError
 signed_at row fields i = ok_or (signed_of (field fields i)) (errors.Number row)
 
--- seconds, and in the next field nanoseconds
+-- a time: seconds in field `i` (signed, 64 bits), and nanoseconds in the next field (32 bits)
 unfoldable pub time_at : ℕ → List (List ℕ) → ℕ → Result Timespec ScriptError
 time_at row fields i = do
   sec ← signed_at row fields i
   nsec ← number32_at row fields (i + 1)
   Ok (record { sec = sec; nsec = nsec })
 
--- a clock's word
+-- the clock that the word in field `i` names
 abbrev pub clock_at : ℕ → List (List ℕ) → ℕ → Result ClockId ScriptError
 clock_at row fields i = ok_or (clock_of (field fields i)) (errors.Word row)

@@ -1,4 +1,4 @@
--- What a script is: its records, read from the first to the last, or the first fault.
+-- The meaning of a script: its records, parsed from the first to the last, or the first fault.
 use Rattle.std.specs.Prelude.{◌≡◌, ℕ, ◌^◌, List, [], ◌∷◌, length, Result, Ok, Err, nat_lt, if◌then◌else◌}
 use Rattle.tk_counter.specs.Counter.{Counter}
 use Rattle.tk_clock.specs.declared.timespec.Timespec.{Timespec}
@@ -10,13 +10,13 @@ use Rattle.tk_script.specs.declared.row.Row.{Row}
 use Rattle.tk_script.specs.declared.script_error.ScriptError.{ScriptError}
 use Rattle.tk_script.specs.declared.script_error.ScriptError.TheVariants as errors
 
--- what a script says, without where it lies in memory
+-- the content of a script, regardless of its place in memory
 pub record Parse : Type 0 where
-  -- the clocks' opening: the counter, its reading in cycles, and the real time there
+  -- the opening of the clocks: the counter, its reading in cycles, and REALTIME at that reading
   pub counter : Counter
   pub reading : ℕ
   pub real : Timespec
-  -- the commands and the reads, in their order
+  -- the commands and the reads, in order
   pub rows : List Row
 
 -- the first record is the opening, and the others are rows
@@ -26,12 +26,12 @@ parse_records (first ∷ later) =
     start_of first >>= λ start. (rows_of 2 later >>= λ rows.
     Ok (record { counter = start.desc; reading = start.reading; real = start.real; rows = rows }))
 
--- what the bytes of a script say, of which there are at most 16,777,216
+-- the content of a script with these bytes; a script has at most 16,777,216 bytes
 unfoldable pub parse_of : List ℕ → Result Parse ScriptError
 parse_of bytes =
     if nat_lt (2 ^ 24) (length bytes) then Err errors.TooLarge else parse_records (records_of bytes)
 
--- the error is that of the reading, but for want of memory, which may take the place of any answer
+-- the error is the fault of the reading; an allocation failure may replace any result
 abbrev pub Fails : {Y : Type 0} → ScriptError → Result Y ScriptError → Type 0
 Fails errors.Memory read = Unit {0}
 Fails errors.TooLarge read = read ≡ Err errors.TooLarge
@@ -41,7 +41,8 @@ Fails (errors.Word row) read = read ≡ Err (errors.Word row)
 Fails (errors.Fields row) read = read ≡ Err (errors.Fields row)
 Fails (errors.Number row) read = read ≡ Err (errors.Number row)
 
--- what a function returned, seen by a view, is what the reading gives
+-- the result of a function, seen through `view`, is the result of the reading, or its error is one
+-- that `Fails` allows
 abbrev pub Gives : {X Y : Type 0} → (X → Y) → Result X ScriptError → Result Y ScriptError → Type 0
 Gives view (Ok x) read = read ≡ Ok (view x)
 Gives view (Err e) read = Fails e read

@@ -1,6 +1,6 @@
--- A line of a report as it is made.
+-- One line of a report while it is built from its end to its beginning, in 96 bytes at most.
 use Rattle.std.specs.Prelude.{ℕ, ◌+◌, ◌≤◌, List, length}
 
--- so many more bytes fit in front
+-- `more` further bytes fit in front of the line
 abbrev pub HasRoom : ℕ → List ℕ → Type 0
 HasRoom more line = more + length line ≤ 96

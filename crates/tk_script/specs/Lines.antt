@@ -15,35 +15,36 @@ IsWritable time =
     (unsigned_abs time.sec < clock_end) × (time.sec ≡ pos (unsigned_abs time.sec))
     × (time.nsec < 1000000000)
 
--- seconds, a dot, and nanoseconds in nine digits
+-- a time in text: seconds, a dot, and nanoseconds as nine digits
 abbrev pub time_text : Timespec → List ℕ
 time_text time = decimal (unsigned_abs time.sec) ++ codes "." ++ nine_digits time.nsec
 
--- the opening: `open,BITS,MULT,SHIFT`
+-- the line of the opening: `open,BITS,MULT,SHIFT`
 abbrev pub open_line : Counter → List ℕ
 open_line counter =
     codes "open," ++ decimal counter.bits ++ codes "," ++ decimal counter.mult
     ++ codes "," ++ decimal counter.shift
     ++ codes "\n"
 
--- an accepted command: `ok,NUMBER,TIME`
+-- the line of an accepted command, with the number of its entry: `ok,NUMBER,TIME`
 abbrev pub ok_line : ℕ → Timespec → List ℕ
 ok_line n time = codes "ok," ++ decimal n ++ codes "," ++ time_text time ++ codes "\n"
 
--- a refusal: `no,WORD`
+-- the line of a refused command or read: `no,WORD`
 abbrev pub no_line : Refusal → List ℕ
 no_line refusal = codes "no," ++ refusal_name refusal ++ codes "\n"
 
--- a clock's time, without the line's end: `at,CLOCK,TIME`
+-- a clock's time, without the end of the line: `at,CLOCK,TIME`
 abbrev pub at_text : ClockId → Timespec → List ℕ
 at_text clock time = codes "at," ++ clock_name clock ++ codes "," ++ time_text time
 
--- the same with the time as UTC text: `at,CLOCK,TIME,UTC`
+-- the line of a clock's time with the same time as UTC text: `at,CLOCK,TIME,UTC`
 abbrev pub IsUtcLine : ClockId → Timespec → List ℕ → Type 0
 IsUtcLine clock time text = (utc : List ℕ) × IsUtcText (unsigned_abs time.sec) time.nsec utc
     × (text ≡ at_text clock time ++ codes "," ++ utc ++ codes "\n")
 
--- a clock's time: with UTC text for the clocks that count from 1970, and else without
+-- the line of a clock's time: with UTC text for the clocks that count from 1970, and without it for
+-- the others
 abbrev pub IsAtLine : ClockId → Timespec → List ℕ → Type 0
 IsAtLine Realtime time text = IsUtcLine Realtime time text
 IsAtLine RealtimeCoarse time text = IsUtcLine RealtimeCoarse time text

@@ -4,21 +4,21 @@ use Rattle.std.specs.List.{list_all}
 use Rattle.std.specs.Char.{is_ascii_digit}
 use Rattle.std.specs.Str.Parse.{digits_value}
 
--- one digit or more, and nothing else
+-- the field has at least one digit, and nothing else
 abbrev pub is_numeral : List ℕ → Bool
 is_numeral field = not (length field == 0) && list_all is_ascii_digit field
 
--- the number that a field spells, if it is at most this
+-- the number that a field spells, if it is at most `most`
 abbrev pub number_up_to : ℕ → List ℕ → Option ℕ
 number_up_to most field =
     if is_numeral field && nat_le (digits_value 10 field) most
     then Some (digits_value 10 field) else None
 
--- the number of 64 bits that a field spells
+-- the unsigned number of 64 bits that a field spells
 abbrev pub number_of : List ℕ → Option ℕ
 number_of field = number_up_to (2 ^ 64 - 1) field
 
--- the number of 32 bits that a field spells
+-- the unsigned number of 32 bits that a field spells
 abbrev pub number32_of : List ℕ → Option ℕ
 number32_of field = number_up_to (2 ^ 32 - 1) field
 

@@ -1,5 +1,5 @@
--- The first record of a script: the counter, its reading and the real time at which the clocks are
--- opened.
+-- The first record of a script: the counter, its reading in cycles, and REALTIME at the opening of
+-- the clocks.
 use Rattle.std.specs.Prelude.{ℕ, List, length, is_none, Option, Some, None, Result, Ok, Err, ◌==◌, if◌then◌else◌, codes}
 use Rattle.std.specs.Option.{ok_or}
 use Rattle.tk_counter.specs.Counter.{Counter}
@@ -15,32 +15,34 @@ use Rattle.tk_script.specs.declared.opening.Telling.TheVariants as tellings
 use Rattle.tk_script.specs.declared.script_error.ScriptError.{ScriptError}
 use Rattle.tk_script.specs.declared.script_error.ScriptError.TheVariants as errors
 
--- the counter of these numbers, if they describe one
+-- the counter with these values, if they describe one
 abbrev pub scaled_counter : Counter → Option Counter
 scaled_counter counter = if is_none (first_fault counter) then Some counter else None
 
--- the counter of so many bits at so many hz, for gaps of up to maxsec seconds, if there is one
+-- the counter of `bits` bits at `hz` Hz, for gaps of up to `maxsec` seconds, if there is one
 abbrev pub timed_counter : ℕ → ℕ → ℕ → Option Counter
 timed_counter bits hz maxsec =
     if is_none (frequency.frequency_fault bits hz maxsec)
     then frequency.from_frequency bits hz maxsec else None
 
--- the counter of so many bits that two numbers tell: its mult and shift, or its frequency and the
--- longest gap
+-- the counter of `bits` bits that two more numbers describe: mult and shift, or its frequency in Hz
+-- and the longest gap in seconds
 abbrev pub counter_of : Telling → ℕ → ℕ → ℕ → Result Counter ScriptError
 counter_of tellings.Scale bits mult shift =
     ok_or (scaled_counter (record { bits = bits; mult = mult; shift = shift })) (errors.Opening 1)
 counter_of tellings.Frequency bits hz maxsec =
     ok_or (timed_counter bits hz maxsec) (errors.Opening 1)
 
--- clocks with this counter, opened at a reading and a real time, if they can be
+-- the opening of clocks with this counter, reading in cycles and REALTIME, if clocks can be opened
+-- with these values
 abbrev pub started : Counter → ℕ → Timespec → Result Start ScriptError
 started counter reading real =
     if is_none (opening_refusal counter reading real)
     then Ok (record { desc = counter; reading = reading; real = real })
     else Err (errors.Opening 1)
 
--- bits, the two numbers that tell the counter, reading, sec and nsec
+-- the opening in these fields: a word, bits, the two numbers that describe the counter, reading,
+-- sec and nsec
 unfoldable pub opening_of : Telling → List (List ℕ) → Result Start ScriptError
 opening_of telling fields =
     if length fields == 7 then (do
@@ -53,8 +55,8 @@ opening_of telling fields =
       started counter reading real)
     else Err (errors.Fields 1)
 
--- the opening that the first record tells by its word: `open` with mult and shift, `openhz` with hz
--- and maxsec
+-- the opening in the first record, by its word: `open` has mult and shift, `openhz` has hz and
+-- maxsec
 unfoldable pub start_of : List (List ℕ) → Result Start ScriptError
 start_of fields =
     if is_word (field fields 0) (codes "open") then opening_of tellings.Scale fields

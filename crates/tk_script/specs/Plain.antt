@@ -1,4 +1,4 @@
--- Plain texts, whose records are lines cut at their commas.
+-- Plain texts: their records are lines that are cut at commas.
 use Rattle.std.specs.Prelude.{◌≡◌, ◌<◌, ◌⊎◌, ℕ, List, [], ◌∷◌, ◌++◌, ◌==◌, length, Bool, false, Result, Ok, if◌then◌else◌}
 use Rattle.std.specs.List.{list_any}
 use Rattle.memchr.specs.Find.{is_byte, is_byte2}
@@ -12,7 +12,7 @@ Lacks test text = list_any test text ≡ false
 abbrev pub IsPlain : List ℕ → Type 0
 IsPlain text = Lacks (is_byte2 34 13) text
 
--- the fields that are still to come behind these bytes of a field
+-- the fields that are left, when these bytes of the current field were read
 unfoldable pub cut_behind : List ℕ → List ℕ → List (List ℕ)
 cut_behind field [] = field ∷ []
 cut_behind field (byte ∷ rest) =
@@ -22,16 +22,17 @@ cut_behind field (byte ∷ rest) =
 abbrev pub cut_at_commas : List ℕ → List (List ℕ)
 cut_at_commas line = cut_behind [] line
 
--- a line ends here, by a line feed or with the text, and these bytes follow
+-- a line ends at `end`, by a line feed or with the text, and the bytes `rest` follow
 abbrev pub EndsLine : List ℕ → List ℕ → Type 0
 EndsLine end rest = (end ≡ 10 ∷ rest) ⊎ ((end ≡ []) × (rest ≡ []))
 
--- the line at the front of a text, which is not empty, and the bytes that follow it
+-- `line` is the line at the front of a text and is not empty, and the bytes `rest` follow it
 abbrev pub IsFront : List ℕ → List ℕ → List ℕ → Type 0
 IsFront text line rest = (0 < length line) × Lacks (is_byte 10) line
     × ((end : List ℕ) × (text ≡ line ++ end) × EndsLine end rest)
 
--- the line at the front of a text tells this as a record, whatever its number
+-- the line at the front of a text is a record which `tell` parses to this value, whatever the
+-- record's number
 abbrev pub FrontTells : {A : Type 0} → (ℕ → List (List ℕ) → Result A ScriptError) → List ℕ → A →
     List ℕ → Type 0
 FrontTells tell text told rest = (line : List ℕ) × IsFront text line rest

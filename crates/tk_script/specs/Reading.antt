@@ -1,4 +1,4 @@
--- What a reader of a script's bytes has left.
+-- The records that csv's reader of a script's bytes has not read yet.
 use Rattle.std.specs.Prelude.{◌≡◌, ℕ, List, [], ◌∷◌, Option, Some, Bool, true, false, option_map}
 use Rattle.std.specs.Borrow.{Bor}
 use Rattle.csv.specs.Reading.{Ready, default_config, is_flexible, reader_config, reader_state, reader_trim, source_of}
@@ -8,18 +8,19 @@ use Rattle.csv.specs.declared.reader.Reader.{Reader}
 use Rattle.csv.specs.declared.reader.Trim.TheVariants as trim
 use Rattle.tk_script.specs.Records.{records_after}
 
--- a reader of bytes in memory
+-- csv's reader over bytes in memory
 abbrev pub SliceReader : Type 0
 SliceReader = Reader (Bor (List ℕ))
 
--- each read is of one record of any length, by the crate's defaults, and trims nothing
+-- the reader is ready, has csv's default configuration, accepts records of any number of fields,
+-- and trims nothing
 abbrev pub IsReading : SliceReader → Type 0
 IsReading reader =
     (reader_trim reader ≡ trim.None) × Ready reader × (reader_config reader ≡ default_config)
     × (is_flexible reader ≡ true)
 
--- why such a read may fail: memory was refused, or the bytes underneath could not be read, as bytes
--- in memory always can
+-- the reasons why such a read can fail: an allocation failed, or the underlying bytes could not be
+-- read (bytes in memory always can)
 abbrev pub IsWantOfMemory : ErrorKind → Type 0
 IsWantOfMemory kinds.OutOfMemory = Unit {0}
 IsWantOfMemory (kinds.Io error) = Unit {0}
@@ -28,12 +29,12 @@ IsWantOfMemory (kinds.Utf8 place error) = ⊥
 IsWantOfMemory (kinds.Serialize text) = ⊥
 IsWantOfMemory (kinds.Deserialize place error) = ⊥
 
--- the records that are left, where the reader has not failed
+-- the records that are left; `None` means that the reader has failed
 abbrev pub left_of : SliceReader → Option (List (List (List ℕ)))
 left_of reader =
     option_map (records_after (reader_state reader)) (source_of (λ bytes. Some bytes.now) reader)
 
--- a read found a record with these fields and left the others, or there was none
+-- a read found a record with these fields and left the other records, or there was no record
 abbrev pub Takes : Bool → List (List ℕ) → List (List (List ℕ)) → Option (List (List (List ℕ))) →
     Type 0
 Takes true fields records left = (rest : List (List (List ℕ))) × (records ≡ fields ∷ rest)

@@ -1,4 +1,4 @@
--- The records of a script's bytes, as `csv` reads them, and what all of them tell.
+-- The records of a script's bytes, as `csv` reads them, and the values that they give.
 use Rattle.std.specs.Prelude.{ℕ, ◌+◌, List, [], ◌∷◌, length, Result, Ok}
 use Rattle.csv.specs.Reading.{default_config, records_from, strip_bom}
 use Rattle.csv.specs.declared.parser.State.{State}
@@ -6,15 +6,16 @@ use Rattle.csv.specs.declared.parser.State.TheVariants.{StartRecord}
 use Rattle.tk_script.specs.Field.{◌>>=◌}
 use Rattle.tk_script.specs.declared.script_error.ScriptError.{ScriptError}
 
--- the records of the bytes that follow on a state of the reader
+-- the records of the bytes that follow, when csv's reader is in this state
 abbrev pub records_after : State → List ℕ → List (List (List ℕ))
 records_after state bytes = records_from default_config (length bytes + 1) state bytes
 
--- all records of a text
+-- all records of a text, without its byte order mark
 abbrev pub records_of : List ℕ → List (List (List ℕ))
 records_of bytes = records_after StartRecord (strip_bom bytes)
 
--- what each of these records tells, the first of which is the record `row`, or the first fault
+-- the values that `tell` parses from these records, of which the first is the record `row`, or the
+-- first fault
 unfoldable pub each : {A : Type 0} → (ℕ → List (List ℕ) → Result A ScriptError) → ℕ →
     List (List (List ℕ))
     → Result (List A) ScriptError

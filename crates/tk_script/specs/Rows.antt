@@ -1,4 +1,4 @@
--- The records of a script after the first, each told by its word.
+-- The records of a script after the first: the word of each selects its form.
 use Rattle.std.specs.Prelude.{ℕ, ℤ, List, length, Result, Ok, Err, ◌==◌, if◌then◌else◌, codes}
 use Rattle.tk_clock.specs.declared.clock_id.ClockId.{ClockId}
 use Rattle.tk_clock.specs.declared.command.Command.{Command}
@@ -12,11 +12,11 @@ use Rattle.tk_script.specs.declared.row.Row.TheVariants.{Act, Look}
 use Rattle.tk_script.specs.declared.script_error.ScriptError.{ScriptError}
 use Rattle.tk_script.specs.declared.script_error.ScriptError.TheVariants as errors
 
--- a reading alone
+-- the fields of a record with a reading (cycles) and nothing else
 unfoldable pub plain_of : ℕ → List (List ℕ) → Result ℕ ScriptError
 plain_of row fields = if length fields == 2 then number_at row fields 1 else Err (errors.Fields row)
 
--- a reading and a time
+-- the fields of a record with a reading (cycles) and a time
 unfoldable pub timed_of : ℕ → List (List ℕ) → Result (ℕ × Timespec) ScriptError
 timed_of row fields =
     if length fields == 4 then (do
@@ -25,7 +25,7 @@ timed_of row fields =
       Ok (reading, time))
     else Err (errors.Fields row)
 
--- a reading and a signed number
+-- the fields of a record with a reading (cycles) and a signed number
 unfoldable pub valued_of : ℕ → List (List ℕ) → Result (ℕ × ℤ) ScriptError
 valued_of row fields =
     if length fields == 3 then (do
@@ -34,7 +34,7 @@ valued_of row fields =
       Ok (reading, value))
     else Err (errors.Fields row)
 
--- a reading and a clock
+-- the fields of a record with a reading (cycles) and a clock
 unfoldable pub look_of : ℕ → List (List ℕ) → Result (ℕ × ClockId) ScriptError
 look_of row fields =
     if length fields == 3 then (do
@@ -43,20 +43,20 @@ look_of row fields =
       Ok (reading, clock))
     else Err (errors.Fields row)
 
--- a command without an operand
+-- the row of a command without an operand
 abbrev pub plain : Command → Result ℕ ScriptError → Result Row ScriptError
 plain command told = told >>= λ reading. Ok (Act reading command)
 
--- a command with an operand
+-- the row of a command with an operand
 abbrev pub with_operand : {A : Type 0} → (A → Command) → Result (ℕ × A) ScriptError →
     Result Row ScriptError
 with_operand command told = told >>= λ p. Ok (Act p.0 (command p.1))
 
--- a read of a clock
+-- the row of a read of a clock
 abbrev pub look : Result (ℕ × ClockId) ScriptError → Result Row ScriptError
 look told = told >>= λ p. Ok (Look p.0 p.1)
 
--- the command or the read that the record `row` tells
+-- the command or the read in the record `row`, or its fault
 unfoldable pub row_of : ℕ → List (List ℕ) → Result Row ScriptError
 row_of row fields =
     if is_word (field fields 0) (codes "update") then plain Update (plain_of row fields)
@@ -70,6 +70,6 @@ row_of row fields =
     else if is_word (field fields 0) (codes "resume") then with_operand Resume (timed_of row fields)
     else Err (errors.Word row)
 
--- what these records tell, the first of which is the record `row`
+-- the rows of these records, of which the first is the record `row`, or their first fault
 abbrev pub rows_of : ℕ → List (List (List ℕ)) → Result (List Row) ScriptError
 rows_of row records = each row_of row records

@@ -1,8 +1,8 @@
--- What contracts see of a script.
+-- The view of a script that contracts use.
 use Rattle.tk_script.specs.declared.script.Script.{Script}
 use Rattle.tk_script.specs.Grammar.{Parse}
 
--- a script without where it lies in memory
+-- the content of a script, regardless of its place in memory
 abbrev pub parse : Script → Parse
 parse script =
     record {

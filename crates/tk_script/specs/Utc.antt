@@ -15,19 +15,19 @@ four_digits n = two_digits (n / 100) ++ two_digits (n % 100)
 abbrev pub nine_digits : ℕ → List ℕ
 nine_digits n = (48 + n / 100000000) ∷ four_digits (n / 10000 % 10000) ++ four_digits (n % 10000)
 
--- `Thh:mm:ss.nnnnnnnnnZ` for a second of a day, and nanoseconds
+-- `Thh:mm:ss.nnnnnnnnnZ`: the text of a second of a day and of nanoseconds
 abbrev pub time_part : ℕ → ℕ → List ℕ
 time_part second nsec =
     codes "T" ++ two_digits (second / 3600) ++ codes ":" ++ two_digits
     (second / 60 % 60) ++ codes ":"
     ++ two_digits (second % 60) ++ codes "." ++ nine_digits nsec ++ codes "Z"
 
--- `YYYY-MM-DD`, the date of that day of the calendar, counted from 1970-01-01
+-- `YYYY-MM-DD`: the text is the date of this day, counted from 1970-01-01
 abbrev pub IsDateText : ℕ → List ℕ → Type 0
 IsDateText day text = (date : Date) × (epoch_day date ≡ pos day) × (text ≡ date_text date)
 
--- `YYYY-MM-DDThh:mm:ss.nnnnnnnnnZ`, where the date is that day of the calendar, counted from
--- 1970-01-01
+-- `YYYY-MM-DDThh:mm:ss.nnnnnnnnnZ`: the text is that of a time in seconds since 1970-01-01 and
+-- nanoseconds
 abbrev pub IsUtcText : ℕ → ℕ → List ℕ → Type 0
 IsUtcText sec nsec text = (date : Date) × (epoch_day date ≡ pos (sec / 86400))
     × (text ≡ date_text date ++ time_part (sec % 86400) nsec)

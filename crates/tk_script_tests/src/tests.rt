@@ -17,16 +17,17 @@ use std::test::Fail;
 use tk_clock::{ClockId, Command, Timespec};
 use tk_script::{Row, ScriptError};
 
-/// A counter of 32 bits at 1 ns a cycle, opened at reading 0.
+/// A counter of 32 bits at 1 ns per cycle, opened at reading 0.
 const OPENING: &[u8] = b"open,32,16777216,24,0,1700000000,0\n";
 
-/// Stops the test where what was found isn't what was wanted. (A call of its own, so that the proof
-/// of a test is short.)
+/// Stops the test if `found` differs from `wanted`. (This is a separate call, so that the proof of
+/// a test is short.)
 fn assert_same<T: PartialEq + Debug>(rt: &impl Abort, found: &T, wanted: &T) {
     assert_eq!(rt; found, wanted);
 }
 
-/// The fault that was told. Refused memory, or no fault, ends the test by an error of its own.
+/// Returns the fault. An allocation failure, or a result without a fault, ends the test with its
+/// own error.
 fn fault_of<T: Drop>(told: Result<T, ScriptError>) -> Result<ScriptError, Fail> {
     match told {
         Ok(_) => Err("no fault")?,

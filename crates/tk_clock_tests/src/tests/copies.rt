@@ -3,7 +3,7 @@ use std::process::Abort;
 use std::test::Fail;
 use tk_clock::{Clock, ClockId, Command, Entry, ReadError, Refusal, Snapshot};
 
-/// Each value is equal to its clone, and to no other one of the list.
+/// Checks that each value is equal to its clone, and to no other value of the list.
 fn are_told_apart<T: Copy + PartialEq>(rt: &impl Abort, values: &[T]) -> Result<(), Fail> {
     for (place, value) in values.iter().enumerate() {
         let copy = value.clone()?;
@@ -103,7 +103,7 @@ fn an_entry_is_its_caller_reading_and_command(rt: HostRuntime) -> Result<(), Fai
     )
 }
 
-/// Clocks of which each part has a value of its own.
+/// Returns clocks whose parts all have different values.
 fn varied() -> Result<Clock, Fail> {
     let mut clock = opened()?;
     for (reading, cmd) in [

@@ -2,7 +2,7 @@ use super::{assert_same, nanosecond_counter, opened, time};
 use std::test::Fail;
 use tk_clock::{Clock, Command, Refusal, Snapshot};
 
-/// Does two more commands.
+/// Applies two more commands.
 fn go_on(clock: &mut Clock) -> Result<(), Refusal> {
     clock.apply(3_000, Command::Step(time(-1, 5)))?;
     clock.apply(4_000, Command::Freq(0))
@@ -42,7 +42,7 @@ fn no_clocks_have_another_rate_than_their_multiplier(rt: HostRuntime) -> Result<
         (16_777_216, 0, 8_999, 0, false),
         (16_777_216, 0, 11_001, 0, false),
         (16_777_216, 0, i64::MIN, 0, false),
-        // MONOTONIC_RAW runs, where MONOTONIC never did
+        // MONOTONIC_RAW is above 0, but MONOTONIC is 0
         (16_777_216, 0, 10_000, 1, false),
     ] {
         let words = [0, 0, mult, 0, 0, 0, 0, 0, raw_frac, 0];

@@ -8,7 +8,7 @@ fn the_first_failed_test_is_told(rt: HostRuntime) -> Result<(), Fail> {
     for (reading, cmd, answer) in [
         (4_294_967_296, Command::Update, Err(Refusal::Invalid)),
         (100, Command::Update, Ok(())),
-        // beyond what may be set, and behind
+        // after the times that may be set, and behind
         (
             99,
             Command::SetTime(time(8_277_292_036, 0)),

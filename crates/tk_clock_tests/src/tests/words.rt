@@ -7,12 +7,12 @@ use tk_counter::CounterDesc;
 /// The words of clocks that were opened at the beginning of 1970.
 const OPENING: [u64; 10] = [0, 0, 16_777_216, 0, 0, 0, 0, 0, 0, 0];
 
-/// One second below the end of REALTIME, BOOTTIME and TAI, and 1 ns below it, in ns.
+/// One second below the end of REALTIME, BOOTTIME and TAI, in ns; the next constant is 1 ns below.
 const SECOND_BELOW_END: u64 = 9_223_372_035_000_000_000;
 
 const BELOW_END: u64 = 9_223_372_035_999_999_999;
 
-/// Words are taken, and then given back; or they aren't.
+/// Checks whether words make a snapshot. If they do, the snapshot must return the same words.
 fn is_taken(rt: &impl Abort, desc: CounterDesc, words: [u64; 10], taken: bool) {
     let back = Snapshot::from_words(desc, words).map(|snapshot| snapshot.words());
     let told = if taken { Some(words) } else { None };
@@ -27,7 +27,7 @@ fn a_word_is_taken_at_its_bound_and_not_past_it(rt: HostRuntime) -> Result<(), F
         (1, 4_294_967_295),
         // the multiplier, up to 11 percent above the usual one
         (2, 18_622_709),
-        // MONOTONIC: below a second, and 30 years of seconds
+        // MONOTONIC: units below a second, and 30 years of seconds
         (3, 16_777_215_999_999_999),
         (4, 946_079_999),
         // REALTIME and BOOTTIME
@@ -35,7 +35,7 @@ fn a_word_is_taken_at_its_bound_and_not_past_it(rt: HostRuntime) -> Result<(), F
         (6, BELOW_END),
         // a TAI offset of 100,000 seconds, asleep
         (7, 200_001),
-        // MONOTONIC_RAW: below a second, and seconds
+        // MONOTONIC_RAW: units below a second, and seconds
         (8, 16_777_215_999_999_999),
         (9, 1_059_999_999),
     ] {
@@ -63,15 +63,15 @@ fn a_front_may_be_any_and_a_multiplier_is_not_0(rt: HostRuntime) -> Result<(), F
 fn a_clock_is_below_its_end_at_the_last_reading(rt: HostRuntime) -> Result<(), Fail> {
     let desc = nanosecond_counter()?;
     for (frac, sec, real, boot, tai, taken) in [
-        // a second of MONOTONIC
+        // MONOTONIC is at one second
         (0, 1, SECOND_BELOW_END - 1, 0, 0, true),
         (0, 1, SECOND_BELOW_END, 0, 0, false),
         (0, 1, 0, SECOND_BELOW_END - 1, 0, true),
         (0, 1, 0, SECOND_BELOW_END, 0, false),
-        // a second of TAI
+        // TAI is one second ahead of REALTIME
         (0, 0, SECOND_BELOW_END - 1, 0, 2, true),
         (0, 0, SECOND_BELOW_END, 0, 2, false),
-        // what is below a nanosecond doesn't count
+        // units below a nanosecond don't count
         (16_777_215, 0, BELOW_END, BELOW_END, 1, true),
         (16_777_216, 0, BELOW_END, 0, 1, false),
         (16_777_216, 0, 0, BELOW_END, 1, false),

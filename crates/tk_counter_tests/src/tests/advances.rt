@@ -32,7 +32,7 @@ const MULTS: [u32; 8] = [
     0xffff_ffff,
 ];
 
-/// As `advance`, by integers of 128 bits.
+/// Computes `advance` in integers of 128 bits.
 fn plain_advance(desc: &CounterDesc, frac: u64, delta: u64, mult: u32) -> Option<(u128, u128)> {
     let units = u128::from(frac) + u128::from(delta) * u128::from(mult);
     let second = u128::from(desc.second());
@@ -43,7 +43,7 @@ fn plain_advance(desc: &CounterDesc, frac: u64, delta: u64, mult: u32) -> Option
     Some((seconds, units.checked_rem(second)?))
 }
 
-/// Do both agree here?
+/// Returns whether the two computations agree.
 fn agrees(desc: &CounterDesc, frac: u64, delta: u64, mult: u32) -> bool {
     if frac >= desc.second() {
         return true;

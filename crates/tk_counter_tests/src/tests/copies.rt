@@ -2,7 +2,7 @@ use std::process::Abort;
 use std::test::Fail;
 use tk_counter::{CounterDesc, DescError};
 
-/// Each value is equal to its clone, and to no other one of the list.
+/// Checks that each value is equal to its clone, and to no other value of the list.
 fn are_told_apart<T: Copy + PartialEq>(rt: &impl Abort, values: &[T]) -> Result<(), Fail> {
     for (place, value) in values.iter().enumerate() {
         let copy = value.clone()?;

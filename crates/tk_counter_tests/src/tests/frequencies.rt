@@ -2,7 +2,7 @@ use super::{assert_same, next};
 use std::test::Fail;
 use tk_counter::{CounterDesc, DescError};
 
-/// The mult and the shift as kernel/time/clocksource.c finds them: `clocks_calc_mult_shift` at
+/// Computes the mult and the shift as kernel/time/clocksource.c does: `clocks_calc_mult_shift` for
 /// 10^9, and then the halving of `__clocksource_update_freq_scale`.
 fn kernel_scale(hz: u32, maxsec: u32) -> Option<(u64, u32)> {
     let mut free = 32u32;
@@ -29,8 +29,8 @@ fn kernel_halving(mult: u64, shift: u32) -> (u64, u32) {
     (mult, shift)
 }
 
-/// hz, seconds, mult and shift, made by a copy in C of the arithmetic of these two functions, built
-/// by gcc.
+/// Each row is hz, seconds, mult and shift. A copy in C of the arithmetic of these two functions,
+/// built by gcc, made the values.
 const FROM_KERNEL: [(u32, u32, u32, u32); 12] = [
     (1, 1, 2_000_000_000, 1),
     (1, 600, 2_000_000_000, 1),

@@ -2,7 +2,7 @@ use super::{assert_same, next, usual};
 use std::test::Fail;
 use tk_counter::CounterDesc;
 
-/// As `mult_at`, by an integer of 128 bits.
+/// Computes `mult_at` in an integer of 128 bits.
 fn plain_mult_at(desc: &CounterDesc, freq: i64, tick: i64) -> Option<u128> {
     let rate = tick
         .checked_mul(6_553_600)?
@@ -11,7 +11,7 @@ fn plain_mult_at(desc: &CounterDesc, freq: i64, tick: i64) -> Option<u128> {
     Some(u128::from(desc.mult()) * u128::from(rate) / 65_536_000_000)
 }
 
-/// Do both agree here?
+/// Returns whether the two computations agree.
 fn agrees(desc: &CounterDesc, freq: i64, tick: i64) -> bool {
     if tick < 9_000 || tick > 11_000 {
         return false;

@@ -4,7 +4,7 @@ use std::test::Fail;
 use tk_clock::{ClockId, Command, Refusal};
 use tk_keeper::Timekeeper;
 
-/// Brings the clocks forward to 0, so many times.
+/// Applies `many` updates at reading 0.
 fn updates(rt: &impl Abort, keeper: &mut Timekeeper, many: u64) {
     for number in 1..=many {
         assert_same(rt, &applied(rt, keeper, 0, Command::Update), &Ok(number));

@@ -7,7 +7,7 @@ use tk_clock::{Command, Entry, Refusal};
 use tk_heap::Heap;
 use tk_keeper::Timekeeper;
 
-/// Brings the clocks forward by one nanosecond, so many times.
+/// Applies `many` updates, each one nanosecond after the one before.
 fn updates<A: Allocator + Copy>(rt: &impl Abort, keeper: &mut Timekeeper<A>, many: u64) {
     for number in 1..=many {
         assert_same(rt, &keeper.apply(0, number, Command::Update), &Ok(number));

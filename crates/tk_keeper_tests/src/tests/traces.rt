@@ -9,10 +9,10 @@ use tk_keeper::{Timekeeper, TraceError};
 /// The first reading above the mask.
 const ABOVE: u64 = 4_294_967_296;
 
-/// What stands in the caller's memory before a call.
+/// Each item of the caller's memory before a call.
 const OLD: u64 = 77;
 
-/// A timekeeper with two settings of the frequency.
+/// Returns a timekeeper with two settings of the frequency.
 fn steered<A: Allocator + Copy>(alloc: A) -> Result<Timekeeper<A>, Fail> {
     let mut keeper = opened(alloc)?;
     keeper.reserve(2)?;
@@ -21,19 +21,19 @@ fn steered<A: Allocator + Copy>(alloc: A) -> Result<Timekeeper<A>, Fail> {
     Ok(keeper)
 }
 
-/// One number, so many times.
+/// Returns a list of `many` times the same number.
 fn repeated(alloc: Global, number: u64, many: usize) -> Result<Vec<u64>, Fail> {
     Ok(vec![in alloc; number; many]?)
 }
 
-/// Writes an item, where the list has that place.
+/// Writes an item, if the list has that place.
 fn put(list: &mut Vec<u64>, place: usize, number: u64) {
     if let Some(item) = list.get_mut(place) {
         *item = number;
     }
 }
 
-/// The last value of MONOTONIC at these stamps, or the fault.
+/// Returns the last value of MONOTONIC at these stamps, or the fault.
 fn last(keeper: &Timekeeper, fronts: &[u64], stamps: &[u64]) -> Result<Option<u64>, TraceError> {
     if fronts.len() != stamps.len() {
         return Ok(None);
@@ -42,8 +42,8 @@ fn last(keeper: &Timekeeper, fronts: &[u64], stamps: &[u64]) -> Result<Option<u6
     Ok(values.last().copied())
 }
 
-/// The answer of both calls: the values, or the first fault. What is in memory from there on must
-/// be old.
+/// Checks the answer of both calls: the values, or the first fault. The memory from the fault on
+/// must be unchanged.
 fn traced<A: Allocator + Copy>(
     rt: &impl Abort,
     alloc: Global,
@@ -84,7 +84,7 @@ fn each_stamp_is_told_as_of_its_front(rt: HostRuntime) -> Result<(), Fail> {
         &[at, 1_000_499_963, 1_000_499_963, 1_000_499_964],
         Ok(()),
     )?;
-    // up and down, and none beside another of its front
+    // fronts go up and down, and no two neighbours have the same front
     traced(
         &rt,
         rt.alloc(),
@@ -113,7 +113,7 @@ fn the_first_fault_decides_by_its_place(rt: HostRuntime) -> Result<(), Fail> {
         &[0],
         unknown,
     )?;
-    // of an item's own faults that of the front, and a later item's front is not looked at
+    // of an item's two faults that of the front comes first; a later item's front is not tested
     traced(
         &rt,
         rt.alloc(),
@@ -174,7 +174,7 @@ fn a_clock_past_its_limit_is_told(rt: HostRuntime) -> Result<(), Fail> {
         &applied(&rt, &mut keeper, 0, Command::Resume(away)),
         &Ok(3),
     );
-    // 9223372035 s and 999999998 ns at reading 0, so one nanosecond is left
+    // 9223372035 s and 999999998 ns at reading 0, so one nanosecond is left before the limit
     traced(
         &rt,
         rt.alloc(),
@@ -240,7 +240,7 @@ fn a_fault_in_any_part_of_a_new_list_is_told(rt: HostRuntime) -> Result<(), Fail
     traced(&rt, alloc, &keeper, front, stamp, clock, all, Ok(()))
 }
 
-/// Does an item lie in every second stretch, where each has so many?
+/// Returns whether an item is in every second stretch, if each stretch has `length` items.
 fn is_second(place: usize, length: usize) -> bool {
     place.checked_div(length).unwrap_or(0) % 2 == 1
 }
@@ -321,11 +321,11 @@ fn each_request_refused_in_turn_is_told_first(rt: HostRuntime) -> Result<(), Fai
         if heap.grant_all() {
             assert_same(&rt, &answer?.as_slice(), &[at, 1_000_499_963].as_slice());
             assert!(rt; request > 1);
-            // before the fault of any item
+            // an allocation failure takes precedence over an item's fault
             heap.refuse_all();
             let fault = keeper.trace(&[3], &[ABOVE], ClockId::Monotonic);
             assert_same(&rt, &fault.map(|_| ()), &memory);
-            // memory that is there serves
+            // the caller's memory needs no allocation
             let mut out = [OLD; 2];
             let done = keeper.trace_into(&[0, 1], &[at, at], ClockId::Monotonic, &mut out);
             assert_same(&rt, &(done, out), &(Ok(()), [at, 1_000_499_963]));

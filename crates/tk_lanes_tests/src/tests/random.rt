@@ -1,4 +1,4 @@
-//! Both calls on snapshots of journals that a small generator makes, the same at each run.
+//! Tests both calls on snapshots of random journals, which are the same in each run.
 
 use super::{agree, sevens, time};
 use std::test::Fail;
@@ -15,14 +15,14 @@ const CLOCKS: [ClockId; 7] = [
     ClockId::MonotonicRaw,
 ];
 
-/// The next number of a xorshift.
+/// Returns the number after `seed` of a xorshift generator.
 fn next(seed: u64) -> u64 {
     let seed = seed ^ seed.wrapping_shl(13);
     let seed = seed ^ (seed >> 7);
     seed ^ seed.wrapping_shl(17)
 }
 
-/// A command by a number: each kind comes about as often.
+/// Makes a command from a number. Each kind is about equally frequent.
 fn command(number: u64) -> Command {
     let part = (number >> 8) as i64;
     match number % 8 {
@@ -37,8 +37,7 @@ fn command(number: u64) -> Command {
     }
 }
 
-/// A stamp by a number, round the last command more often than elsewhere, and now and then above
-/// the mask.
+/// Makes a stamp from a number. Most stamps are near the last command, and some are above the mask.
 fn stamp(number: u64, last: u64, mask: u64) -> u64 {
     let far = number >> 12;
     match number % 64 {
@@ -50,7 +49,7 @@ fn stamp(number: u64, last: u64, mask: u64) -> u64 {
     }
 }
 
-/// A counter by a number: of 8 to 64 bits, with any shift.
+/// Makes a counter from a number: of 8 to 64 bits, with any shift.
 fn counter(number: u64) -> Result<CounterDesc, Fail> {
     let bits = ((number >> 8) % 57) as u32;
     let shift = ((number >> 16) % 33) as u32;
@@ -73,7 +72,7 @@ fn both_calls_agree_on_any_journal(rt: HostRuntime) -> Result<(), Fail> {
             seed = next(seed);
             let last = clock.snapshot(0).last();
             let reading = last.wrapping_add(seed >> 40) & mask;
-            // a refused one changes nothing
+            // a refused command changes nothing
             let _ = clock.apply(reading, command(seed));
         }
         let snapshot = clock.snapshot(0);
@@ -89,7 +88,7 @@ fn both_calls_agree_on_any_journal(rt: HostRuntime) -> Result<(), Fail> {
             }
         }
     }
-    // both kinds of lists came
+    // there were lists of both kinds
     assert!(rt; whole > 100, "{whole} were converted whole");
     assert!(rt; refused > 100, "{refused} were refused");
     Ok(())

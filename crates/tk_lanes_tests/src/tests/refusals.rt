@@ -7,7 +7,7 @@ use tk_lanes::BatchError;
 /// The first reading above a mask of 48 bits.
 const ABOVE: u64 = 281_474_976_710_656;
 
-/// A counter of 4,194,304 nanoseconds a cycle, with readings of 64 bits.
+/// Returns a counter of 4,194,304 nanoseconds a cycle, with readings of 64 bits.
 fn wide() -> Result<Clock, Fail> {
     let desc = CounterDesc::new(64, 4_194_304, 0)?;
     Ok(Clock::open(desc, 0, time(1_700_000_000, 0))?)
@@ -29,7 +29,7 @@ fn a_stamp_above_the_mask_ends_a_list(rt: HostRuntime) -> Result<(), Fail> {
             &[1, 7, 7],
         )?;
     }
-    // for a coarse clock too
+    // a coarse clock refuses too
     converts(
         &rt,
         alloc,

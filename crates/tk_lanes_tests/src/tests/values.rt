@@ -3,7 +3,7 @@ use std::test::Fail;
 use tk_clock::{ClockId, Command};
 use tk_lanes::lane_batch;
 
-/// Round the last command, where 63 bits of units end, and where readings begin to lie behind.
+/// Stamps near the last command, where 63 bits of units end, and where readings begin to be behind.
 const STAMPS: [u64; 17] = [
     999,
     1_000,
@@ -24,7 +24,7 @@ const STAMPS: [u64; 17] = [
     1_016,
 ];
 
-/// MONOTONIC there, in ns.
+/// MONOTONIC at these stamps, in ns.
 const VALUES: [u64; 17] = [
     0,
     0,
@@ -75,7 +75,7 @@ fn a_steered_clock_and_the_raw_one_part(rt: HostRuntime) -> Result<(), Fail> {
     let mut clock = opened()?;
     clock.apply(1_000, Command::Tick(11_000))?;
     let snapshot = clock.snapshot(1);
-    // mult 18454937 in place of 16777216
+    // mult 18454937 instead of 16777216
     for (clock, value) in [
         (ClockId::Monotonic, 1_099_999_964),
         (ClockId::MonotonicRaw, 1_000_000_000),

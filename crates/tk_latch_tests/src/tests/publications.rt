@@ -5,7 +5,7 @@ use std::test::Fail;
 use tk_clock::Command;
 use tk_latch::{Latch, LatchReader};
 
-/// Reads a latch in which nobody publishes: the words, and the mark.
+/// Reads a latch in which nobody publishes, and returns the words and the mark.
 fn told(latch: &Latch, reader: &mut LatchReader) -> Option<([u64; 10], u64)>
     requires { reader.old.latch ≡ latch.now }
     ensures { reader.new.latch ≡ reader.old.latch }

@@ -8,13 +8,13 @@ use tk_clock::Snapshot;
 use tk_counter::CounterDesc;
 use tk_latch::{Latch, LatchReader, LatchWriter, Moved};
 
-/// How many publications are made.
+/// The number of publications that the writer makes.
 const PUBLICATIONS: u64 = 200_000;
 
-/// How many cycles, each of a nanosecond, lie between one and the next.
+/// The cycles from one publication to the next, each of one nanosecond.
 const CYCLES: u64 = 10_000;
 
-/// The words of a publication, by its number.
+/// Returns the words of the publication with a number.
 fn words_at(number: u64) -> [u64; 10]
     requires { number ≤ PUBLICATIONS }
     ensures { slice_index result 0 ≡ number }
@@ -36,7 +36,7 @@ fn words_at(number: u64) -> [u64; 10]
     ]
 }
 
-/// The publication of a number.
+/// Returns the publication with a number.
 fn publication(desc: CounterDesc, number: u64) -> Option<Snapshot>
     requires { number ≤ PUBLICATIONS }
     ensures { IfSome result (λ snapshot.
@@ -45,7 +45,7 @@ fn publication(desc: CounterDesc, number: u64) -> Option<Snapshot>
     Snapshot::from_words(desc, words_at(number))
 }
 
-/// Publishes them all, in order: were they?
+/// Publishes all publications in order, and returns whether each was published.
 fn publishes_all(latch: &Latch, mut writer: LatchWriter, desc: CounterDesc) -> bool
     requires latch { writer.latch ≡ latch.now }
     requires counter { desc ≡ latch.now.counter }
@@ -62,8 +62,8 @@ fn publishes_all(latch: &Latch, mut writer: LatchWriter, desc: CounterDesc) -> b
     true
 }
 
-/// Reads until it has read the last publication: was each one whole, and none older than one that
-/// it knew of?
+/// Reads until it has read the last publication. Returns whether each one was whole, and none was
+/// older than one that the reader knew of.
 fn reads_all(latch: &Latch, mut reader: LatchReader) -> bool
     requires { reader.latch ≡ latch.now }
 {
@@ -87,7 +87,7 @@ fn reads_all(latch: &Latch, mut reader: LatchReader) -> bool
     false
 }
 
-/// Two threads read.
+/// Reads on two threads.
 fn read_beside<R: Threads + Sync>(
     rt: &R,
     latch: &Latch,
@@ -109,7 +109,7 @@ fn read_beside<R: Threads + Sync>(
     this && that
 }
 
-/// One thread publishes, and another reads.
+/// Publishes on one thread, and reads on another.
 fn publish_beside<R: Threads + Sync>(
     rt: &R,
     latch: &Latch,
@@ -135,7 +135,7 @@ fn publish_beside<R: Threads + Sync>(
     published && read
 }
 
-/// One thread publishes, and three read.
+/// Publishes on one thread, and reads on three.
 fn race<R: Threads + Sync>(
     rt: &R,
     latch: &Latch,

@@ -1,4 +1,4 @@
-//! Clocks, and the publisher of their journal.
+//! Clocks with a publisher of their journal.
 ghost use Rattle.std.specs.Prelude.{◌≡◌, IfOk};
 
 use super::{OPENED_TIME, nanosecond_counter};
@@ -9,7 +9,7 @@ use std::test::Fail;
 use tk_clock::{Clock, Command, Entry, Refusal};
 use tk_page::{Page, Publisher, Viewer};
 
-/// Clocks whose journal is published, command by command.
+/// Clocks whose journal is published command by command.
 #[derive(Drop)]
 pub struct Desk {
     clock: Clock,
@@ -31,7 +31,7 @@ impl Model for Desk {
         (d.clock ≡ state_of d.publisher.journal) × (d.front ≡ accepted_count d.publisher.journal) };
 }
 
-/// A page over clocks that were just opened.
+/// Opens clocks, and a page over them.
 pub fn opened<R: Wait>(rt: &R, alloc: Global) -> Result<(Page, Desk, Viewer), Fail>
     ensures desk { IfOk result (λ opened. opened.1.page ≡ opened.0) }
     ensures viewer { IfOk result (λ opened. opened.2.page ≡ opened.0) }
@@ -47,7 +47,7 @@ pub fn opened<R: Wait>(rt: &R, alloc: Global) -> Result<(Page, Desk, Viewer), Fa
 }
 
 impl Desk {
-    /// Does a command, and publishes the clocks after it.
+    /// Applies a command, and publishes the clocks after it.
     pub fn command<R: Wait>(
         &mut self,
         rt: &R,
@@ -73,7 +73,7 @@ impl Desk {
         Ok(front)
     }
 
-    /// Tells a viewer all that was published.
+    /// Passes all publications to a viewer.
     pub fn tell<R: Wait>(&mut self, rt: &R, page: &Page, viewer: &mut Viewer)
         requires page { self.old.page ≡ page.now }
         requires viewer { viewer.old.page ≡ page.now }

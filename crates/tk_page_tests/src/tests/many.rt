@@ -10,18 +10,18 @@ use std::thread::{self, Threads, join};
 use tk_clock::Command;
 use tk_page::{Page, Viewer};
 
-/// How many publications are made.
+/// The number of publications.
 const ALL: u64 = 200_000;
 
-/// The cycles, of a nanosecond each, from one to the next: the counter wraps on the way.
+/// The cycles from one publication to the next, at 1 ns each. The counter wraps on the way.
 const STEP: u64 = 100_000;
 
-/// The reading of a publication.
+/// Returns the reading of a publication.
 fn reading_of(number: u64) -> u64 {
     number.wrapping_mul(STEP) & 0xffff_ffff
 }
 
-/// The words of a publication.
+/// Returns the words of a publication.
 fn words_of(number: u64) -> [u64; 10] {
     let nanos = number.wrapping_mul(STEP);
     let (sec, frac) = (nanos / 1_000_000_000, nanos % 1_000_000_000 * 16_777_216);
@@ -51,8 +51,8 @@ fn publish_all<R: Wait + Abort>(rt: &R, page: &Page, desk: Desk)
     }
 }
 
-/// Reads until the last publication is seen. Each snapshot is whole, and no older than the one
-/// before.
+/// Reads until it sees the last publication. Each snapshot must be whole, and not older than the
+/// one before.
 fn watch<R: Wait + Abort>(rt: &R, page: &Page, viewer: Viewer) -> Viewer
     requires { viewer.page ≡ page.now }
     ensures { result.page ≡ page.now }
@@ -73,7 +73,7 @@ fn watch<R: Wait + Abort>(rt: &R, page: &Page, viewer: Viewer) -> Viewer
     viewer
 }
 
-/// Two viewers read at once.
+/// Lets two viewers read at the same time.
 fn watch_both<R: Threads + Wait + Abort + Sync>(
     rt: &R,
     page: &Page,
@@ -98,7 +98,7 @@ fn watch_both<R: Threads + Wait + Abort + Sync>(
     )
 }
 
-/// All publications are made while a viewer reads.
+/// Makes all publications while a viewer reads.
 fn publish_beside<R: Threads + Wait + Abort + Sync>(
     rt: &R,
     page: &Page,

@@ -1,4 +1,4 @@
-//! When the gate is told, and that actors act at once.
+//! When the gate is called, and that actors act at the same time.
 
 use super::{OPENED_TIME, UPDATE, alike, assert_same, nanosecond_counter, rise};
 use std::alloc::Global;
@@ -10,7 +10,7 @@ use std::thread::{self, Threads};
 use tk_gate::Gate;
 use tk_race::{Action, RaceReply, race};
 
-/// How often a held piece looks before it gives up.
+/// The number of times that a held piece checks a flag before it gives up.
 const TURNS: u32 = 50_000_000;
 
 /// A flag that one thread sets and others wait for.
@@ -26,7 +26,7 @@ impl Flag {
         self.0.store(true, Ordering::SeqCst);
     }
 
-    /// Was it set in time?
+    /// Returns whether the flag was set in time.
     fn is_seen(&self) -> bool {
         for _ in 0..TURNS {
             if self.0.load(Ordering::SeqCst) {
@@ -162,7 +162,8 @@ fn each_piece_begins_and_ends_once_even_without_actions(rt: HostRuntime) -> Resu
     Ok(())
 }
 
-/// Holds piece 1 in `before` until piece 0 has come to `after`, and piece 0 there until piece 1 has.
+/// Holds piece 1 in `before` until piece 0 arrives in `after`, and piece 0 there until piece 1
+/// arrives.
 #[derive(Drop)]
 struct InTurn {
     first: Flag,
@@ -210,7 +211,7 @@ fn a_gate_is_told_round_all_actions_of_an_actor(rt: HostRuntime) -> Result<(), F
     .ok()
     .ok_or("a report")?;
     assert!(&rt; !gate.late.0.load(Ordering::SeqCst));
-    // all entries of actor 0 come before all of actor 1
+    // all entries of actor 0 precede all entries of actor 1
     let mut number = 0u64;
     for replies in report.replies.as_slice() {
         for reply in replies.as_slice() {
@@ -222,7 +223,7 @@ fn a_gate_is_told_round_all_actions_of_an_actor(rt: HostRuntime) -> Result<(), F
     Ok(())
 }
 
-/// Holds piece 0 ahead of its first action until piece 1 is done.
+/// Holds piece 0 before its first action until piece 1 is done.
 #[derive(Drop)]
 struct OtherFirst {
     done: Flag,

@@ -1,4 +1,4 @@
-//! Whatever request for memory is refused: no actor has begun, or none notices.
+//! Whichever allocation fails, either no actor has begun, or no actor notices.
 
 use super::{OPENED_TIME, UPDATE, alike, assert_same, nanosecond_counter};
 use std::sync::atomic::{AtomicU64, Ordering};
@@ -7,7 +7,7 @@ use tk_clock::Refusal;
 use tk_gate::Gate;
 use tk_race::{RaceError, RaceReply, race};
 
-/// Counts the pieces that begin.
+/// Counts the pieces that have begun.
 #[derive(Drop)]
 struct Begun(AtomicU64);
 
@@ -19,8 +19,9 @@ impl Gate for Begun {
     fn after(&self, _piece: usize) {}
 }
 
-/// Each request is the race's own but for the first four, which are the actors'. Run with each
-/// refused in turn, the race answers as without it, or Memory and nobody has begun, or Threads.
+/// The first four allocations are for the actors; all others are the race's own. With each of them
+/// refused in turn, the race gives the usual result, or it returns `Memory` before any actor has
+/// begun, or it returns `Threads`.
 #[test]
 fn refused_requests_are_told_before_any_actor_begins(rt: HostRuntime) -> Result<(), Fail> {
     let desc = nanosecond_counter()?;

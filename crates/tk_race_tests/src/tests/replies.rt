@@ -1,4 +1,4 @@
-//! What actors are answered.
+//! The replies that actors get.
 
 use super::{OPENED_TIME, UPDATE, alike, assert_same, nanosecond_counter, rise};
 use std::alloc::Global;
@@ -31,7 +31,7 @@ fn two_actors_of_three_updates_make_six_entries(rt: HostRuntime) -> Result<(), F
     for replies in report.replies.as_slice() {
         assert!(&rt; replies.len() == 3 && rise(0, replies.as_slice()));
     }
-    // each reading is the counter's next one, whoever gave the command
+    // each reading is the counter's next one, whichever actor gave the command
     for number in 1..=6u64 {
         let entry = report.keeper.entry(number).ok_or("an entry")?;
         assert_same(
@@ -144,7 +144,7 @@ fn one_actor_is_answered_as_on_one_thread(rt: HostRuntime) -> Result<(), Fail> {
     ];
     let replies = report.replies.first().ok_or("replies")?;
     assert!(&rt; replies.as_slice() == expected.as_slice());
-    // a refused order has read the counter too
+    // a refused order has also read the counter
     let resumed = report.keeper.entry(3).ok_or("an entry")?;
     assert_same(&rt, &(report.keeper.len(), resumed.reading), &(3, 55));
     Ok(())

@@ -30,7 +30,7 @@ fn tells_where_the_first_record_is_cut(rt: HostRuntime) -> Result<(), Fail> {
     Ok(())
 }
 
-/// A script that begins with this text, and is filled to the greatest size by line feeds.
+/// Returns a script that begins with this text and is filled to the greatest size with line feeds.
 fn filled(alloc: Global, text: &[u8]) -> Result<Vec<u8>, Fail> {
     let mut bytes = text.to_vec(alloc)?;
     bytes.resize(16_777_216, b'\n')?;
@@ -115,7 +115,7 @@ fn takes_carriage_returns_before_line_feeds(rt: HostRuntime) -> Result<(), Fail>
     Ok(())
 }
 
-/// A text written 2^23 times.
+/// Returns 2^23 copies of a text.
 fn repeated(alloc: Global, text: &[u8]) -> Result<Vec<u8>, Fail> {
     let mut bytes = text.to_vec(alloc)?;
     for _ in 0..23 {

@@ -5,14 +5,14 @@ use std::test::Fail;
 use tk_clock::{ClockId, Command};
 use tk_script::{Row, Script};
 
-/// The rows of a script.
+/// Stops the test if the script has other rows.
 fn assert_rows(rt: &impl Abort, alloc: Global, bytes: &[u8], rows: &[Row]) -> Result<(), Fail> {
     let script = Script::from_bytes(alloc, bytes)?;
     assert_same(rt, &script.rows.as_slice(), &rows);
     Ok(())
 }
 
-/// The row of one record behind an opening.
+/// Stops the test if one record after an opening gives another row.
 fn assert_row(rt: &impl Abort, alloc: Global, record: &[u8], row: Row) -> Result<(), Fail> {
     let mut bytes = OPENING.to_vec(alloc)?;
     bytes.extend_from_slice(record)?;

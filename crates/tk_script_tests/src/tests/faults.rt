@@ -107,7 +107,7 @@ fn tells_the_fault_of_a_later_record(rt: HostRuntime) -> Result<(), Fail> {
     Ok(())
 }
 
-/// The fault of a record of an unknown word, with empty lines behind it up to this length.
+/// Returns the fault of a record with an unknown word, followed by line feeds up to `len` bytes.
 fn fault_of_size(alloc: Global, len: usize) -> Result<ScriptError, Fail> {
     let mut bytes = b"x\n".to_vec(alloc)?;
     bytes.resize(len, b'\n')?;

@@ -1,4 +1,4 @@
-//! No count of rows or stamps is too many: the bytes alone have a limit.
+//! The number of rows or stamps has no limit; only the number of bytes has one.
 
 use super::{OPENING, act, assert_same};
 use std::alloc::{AllocError, Global};
@@ -6,13 +6,13 @@ use std::test::Fail;
 use tk_clock::Command;
 use tk_script::{Script, Stamps};
 
-/// More rows than a journal lists.
+/// More rows than a journal can list.
 const ROWS: usize = 1_500_000;
 
-/// More stamps than a million.
+/// More than a million stamps.
 const STAMPS: usize = 3_000_000;
 
-/// A text, and a record behind it so many times.
+/// Returns the text, followed by `many` copies of the record.
 fn repeated(alloc: Global, text: &[u8], record: &[u8], many: usize) -> Result<Vec<u8>, AllocError> {
     let mut bytes = text.to_vec(alloc)?;
     for _ in 0..many {

@@ -1,4 +1,5 @@
-//! Each growth refused in turn: `Memory`, and nothing changed, or the whole answer.
+//! Each allocation is refused in turn. A call then returns `Memory` and changes nothing, or it
+//! completes.
 
 use super::assert_same;
 use std::alloc::Allocator;
@@ -32,7 +33,7 @@ fn tells_utc_or_nothing(rt: HostRuntime) -> Result<(), Fail> {
     Err("each text met a refusal".into())
 }
 
-/// The lines of a report.
+/// One line of a report.
 #[derive(Clone, Copy, Debug)]
 enum Line {
     Open(CounterDesc),
@@ -43,7 +44,7 @@ enum Line {
 }
 
 impl Line {
-    /// Appends the line.
+    /// Appends this line.
     fn write<A: Allocator + Copy>(self, out: &mut Vec<u8, A>) -> Result<(), ScriptError> {
         match self {
             Line::Open(desc) => line_open(out, &desc),
@@ -94,10 +95,10 @@ fn writes_a_line_or_nothing(rt: HostRuntime) -> Result<(), Fail> {
     Ok(())
 }
 
-/// How many lines the report of days has.
+/// The number of lines in the report.
 const DAYS: u32 = 100;
 
-/// How long it is.
+/// The length of the report, in bytes.
 const LENGTH: usize = 6_400;
 
 #[test]

@@ -1,5 +1,6 @@
-//! Scripts and stamps take the process's memory alone, since `csv` does. Where that is refused, by
-//! `rt try --test --fail-alloc N -- refused::`, a test ends by `Memory`; else it gives the answer.
+//! Scripts and stamps use the process's memory only, because `csv` does. If an allocation fails,
+//! under `rt try --test --fail-alloc N -- refused::`, a test ends with `Memory`; otherwise the
+//! result is right.
 
 use super::{act, assert_same, look};
 use std::test::Fail;

@@ -1,5 +1,5 @@
-//! A text is read as lines cut at their commas, or by csv's reader where it has a quote, a carriage
-//! return or a byte order mark. Both give the same rows, stamps and faults.
+//! A text is read as lines that are cut at their commas. If it has a quote, a carriage return or a
+//! byte order mark, csv's reader reads it. Both give the same rows, stamps and faults.
 
 use super::{act, assert_same, fault_of, look};
 use std::test::Fail;
@@ -43,11 +43,11 @@ get,000000000000000000000003,realtime\n"
 get,18446744073709551615,monotonic_raw\r\nupdate,10000000000000000000\r
 get,000000000000000000000003,realtime\r\n"
             .as_slice(),
-        // with one of them alone
+        // with a single carriage return
         b"open,8,256,0,0,0,0\nupdate,5\rget,7,tai\nfreq,9,-3\nget,18446744073709551615,monotonic_raw
 update,10000000000000000000\nget,000000000000000000000003,realtime\n"
             .as_slice(),
-        // behind a byte order mark
+        // after a byte order mark
         b"\xef\xbb\xbfopen,8,256,0,0,0,0\nupdate,5\nget,7,tai\nfreq,9,-3
 get,18446744073709551615,monotonic_raw\nupdate,10000000000000000000
 get,000000000000000000000003,realtime\n"
@@ -156,7 +156,7 @@ fn both_ways_tell_the_same_fault(rt: HostRuntime) -> Result<(), Fail> {
         plain.extend_from_slice(later)?;
         let told = Script::from_bytes(rt.alloc(), plain.as_slice());
         assert_same(&rt, &fault_of(told)?, &want);
-        // a carriage return in front of a line feed, or at the end, leaves the records as they are
+        // a carriage return before a line feed, or at the end, leaves the records unchanged
         let mut other = plain.clone()?;
         other.extend_from_slice(b"\n\r\n")?;
         let told = Script::from_bytes(rt.alloc(), other.as_slice());

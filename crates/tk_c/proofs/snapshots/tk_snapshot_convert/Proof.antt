@@ -1,6 +1,9 @@
--- `tk_snapshot_convert` meets its contract: a walk of its code by hand, since it makes lists of addresses.
--- Without stamps, or without room, no address is looked at. Else the list is lent for a lifetime of the call's own, and
--- comes back once that is over. The stamps are lent already. `ends` is what all three ways have at the return.
+-- `tk_snapshot_convert` meets its contract. The proof walks its code step by step and is
+-- hand-written, because the call makes lists from addresses.
+-- Without stamps, or without an item in the output list, no address is read. Otherwise the output
+-- list is lent for a lifetime of this call, and is given back when that lifetime ends. The stamps
+-- are lent already. `ends` is what all three ways have at the return. A comment in brackets lists
+-- what the proof holds at that step.
 use Rattle.std.proofs.Common.{◌≡◌, MatchOption, ℕ, ◌*◌, ◌^◌, ◌<◌, List, [], ◌∷◌, length, refl, sym, subst, arith, w32, w64, T, not, eqb, ◌∙◌, zero, suc, eqb→eq}
 use Rattle.std.proofs.raw_atomic.Walks.{proved}
 use seplogic.Ra.Ura.{Ura}
@@ -56,7 +59,7 @@ use Rattle.tk_c.proofs.snapshots.convert_into_none.Met as h_met
 use Rattle.tk_c.specs.contracts.snapshots.convert as k
 use Rattle.tk_c.proofs.snapshots.convert.Met as k_met
 
--- a count that isn't 0 is of some stamps
+-- if the count isn't 0, there are stamps
 some_stamps : (stamps : List ℕ) (count : ℕ) → length stamps ≡ count → T (not (eqb count 0)) → 0 < length stamps
 some_stamps stamps zero counted given = absurd given
 some_stamps stamps (suc n) counted given = omega (arith, counted)
@@ -112,7 +115,8 @@ tk_snapshot_convert_spec 𝓤 𝓛 𝓜 𝓡 wired =
     ⊛ ‵ (owns (RawPtr ∷ usize ∷ MutRef (named 0) κ usize ∷ ShrRef (named 1) κs.1.0 R ∷ u32 ∷ RawPtr ∷ usize ∷ []) a y.0.4))
     ∷ ‵ (owned_at out room lists.old) ∷ ‵ (shared_at at count lists.alive lists.share lists.stamps) ∷ raw (fact 𝓤 ((length lists.stamps ≡ count) × (room * 8 < 2 ^ 63))) ∷ []) ∵
     split ! $ split3 ! $ move ! (3 ∷ []) $ fsplit ! $ drop ! $ fsplit ! $ drop ! $ fsplit ! $ move ! (1 ∷ []) $ fsplit ! $ move ! (1 ∷ []) $ drop ! $
-    -- [the snapshot; done; the token of done; of the snapshot; nothing; the numbers; the stamps; the fact]
+    -- [the snapshot; done; the token of done; that of the snapshot; nothing; the numbers; the
+    -- stamps; the fact]
     move ! (4 ∷ []) $ drop ! $ move ! (6 ∷ []) $ heard ! _ (λ sizes.
     enter ! _ _ _ _ _ $ alloc_all ! (λ l. pass_all ! refl (((rawptr_Lawful 𝓛).typed out _ refl).0, ((tt, record { fits = are.1.0.1 }), ((tt, tt), ((tt, tt), ((tt, record { fits = are.1.1.1.1.0.1 }), (((rawptr_Lawful 𝓛).typed at _ refl).0, ((tt, record { fits = are.1.1.1.1.1.1.0.1 }), tt))))))) $
     sets ! (bin ! (get ! refl) (lit ! tt) tt) refl (tt, tt) $
@@ -128,7 +132,8 @@ tk_snapshot_convert_spec 𝓤 𝓛 𝓜 𝓡 wired =
     use1 𝓛 (later (some (λ (r : ℕ). ((‵ (flft κ q) ⊛ ‵ ftrue) ⊛ ‵ (u32.own_val r (v ∷ []))) ⊛
     some (λ (ws : ℕ × (Unit {0} × Unit {0})). ‵ (lasts g.ended z.0.0 z.0.3 ws) ⊛ raw (fact 𝓤 (MatchOption (clock_named clock) ((r ≡ number_of BadClock) × (ws.0 ≡ d.now)) (λ named. (r ≡ number_of Done) × (ws.0 ≡ 0)))))))) (id⊢ 𝓤 _) $
     await ! tt $ pick ! (λ r. split ! $ split ! $ split ! $ move ! (3 ∷ []) $ pick ! (λ ws. split ! $ move ! (1 ∷ []) $ heard ! _ (λ told. fsplit ! $
-    -- [what done ends as; nothing; its token; nothing; the result; the other token; the numbers; the stamps]
+    -- [the final value of done; nothing; its token; nothing; the result; the other token; the
+    -- numbers; the stamps]
     move ! (7 ∷ []) $ rewrite ! 0 (λ (n : ℕ). ‵ (shared_at at n lists.alive lists.share lists.stamps)) (eqb→eq count 0 none) refl $
     feq_l ! (λ empty. feq_i ! (List ℕ) lists.stamps [] empty $ rewrite ! 0 (λ (n : ℕ). ‵ (shared_at at n lists.alive lists.share lists.stamps)) (sym (eqb→eq count 0 none)) refl $
     move ! (5 ∷ []) $ peeks ! u32 (Is u32) (shows 𝓛 u32) r (v ∷ []) (λ is. lands_as ! refl refl ((uint_Lawful 𝓛 w32).typed r _ is).0 $
@@ -137,7 +142,7 @@ tk_snapshot_convert_spec 𝓤 𝓛 𝓜 𝓡 wired =
     (λ given. skips ! $ exec ! 𝓣.C 𝓣.Λ (env code.Mir.locals l) code.Mir.t-3 (at_ret (env code.Mir.locals l) (W.post y)) $
     sets ! (bin ! (get ! refl) (lit ! tt) tt) refl (tt, tt) $
     first ! $ branches ! (get ! refl)
-    -- no room
+    -- the output list has no items
     (λ no_room. drop ! $
     let G = triple_of 𝓛 h.signature (h.spec 𝓛 𝓜.mem 𝓡.returns) in
     let z : G.Ghost = ((tt, tt, tt, (clock, tt), (uint_vals w32 clock, tt)), tt) in
@@ -152,10 +157,11 @@ tk_snapshot_convert_spec 𝓤 𝓛 𝓜 𝓡 wired =
     feq_l ! (λ empty. feq_i ! (List ℕ) lists.old [] empty $ rewrite ! 0 (λ (n : ℕ). ‵ (owned_at out n lists.old)) (sym (eqb→eq room 0 no_room)) refl $
     move ! (4 ∷ []) $ fsplit3 ! $ move ! (1 ∷ []) $ use1 𝓛 (‵ (fres d.ghost_name (usize.coded.code d.now))) (𝓛.names.obs-res d.ghost_name (usize.coded.code d.now)) $
     move ! (0 ∷ 2 ∷ []) $ fjoin ! $
-    -- [what done ends as; nothing; the numbers; nothing; nothing; the result; its token; the other token; the stamps]
+    -- [the final value of done; nothing; the numbers; nothing; nothing; the result; its token; the
+    -- other token; the stamps]
     move ! (5 ∷ []) $ peeks ! u32 (Is u32) (shows 𝓛 u32) r (v ∷ []) (λ is. lands_as ! refl refl ((uint_Lawful 𝓛 w32).typed r _ is).0 $
     returns_within ! (W.post y) refl (look_at ! 0 refl) $ free_all ! refl $ keep ! (1 ∷ 0 ∷ 6 ∷ 7 ∷ 3 ∷ 8 ∷ []) $ ends v r d.now lists.old (subst (λ (o : List ℕ). IsAnswered base clock lists.stamps o o d.now d.now r) (sym empty) (told base lists.stamps d.now (some_stamps lists.stamps count sizes.0 given))))))))))
-    -- both lists lie at an address
+    -- both lists are at an address
     (λ roomy. skips ! $ exec ! 𝓣.C 𝓣.Λ (env code.Mir.locals l) code.Mir.t-5 (at_ret (env code.Mir.locals l) (W.post y)) $
     move ! (4 ∷ []) $ use1 𝓛 (‵ (lies_at (Array u64 room) full_share out lists.old)) (numbers_out 𝓛 out room lists.old roomy) $
     in_a_block ! out (λ p. lies_at (Array u64 room) full_share p lists.old) (id⊢ 𝓤 _) (λ b o is_out.
@@ -165,13 +171,16 @@ tk_snapshot_convert_spec 𝓤 𝓛 𝓜 𝓡 wired =
     move ! (1 ∷ []) $ use1 𝓛 (later (some (λ (γ : ℕ). ‵ ((MutSlice (named 0) (α ∷ []) u64).own_val (record { ref_ptr = (b, o); ghost_name = γ; now = lists.old }) (slice_val (b, o) (length lists.old) ∷ []))
     ⊛ ‵ (flent (α ∷ []) (Held u64 (length lists.old) b o γ))))) (lends_slice 𝓛 u64 (named 0) (α ∷ []) lists.old b o (omega (arith, long, sizes.1), omega (arith, long, sizes.1))) $ await ! tt $ pick ! (λ γ. split ! $
     rewrite ! 0 (λ (n : ℕ). ‵ ((MutSlice (named 0) (α ∷ []) u64).own_val (record { ref_ptr = (b, o); ghost_name = γ; now = lists.old }) (slice_val (b, o) n ∷ []))) long refl $
-    -- [the list; what is lent; its token; the snapshot; done; the token of done; of the snapshot; the stamps]
+    -- [the list; what is lent; its token; the snapshot; done; the token of done; that of the
+    -- snapshot; the stamps]
     move ! (7 ∷ []) $ use1 𝓛 (‵ (lent_at at lists.alive lists.share lists.stamps)) (shared_out 𝓛 at count lists.alive lists.share lists.stamps given) $
     in_a_block ! at (λ p. lent_at p lists.alive lists.share lists.stamps) (id⊢ 𝓤 _) (λ b' o' is_at. fsplit ! $
-    -- [the token of the stamps; the stamps; the list; what is lent; its token; the snapshot; done; the token of done; of the snapshot]
+    -- [the token of the stamps; the stamps; the list; what is lent; its token; the snapshot; done;
+    -- the token of done; that of the snapshot]
     move ! (1 ∷ []) $ use1 𝓛 (‵ (Stamps b' o' (length lists.stamps)) ⊛ ‵ (Stamps b' o' (length lists.stamps))) ((shr_slice_copy 𝓛 (named 0) lists.alive u64 (uint_row_laws w64)).twice _ _) $ split ! $
     rewrite ! 0 (λ (n : ℕ). ‵ (Stamps b' o' n)) sizes.0 refl $
-    -- [the stamps; the stamps to keep; their token; the list; what is lent; its token; the snapshot; done; the token of done; of the snapshot]
+    -- [the stamps; the stamps to keep; their token; the list; what is lent; its token; the
+    -- snapshot; done; the token of done; that of the snapshot]
     take_at ! 1 $ rewrite ! 0 (λ (p : Ptr). ‵ (fat full_share ty_ptr (l 1) 0 (ptr_val p))) is_out refl $ give_at ! 1 $
     take_at ! 6 $ rewrite ! 0 (λ (p : Ptr). ‵ (fat full_share ty_ptr (l 6) 0 (ptr_val p))) is_at refl $ give_at ! 6 $
     sets ! (agg ! (and_then ! (get ! refl) (and_then ! (get ! refl) (no_more !)))) refl (tt, (tt, (record { fits = are.1.0.1 }, tt))) $
@@ -189,9 +198,11 @@ tk_snapshot_convert_spec 𝓤 𝓛 𝓜 𝓡 wired =
       tt,
     ) in
     nothing ! $ move ! (1 ∷ 0 ∷ []) $ join ! $ owned ! u32 _ (uint_Makes 𝓛 w32) clock _ (refl, are.1.1.1.1.0.1) $ join ! $
-    -- [the last two arguments; the stamps to keep; their token; the list; what is lent; its token; the snapshot; done; the token of done; of the snapshot]
+    -- [the last two arguments; the stamps to keep; their token; the list; what is lent; its token;
+    -- the snapshot; done; the token of done; that of the snapshot]
     move ! (6 ∷ 0 ∷ []) $ join ! $ move ! (6 ∷ 0 ∷ []) $ join ! $ move ! (3 ∷ 0 ∷ []) $ join ! $
-    -- [the arguments; the stamps to keep; their token; what is lent; its token; the token of done; of the snapshot]
+    -- [the arguments; the stamps to keep; their token; what is lent; its token; the token of done;
+    -- that of the snapshot]
     nothing ! $ move ! (3 ∷ 0 ∷ []) $ join ! $ move ! (6 ∷ 0 ∷ []) $ join ! $ move ! (5 ∷ 0 ∷ []) $ join ! $ move ! (4 ∷ 0 ∷ []) $ join ! $ join ! $
     nothing ! $ move ! (1 ∷ 0 ∷ []) $ use2 𝓛 (raw (G.pre z)) (id⊢ 𝓤 _) $
     calls_at ! (framed 𝓤 𝓛.H 𝓜 (tables 𝓤 𝓛.H 𝓜 𝓡 𝓡.env)) G (k_met.met 𝓤 𝓛 𝓜 𝓡 (code.calls-tk_c::snapshots::convert 𝓡.env wired)) z
@@ -200,17 +211,21 @@ tk_snapshot_convert_spec 𝓤 𝓛 𝓜 𝓡 wired =
     some (λ (ws : List ℕ × (ℕ × (Unit {0} × (Unit {0} × (Unit {0} × Unit {0}))))). ‵ (lasts k.ended z.0.0 z.0.3 ws) ⊛ raw (fact 𝓤 (IsAnswered base clock lists.stamps lists.old ws.0 d.now ws.1.0 r)))))) (id⊢ 𝓤 _) $
     await ! tt $ pick ! (λ r. split ! $ split ! $ move ! (2 ∷ []) $ pick ! (λ ws. split ! $ move ! (1 ∷ []) $ heard ! _ (λ told.
     fsplit ! $ fsplit ! $ fsplit ! $ move ! (1 ∷ []) $ feq_l ! (λ same. move ! (2 ∷ []) $ fsplit ! $ move ! (4 ∷ []) $ split ! $
-    -- [the token of the list; the other tokens; what done ends as; nothing; the list's end; its borrow; the result; the stamps; what is lent]
+    -- [the token of the list; the other tokens; the final value of done; nothing; the list's end;
+    -- its borrow; the result; the stamps; what is lent]
     lft_end ! tt $ move ! (0 ∷ 8 ∷ 4 ∷ []) $ use3 𝓛 (later (‵ ((Arr (mem u64) (length lists.old)).own_at ws.0 b o))) (slice_back 𝓛 u64 (α ∷ []) γ ws.0 (length lists.old) b o) $ await ! tt $
     fsplit ! $ feq_l ! (λ kept. use1 𝓛 (‵ (row u64 full_share ws.0 b o)) (whole_out 𝓛 u64 ws.0 b o) $ feq_i ! ℕ (length ws.0) room (kept ∙ long) $ fjoin ! $
     use1 𝓛 (‵ (lies_at (Array u64 room) full_share (block_ptr b o) ws.0)) (Array-whole 𝓛 u64 full_share room ws.0 b o) $
     rewrite ! 0 (λ (p : Ptr). ‵ (lies_at (Array u64 room) full_share p ws.0)) (sym is_out) refl $
     use1 𝓛 (‵ (owned_at out room ws.0)) (numbers_in 𝓛 out room ws.0 roomy) $
-    -- [the numbers; the tokens; what done ends as; nothing; the borrow; the result; the stamps]
+    -- [the numbers; the tokens; the final value of done; nothing; the borrow; the result; the
+    -- stamps]
     move ! (1 ∷ []) $ split ! $ move ! (1 ∷ []) $ split ! $ move ! (1 ∷ []) $ split ! $
-    -- [the token of the stamps; nothing; of the snapshot; of done; the numbers; what done ends as; nothing; the borrow; the result; the stamps]
+    -- [the token of the stamps; nothing; of the snapshot; of done; the numbers; the final value of
+    -- done; nothing; the borrow; the result; the stamps]
     move ! (0 ∷ 9 ∷ []) $ fjoin ! $ rewrite ! 0 (λ (p : Ptr). ‵ (lent_at p lists.alive lists.share lists.stamps)) (sym is_at) refl $
     use1 𝓛 (‵ (shared_at at count lists.alive lists.share lists.stamps)) (shared_in 𝓛 at count lists.alive lists.share lists.stamps given) $
-    -- [the stamps; nothing; the token of the snapshot; of done; the numbers; what done ends as; nothing; the borrow; the result]
+    -- [the stamps; nothing; the token of the snapshot; of done; the numbers; the final value of
+    -- done; nothing; the borrow; the result]
     move ! (8 ∷ []) $ peeks ! u32 (Is u32) (shows 𝓛 u32) r (v ∷ []) (λ is. lands_as ! refl refl ((uint_Lawful 𝓛 w32).typed r _ is).0 $
     returns ! (look_at ! 0 refl) $ free_all ! refl $ keep ! (6 ∷ 0 ∷ 4 ∷ 3 ∷ 5 ∷ 1 ∷ []) $ ends v r ws.1.0 ws.0 told)))))))))))))))))

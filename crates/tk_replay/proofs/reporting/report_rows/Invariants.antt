@@ -4,8 +4,8 @@ use Rattle.tk_script.specs.Coming.{IsReady, coming, records_left}
 use Rattle.tk_replay.proofs.Lines.{IsBegunBy}
 use Rattle.tk_replay.proofs.reporting.report_rows.Given as goal
 
--- the lines so far, and then those of the rows to come, are the report, and each record is one
--- command at most
+-- the lines so far, followed by those of the rows to come, are the report; each record is at most
+-- one command
 abbrev pub invariant-rows : goal.invariant-rows
 invariant-rows g l = record {
   ready : IsReady l.rows;

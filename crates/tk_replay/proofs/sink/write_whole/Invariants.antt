@@ -2,7 +2,7 @@ use Rattle.std.proofs.Common.{◌≤◌, ◌-◌, take, length}
 use Rattle.std.specs.Io.KnownBytes.{Appends}
 use Rattle.tk_replay.proofs.sink.write_whole.Given as goal
 
--- the bytes counted are those that went out
+-- the bytes counted so far are those that were written
 abbrev pub invariant-writes : goal.invariant-writes
 invariant-writes g l = record {
   within : l.written ≤ length l.text;

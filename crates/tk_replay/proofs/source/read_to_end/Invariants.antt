@@ -2,7 +2,7 @@ use Rattle.std.proofs.Common.{◌≤◌, ◌+◌, ◌-◌, ◌^◌, take, vec_le
 use Rattle.std.specs.Io.KnownBytes.{Consumes}
 use Rattle.tk_replay.proofs.source.read_to_end.Given as goal
 
--- the front of the room is what was read
+-- the first `filled` bytes of the buffer are those that were read
 abbrev pub invariant-reads : goal.invariant-reads
 invariant-reads g l = record {
   within : l.filled ≤ vec_len l.bytes;

@@ -7,7 +7,7 @@ use Rattle.std.proofs.lemmas.List.Folds.{list_all_more}
 use Rattle.std.specs.Char.{is_ascii_digit, digit_value}
 use Rattle.tk_script.proofs.numbers.leading_digits.Goals as goal
 
--- a byte at most nine above `0` is a digit, and so far above is its value
+-- a byte at most nine above `0` is a digit, and the difference is its value
 is_digit : (byte : ℕ) → byte < 256 → (byte + 208) % 256 ≤ 9 → is_ascii_digit byte ≡ true
 is_digit byte h k = grind (arith, common_steps)
 
@@ -18,7 +18,7 @@ value_of byte h k = grind (arith, common_steps)
 both : (a b : Bool) → a ≡ true → b ≡ true → (a && b) ≡ true
 both a b e f = rw (e, f) refl
 
--- with fewer than nineteen digits a number is below 10^18
+-- a number with fewer than nineteen digits is below 10^18
 short : (value i : ℕ) → value < 10 ^ i → i < 19 → value < 10 ^ 18
 short value i h k =
     let most = pow-le-pow_right {n = 10} (omega arith) {i = i} {j = 18} (omega arith) in

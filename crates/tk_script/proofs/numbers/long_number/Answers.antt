@@ -9,7 +9,7 @@ use Rattle.std.specs.Str.Parse.{digits_value}
 use Rattle.tk_script.specs.Number.{is_numeral}
 use Rattle.tk_script.proofs.numbers.long_number.Goals as goal
 
--- both parts of a test that passed
+-- the second part of a test that passed
 second : (a b : Bool) → (a && b) ≡ true → b ≡ true
 second true b e = e
 second false b e = cc e
@@ -25,7 +25,7 @@ at_index p xs i h e = by (p (get_or xs i 0)) refl
 wrapped : (c : ℕ) → is_ascii_digit c ≡ true → digit_value c ≡ (c + 208) % 256
 wrapped c h = grind (arith, common_steps)
 
--- the next digit of a numeral
+-- the next byte of a numeral is a digit
 next_digit : (field : List ℕ) (i : ℕ) → i < length field → is_numeral field ≡ true →
     digits_value 10 (take (i + 1) field)
     ≡ digits_value 10 (take i field) * 10 + (get_or field i 0 + 208) % 256

@@ -7,7 +7,7 @@ use Rattle.tk_clock.specs.State.{State}
 use Rattle.tk_clock.proofs.Legal.{state_of-followed_by}
 use Rattle.tk_bench_page.proofs.page_desk.PageDesk.update.Goals as goal
 
--- one entry more is counted
+-- one more entry adds one to the count
 counted : (journal : Journal) (entry : Entry) (before after : ℕ) → before ≡ accepted_count journal →
     after ≡ before + 1 →
     after ≡ accepted_count (followed_by journal entry)

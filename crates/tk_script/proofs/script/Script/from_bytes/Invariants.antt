@@ -4,7 +4,7 @@ use Rattle.tk_script.specs.Grammar.{parse_of}
 use Rattle.tk_script.proofs.ComingLemmas.{rows_and}
 use Rattle.tk_script.proofs.script.Script.from_bytes.Given as goal
 
--- the rows so far, and then those that are still to be read, are the script's
+-- the rows so far, followed by the rows that are still to be read, are the script's
 abbrev pub invariant-rows : goal.invariant-rows
 invariant-rows l =
     IsReady l.reader
