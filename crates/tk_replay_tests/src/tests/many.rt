@@ -33,19 +33,19 @@ fn uneven(alloc: Global, count: usize) -> Result<Vec<Vec<u8>>, AllocError> {
     Ok(scripts)
 }
 
-/// Holds the pieces 0 and 1 until both have come, for at most 50,000,000 turns.
+/// Holds each piece until as many have come as are wanted, for at most 50,000,000 turns.
 #[derive(Drop)]
 struct Meeting {
-    came: [AtomicU64; 2],
+    wanted: u64,
+    came: AtomicU64,
     late: AtomicU64,
 }
 
 impl Gate for Meeting {
-    fn before(&self, piece: usize) {
-        let (mine, other) = if piece == 0 { (0, 1) } else { (1, 0) };
-        self.came[mine].store(1, Ordering::SeqCst);
+    fn before(&self, _piece: usize) {
+        self.came.fetch_add(1, Ordering::SeqCst);
         for _ in 0..50_000_000u32 {
-            if self.came[other].load(Ordering::SeqCst) == 1 {
+            if self.came.load(Ordering::SeqCst) >= self.wanted {
                 return;
             }
             thread::yield_now();
@@ -57,16 +57,22 @@ impl Gate for Meeting {
 }
 
 #[test]
-fn two_workers_are_at_work_at_once(rt: HostRuntime) -> Result<(), Fail> {
+fn all_workers_are_at_work_at_once(rt: HostRuntime) -> Result<(), Fail> {
     let alloc = rt.alloc();
-    let scripts = two(alloc)?;
-    let gate = Meeting {
-        came: [AtomicU64::new(0), AtomicU64::new(0)],
-        late: AtomicU64::new(0),
-    };
-    let outcomes = replay_all(alloc, &rt, scripts.as_slice(), 2, &gate)?;
-    assert_same(&rt, &outcomes.len(), &2);
-    assert_same(&rt, &gate.late.load(Ordering::SeqCst), &0);
+    for workers in [1, 2, 3, 64] {
+        let mut scripts = Vec::new(alloc);
+        for _ in 0..workers {
+            scripts.push(Vec::from_slice(alloc, SCRIPT)?)?;
+        }
+        let gate = Meeting {
+            wanted: workers as u64,
+            came: AtomicU64::new(0),
+            late: AtomicU64::new(0),
+        };
+        let outcomes = replay_all(alloc, &rt, scripts.as_slice(), workers, &gate)?;
+        assert_same(&rt, &outcomes.len(), &workers);
+        assert_same(&rt, &gate.late.load(Ordering::SeqCst), &0);
+    }
     Ok(())
 }
 

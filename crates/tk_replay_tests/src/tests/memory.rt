@@ -176,13 +176,13 @@ fn each_growth_of_a_traces_journal_refused_in_turn(rt: HostRuntime) {
 
 /// The lines of stamps by the journal of `DATED`, out of the heap.
 fn lines<'h>(
-    rt: &(impl AllocGlobal + Threads + Sync),
     heap: &'h Heap<Global>,
+    rt: &(impl AllocGlobal + Threads + Sync),
     stamps: &[u8],
 ) -> Result<Vec<u8, &'h Heap<Global>>, Fault> {
     let keeper = keeper_of(rt.alloc(), DATED)?;
     let items = Stamps::from_bytes(rt.alloc(), stamps)?;
-    convert(rt, heap, &keeper, &items, ClockId::Monotonic)
+    convert(heap, rt, &keeper, &items, ClockId::Monotonic)
 }
 
 #[test]
@@ -191,7 +191,7 @@ fn each_growth_of_a_traces_lines_refused_in_turn(rt: HostRuntime) {
     let mut is_whole = false;
     'requests: for request in 1..=1_000 {
         heap.refuse(request);
-        let told = lines(&rt, &heap, b"10,12\n0,7\n9,1000\n");
+        let told = lines(&heap, &rt, b"10,12\n0,7\n9,1000\n");
         is_whole = heap.grant_all();
         match told {
             Ok(text) => {
@@ -207,6 +207,6 @@ fn each_growth_of_a_traces_lines_refused_in_turn(rt: HostRuntime) {
     }
     assert!(rt; is_whole);
     heap.refuse_all();
-    assert!(rt; matches!(lines(&rt, &heap, b"10,12\n"), Err(Fault::Memory)));
+    assert!(rt; matches!(lines(&heap, &rt, b"10,12\n"), Err(Fault::Memory)));
     heap.grant_all();
 }
