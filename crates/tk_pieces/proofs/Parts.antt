@@ -16,7 +16,7 @@ use Rattle.tk_keeper.specs.Past.{at_front, front_refusal}
 use Rattle.tk_keeper.specs.Read.{read_fault}
 use Rattle.tk_keeper.specs.Trace.{item_of, AreValues, IsWritten, IsTraced}
 use Rattle.tk_keeper.proofs.Stretches.{part_at}
-use Rattle.tk_pieces.specs.Pieces.{ArePieces, IsFaultFrom, IsTracedInPieces, further_on, piece_items, refused_mark}
+use Rattle.tk_pieces.specs.Pieces.{ArePieces, IsFaultFrom, IsPiece, IsTracedInPieces, further_on, refused_mark}
 
 -- a value doesn't depend on the place of its item
 same_value : (index place : ℕ) (value v : ℤ) (stamp : Option ReadError)
@@ -61,41 +61,50 @@ module _ (journal : Journal) (clock : ClockId) (fronts stamps : List ℕ) where
   abbrev pub IsDone : List ℕ → ℕ → Type 0
   IsDone out k = item_of journal clock fronts stamps k ≡ Ok (pos (get_or out k 0))
 
-  -- a place of a piece is in the part of the list that is the piece
-  within : (at k : ℕ) (xs : List ℕ) → at ≤ k → k < length xs → k - at < piece_items →
-      k - at < length (take piece_items (drop at xs))
-  within at k xs from inside until =
-      omega (arith, length-take piece_items (drop at xs), length-drop at xs)
+  -- a place of a piece lies in the part of the list that is the piece
+  within : (size at k : ℕ) (xs : List ℕ) → at ≤ k → k < length xs → k - at < size →
+      k - at < length (take size (drop at xs))
+  within size at k xs from inside until =
+      omega (arith, length-take size (drop at xs), length-drop at xs)
+
+  -- the piece that begins at a place
+  piece_at : (size n at : ℕ) (out : List ℕ) → at ≡ n * size →
+      ArePieces size journal clock fronts stamps out → at < length stamps →
+      IsPiece journal clock fronts stamps at (take size (drop at out))
+  piece_at size n at out begins pieces =
+      subst (λ a. a < length stamps → IsPiece journal clock fronts stamps a (take size (drop a out)))
+      (sym begins) (pieces n)
 
   -- the items of a piece without the mark
-  unmarked_done : (n : ℕ) (out : List ℕ) → length stamps ≡ length out →
-      ArePieces journal clock fronts stamps out → n * piece_items < length stamps →
-      get_or out (n * piece_items) 0 < refused_mark → (k : ℕ) → k < length stamps →
-      n * piece_items ≤ k → k - n * piece_items < piece_items → IsDone out k
-  unmarked_done n out room pieces low unmarked k inside from until =
-      let at = n * piece_items in
+  unmarked_done : (size n at : ℕ) (out : List ℕ) → at ≡ n * size → length stamps ≡ length out →
+      ArePieces size journal clock fronts stamps out → at < length stamps →
+      get_or out at 0 < refused_mark → 0 < size → (k : ℕ) → k < length stamps →
+      at ≤ k → k - at < size → IsDone out k
+  unmarked_done size n at out begins room pieces low unmarked filled k inside from until =
       let back : at + (k - at) ≡ k = omega arith in
       let zero : at + 0 ≡ at = omega arith in
-      let leads : get_or (take piece_items (drop at out)) 0 0 ≡ get_or out at 0 =
-      get_or-take piece_items (drop at out) 0 0 (omega arith) ∙ get_or-drop at out 0 0
+      let leads : get_or (take size (drop at out)) 0 0 ≡ get_or out at 0 =
+      get_or-take size (drop at out) 0 0 filled ∙ get_or-drop at out 0 0
       ∙ ap (λ j. get_or out j 0) zero in
-      let here = within at k out from (subst (λ m. k < m) room inside) until in
-      let told = pieces n low (subst (λ w. w < refused_mark) (sym leads) unmarked) (k - at) here in
+      let here = within size at k out from (subst (λ m. k < m) room inside) until in
+      let told = piece_at size n at out begins pieces low
+      (subst (λ w. w < refused_mark) (sym leads) unmarked) (k - at) here in
       ap (item_of journal clock fronts stamps) (sym back) ∙ told
-      ∙ ap (λ v. Ok (pos v)) (part_at at piece_items k out from until)
+      ∙ ap (λ v. Ok (pos v)) (part_at at size k out from until)
 
-  -- the items before a piece, and the items of the piece
-  pub pieces_done : (n : ℕ) (out : List ℕ) → length stamps ≡ length out →
-      ArePieces journal clock fronts stamps out →
-      (n * piece_items < length stamps → get_or out (n * piece_items) 0 < refused_mark) →
-      ((k : ℕ) → k < length stamps → k < n * piece_items → IsDone out k) →
-      (k : ℕ) → k < length stamps → k < (n + 1) * piece_items → IsDone out k
-  pieces_done n out room pieces unmarked before k inside low = elim (cases_lt k (n * piece_items)) [
-    | inl early ↦ before k inside early
-    | inr late ↦
-        let begun : n * piece_items < length stamps = omega arith in
-        unmarked_done n out room pieces begun (unmarked begun) k inside late (omega arith)
-  ]
+  -- the items before a piece, and those of the piece
+  pub pieces_done : (size n at : ℕ) (out : List ℕ) → at ≡ n * size → 0 < size →
+      length stamps ≡ length out → ArePieces size journal clock fronts stamps out →
+      at < length stamps → get_or out at 0 < refused_mark →
+      ((k : ℕ) → k < length stamps → k < at → IsDone out k) →
+      (k : ℕ) → k < length stamps → k < at + size → IsDone out k
+  pieces_done size n at out begins filled room pieces low unmarked before k inside early =
+      elim (cases_lt k at) [
+        | inl done ↦ before k inside done
+        | inr late ↦
+            unmarked_done size n at out begins room pieces low unmarked filled k inside late
+            (omega arith)
+      ]
 
   early_out : (xs ys : List ℕ) (k : ℕ) → k < length xs → get_or (xs ++ ys) k 0 ≡ get_or xs k 0
   early_out xs ys k low = search (rules, places)

@@ -37,11 +37,7 @@ IsFaultFrom item count at error =
     (index : ℕ) × (at ≤ index) × (index < count) × (item index ≡ Err error)
     × ((k : ℕ) → at ≤ k → k < index → IsOk (item k))
 
--- the number of items of a piece
-abbrev pub piece_items : ℕ
-piece_items = 65536
-
--- the first word of a piece if an item of the piece has a fault
+-- what the first word of a piece is where an item of it has a fault
 abbrev pub refused_mark : ℕ
 refused_mark = 18446744073709551615
 
@@ -51,11 +47,11 @@ abbrev pub IsPiece : Journal → ClockId → List ℕ → List ℕ → ℕ → L
 IsPiece journal clock fronts stamps at piece =
     slice_index piece 0 < refused_mark → HoldFrom (item_of journal clock fronts stamps) at piece
 
--- each piece of the list
-abbrev pub ArePieces : Journal → ClockId → List ℕ → List ℕ → List ℕ → Type 0
-ArePieces journal clock fronts stamps out =
-    (n : ℕ) → n * piece_items < length stamps →
-    IsPiece journal clock fronts stamps (n * piece_items) (slice_chunk out piece_items n)
+-- each piece of the list, by the number of items of a piece
+abbrev pub ArePieces : ℕ → Journal → ClockId → List ℕ → List ℕ → List ℕ → Type 0
+ArePieces size journal clock fronts stamps out =
+    (n : ℕ) → n * size < length stamps →
+    IsPiece journal clock fronts stamps (n * size) (slice_chunk out size n)
 
 -- the place that a fault reports
 abbrev pub place_told : TraceError → ℕ

@@ -10,5 +10,7 @@
 
 mod ahead;
 mod pieces;
+#[cfg(test)]
+mod tests;
 
 pub use pieces::{trace_all, trace_all_into};

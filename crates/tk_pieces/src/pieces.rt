@@ -116,27 +116,47 @@ pub fn trace_all_into<R: Threads + Sync, A: Allocator + Copy + Sync>(
     if stamps.len() < SHARED {
         return keeper.trace_into(fronts, stamps, clock, out);
     }
-    convert_pieces(rt, keeper, fronts, stamps, clock, out);
-    first_fault(keeper, fronts, stamps, clock, out)
+    trace_in_pieces(rt, PIECE, keeper, fronts, stamps, clock, out)
+}
+
+/// As `trace_all_into`, in pieces of `size` items, however few there are.
+pub(crate) fn trace_in_pieces<R: Threads + Sync, A: Allocator + Copy + Sync>(
+    rt: &R,
+    size: usize,
+    keeper: &Timekeeper<A>,
+    fronts: &[u64],
+    stamps: &[u64],
+    clock: ClockId,
+    out: &mut [u64],
+) -> Result<(), TraceError>
+    requires filled { 0 < size }
+    requires beside { length fronts.now ≡ length stamps.now }
+    requires room { length stamps.now ≡ length out.old }
+    ensures { IsTracedInPieces keeper.now.journal clock fronts.now stamps.now out.new result }
+{
+    convert_pieces(rt, size, keeper, fronts, stamps, clock, out);
+    first_fault(size, keeper, fronts, stamps, clock, out)
 }
 
 /// Converts all pieces, in parallel.
 fn convert_pieces<R: Threads + Sync, A: Allocator + Copy + Sync>(
     rt: &R,
+    size: usize,
     keeper: &Timekeeper<A>,
     fronts: &[u64],
     stamps: &[u64],
     clock: ClockId,
     out: &mut [u64],
 )
+    requires filled { 0 < size }
     requires beside { length fronts.now ≡ length stamps.now }
     requires room { length stamps.now ≡ length out.old }
-    ensures { ArePieces keeper.now.journal clock fronts.now stamps.now out.new }
+    ensures { ArePieces size keeper.now.journal clock fronts.now stamps.now out.new }
 {
     par_chunks_mut_for_each(
         rt,
         out,
-        PIECE,
+        size,
         |at: usize, piece: &mut [u64]|
             requires { (length fronts.now ≡ length stamps.now) × (0 < length piece.old)
                 × (at + length piece.old ≤ length stamps.now) }
@@ -169,23 +189,28 @@ fn convert_piece<A: Allocator + Copy>(
 
 /// Checks the pieces in order, and converts again from the first marked one on.
 fn first_fault<A: Allocator + Copy>(
+    size: usize,
     keeper: &Timekeeper<A>,
     fronts: &[u64],
     stamps: &[u64],
     clock: ClockId,
     out: &mut [u64],
 ) -> Result<(), TraceError>
+    requires filled { 0 < size }
     requires beside { length fronts.now ≡ length stamps.now }
     requires room { length stamps.now ≡ length out.old }
-    requires pieces { ArePieces keeper.now.journal clock fronts.now stamps.now out.old }
+    requires pieces { ArePieces size keeper.now.journal clock fronts.now stamps.now out.old }
     ensures { IsTracedInPieces keeper.now.journal clock fronts.now stamps.now out.new result }
 {
-    let whole = stamps.len() / PIECE;
-    for n in 0..whole + 1 {
-        let at = n * PIECE;
-        if at < stamps.len() && out[at] >= REFUSED {
+    let mut at = 0;
+    'pieces: while at < stamps.len() {
+        if out[at] >= REFUSED {
             return rest(keeper, fronts, stamps, clock, at, out);
         }
+        if stamps.len() - at <= size {
+            return Ok(());
+        }
+        at += size;
     }
     Ok(())
 }

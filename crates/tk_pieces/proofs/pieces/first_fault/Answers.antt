@@ -1,26 +1,50 @@
-use Rattle.std.proofs.Common.{◌<◌, ◌*◌, length, get_or, sym, ap, ◌∙◌, subst, rules}
-use Rattle.tk_pieces.specs.Pieces.{ArePieces, piece_items, refused_mark}
-use Rattle.tk_pieces.proofs.Parts.{pieces_done}
-use Rattle.tk_pieces.proofs.pieces.first_fault.Goals.{else-at-stamps-via-then-at-stamps+else-out-at-ge-REFUSED, else-at-stamps-via-else-at-stamps}
+use Rattle.std.proofs.Common.{◌≡◌, ℕ, ◌+◌, ◌*◌, ◌<◌, ◌≤◌, length, get_or, sym, ap, ◌∙◌, subst, arith, rules}
+use Rattle.std.proofs.Math.Nat.{suc-mul}
+use Rattle.std.proofs.Math.Numerals.{suc-eq-add-one}
+use Rattle.tk_pieces.specs.Pieces.{ArePieces, refused_mark}
+use Rattle.tk_pieces.proofs.Parts.{IsDone, pieces_done}
 use Rattle.tk_pieces.proofs.pieces.first_fault.Goals as goal
 
-pub loop-n-preserved : goal.loop-n-preserved
-loop-n-preserved g c =
+pub returns-then-stamps-at : goal.returns-then-stamps-at
+returns-then-stamps-at g c =
     let journal = c.args.keeper.now.journal in
+    let fronts = c.args.fronts.now in
     let stamps = c.args.stamps.now in
-    let out = c.loop-n.out in
-    let n = c.loop-n.n in
-    let kept = c.loop-n.invariant.kept in
-    let pieces = subst (ArePieces journal c.args.clock c.args.fronts.now stamps) (sym kept)
+    let size = c.args.size in
+    let out = c.pieces.out in
+    let at = c.pieces.at in
+    let kept = c.pieces.invariant.kept in
+    let pieces = subst (ArePieces size journal c.args.clock fronts stamps) (sym kept)
     c.requires.pieces in
-    let unmarked : n * piece_items < length stamps →
-    get_or out (n * piece_items) 0 < refused_mark =
-    λ begun. elim c.else-at-stamps.branch [
-      | else-at-stamps-via-then-at-stamps+else-out-at-ge-REFUSED w ↦ search rules
-      | else-at-stamps-via-else-at-stamps w ↦ search rules
-    ] in
+    let unmarked : get_or out at 0 < refused_mark = search rules in
+    let low : at < length stamps = search rules in
+    let last : length stamps ≤ at + size = search (rules, arith) in
+    let done = pieces_done journal c.args.clock fronts stamps size c.pieces.invariant.begins.0 at out
+    c.pieces.invariant.begins.1 c.requires.filled (c.requires.room ∙ ap length (sym kept)) pieces low
+    unmarked c.pieces.invariant.done in
+    λ k inside. done k inside (omega arith)
+
+pub pieces-preserved : goal.pieces-preserved
+pieces-preserved g c =
+    let journal = c.args.keeper.now.journal in
+    let fronts = c.args.fronts.now in
+    let stamps = c.args.stamps.now in
+    let size = c.args.size in
+    let out = c.pieces.out in
+    let at = c.pieces.at in
+    let kept = c.pieces.invariant.kept in
+    let begins = c.pieces.invariant.begins in
+    let next : (at n : ℕ) → at ≡ n * size → at + size ≡ (n + 1) * size =
+    λ at n e. ap (λ a. a + size) e ∙ sym (suc-mul n size)
+    ∙ ap (λ m. m * size) (suc-eq-add-one n) in
+    let pieces = subst (ArePieces size journal c.args.clock fronts stamps) (sym kept)
+    c.requires.pieces in
+    let unmarked : get_or out at 0 < refused_mark = search rules in
+    let low : at < length stamps = search rules in
     record {
       kept = kept;
-      done = pieces_done journal c.args.clock c.args.fronts.now stamps n out
-          (c.requires.room ∙ ap length (sym kept)) pieces unmarked c.loop-n.invariant.done;
+      begins = (begins.0 + 1, next at begins.0 begins.1);
+      done = pieces_done journal c.args.clock fronts stamps size begins.0 at out begins.1
+          c.requires.filled (c.requires.room ∙ ap length (sym kept)) pieces low unmarked
+          c.pieces.invariant.done;
     }

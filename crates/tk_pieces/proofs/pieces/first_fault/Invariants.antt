@@ -1,11 +1,14 @@
-use Rattle.std.proofs.Common.{◌≡◌, ℕ, ◌*◌, ◌<◌, length}
-use Rattle.tk_pieces.specs.Pieces.{piece_items}
+use Rattle.std.proofs.Common.{◌≡◌, ℕ, ◌-◌, ◌*◌, ◌<◌, length}
 use Rattle.tk_pieces.proofs.Parts.{IsDone}
 use Rattle.tk_pieces.proofs.pieces.first_fault.Given as goal
 
-abbrev pub invariant-loop-n : goal.invariant-loop-n
-invariant-loop-n g l = record {
+abbrev pub invariant-pieces : goal.invariant-pieces
+invariant-pieces g l = record {
   kept : l.out ≡ l.fn.out;
-  done : (k : ℕ) → k < length l.stamps → k < l.n * piece_items →
+  begins : (n : ℕ) × (l.at ≡ n * l.size);
+  done : (k : ℕ) → k < length l.stamps → k < l.at →
       IsDone l.keeper.journal l.clock l.fronts l.stamps l.out k;
 }
+
+abbrev pub decreases-pieces : goal.decreases-pieces
+decreases-pieces g l = length l.stamps - l.at
