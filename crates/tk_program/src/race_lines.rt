@@ -3,16 +3,14 @@ ghost use Rattle.tk_clock.specs.Journal.{accepted_count};
 ghost use Rattle.tk_race.specs.Replies.{done_in};
 ghost use Rattle.tk_program.specs.RaceText.{actor_line, refused_in, race_lines};
 
-use std::alloc::{AllocError, Global};
+use std::alloc::{AllocError, Allocator};
 use tk_replay::{Fault, RaceReply, RaceReport};
 
 /// Makes the lines of a race: `entries,NUMBER`, the number of accepted commands, then for each
 /// actor, from 0, `actor,ID,ACCEPTED,REFUSED`, the numbers of its orders.
 ///
-/// # Errors
-///
-/// - `Fault::Memory`: an allocation failed
-pub fn race_text(alloc: Global, report: &RaceReport) -> Result<Vec<u8>, Fault>
+/// Only Memory.
+pub fn race_text<A: Allocator + Copy>(alloc: A, report: &RaceReport) -> Result<Vec<u8, A>, Fault>
     ensures { MatchResult result
         (λ text. text.items ≡ race_lines (accepted_count report.now.keeper.journal)
         (map (λ r. r.items) report.now.replies.items))
@@ -27,8 +25,12 @@ pub fn race_text(alloc: Global, report: &RaceReport) -> Result<Vec<u8>, Fault>
     Ok(text)
 }
 
-/// Makes the line of an actor.
-fn line_of(alloc: Global, id: usize, replies: &[RaceReply]) -> Result<String, AllocError>
+/// The line of an actor.
+fn line_of<A: Allocator>(
+    alloc: A,
+    id: usize,
+    replies: &[RaceReply],
+) -> Result<String<A>, AllocError>
     ensures { IfOk result (λ line. string_bytes line ≡ actor_line id replies.now) }
 {
     let Counts { accepted, refused } = count_orders(replies);

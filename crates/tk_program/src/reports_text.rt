@@ -2,7 +2,7 @@
 ghost use Rattle.std.specs.Prelude.{◌≡◌, ◌++◌, OnOk, MatchResult};
 ghost use Rattle.tk_program.specs.ManyText.{fault_line, heading, outcome_text, text_from};
 
-use std::alloc::{AllocError, Global};
+use std::alloc::{AllocError, Allocator};
 use std::io;
 use std::io::Write;
 use tk_replay::Fault;
@@ -14,12 +14,11 @@ const LINES: usize = 100;
 /// Joins the reports of scripts into one text: for each script the line `file,INDEX`, from 0, and
 /// then its report, or the line `fault,TEXT` if it has a fault.
 ///
-/// It first allocates the capacity for the whole text.
-///
-/// # Errors
-///
-/// - `Fault::Memory`: an allocation failed
-pub fn many_text(alloc: Global, outcomes: &[Result<Vec<u8>, ScriptError>]) -> Result<Vec<u8>, Fault>
+/// Only `Fault::Memory`. The room of the whole text is asked for first.
+pub fn many_text<A: Allocator>(
+    alloc: A,
+    outcomes: &[Result<Vec<u8>, ScriptError>],
+) -> Result<Vec<u8, A>, Fault>
     ensures { MatchResult result
         (λ text. text.items ≡ text_from 0 outcomes.now)
         (λ fault. fault ≡ Fault.Memory) }
@@ -45,15 +44,18 @@ fn room_for(outcomes: &[Result<Vec<u8>, ScriptError>]) -> usize {
     room
 }
 
-/// Appends the line above a script's report.
-fn add_heading(text: &mut Vec<u8>, index: usize) -> Result<(), AllocError>
+/// Adds the line above a script's report.
+fn add_heading<A: Allocator>(text: &mut Vec<u8, A>, index: usize) -> Result<(), AllocError>
     ensures { OnOk result (text.new.items ≡ text.old.items ++ heading index) }
 {
     writeln!(text, "file,{index}").map_err(|_| AllocError)
 }
 
-/// Appends a script's report, or a line with its fault.
-fn add_outcome(text: &mut Vec<u8>, outcome: &Result<Vec<u8>, ScriptError>) -> Result<(), AllocError>
+/// Adds a script's report, or a line with its fault.
+fn add_outcome<A: Allocator>(
+    text: &mut Vec<u8, A>,
+    outcome: &Result<Vec<u8>, ScriptError>,
+) -> Result<(), AllocError>
     ensures { OnOk result (text.new.items ≡ text.old.items ++ outcome_text outcome.now) }
 {
     match outcome {
@@ -62,8 +64,8 @@ fn add_outcome(text: &mut Vec<u8>, outcome: &Result<Vec<u8>, ScriptError>) -> Re
     }
 }
 
-/// Appends a line with a script's fault, in the words that `ScriptError` prints.
-fn add_fault(text: &mut Vec<u8>, error: ScriptError) -> io::Result<()>
+/// Adds a line with a script's fault, in the words that `ScriptError` prints.
+fn add_fault<A: Allocator>(text: &mut Vec<u8, A>, error: ScriptError) -> io::Result<()>
     ensures { OnOk result (text.new.items ≡ text.old.items ++ fault_line error) }
 {
     match error {

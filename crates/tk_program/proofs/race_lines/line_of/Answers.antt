@@ -4,7 +4,7 @@ use Rattle.tk_program.proofs.RaceLines.{parts}
 use Rattle.tk_program.proofs.race_lines.line_of.Goals as goal
 
 pub returns : goal.returns
-returns c =
+returns g c =
     let counted = c.count_orders-accepted.ensures in
     let comma = codes "," in
     let end = codes "\n" in

@@ -4,7 +4,7 @@ use Rattle.tk_program.proofs.ManyText.{text_more}
 use Rattle.tk_program.proofs.reports_text.many_text.Goals as goal
 
 pub loop-index-preserved : goal.loop-index-preserved
-loop-index-preserved c =
+loop-index-preserved g c =
     let index = c.loop-index.index in
     let outcome = c.index-outcomes-index.result in
     let above = heading index in
