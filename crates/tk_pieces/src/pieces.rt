@@ -119,7 +119,7 @@ pub fn trace_all_into<R: Threads + Sync, A: Allocator + Copy + Sync>(
     trace_in_pieces(rt, PIECE, keeper, fronts, stamps, clock, out)
 }
 
-/// As `trace_all_into`, in pieces of `size` items, however few there are.
+/// Does what `trace_all_into` does, in pieces of `size` items, however few items there are.
 pub(crate) fn trace_in_pieces<R: Threads + Sync, A: Allocator + Copy + Sync>(
     rt: &R,
     size: usize,

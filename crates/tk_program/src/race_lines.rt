@@ -9,7 +9,9 @@ use tk_replay::{Fault, RaceReply, RaceReport};
 /// Makes the lines of a race: `entries,NUMBER`, the number of accepted commands, then for each
 /// actor, from 0, `actor,ID,ACCEPTED,REFUSED`, the numbers of its orders.
 ///
-/// Only Memory.
+/// # Errors
+///
+/// - `Fault::Memory`: an allocation failed
 pub fn race_text<A: Allocator + Copy>(alloc: A, report: &RaceReport) -> Result<Vec<u8, A>, Fault>
     ensures { MatchResult result
         (λ text. text.items ≡ race_lines (accepted_count report.now.keeper.journal)
@@ -25,7 +27,7 @@ pub fn race_text<A: Allocator + Copy>(alloc: A, report: &RaceReport) -> Result<V
     Ok(text)
 }
 
-/// The line of an actor.
+/// Makes the line of an actor.
 fn line_of<A: Allocator>(
     alloc: A,
     id: usize,

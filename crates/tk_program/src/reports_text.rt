@@ -14,7 +14,11 @@ const LINES: usize = 100;
 /// Joins the reports of scripts into one text: for each script the line `file,INDEX`, from 0, and
 /// then its report, or the line `fault,TEXT` if it has a fault.
 ///
-/// Only `Fault::Memory`. The room of the whole text is asked for first.
+/// It first allocates the capacity for the whole text.
+///
+/// # Errors
+///
+/// - `Fault::Memory`: an allocation failed
 pub fn many_text<A: Allocator>(
     alloc: A,
     outcomes: &[Result<Vec<u8>, ScriptError>],
@@ -44,14 +48,14 @@ fn room_for(outcomes: &[Result<Vec<u8>, ScriptError>]) -> usize {
     room
 }
 
-/// Adds the line above a script's report.
+/// Appends the line above a script's report.
 fn add_heading<A: Allocator>(text: &mut Vec<u8, A>, index: usize) -> Result<(), AllocError>
     ensures { OnOk result (text.new.items ≡ text.old.items ++ heading index) }
 {
     writeln!(text, "file,{index}").map_err(|_| AllocError)
 }
 
-/// Adds a script's report, or a line with its fault.
+/// Appends a script's report, or a line with its fault.
 fn add_outcome<A: Allocator>(
     text: &mut Vec<u8, A>,
     outcome: &Result<Vec<u8>, ScriptError>,
@@ -64,7 +68,7 @@ fn add_outcome<A: Allocator>(
     }
 }
 
-/// Adds a line with a script's fault, in the words that `ScriptError` prints.
+/// Appends a line with a script's fault, in the words that `ScriptError` prints.
 fn add_fault<A: Allocator>(text: &mut Vec<u8, A>, error: ScriptError) -> io::Result<()>
     ensures { OnOk result (text.new.items ≡ text.old.items ++ fault_line error) }
 {
