@@ -10,7 +10,7 @@ use tk_page::Viewer;
 /// Gives commands to a shared keeper and reads its clocks.
 ///
 /// It belongs to one thread at a time. Contracts see it as its number, the number of its accepted
-/// commands, and what it has seen.
+/// commands, the number of its reads of the page, and what it has seen.
 #[derive(Drop)]
 pub struct Caller<L: Named> {
     pub(crate) viewer: Viewer,

@@ -7,7 +7,7 @@ pub enum OpenError {
     Count,
     /// REALTIME may not be set to the requested time. The counter wasn't read.
     Invalid,
-    /// An allocation failed. The counter was read at most once.
+    /// An allocation failed, after the counter was read.
     Memory,
 }
 
