@@ -9,9 +9,6 @@ use tk_keeper::TraceError;
 /// Items whose answer is longer than 32 MB by a word.
 pub(crate) const LONG: usize = 4_194_305;
 
-/// The requests for memory beside that of the answer.
-const REQUESTS: u64 = 9;
-
 #[test]
 fn a_long_list_is_told_as_by_one_thread(rt: HostRuntime) -> Result<(), Fail> {
     let alloc = rt.alloc();
@@ -66,14 +63,19 @@ fn a_long_list_is_told_where_its_keepers_memory_is_refused(rt: HostRuntime) -> R
     let heap = Heap::new(rt.alloc());
     let keeper = steered(&heap)?;
     let lists = counted(rt.alloc(), LONG)?;
-    for request in 1..=REQUESTS {
+    // with one processor no request is made
+    let mut is_granted = false;
+    'requests: for request in 1..=100 {
         heap.refuse(request);
         let values = asked(rt.alloc(), &rt, &keeper, &lists)?;
-        assert_same(&rt, &heap.grant_all(), &false);
+        is_granted = heap.grant_all();
         assert_same(&rt, &(values.as_slice() == lists.stamps.as_slice()), &true);
+        if is_granted {
+            break 'requests;
+        }
     }
+    assert_same(&rt, &is_granted, &true);
     heap.refuse_all();
     assert_same(&rt, &asked(rt.alloc(), &rt, &keeper, &lists)?.len(), &LONG);
-    assert_same(&rt, &heap.grant_all(), &true);
     Ok(())
 }

@@ -198,3 +198,18 @@ fn room_is_asked_for_first(rt: HostRuntime) -> Result<(), Fail> {
     }
     Ok(())
 }
+
+#[test]
+fn the_answer_takes_one_request_of_its_own_length(rt: HostRuntime) -> Result<(), Fail> {
+    let alloc = rt.alloc();
+    let heap = Heap::new(alloc);
+    let keeper = steered(alloc)?;
+    for many in [1, 3, MANY, LONG] {
+        let lists = counted(alloc, many)?;
+        heap.refuse(2);
+        let values = asked(&heap, &rt, &keeper, &lists)?;
+        assert_same(&rt, &heap.grant_all(), &true);
+        assert_same(&rt, &(values.len(), values.capacity()), &(many, many));
+    }
+    Ok(())
+}
