@@ -77,9 +77,16 @@ impl<C: Counter> Model for Prepared<C> {
 /// Prepares a keeper with `callers` callers over `counter`, which it reads once. The clocks open at
 /// that reading, masked, with MONOTONIC 0 and REALTIME `real`.
 ///
-/// It makes room for this many commands, or for as many as a journal lists. Count where fewer
-/// callers than 1 or more than 64 are asked for, Invalid where REALTIME may not be set to `real`,
-/// then Memory. A fault hands the counter back: unread at Count and Invalid, read once at Memory.
+/// It reserves capacity for `room` commands, or for the 1,048,576 that a journal lists. It
+/// allocates, and counts among the calls that may wait; no other thread has the page yet.
+///
+/// # Errors
+///
+/// An `OpenFault`, which contains the counter, with the first error that applies:
+///
+/// - `Count` if `callers` is less than 1 or more than 64. The counter is unread.
+/// - `Invalid` if REALTIME may not be set to `real`. The counter is unread.
+/// - `Memory` if an allocation fails. The counter was read once.
 pub fn prepare<C: Counter, R: Wait>(
     alloc: Global,
     rt: &R,

@@ -136,8 +136,8 @@ impl<L: Named, C: Counter> SharedKeeper<L, C> {
 
     /// Returns the snapshot of the history so far, at least as far as this caller has seen it.
     ///
-    /// It doesn't take the lock, and reads the page once. Where a publication comes between, it waits
-    /// for the words of the page.
+    /// It reads the page once, which clause `reads` states. It doesn't take the lock and allocates
+    /// nothing. If its first try fails, it waits for whoever holds the words of the page.
     pub fn read<R: Wait>(&self, rt: &R, caller: &mut Caller<L>) -> Snapshot
         ensures reads { caller.new.reads ≡ caller.old.reads + 1 }
         ensures extends { Begins caller.old.seen caller.new.seen }
@@ -176,7 +176,8 @@ impl<L: Named, C: Counter> SharedKeeper<L, C> {
     /// Folds the oldest entries of the journal so that at most `keep` are listed, and returns the
     /// number of folded entries.
     ///
-    /// It publishes nothing, and no later read changes.
+    /// It waits for the lock and allocates nothing. It publishes nothing, and no answer to a reader
+    /// changes.
     pub fn fold<R: Wait>(&self, rt: &R, keep: u64) -> u64
         ensures { IsFold L.latch.counter keep result }
     {
