@@ -4,6 +4,8 @@
 mod files;
 mod many;
 mod many_text;
+mod memory;
+mod opened;
 mod openings;
 mod race_lines;
 mod races;

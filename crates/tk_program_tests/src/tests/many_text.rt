@@ -8,13 +8,15 @@ use tk_replay::{Fault, report};
 use tk_script::ScriptError;
 
 /// A script of five records, and one whose second record has too few fields.
-const WHOLE: &[u8] = b"open,32,16777216,24,0,1700000000,0\nget,0,monotonic\nupdate,2147483647\n\
+pub(super) const WHOLE: &[u8] =
+    b"open,32,16777216,24,0,1700000000,0\nget,0,monotonic\nupdate,2147483647\n\
 get,2147483648,monotonic\nupdate,0\n";
 
-const SHORT: &[u8] = b"open,32,16777216,24,0,1700000000,0\nset,5,7\n";
+pub(super) const SHORT: &[u8] = b"open,32,16777216,24,0,1700000000,0\nset,5,7\n";
 
 /// Their text.
-const TEXT: &[u8] = b"file,0\nopen,32,16777216,24\nat,monotonic,0.000000000\nok,1,2.147483647\n\
+pub(super) const TEXT: &[u8] =
+    b"file,0\nopen,32,16777216,24\nat,monotonic,0.000000000\nok,1,2.147483647\n\
 at,monotonic,2.147483648\nno,behind\nfile,1\nfault,record 2: wrong number of fields\n";
 
 #[test]

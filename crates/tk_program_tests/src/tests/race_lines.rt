@@ -10,7 +10,7 @@ use tk_program::race_text;
 use tk_replay::{Action, Fault, NoGate, RaceReport, race};
 
 /// The race of these actors.
-fn raced<R: Threads + Wait + Sync>(
+pub(super) fn raced<R: Threads + Wait + Sync>(
     rt: &R,
     alloc: Global,
     actors: &[Vec<Action>],
@@ -24,7 +24,7 @@ fn raced<R: Threads + Wait + Sync>(
 }
 
 /// Three orders of one actor, and four actions of another.
-fn actors_in(alloc: Global) -> Result<Vec<Vec<Action>>, AllocError> {
+pub(super) fn actors_in(alloc: Global) -> Result<Vec<Vec<Action>>, AllocError> {
     let updates = vec![in alloc; Action::Order(Command::Update); 3]?;
     let mixed = vec![in alloc;
         Action::Look,

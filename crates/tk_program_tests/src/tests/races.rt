@@ -54,6 +54,43 @@ fn two_scripts_race(rt: HostRuntime) -> Result<(), Fail> {
     Ok(())
 }
 
+/// The wanted texts are those of `tools/model.py race`. Each step is refused where the low half of
+/// its bits would not be.
+#[test]
+fn a_step_of_more_than_32_bits_is_taken_whole(rt: HostRuntime) -> Result<(), Fail> {
+    let files: [(&str, &[u8]); 2] = [
+        (
+            "ns",
+            b"open,64,16777216,24,0,1700000000,0\nupdate,0\nupdate,0\nupdate,0\n",
+        ),
+        (
+            "ms",
+            b"open,64,4194304,0,0,1700000000,0\nupdate,0\nget,0,tai\nupdate,0\ntai,0,37\n\
+            update,0\nupdate,0\n",
+        ),
+    ];
+    let races: [(&[&str], &[u8]); 3] = [
+        (
+            &["tkcore", "race", "500000000000000000", "ns"],
+            b"entries,1\nactor,0,1,2\n",
+        ),
+        (
+            &["tkcore", "race", "68719476737", "ms"],
+            b"entries,3\nactor,0,3,2\n",
+        ),
+        (
+            &["tkcore", "race", "4294967297", "ms"],
+            b"entries,5\nactor,0,5,0\n",
+        ),
+    ];
+    for (words, wanted) in races {
+        let (ending, text) = outcome(&rt, words, &files)?;
+        assert_same(&rt, &ending, &Ending::Done);
+        assert_same(&rt, &text.as_slice(), &wanted);
+    }
+    Ok(())
+}
+
 /// A race of these files ends so, and nothing is written.
 fn assert_stops(
     rt: &(impl AllocGlobal + Abort + Threads + Wait + Sync),
