@@ -43,8 +43,8 @@ impl Viewer {
     /// Returns the snapshot of the journal published so far, which is no shorter than any that
     /// this viewer saw.
     ///
-    /// It takes no lock of a keeper's, and reads the page once, which clause `reads` says. Where a
-    /// publication comes between, it waits for the words of the page.
+    /// It reads the page once, which clause `reads` states. It takes no keeper's lock and allocates
+    /// nothing. If its first try fails, it waits for whoever holds the words.
     pub fn read<R: Wait>(&mut self, rt: &R, page: &Page) -> Snapshot
         requires page { self.old.page ≡ page.now }
         ensures page { self.new.page ≡ self.old.page }
