@@ -107,6 +107,28 @@ fn tells_the_fault_of_a_later_record(rt: HostRuntime) -> Result<(), Fail> {
     Ok(())
 }
 
+#[test]
+fn a_record_may_have_any_number_of_fields(rt: HostRuntime) -> Result<(), Fail> {
+    let faults: [(&[u8], ScriptError); 2] = [
+        (b"update", ScriptError::Fields { row: 2 }),
+        (b"updat", ScriptError::Word { row: 2 }),
+    ];
+    for (word, want) in faults {
+        for fields in [15, 16, 17, 1_000, 100_000] {
+            let mut record = word.to_vec(rt.alloc())?;
+            for _ in 0..fields {
+                record.extend_from_slice(b",0")?;
+            }
+            assert_same(
+                &rt,
+                &fault_after_opening(rt.alloc(), record.as_slice())?,
+                &want,
+            );
+        }
+    }
+    Ok(())
+}
+
 /// Returns the fault of a record with an unknown word, followed by line feeds up to `len` bytes.
 fn fault_of_size(alloc: Global, len: usize) -> Result<ScriptError, Fail> {
     let mut bytes = b"x\n".to_vec(alloc)?;

@@ -133,3 +133,37 @@ fn a_calendar_that_was_refused_a_date_goes_on(rt: HostRuntime) -> Result<(), Fai
     }
     Err("each report met a refusal".into())
 }
+
+#[test]
+fn only_the_first_line_of_a_day_asks_for_memory(rt: HostRuntime) -> Result<(), Fail> {
+    let heap = Heap::new(rt.alloc());
+    let mut calendar = Calendar::new(&heap);
+    let mut out = Vec::with_capacity(&heap, LENGTH)?;
+    for day in 0..3u32 {
+        let start = 1_700_000_000 + day * 86_400;
+        let first = Timespec {
+            sec: i64::from(start),
+            nsec: 0,
+        };
+        // a second later the day ends
+        let last = Timespec {
+            sec: i64::from(start + 6_399),
+            nsec: 0,
+        };
+        heap.refuse_all();
+        let refused = calendar.line_at(&mut out, ClockId::Realtime, first);
+        assert_same(&rt, &refused, &Err(ScriptError::Memory));
+        heap.grant_all();
+        calendar.line_at(&mut out, ClockId::Realtime, first)?;
+        heap.refuse_all();
+        for _ in 0..3 {
+            calendar.line_at(&mut out, ClockId::RealtimeCoarse, last)?;
+            calendar.line_at(&mut out, ClockId::Monotonic, first)?;
+        }
+        heap.grant_all();
+    }
+    assert!(rt;
+        out.ends_with(b",2023-11-16T23:59:59.000000000Z\nat,monotonic,1700172800.000000000\n")
+    );
+    Ok(())
+}
