@@ -8,7 +8,8 @@
 # one request refused, the program must end with `out of memory` and nothing written, or write the
 # whole output. A report by `many` may also be the line `fault,out of memory`. If its threads are
 # refused from the Nth on, a race or `many` must end with status 1 and one line, or write the whole
-# output, and a trace must write the whole output. N counts up from 1 until a run meets no refusal.
+# output, and a trace must write the whole output. N counts up from 1 until a run meets no refusal. A
+# refused request for memory is reported as a thread that can't be started once for each thread.
 #
 # It ends with status 1 at the first run that does anything else. It needs gcc and glibc. `rt run
 # < /dev/null` in crates/tkcore builds the program, as crates/tkcore/out/tkcore.
@@ -25,6 +26,9 @@ cd "$work" || exit 1
 # more requests than any run makes: a loop that gets there has gone wrong
 readonly most=100000
 refused=0 in_place=0 threads=0
+# of one case: how many threads it starts, and how often a request that was not made inside
+# pthread_create was reported as a thread that can't be started
+starts=0 lost_threads=0
 
 # KIND NUMBER INPUT WORDS..: runs the program on these words with this request refused. What it wrote
 # is in `out`, and `ended` has its status and its fault.
@@ -34,6 +38,12 @@ run() {
     rm -f mark
     env "$kind=$number" REFUSE_MARK=mark LD_PRELOAD=./refuse.so "$program" "$@" <"$input" >out 2>err
     ended="$? $(cat err)"
+}
+
+# a request for a thread's own value may be reported so, once for each thread, and no other
+count_lost_thread() {
+    [[ $ended = "1 tkcore: $thread" ]] && grep -q memory mark && lost_threads=$((lost_threads + 1))
+    [ "$lost_threads" -le "$starts" ]
 }
 
 is_whole() {
@@ -50,6 +60,7 @@ differs() {
 each() {
     local kind=$1 faults=$2 input=$3 number
     shift 3
+    lost_threads=0
     "$program" "$@" <"$input" >whole || differs none 0 "$@"
     for number in $(seq 1 $most); do
         run "$kind" "$number" "$input" "$@"
@@ -57,7 +68,12 @@ each() {
         if ! is_whole && { [ -s out ] || [[ ! $ended =~ ^1\ tkcore:\ ($faults)$ ]]; }; then
             differs "$kind" "$number" "$@"
         fi
-        [ "$kind" = REFUSE ] && refused=$((refused + 1)) || threads=$((threads + 1))
+        if [ "$kind" = REFUSE ]; then
+            refused=$((refused + 1))
+            count_lost_thread || differs "$kind" "$number" "$@"
+        else
+            threads=$((threads + 1)) starts=$number
+        fi
     done
     # without a refusal the output is whole
     is_whole || differs "$kind" "$number" "$@"
@@ -89,9 +105,9 @@ printf '%s\n' open,32,16777216,24,0,1700000000,0 update,0 get,0,tai tai,0,100001
 cp 5.csv 6.csv
 for scripts in 3.csv 5.csv '3.csv 5.csv' '5.csv 6.csv 5.csv'; do
     # shellcheck disable=SC2086
-    each REFUSE "$memory|$thread" /dev/null race 1000 $scripts
-    # shellcheck disable=SC2086
     each REFUSE_THREADS "$thread" /dev/null race 1000 $scripts
+    # shellcheck disable=SC2086
+    each REFUSE "$memory|$thread" /dev/null race 1000 $scripts
 done
 each REFUSE_THREADS "$thread" /dev/null many 2 1.csv 2.csv
 each REFUSE_THREADS "$thread" /dev/null many 3 1.csv 2.csv 3.csv
@@ -104,6 +120,7 @@ printf 'file,0\n%s\nfile,1\n%s\n' "$lost" "$second" >faulty1
 printf 'file,0\n%s\nfile,1\n%s\n' "$first" "$lost" >faulty2
 printf 'file,0\n%s\nfile,1\n%s\n' "$lost" "$lost" >faulty3
 for workers in 1 2; do
+    starts=$workers lost_threads=0
     for number in $(seq 1 $most); do
         run REFUSE "$number" /dev/null many $workers 1.csv 2.csv
         [ -e mark ] || break
@@ -114,7 +131,7 @@ for workers in 1 2; do
                     in_place=$((in_place + 1)) && continue
                 ;;
             "1 tkcore: $memory" | "1 tkcore: $thread")
-                [ ! -s out ] && refused=$((refused + 1)) && continue
+                [ ! -s out ] && refused=$((refused + 1)) && count_lost_thread && continue
                 ;;
         esac
         differs REFUSE "$number" many $workers 1.csv 2.csv

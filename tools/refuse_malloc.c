@@ -4,8 +4,9 @@
  *
  *   REFUSE=N          the Nth request for memory, counted from 1 over all threads, and no other
  *   REFUSE_THREADS=N  the Nth request for a thread, and every later one
- *   REFUSE_MARK=PATH  the file that is made when a request is refused, so that a caller can count N
- *                     up until a run meets no refusal
+ *   REFUSE_MARK=PATH  the file that is written when a request is refused: `thread` if it was made to
+ *                     start a thread, otherwise `memory`. A caller can count N up until a run
+ *                     leaves no such file
  *
  * tools/refuse_each.sh and tools/refuse_tests build it. It needs glibc. */
 #define _GNU_SOURCE
@@ -30,6 +31,9 @@ static long first_refused_thread, threads;
 static const char *mark;
 static pthread_create_fn *next_pthread_create;
 
+/* Whether this thread is starting another one. */
+static __thread int is_starting;
+
 static long number_of(const char *name)
 {
     const char *text = getenv(name);
@@ -48,10 +52,13 @@ __attribute__((constructor)) static void read_environment(void)
 
 static void leave_mark(void)
 {
-    int file = mark ? open(mark, O_WRONLY | O_CREAT | O_CLOEXEC, 0600) : -1;
+    int file;
 
-    if (file >= 0)
-        close(file);
+    if (!mark)
+        return;
+    file = open(mark, O_WRONLY | O_CREAT | O_CLOEXEC, 0600);
+    if (file < 0 || write(file, is_starting ? "thread\n" : "memory\n", 7) != 7 || close(file))
+        abort();
 }
 
 static int is_refused(void)
@@ -83,8 +90,13 @@ int pthread_create(pthread_t *thread, const pthread_attr_t *attributes, void *(*
 {
     long number = __atomic_add_fetch(&threads, 1, __ATOMIC_SEQ_CST);
 
-    if (!first_refused_thread || number < first_refused_thread)
-        return next_pthread_create(thread, attributes, start, argument);
-    leave_mark();
-    return EAGAIN;
+    int error = EAGAIN;
+
+    is_starting = 1;
+    if (first_refused_thread && number >= first_refused_thread)
+        leave_mark();
+    else
+        error = next_pthread_create(thread, attributes, start, argument);
+    is_starting = 0;
+    return error;
 }
