@@ -122,6 +122,10 @@ stops 'a fault behind openings that differ' 'file 2: record 2: wrong number of f
 stops 'openings of 65 that differ' 'openings differ' "$race other \$(yes script | head -n 64)"
 stops 'a race on a full disk' 'cannot write' "$race script script >/dev/full"
 stops 'a race without output' 'cannot write' "$race script >&-"
+# as many rows as fit in a script, more than a journal lists
+{ echo "$opening" && yes tai,0,0 | head -n 2097147; } >most_rows
+expect 'a race of the most rows' 0 '' 2 'actor,0,1048576,1048571' "$race most_rows"
+expect 'a report of the most rows' 0 '' 2097148 'no,full' '$program <most_rows'
 { echo "$opening" && yes update,0 | head -n 1500000; } >long
 stops 'a race with too little memory' 'out of memory' "ulimit -v 60000 && $race script long"
 # a limit on processes doesn't bind root, so another user, who may start one process alone, runs it
