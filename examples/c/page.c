@@ -21,6 +21,10 @@
  * The writer reads the counter after its step 1, and the reader before its
  * step 3. So a reader never combines a snapshot with a reading later than that
  * of the next command, and it never sees MONOTONIC go back.
+ *
+ * The counter here is a word in memory. With the TSC the reader has to read it
+ * by "lfence; rdtsc", so that the reading is not taken before the words are
+ * loaded, and by another "lfence" before its step 3.
  */
 #include <inttypes.h>
 #include <pthread.h>
@@ -68,7 +72,11 @@ static uint64_t advance_counter(struct machine *machine)
 						  memory_order_relaxed);
 }
 
-/* Does the writer's step 1. */
+/*
+ * Does the writer's step 1. The fence is a full one: every reader must be able
+ * to see the odd sequence before the counter is read in step 2. A release fence
+ * doesn't order this store before a later load, nor before rdtsc.
+ */
 static void begin_page(struct page *page)
 {
 	uint64_t sequence = atomic_load_explicit(&page->sequence,
@@ -76,7 +84,7 @@ static void begin_page(struct page *page)
 
 	atomic_store_explicit(&page->sequence, sequence + 1,
 			      memory_order_relaxed);
-	atomic_thread_fence(memory_order_release);
+	atomic_thread_fence(memory_order_seq_cst);
 }
 
 /* Does the writer's steps 3 and 4. */
