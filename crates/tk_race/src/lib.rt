@@ -7,20 +7,23 @@
 //! | `RaceReply` | the answer to an action |
 //! | `RaceReport` | the keeper at the end, and all replies |
 //! | `RaceError` | why a race gives no report |
+//! | `Gate`, `NoGate` | are called before and after each piece of threaded work, as an actor's |
 //!
 //! Actors are numbered from 0. That is also the number of their caller and of their piece: a `Gate`
-//! of `tk_gate` is called when an actor begins and when it is done. Commands, readings and times
-//! are those of `tk_clock`.
+//! is called when an actor begins and when it is done. Commands, readings and times are those of
+//! `tk_clock`.
 #![tactic(auto)]
 
 mod action;
 mod actor;
+mod gate;
 mod race_error;
 mod racing;
 mod report;
 mod starting;
 
 pub use action::{Action, RaceReply};
+pub use gate::{Gate, NoGate};
 pub use race_error::RaceError;
 pub use racing::race;
 pub use report::RaceReport;

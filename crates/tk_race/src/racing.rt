@@ -7,6 +7,7 @@ ghost use Rattle.tk_race.specs.Actor.{AreReady};
 
 use crate::action::{Action, RaceReply};
 use crate::actor::Actor;
+use crate::gate::Gate;
 use crate::race_error::RaceError;
 use crate::report::RaceReport;
 use crate::starting::act_at_once;
@@ -16,7 +17,6 @@ use std::sync::Wait;
 use std::thread::Threads;
 use tk_clock::Timespec;
 use tk_counter::CounterDesc;
-use tk_gate::Gate;
 use tk_shared::{Caller, Named, Prepared, SharedKeeper, Ticker, prepare};
 
 /// The greatest number of actors of a race, which is that of callers of a keeper.

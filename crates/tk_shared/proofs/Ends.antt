@@ -1,5 +1,5 @@
 -- What is known once all callers are back.
-use Rattle.std.proofs.Common.{◌≡◌, ◌≤◌, List, All, length, sym, ◌∙◌, arith}
+use Rattle.std.proofs.Common.{◌≡◌, ◌≤◌, List, All, length, sym, ◌∙◌}
 use mathlib.Core.List.{IsPrefix}
 use Rattle.atomic_table.specs.Seated.{TableId}
 use Rattle.tk_clock.specs.Snapshot.{Snapshot}

@@ -1,8 +1,8 @@
 -- What a command tells its caller.
-use Rattle.std.proofs.Common.{◌≡◌, ℕ, ◌+◌, [], ◌∷◌, length, refl, ◌∙◌, arith, bit_and, sym}
+use Rattle.std.proofs.Common.{◌≡◌, ℕ, ◌+◌, ◌%◌, ◌^◌, [], ◌∷◌, length, refl, ◌∙◌, ap, arith, bit_and, sym}
 use Rattle.std.specs.Prelude.{None}
 use Rattle.std.proofs.lemmas.List.{length_push}
-use Rattle.std.proofs.lemmas.Nat.{and_le_r}
+use Rattle.std.proofs.lemmas.Nat.{and_le_r, and_mask}
 use mathlib.Core.List.{IsPrefix}
 use Rattle.atomic_table.specs.Seated.{TableId}
 use Rattle.tk_clock.specs.declared.command.Command.{Command}
@@ -13,7 +13,7 @@ use Rattle.tk_clock.specs.Snapshot.{snapshot_of}
 use Rattle.tk_clock.proofs.Monotone.{agrees, never_falls}
 use Rattle.tk_page.specs.History.{Begins}
 use Rattle.tk_latch.specs.Latch.{LatchId, told_reader}
-use Rattle.tk_shared.specs.Callers.{Known, IsAccepted, IsRefused, entry_of}
+use Rattle.tk_shared.specs.Callers.{Known, IsAccepted, IsRefused, IsRefusalAfter, entry_of}
 use Rattle.tk_shared.specs.Locked.{Held, IsHeld}
 use Rattle.tk_shared.proofs.Held.{with_entry, held_accepted}
 use Rattle.tk_shared.proofs.Kept.{kept_count, kept_monotonic}
@@ -25,6 +25,16 @@ module _ (page : TableId) (latch : LatchId) (held : Held) (is : IsHeld page latc
   abbrev pub reading : ℕ
   reading = bit_and answer held.mask
 
+  -- the reading is the answer's low bits
+  pub low_bits : reading ≡ answer % 2 ^ held.shown.journal.opening.counter.bits
+  low_bits = ap (bit_and answer) is.masked ∙ and_mask answer held.shown.journal.opening.counter.bits
+
+  -- the history gives the reason of the refusal
+  pub reason : (refusal : Refusal) → IsRefusal held.kept (entry_of old reading cmd) refusal →
+      IsRefusalAfter held.shown.journal (entry_of old reading cmd) refusal
+  reason refusal told = refused_after held.shown.journal held.kept (entry_of old reading cmd) refusal
+      is.whole is.kept told
+
   -- the caller has seen the history, after which its command was refused
   pub refused : (refusal : Refusal) → IsRefusal held.kept (entry_of old reading cmd) refusal →
       IsRefused old (record old { seen = held.shown.journal }) cmd refusal
@@ -33,8 +43,7 @@ module _ (page : TableId) (latch : LatchId) (held : Held) (is : IsHeld page latc
     masked = let most = is.masked in let low = and_le_r answer held.mask in omega (arith, most, low);
     extends = begins;
     whole = is.whole;
-    reason = refused_after held.shown.journal held.kept (entry_of old reading cmd) refusal is.whole
-        is.kept told;
+    reason = reason refusal told;
     counted = refl;
     learnt = refl;
   }

@@ -1,5 +1,6 @@
 pub mod History
 pub mod Callers
+pub mod Readings
 pub mod Locked
 pub mod Closing
 pub mod Opening

@@ -3,8 +3,14 @@
 /// The keeper reads it once when it is opened and once in each command, under the lock. Bits above
 /// those of the keeper's counter are dropped.
 pub trait Counter: Send + Drop {
+    ghost use Rattle.std.specs.Prelude.{ℕ};
+
+    // The answers that the counter may give next.
+    ghost answers: { Self → ℕ → Type 0 };
+
     /// Returns the next reading. In a command the lock is held while this runs.
-    fn read(&mut self) -> u64;
+    fn read(&mut self) -> u64
+        ensures given { answers self.old result };
 }
 
 /// Counts in even steps: each reading is the one before plus a fixed step, modulo 2^64.
@@ -30,6 +36,8 @@ impl Ticker {
 
 impl Counter for Ticker {
     ghost use Rattle.std.specs.Prelude.{◌≡◌, ◌+◌, ◌%◌, ◌^◌};
+
+    ghost answers = { λ ticker answer. answer ≡ ticker.next };
 
     fn read(&mut self) -> u64
         ensures answer { result ≡ self.old.next }

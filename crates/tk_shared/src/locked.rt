@@ -7,6 +7,7 @@ ghost use Rattle.tk_clock.specs.Limits.{counted_most};
 ghost use Rattle.tk_page.specs.History.{Begins};
 ghost use Rattle.tk_shared.specs.Callers.{IsAccepted, IsRefused, IsSameCaller};
 ghost use Rattle.tk_shared.specs.History.{IsFold};
+ghost use Rattle.tk_shared.specs.Readings.{EndsAtReading, IsRefusedAtReading};
 
 use crate::caller::Caller;
 use crate::counter::Counter;
@@ -76,6 +77,9 @@ impl<L: Named, C: Counter> Locked<L, C> {
         ensures answer { MatchResult result
             (λ number. IsAccepted caller.old caller.new cmd number)
             (λ refusal. IsRefused caller.old caller.new cmd refusal × (self.new ≡ self.old)) }
+        ensures reading { MatchResult result
+            (λ _. EndsAtReading C.answers caller.new.seen)
+            (λ refusal. IsRefusedAtReading C.answers caller.old caller.new.seen cmd refusal) }
         ensures seen { caller.new.seen ≡ self.new.history }
         ensures folded { self.new.journal.opening ≡ self.old.journal.opening }
         ensures same { IsSameCaller caller.old caller.new }

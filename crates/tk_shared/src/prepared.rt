@@ -3,6 +3,7 @@ ghost use Rattle.std.specs.Prelude.{◌≡◌, ◌≢◌, ◌≤◌, [], length,
 ghost use Rattle.tk_clock.specs.Legal.{IsWhole};
 ghost use Rattle.tk_clock.specs.Limits.{listed_most};
 ghost use Rattle.tk_shared.specs.Opening.{IsOpened, IsOpenFault, IsReady, opening_fault, most_callers};
+ghost use Rattle.tk_shared.specs.Readings.{IsReading};
 
 use crate::counter::Counter;
 use crate::fault::{OpenError, OpenFault};
@@ -96,11 +97,13 @@ pub fn prepare<C: Counter, R: Wait>(
     callers: usize,
     room: usize,
 ) -> Result<Prepared<C>, OpenFault<C>>
-    ensures { MatchResult result
+    ensures answer { MatchResult result
         (λ prepared. (opening_fault callers real ≡ None) × (prepared.callers ≡ callers)
         × IsOpened desc real prepared.journal × (min room listed_most ≤ prepared.spare))
         (λ fault. IsOpenFault callers real fault.error
         × (fault.error ≢ OpenError.Memory → fault.counter ≡ counter)) }
+    ensures reading { IfOk result (λ prepared.
+        IsReading C.answers counter desc prepared.journal.opening.reading) }
 {
     if callers < 1 || callers > CALLERS_LIMIT {
         return Err(OpenFault {

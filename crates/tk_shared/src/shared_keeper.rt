@@ -8,6 +8,7 @@ ghost use Rattle.tk_latch.specs.Latch.{IsRead, IsMoved, opened_reader};
 ghost use Rattle.tk_shared.specs.Callers.{IsAccepted, IsRefused, IsSameCaller, newcomers};
 ghost use Rattle.tk_shared.specs.History.{IsFold};
 ghost use Rattle.tk_shared.specs.Opening.{IsNamed, most_callers};
+ghost use Rattle.tk_shared.specs.Readings.{EndsAtReading, IsRefusedAtReading};
 
 use crate::caller::Caller;
 use crate::counter::Counter;
@@ -127,6 +128,9 @@ impl<L: Named, C: Counter> SharedKeeper<L, C> {
         ensures answer { MatchResult result
             (λ number. IsAccepted caller.old caller.new cmd number)
             (λ refusal. IsRefused caller.old caller.new cmd refusal) }
+        ensures reading { MatchResult result
+            (λ _. EndsAtReading C.answers caller.new.seen)
+            (λ refusal. IsRefusedAtReading C.answers caller.old caller.new.seen cmd refusal) }
         ensures same { IsSameCaller caller.old caller.new }
     {
         self.locked

@@ -11,7 +11,7 @@ returns-in-Ok g c =
     let start = c.in-Ok.prepared.journal in
     let low : c.args.reading ≤ mask c.args.desc = search rules in
     let fit : opening_fault many c.args.real ≡ None = search rules in
-    let opened : IsOpened c.args.desc c.args.real start = c.in-Ok.ensures.2 in
+    let opened : IsOpened c.args.desc c.args.real start = c.in-Ok.ensures.answer.2 in
     let none = nothing_wrong many c.args.desc c.args.reading c.args.real fit low in
     answered many c.args.desc c.args.reading c.args.real _ _ c.raced.result none
     (λ report outcome. (none, (start, opened, outcome))) c.raced.ensures

@@ -1,4 +1,4 @@
-use Rattle.std.proofs.Common.{ℕ, ◌+◌, ◌++◌, ◌∷◌, [], sym, ap, ◌∙◌, subst, bit_and}
+use Rattle.std.proofs.Common.{ℕ, ◌+◌, ◌++◌, ◌∷◌, [], sym, ap, ◌∙◌, subst, refl, bit_and}
 use Rattle.tk_clock.specs.declared.command.Entry.{Entry}
 use Rattle.tk_clock.specs.Journal.{Journal, followed_by, accepted_count}
 use Rattle.tk_clock.specs.Snapshot.{Snapshot, snapshot_of}
@@ -6,10 +6,11 @@ use Rattle.tk_page.specs.History.{History, Sight}
 use Rattle.tk_latch.specs.Latch.{Learnt, Published, told_reader}
 use Rattle.tk_shared.specs.Callers.{Known, IsAccepted, IsRefused}
 use Rattle.tk_shared.specs.Locked.{Guarded, Held, IsHeld}
+use Rattle.tk_shared.specs.Readings.{EndsAtReading, IsRefusedAtReading}
 use Rattle.tk_keeper.specs.Keeper.{Keeper}
 use Rattle.tk_shared.proofs.Held.{held_accepted}
 use Rattle.tk_shared.proofs.Kept.{kept_snapshot}
-use Rattle.tk_shared.proofs.Told.{refused, accepted}
+use Rattle.tk_shared.proofs.Told.{refused, accepted, reason, low_bits}
 use Rattle.tk_shared.proofs.locked.Locked.command.Goals as goal
 
 pub returns-in-Err-clause-answer : goal.returns-in-Err-clause-answer
@@ -43,6 +44,43 @@ returns-in-Err-clause-answer g c =
       ap guarded (λ i. (history i, ap (λ (k : Keeper). k.journal) c.in-Err.ensures.answer.1 i))
           ∙ c.self.view_is,
     )
+
+pub returns-in-Err-clause-reading : goal.returns-in-Err-clause-reading
+returns-in-Err-clause-reading g c =
+    let is = c.self.invariant.0 in
+    let caller = c.caller.inside in
+    let old : Known = record {
+      id = caller.id;
+      accepted = caller.accepted;
+      reads = caller.viewer.reads;
+      seen = caller.viewer.journal;
+      learnt = caller.reader;
+    } in
+    let held : Held = record {
+      kept = c.self.inside.keeper.journal;
+      shown = c.self.inside.publisher;
+      latched = c.self.inside.writer;
+      mask = c.self.inside.mask;
+      total = c.self.inside.book.total;
+    } in
+    let answer = c.read.result in
+    let told = reason g.L.Named.page g.L.Named.latch held is old answer c.args.cmd
+    c.tell.ensures.begins c.in-Err.refusal c.in-Err.ensures.answer.0 in
+    let low = low_bits g.L.Named.page g.L.Named.latch held is old answer c.args.cmd
+    c.tell.ensures.begins in
+    let seen = ap (λ (s : Sight). s.journal) c.tell.ensures.viewer in
+    let found : IsRefusedAtReading g.C.Counter.answers old held.shown.journal c.args.cmd
+    c.in-Err.refusal =
+    record {
+      counter = c.self.inside.counter;
+      reading = bit_and answer held.mask;
+      read = record { answer = answer; given = c.read.ensures.given; kept = low };
+      reason = told;
+    } in
+    subst
+    (λ (p : Known × Journal).
+    IsRefusedAtReading g.C.Counter.answers p.0 p.1 c.args.cmd c.in-Err.refusal)
+    (λ i. (c.caller.view_is i, sym seen i)) found
 
 pub publish-requires-clause-snapshot : goal.publish-requires-clause-snapshot
 publish-requires-clause-snapshot g c =
@@ -142,3 +180,41 @@ returns-clause-answer g c =
     c.caller.view_is
     (subst (λ (p : ℕ × Journal × Learnt). IsAccepted old (new p) c.args.cmd c.in-Ok.number)
     (λ i. (sym reads i, sym seen i, sym learnt i)) told)
+
+pub returns-clause-reading : goal.returns-clause-reading
+returns-clause-reading g c =
+    let caller = c.caller.inside in
+    let old : Known = record {
+      id = caller.id;
+      accepted = caller.accepted;
+      reads = caller.viewer.reads;
+      seen = caller.viewer.journal;
+      learnt = caller.reader;
+    } in
+    let held : Held = record {
+      kept = c.self.inside.keeper.journal;
+      shown = c.self.inside.publisher;
+      latched = c.self.inside.writer;
+      mask = c.self.inside.mask;
+      total = c.self.inside.book.total;
+    } in
+    let answer = c.read.result in
+    let entry : Entry = record {
+      who = caller.id;
+      reading = bit_and answer held.mask;
+      cmd = c.args.cmd;
+    } in
+    let low = low_bits g.L.Named.page g.L.Named.latch held c.self.invariant.0 old answer c.args.cmd
+    c.tell.ensures.begins in
+    let longer : History → History = λ h. record h { journal = followed_by h.journal entry } in
+    let seen = ap (λ (s : Sight). s.journal) c.tell-3.ensures.viewer
+    ∙ ap (λ (h : History). h.journal) (c.publish.ensures ∙ ap longer c.tell.ensures.publisher) in
+    let found : EndsAtReading g.C.Counter.answers (followed_by held.shown.journal entry) =
+    record {
+      counter = c.self.inside.counter;
+      before = held.shown.journal;
+      entry = entry;
+      last = refl;
+      read = record { answer = answer; given = c.read.ensures.given; kept = low };
+    } in
+    subst (EndsAtReading g.C.Counter.answers) (sym seen) found

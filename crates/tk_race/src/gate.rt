@@ -3,7 +3,6 @@
 //! Work that is distributed among threads comes in numbered pieces. The worker calls its `Gate` on
 //! its own thread. So a caller can count the pieces, show progress, or hold a piece back until
 //! another has begun. Callers that need none of this pass `NoGate`.
-#![tactic(auto)]
 
 /// Receives a call before and after each piece of work, on the thread of the worker that does it.
 pub trait Gate {

@@ -1,0 +1,32 @@
+-- What the readings of a keeper have to do with its counter.
+use Rattle.std.specs.Prelude.{◌≡◌, ℕ, ◌%◌, ◌^◌}
+use Rattle.tk_counter.specs.Counter.{Counter}
+use Rattle.tk_clock.specs.declared.command.Command.{Command}
+use Rattle.tk_clock.specs.declared.command.Entry.{Entry}
+use Rattle.tk_clock.specs.declared.refusal.Refusal.{Refusal}
+use Rattle.tk_clock.specs.Journal.{Journal, followed_by}
+use Rattle.tk_shared.specs.Callers.{Known, IsRefusalAfter, entry_of}
+
+-- a reading of a counter with this description: an answer that the counter may give next, modulo
+-- 2^bits
+pub record IsReading {C : Type 0} (answers : C → ℕ → Type 0) (counter : C) (described : Counter)
+    (reading : ℕ) : Type 0 where
+  pub answer : ℕ
+  pub given : answers counter answer
+  pub kept : reading ≡ answer % 2 ^ described.bits
+
+-- the last entry of the history was made at a reading of a counter
+pub record EndsAtReading {C : Type 0} (answers : C → ℕ → Type 0) (history : Journal) : Type 0 where
+  pub counter : C
+  pub before : Journal
+  pub entry : Entry
+  pub last : history ≡ followed_by before entry
+  pub read : IsReading answers counter history.opening.counter entry.reading
+
+-- a command of a caller was refused at a reading of a counter, after this history
+pub record IsRefusedAtReading {C : Type 0} (answers : C → ℕ → Type 0) (caller : Known)
+    (history : Journal) (cmd : Command) (refusal : Refusal) : Type 0 where
+  pub counter : C
+  pub reading : ℕ
+  pub read : IsReading answers counter history.opening.counter reading
+  pub reason : IsRefusalAfter history (entry_of caller reading cmd) refusal
