@@ -1,5 +1,6 @@
 pub mod Prefixes
 pub mod Publications
+pub mod Pushing
 pub mod Keeping
 pub mod Writing
 pub mod Reading

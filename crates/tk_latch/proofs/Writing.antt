@@ -6,7 +6,7 @@ use mathlib.Core.Logic.{dite}
 use mathlib.Core.Option.{some, none, some-ne-none, some-injective}
 use native.Mathlib.Decide.{ℕ_discrete}
 use lib.ListN.{get_elem?}
-use Rattle.atomic_table.specs.Table.{step, keeps, Allows, opening}
+use Rattle.atomic_table.specs.Table.{step, stepped, keeps, Allows, opening}
 use Rattle.tk_clock.specs.Snapshot.{Snapshot}
 use Rattle.tk_clock.specs.Words.{words_of, snapshot_told}
 use Rattle.tk_latch.specs.declared.rule.History.{History}
@@ -15,22 +15,11 @@ use Rattle.tk_latch.specs.declared.rule.Role.{Role}
 use Rattle.tk_latch.specs.declared.rule.Role.TheVariants.{Making, Copying}
 use Rattle.tk_latch.specs.Publications.{latest_words, IsPublication, AreNumbered, IsBeginning, opening_of, pushed, pushed_told, IsNext}
 use Rattle.tk_latch.specs.Rule.{started, Copies, Knows, Latched}
-use Rattle.tk_latch.specs.Steps.{Seated, opened, wrote_word, committed, copied_word}
+use Rattle.tk_latch.specs.Steps.{Seated, opened, found_word, replaced_word, committed, checked_word, copied_word}
 use Rattle.tk_latch.specs.Views.{making, copying}
 use Rattle.tk_latch.proofs.Publications.{begins_self, latest_words-push, numbered_push}
-use Rattle.tk_latch.proofs.Keeping.{Words, word, writes, known_of}
-
-get_or-push_old : (xs : List ℕ) (x i : ℕ) → i < length xs →
-    get_or (xs ++ x ∷ []) i 0 ≡ get_or xs i 0
-get_or-push_old [] x i h = absurd (omega arith)
-get_or-push_old (y ∷ ys) x zero h = refl
-get_or-push_old (y ∷ ys) x (suc i) h = get_or-push_old ys x i (omega arith)
-
-get_or-push_new : (xs : List ℕ) (x i : ℕ) → i ≡ length xs → get_or (xs ++ x ∷ []) i 0 ≡ x
-get_or-push_new [] x zero h = refl
-get_or-push_new [] x (suc i) h = absurd (omega arith)
-get_or-push_new (y ∷ ys) x zero h = absurd (omega arith)
-get_or-push_new (y ∷ ys) x (suc i) h = get_or-push_new ys x i (omega arith)
+use Rattle.tk_latch.proofs.Pushing.{get_or-push_old, get_or-push_new, last_set, last_set-push}
+use Rattle.tk_latch.proofs.Keeping.{Words, word, writes, known_of, unmoved}
 
 -- the copies and the history of the rule, in the writer's view
 copies_at : (s : Words) (r : Latched s) (history : History) (role : Role) → history ≡ r.history →
@@ -46,10 +35,15 @@ numbered_at s r history same = subst (λ h. AreNumbered h.counter 0 h.list) (sym
 begins_at : (history other : History) → history ≡ other → IsBeginning other history
 begins_at history other same = subst (λ h. IsBeginning h history) same (begins_self history)
 
--- the view after one more word of copy 0, after the publication, and after one more word of copy 1
+-- the view after one more word of copy 0, after another last word of copy 0, after the publication,
+-- and after one more word of copy 1
 abbrev with_word : ℕ → History → Role → View
 with_word x history (Making written) = making history (written ++ x ∷ [])
 with_word x history role = record { history = history; role = role }
+
+abbrev with_last : ℕ → History → Role → View
+with_last x history (Making written) = making history (last_set x written)
+with_last x history role = record { history = history; role = role }
 
 abbrev with_publication : History → Role → View
 with_publication history (Making written) = copying (pushed_told history written) 0
@@ -84,38 +78,68 @@ opens slots id me history odd is up s r _ at _ =
       λ history' is'. ap (λ (v : View). making v.history []) (sym is ∙ is'),
     )
 
--- a word of the publication being made goes into copy 0
-pub writes_word : (slots id : ℕ) (me : Seated) (history : History) (written : List ℕ) (k x : ℕ) →
-    me.0 ≡ making history written →
-    k ≡ length written + 1 → k ≤ 10 → Allows Latched slots id me k (λ _. x)
-    (λ _. wrote_word (step slots k x 0 none) me x)
-writes_word slots id me history written k x is place room s r _ at _ =
-    let known = known_of s r id me.0 (making history written) at is in
+-- a word that goes into copy 0 after the first words of the publication being made keeps the rule
+puts_word : (s : Words) (r : Latched s) (id : ℕ) (cs : List (ℕ × Unit {0})) (history : History)
+    (before written : List ℕ) (k x : ℕ) →
+    Knows (word s 0) r.history r.role r.writer id history (Making before) →
+    k ≡ length written + 1 → k ≤ 10 → length written ≤ length before →
+    ((i : ℕ) → i < length written → get_or before i 0 ≡ get_or written i 0) →
+    Latched (stepped s k x id cs (making history (written ++ x ∷ [])) keeps)
+puts_word s r id cs history before written k x known place room shorter same =
     let wide = r.wide in
-    let copies = copies_at s r history (Making written) known.1 known.2 in
+    let copies = copies_at s r history (Making before) known.1 known.2 in
     let still : get_or (set s.words k x) 0 0 ≡ word s 0 =
     get_or-set_other s.words k 0 x 0 (λ e. omega arith) in
-    let before = copies.0 in
-    let long = length-append written (x ∷ []) in (
+    let sequence = copies.0 in
+    let long = length-append written (x ∷ []) in
+    writes s r k x id cs history (Making (written ++ x ∷ [])) known.0 (omega arith)
+    (begins_at history r.history known.1) (numbered_at s r history known.1) (
+      omega arith,
+      omega (arith, long),
+      (λ i l. get_or-set_other s.words k (i + 11) x 0 (λ e. omega arith) ∙ copies.2 i l),
+      (λ i l. dite (ℕ_discrete i (length written))
+          (λ e. let here : i + 1 ≡ k = omega arith in
+          ap (λ (z : ℕ). get_or (set s.words k x) z 0) here
+          ∙ (get_or-set_same s.words k x 0 (omega arith)
+          ∙ sym (get_or-push_new written x i e)))
+          (λ other. let h : i < length written = omega (arith, long) in
+          get_or-set_other s.words k (i + 1) x 0 (λ e. other (omega arith))
+          ∙ (copies.3 i (omega arith) ∙ same i h ∙ sym (get_or-push_old written x i h)))),
+    )
+    (known.0, refl, refl)
+
+-- a word of copy 0 is found
+pub finds_word : (slots id : ℕ) (me : Seated) (history : History) (written : List ℕ) (k : ℕ) →
+    me.0 ≡ making history written →
+    k ≡ length written + 1 → k ≤ 10 → Allows Latched slots id me k (λ n. n)
+    (found_word (step slots k 0 0 none) me)
+finds_word slots id me history written k is place room s r _ at _ = (
+  making history (written ++ word s k ∷ []),
+  keeps,
+  tt,
+  puts_word s r id me.1 history written written k (word s k)
+      (known_of s r id me.0 (making history written) at is) place room (omega arith)
+      (λ i l. refl),
+  λ history' written' is'.
+      ap (λ (v : View). with_word (word s k) v.history v.role) (sym is ∙ is'),
+)
+
+-- the word of copy 0 that was found is replaced
+pub replaces_word : (slots id : ℕ) (me : Seated) (history : History) (written : List ℕ)
+    (former k x : ℕ) → me.0 ≡ making history (written ++ former ∷ []) →
+    k ≡ length written + 1 → k ≤ 10 → Allows Latched slots id me k (λ _. x)
+    (λ _. replaced_word (step slots k x 0 none) me x)
+replaces_word slots id me history written former k x is place room s r _ at _ =
+    let long = length-append written (former ∷ []) in (
       making history (written ++ x ∷ []),
       keeps,
       tt,
-      writes s r k x id me.1 history (Making (written ++ x ∷ [])) known.0 (omega arith)
-          (begins_at history r.history known.1) (numbered_at s r history known.1) (
-            omega arith,
-            omega (arith, long),
-            (λ i l. get_or-set_other s.words k (i + 11) x 0 (λ e. omega arith) ∙ copies.2 i l),
-            (λ i l. dite (ℕ_discrete i (length written))
-                (λ e. let here : i + 1 ≡ k = omega arith in
-                ap (λ (z : ℕ). get_or (set s.words k x) z 0) here
-                ∙ (get_or-set_same s.words k x 0 (omega arith)
-                ∙ sym (get_or-push_new written x i e)))
-                (λ other. let h : i < length written = omega (arith, long) in
-                get_or-set_other s.words k (i + 1) x 0 (λ e. other (omega arith))
-                ∙ (copies.3 i h ∙ sym (get_or-push_old written x i h)))),
-          )
-          (known.0, refl, refl),
-      λ history' written' is'. ap (λ (v : View). with_word x v.history v.role) (sym is ∙ is'),
+      puts_word s r id me.1 history (written ++ former ∷ []) written k x
+          (known_of s r id me.0 (making history (written ++ former ∷ [])) at is) place room
+          (omega (arith, long)) (λ i l. get_or-push_old written former i l),
+      λ history' written' former' is'. ap (making history) (sym (last_set-push x written former))
+          ∙ ap (λ (v : View). with_last x v.history v.role) (sym is ∙ is')
+          ∙ ap (making history') (last_set-push x written' former'),
     )
 
 -- the publication is made
@@ -185,6 +209,43 @@ copies_word slots id me history count i x is place room right s r _ at _ =
           (known.0, refl, refl),
       λ history' count' is'. ap (λ (v : View). with_copied v.history v.role) (sym is ∙ is'),
     )
+
+-- the number of copied words, and the word of the latest publication after them
+abbrev count_of : Role → ℕ
+count_of (Copying count) = count
+count_of role = 0
+
+abbrev next_word : View → ℕ
+next_word v = get_or (latest_words v.history.list) (count_of v.role) 0
+
+-- a word of copy 1 is found
+pub checks_word : (slots id : ℕ) (me : Seated) (history : History) (count i : ℕ) →
+    me.0 ≡ copying history count → i ≡ count + 11 → count < 10 →
+    Allows Latched slots id me i (λ n. n) (checked_word (step slots i 0 0 none) me)
+checks_word slots id me history count i is place room s r a at b =
+    dite (ℕ_discrete (word s i) (get_or (latest_words history.list) count 0))
+    (λ same.
+    let copied = copies_word slots id me history count i (word s i) is place room same
+    s r a at b in (
+      copied.0,
+      copied.1,
+      copied.2,
+      copied.3,
+      λ history' count' is'. (
+        λ _. copied.4 history' count' is',
+        λ other. absurd (other (same ∙ ap next_word (sym is ∙ is'))),
+      ),
+    ))
+    (λ other. let known = known_of s r id me.0 (copying history count) at is in (
+      copying history count,
+      keeps,
+      tt,
+      unmoved s r i id me.1 (copying history count) known,
+      λ history' count' is'. (
+        λ same. absurd (other (same ∙ sym (ap next_word (sym is ∙ is')))),
+        λ _. sym is ∙ is',
+      ),
+    ))
 
 -- a latch that was just opened
 pub begins : (words : List ℕ) (snapshot : Snapshot) →

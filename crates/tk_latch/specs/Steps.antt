@@ -1,6 +1,6 @@
 -- What a seat learns from each step of a latch: a relation of the step, the seat before it, the
 -- number found, and the seat after it.
-use Rattle.std.specs.Prelude.{◌≡◌, ℕ, ◌+◌, ◌*◌, ◌%◌, ◌<◌, ◌≤◌, List, [], ◌∷◌, ◌++◌, slice_index}
+use Rattle.std.specs.Prelude.{◌≡◌, ◌≢◌, ℕ, ◌+◌, ◌*◌, ◌%◌, ◌<◌, ◌≤◌, List, [], ◌∷◌, ◌++◌, slice_index}
 use Rattle.atomic_table.specs.Table.{Me, Step}
 use Rattle.tk_latch.specs.declared.rule.History.{History}
 use Rattle.tk_latch.specs.declared.rule.View.{View}
@@ -19,10 +19,17 @@ abbrev pub opened : Move → Seated → ℕ → Seated → Type 0
 opened move old found new =
     (history : History) → old.0 ≡ copying history 10 → new.0 ≡ making history []
 
--- one more word of the publication is in copy 0
-abbrev pub wrote_word : Move → Seated → ℕ → Seated → Type 0
-wrote_word move old found new =
+-- the next word of copy 0 is found, and counts as a word of the publication until it is replaced
+abbrev pub found_word : Move → Seated → ℕ → Seated → Type 0
+found_word move old found new =
     (history : History) (written : List ℕ) → old.0 ≡ making history written →
+    new.0 ≡ making history (written ++ found ∷ [])
+
+-- the word of copy 0 that was found last is replaced
+abbrev pub replaced_word : Move → Seated → ℕ → Seated → Type 0
+replaced_word move old found new =
+    (history : History) (written : List ℕ) (former : ℕ) →
+    old.0 ≡ making history (written ++ former ∷ []) →
     new.0 ≡ making history (written ++ move.first ∷ [])
 
 -- the publication is the latest one
@@ -30,6 +37,14 @@ abbrev pub committed : Move → Seated → ℕ → Seated → Type 0
 committed move old found new =
     (history : History) (written : List ℕ) → old.0 ≡ making history written →
     new.0 ≡ copying (pushed_told history written) 0
+
+-- the next word of copy 1 is found: copy 1 has one more word of the latest publication exactly if
+-- it is that word
+abbrev pub checked_word : Move → Seated → ℕ → Seated → Type 0
+checked_word move old found new =
+    (history : History) (count : ℕ) → old.0 ≡ copying history count →
+    (found ≡ slice_index (latest_words history.list) count → new.0 ≡ copying history (count + 1))
+    × (found ≢ slice_index (latest_words history.list) count → new.0 ≡ copying history count)
 
 -- one more word of the publication is in copy 1
 abbrev pub copied_word : Move → Seated → ℕ → Seated → Type 0

@@ -8,7 +8,8 @@ use atomic_table::{Table, TableRule};
 use std::alloc::Global;
 use std::collections::LinkedList;
 pub(crate) use steps::{
-    Begins, Commits, Compares, CopiesWord, Ends, Hands, KeepsNote, Loads, Opens, WritesWord,
+    Begins, ChecksWord, Commits, Compares, CopiesWord, Ends, FindsWord, Hands, KeepsNote, Loads,
+    Opens, ReplacesWord,
 };
 use tk_clock::Snapshot;
 use tk_counter::CounterDesc;

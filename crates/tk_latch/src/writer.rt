@@ -4,7 +4,7 @@ ghost use Rattle.tk_latch.specs.Views.{making, copying};
 
 use crate::errors::PageFull;
 use crate::latch::{COPY_0, COPY_1, Latch, SEQUENCE, SNAPSHOT_WORDS};
-use crate::rule::{Commits, CopiesWord, Opens, View, WritesWord};
+use crate::rule::{ChecksWord, Commits, CopiesWord, FindsWord, Opens, ReplacesWord, View};
 use atomic_table::Seat;
 use std::alloc::Allocator;
 use std::marker::Model;
@@ -93,8 +93,11 @@ fn make<A: Allocator>(
     // 1. From now on readers take copy 1.
     shared.store::<Opens>(seat, SEQUENCE, odd);
     for i in 0..SNAPSHOT_WORDS {
-        // 2. A word goes into copy 0.
-        shared.store::<WritesWord>(seat, COPY_0 + i, words[i]);
+        // 2. A word of copy 0 is replaced if it differs.
+        let found = shared.load::<FindsWord>(seat, COPY_0 + i);
+        if found != words[i] {
+            shared.store::<ReplacesWord>(seat, COPY_0 + i, words[i]);
+        }
     }
 }
 
@@ -116,7 +119,10 @@ fn commit<A: Allocator>(
     // 3. The publication: from now on readers take copy 0.
     shared.store::<Commits>(seat, SEQUENCE, even);
     for i in 0..SNAPSHOT_WORDS {
-        // 4. A word goes into copy 1.
-        shared.store::<CopiesWord>(seat, COPY_1 + i, words[i]);
+        // 4. A word of copy 1 is replaced if it differs.
+        let found = shared.load::<ChecksWord>(seat, COPY_1 + i);
+        if found != words[i] {
+            shared.store::<CopiesWord>(seat, COPY_1 + i, words[i]);
+        }
     }
 }

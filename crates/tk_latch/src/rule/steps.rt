@@ -11,13 +11,23 @@ impl Play<(), View> for Opens {
     ghost then = { opened };
 }
 
-/// A word of the publication being made goes into copy 0.
-pub struct WritesWord;
+/// The writer loads a word of copy 0. The word counts as the next one of the publication being
+/// made, unless `ReplacesWord` replaces it.
+pub struct FindsWord;
 
-impl Play<(), View> for WritesWord {
-    ghost use Rattle.tk_latch.specs.Steps.{wrote_word};
+impl Play<(), View> for FindsWord {
+    ghost use Rattle.tk_latch.specs.Steps.{found_word};
 
-    ghost then = { wrote_word };
+    ghost then = { found_word };
+}
+
+/// A word of the publication being made replaces the word of copy 0 that was loaded.
+pub struct ReplacesWord;
+
+impl Play<(), View> for ReplacesWord {
+    ghost use Rattle.tk_latch.specs.Steps.{replaced_word};
+
+    ghost then = { replaced_word };
 }
 
 /// The sequence becomes even: the publication is made.
@@ -27,6 +37,15 @@ impl Play<(), View> for Commits {
     ghost use Rattle.tk_latch.specs.Steps.{committed};
 
     ghost then = { committed };
+}
+
+/// The writer loads the next word of copy 1, and learns whether it is the latest publication's.
+pub struct ChecksWord;
+
+impl Play<(), View> for ChecksWord {
+    ghost use Rattle.tk_latch.specs.Steps.{checked_word};
+
+    ghost then = { checked_word };
 }
 
 /// A word of the latest publication goes into copy 1.
