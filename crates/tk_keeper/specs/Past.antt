@@ -7,11 +7,16 @@ use Rattle.tk_clock.specs.Snapshot.{snapshot_of}
 use Rattle.tk_clock.specs.State.{state_of}
 use Rattle.tk_keeper.specs.declared.front_error.FrontError.{FrontError}
 use Rattle.tk_keeper.specs.declared.front_error.FrontError.TheVariants.{Unknown, Folded}
+use Rattle.tk_keeper.specs.declared.timekeeper.past.Cursor.{Cursor}
 
 -- the journal as it was at a front: when this number of commands was accepted, including the folded
 -- ones
 abbrev pub at_front : ℕ → Journal → Journal
 at_front front journal = prefix (front - journal.opening.count) journal
+
+-- a cursor has the clocks of its place in the journal
+abbrev pub IsAt : Journal → Cursor → Type 0
+IsAt journal cursor = cursor.clock ≡ state_of (prefix cursor.place journal)
 
 -- why a front is refused: it is not reached yet, or it is before the opening
 abbrev pub front_refusal : Journal → ℕ → Option FrontError

@@ -1,15 +1,23 @@
-//! Makes snapshots of past fronts, each from the nearest kept state at or before the front.
+//! Makes snapshots of past fronts, each from the nearest kept state at or before the front, or from
+//! the clocks of an earlier front if they are nearer.
 ghost use Rattle.std.specs.Prelude.{◌≡◌, ◌+◌, ◌<◌, ◌≤◌, length, MatchResult, IfOk, Some, None};
 ghost use Rattle.tk_clock.specs.Journal.{prefix};
 ghost use Rattle.tk_clock.specs.Snapshot.{snapshot_of};
 ghost use Rattle.tk_clock.specs.State.{state_of};
 ghost use Rattle.tk_keeper.specs.Keeper.{ReadsAs};
-ghost use Rattle.tk_keeper.specs.Past.{at_front, front_refusal};
+ghost use Rattle.tk_keeper.specs.Past.{IsAt, at_front, front_refusal};
 
 use super::{KEPT_EVERY, Timekeeper};
 use crate::front_error::FrontError;
 use std::alloc::Allocator;
 use tk_clock::{Clock, Snapshot};
+
+/// The clocks after the first `place` of the listed entries. From there later places are reached.
+#[derive(Drop)]
+pub(super) struct Cursor {
+    clock: Clock,
+    place: usize,
+}
 
 impl<A: Allocator + Copy> Timekeeper<A> {
     /// Returns the snapshot as it was when `front` commands were accepted. Applies at most 255
@@ -27,14 +35,7 @@ impl<A: Allocator + Copy> Timekeeper<A> {
         ensures clocks { IfOk result
             (λ snapshot. ReadsAs (at_front front self.now.journal) snapshot.base) }
     {
-        if front > self.len() as u64 {
-            return Err(FrontError::Unknown);
-        }
-        if front < self.folded {
-            return Err(FrontError::Folded);
-        }
-        let clock = self.clock_at((front - self.folded) as usize);
-        Ok(clock.snapshot(front))
+        self.snapshot_by(&mut self.beginning(), front)
     }
 
     /// How many commands were folded. Fronts from here on have a snapshot.
@@ -44,44 +45,119 @@ impl<A: Allocator + Copy> Timekeeper<A> {
         self.folded
     }
 
+    /// Returns the snapshot of a front, as `snapshot_at` does, and moves a cursor to the front. The
+    /// cursor stays if the front is refused.
+    pub(super) fn snapshot_by(
+        &self,
+        cursor: &mut Cursor,
+        front: u64,
+    ) -> Result<Snapshot, FrontError>
+        requires cursor { IsAt self.now.journal cursor.old }
+        ensures cursor { IsAt self.now.journal cursor.new }
+        ensures answer { MatchResult result
+            (λ snapshot. (front_refusal self.now.journal front ≡ None)
+            × (snapshot ≡ snapshot_of (at_front front self.now.journal)))
+            (λ error. front_refusal self.now.journal front ≡ Some error) }
+        ensures clocks { IfOk result
+            (λ snapshot. ReadsAs (at_front front self.now.journal) snapshot.base) }
+    {
+        if front > self.len() as u64 {
+            return Err(FrontError::Unknown);
+        }
+        if front < self.folded {
+            return Err(FrontError::Folded);
+        }
+        self.move_to(cursor, (front - self.folded) as usize);
+        Ok(cursor.clock.snapshot(front))
+    }
+
     /// Returns the clocks after the first `place` of the listed entries.
     pub(super) fn clock_at(&self, place: usize) -> Clock
         requires { place ≤ length self.now.journal.entries }
         ensures { result ≡ state_of (prefix place self.now.journal) }
     {
-        let (clock, from) = self.nearest(place);
-        self.replayed(clock, from, place)
+        let mut cursor = self.beginning();
+        self.move_to(&mut cursor, place);
+        cursor.clock
     }
 
-    /// Returns the clocks at a place, given those at an earlier place `from`. Applies the entries
-    /// between the two again.
-    fn replayed(&self, mut clock: Clock, from: usize, place: usize) -> Clock
-        requires state { clock ≡ state_of (prefix from self.now.journal) }
-        requires before { from ≤ place }
-        requires near { place < from + 256 }
-        requires listed { place ≤ length self.now.journal.entries }
-        ensures { result ≡ state_of (prefix place self.now.journal) }
+    /// Returns a cursor at the opening, before all listed entries.
+    pub(super) fn beginning(&self) -> Cursor
+        ensures { IsAt self.now.journal result }
     {
-        'later: for entry in &self.entries[from..place] {
-            clock.apply(entry.reading, entry.cmd).unwrap();
-        }
-        clock
+        self.nearest(0)
     }
 
-    /// Returns the last kept state at or before a place, or the clocks at the opening if there is
-    /// none, and the number of listed entries before it.
-    fn nearest(&self, place: usize) -> (Clock, usize)
+    /// Moves a cursor to a place. Applies at most 255 entries again.
+    fn move_to(&self, cursor: &mut Cursor, place: usize)
+        requires cursor { IsAt self.now.journal cursor.old }
+        requires listed { place ≤ length self.now.journal.entries }
+        ensures clock { cursor.new.clock ≡ state_of (prefix place self.now.journal) }
+        ensures place { cursor.new.place ≡ place }
+    {
+        self.approach(cursor, place);
+        self.replay(&mut cursor.clock, cursor.place, place);
+        cursor.place = place;
+    }
+
+    /// Moves a cursor to the nearest clocks at or before a place, unless it is between the two
+    /// already.
+    fn approach(&self, cursor: &mut Cursor, place: usize)
+        requires cursor { IsAt self.now.journal cursor.old }
+        requires listed { place ≤ length self.now.journal.entries }
+        ensures cursor { IsAt self.now.journal cursor.new }
+        ensures before { cursor.new.place ≤ place }
+        ensures near { place < cursor.new.place + 256 }
+    {
+        if place < cursor.place || cursor.place < self.kept_before(place) {
+            *cursor = self.nearest(place);
+        }
+    }
+
+    /// Returns the place of the last kept state at or before a place, or 0 if there is none.
+    fn kept_before(&self, place: usize) -> usize
         requires { place ≤ length self.now.journal.entries }
-        ensures state { result.0 ≡ state_of (prefix result.1 self.now.journal) }
-        ensures before { result.1 ≤ place }
-        ensures near { place < result.1 + 256 }
+        ensures { place < result + 256 }
+    {
+        let folded = self.folded as usize;
+        let number = (folded + place) / KEPT_EVERY * KEPT_EVERY;
+        number.saturating_sub(folded)
+    }
+
+    /// Returns a cursor at the last kept state at or before a place, or at the opening if there is
+    /// none.
+    fn nearest(&self, place: usize) -> Cursor
+        requires { place ≤ length self.now.journal.entries }
+        ensures cursor { IsAt self.now.journal result }
+        ensures before { result.place ≤ place }
+        ensures near { place < result.place + 256 }
     {
         let folded = self.folded as usize;
         let kept = (folded + place) / KEPT_EVERY - folded / KEPT_EVERY;
         if kept == 0 {
-            return (self.start, 0);
+            return Cursor {
+                clock: self.start,
+                place: 0,
+            };
         }
         let number = (folded + place) / KEPT_EVERY * KEPT_EVERY;
-        (self.kept[kept - 1], number - folded)
+        Cursor {
+            clock: self.kept[kept - 1],
+            place: number - folded,
+        }
+    }
+
+    /// Brings the clocks at a place `from` forward to a later place: applies the entries between
+    /// the two again.
+    fn replay(&self, clock: &mut Clock, from: usize, place: usize)
+        requires state { clock.old ≡ state_of (prefix from self.now.journal) }
+        requires before { from ≤ place }
+        requires near { place < from + 256 }
+        requires listed { place ≤ length self.now.journal.entries }
+        ensures { clock.new ≡ state_of (prefix place self.now.journal) }
+    {
+        'later: for entry in &self.entries[from..place] {
+            clock.apply(entry.reading, entry.cmd).unwrap();
+        }
     }
 }

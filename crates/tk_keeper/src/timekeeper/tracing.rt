@@ -3,9 +3,11 @@ ghost use Rattle.std.specs.Prelude.{◌≡◌, ℕ, ◌+◌, ◌<◌, ◌≤◌,
 ghost use Rattle.tk_clock.specs.State.{base_value};
 ghost use Rattle.tk_clock.specs.declared.clock_id.ClockId.{ClockId};
 ghost use Rattle.tk_keeper.specs.Item.{item};
+ghost use Rattle.tk_keeper.specs.Past.{IsAt};
 ghost use Rattle.tk_keeper.specs.Trace.{AreValues, IsWritten, IsFirstFault, IsConverted, IsFault, IsTraced, TellsItems};
 
 use super::Timekeeper;
+use super::past::Cursor;
 use crate::trace_error::TraceError;
 use std::alloc::Allocator;
 use std::simd::prelude::*;
@@ -51,11 +53,12 @@ impl<A: Allocator + Copy> Timekeeper<A> {
         let Ok(mut values) = Vec::with_capacity(alloc, stamps.len()) else {
             return Err(TraceError::Memory);
         };
-        let mut told = (fronts[0], self.item_snapshot(0, fronts[0])?);
+        let mut cursor = self.beginning();
+        let mut told = (fronts[0], self.item_snapshot(&mut cursor, 0, fronts[0])?);
         let mut first = 0;
         'runs: while first < stamps.len() {
             make_room(&mut values, first, stamps.len());
-            self.bring_to(&mut told, first, fronts[first])?;
+            self.bring_to(&mut cursor, &mut told, first, fronts[first])?;
             let out = values.as_mut_slice();
             first = self.trace_run(&told.1, clock, fronts, stamps, first, out)?;
         }
@@ -80,9 +83,10 @@ impl<A: Allocator + Copy> Timekeeper<A> {
         requires room { length stamps.now ≡ length out.old }
         ensures { IsTraced self.now.journal clock fronts.now stamps.now out.old out.new result }
     {
+        let mut cursor = self.beginning();
         let mut first = 0;
         'stretches: while first < fronts.len() {
-            let snapshot = self.item_snapshot(first, fronts[first])?;
+            let snapshot = self.item_snapshot(&mut cursor, first, fronts[first])?;
             first = self.trace_run(&snapshot, clock, fronts, stamps, first, out)?;
         }
         Ok(())
@@ -122,30 +126,40 @@ impl<A: Allocator + Copy> Timekeeper<A> {
     /// Replaces a front and its snapshot by those of the item at `index`, if its front differs.
     fn bring_to(
         &self,
+        cursor: &mut Cursor,
         told: &mut (u64, Snapshot),
         index: usize,
         front: u64,
     ) -> Result<(), TraceError>
-        requires { TellsItems self.now.journal told.old.0 told.old.1.base }
-        ensures { MatchResult result
+        requires cursor { IsAt self.now.journal cursor.old }
+        requires told { TellsItems self.now.journal told.old.0 told.old.1.base }
+        ensures cursor { IsAt self.now.journal cursor.new }
+        ensures told { MatchResult result
             (λ _. (told.new.0 ≡ front) × TellsItems self.now.journal front told.new.1.base)
             (λ error. (clock : ClockId) (stamp : ℕ) →
             item self.now.journal clock index front stamp ≡ Err error) }
     {
         if told.0 != front {
-            *told = (front, self.item_snapshot(index, front)?);
+            *told = (front, self.item_snapshot(cursor, index, front)?);
         }
         Ok(())
     }
 
     /// Returns the snapshot that converts the items of a front, or the fault of the front.
-    fn item_snapshot(&self, index: usize, front: u64) -> Result<Snapshot, TraceError>
-        ensures { MatchResult result
+    fn item_snapshot(
+        &self,
+        cursor: &mut Cursor,
+        index: usize,
+        front: u64,
+    ) -> Result<Snapshot, TraceError>
+        requires cursor { IsAt self.now.journal cursor.old }
+        ensures cursor { IsAt self.now.journal cursor.new }
+        ensures told { MatchResult result
             (λ snapshot. TellsItems self.now.journal front snapshot.base)
             (λ error. (clock : ClockId) (stamp : ℕ) →
             item self.now.journal clock index front stamp ≡ Err error) }
     {
-        match self.snapshot_at(front) {
+        match self.snapshot_by(cursor, front) {
             Ok(snapshot) => {
                 never_negative(&snapshot);
                 Ok(snapshot)

@@ -1,4 +1,5 @@
 use Rattle.std.proofs.Common.{◌-◌, ◌≤◌, length}
+use Rattle.tk_keeper.specs.Past.{IsAt}
 use Rattle.tk_keeper.specs.Trace.{AreValues, TellsItems}
 use Rattle.tk_keeper.proofs.timekeeper.Timekeeper.trace.Given as goal
 
@@ -8,6 +9,7 @@ invariant-runs g l = record {
   inside : l.values.len ≤ length l.stamps;
   room : length l.stamps ≤ l.values.cap;
   so_far : AreValues l.self.journal l.clock l.fronts l.stamps l.first l.values.items;
+  cursor : IsAt l.self.journal l.cursor;
   told : TellsItems l.self.journal l.told.0 l.told.1.base;
 }
 

@@ -7,7 +7,7 @@ use Rattle.tk_clock.specs.State.{state_of, effect}
 use Rattle.tk_clock.specs.Refusal.{state_refusal}
 use Rattle.tk_keeper.specs.Keeper.{Keeper}
 use Rattle.tk_keeper.proofs.Steps.{passes, next_state, is_done, effect_of, part_item, whole_part}
-use Rattle.tk_keeper.proofs.timekeeper.Timekeeper.replayed.Goals as goal
+use Rattle.tk_keeper.proofs.timekeeper.Timekeeper.replay.Goals as goal
 use Rattle.tk_clock.specs.Folding.{journal_from}
 
 pub unwrap-requires : goal.unwrap-requires
