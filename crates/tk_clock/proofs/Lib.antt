@@ -21,3 +21,6 @@ pub mod Steering
 pub mod Effects
 pub mod Settings
 pub mod Words
+pub mod Reaching
+pub mod Origin
+pub mod Reach

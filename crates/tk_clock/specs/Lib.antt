@@ -17,3 +17,5 @@ pub mod Run
 pub mod Snapshot
 pub mod Words
 pub mod Read
+pub mod Origin
+pub mod Reach

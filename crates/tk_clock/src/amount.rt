@@ -15,7 +15,7 @@ const TOO_MANY_NANOS: u64 = 1 << 63;
 pub(crate) const NARROW_CYCLES: u64 = 1 << 31;
 
 /// Counts the values of half a word.
-const HALF_WORD: u64 = 1 << 32;
+pub(crate) const HALF_WORD: u64 = 1 << 32;
 
 /// Represents an amount of time: whole seconds, and the rest in units of `2^-shift` ns.
 #[repr(C)]

@@ -1,4 +1,4 @@
-ghost use Rattle.std.specs.Prelude.{◌≡◌, ◌/◌, ◌%◌, ◌^◌, ◌<◌, pos, ◌≤ℤ◌, MatchResult, Some, None};
+ghost use Rattle.std.specs.Prelude.{◌≡◌, ℕ, ◌/◌, ◌%◌, ◌^◌, ◌<◌, pos, ◌≤ℤ◌, MatchOption, MatchResult, Some, None};
 
 mod known_words;
 mod words;
@@ -41,6 +41,7 @@ impl Snapshot {
     ghost use Rattle.tk_clock.specs.Limits.{raw_end};
     ghost use Rattle.tk_clock.specs.Refusal.{read_refusal};
     ghost use Rattle.tk_clock.specs.State.{base_value};
+    ghost use Rattle.tk_clock.specs.Reach.{IsFirstReached, IsNeverReached, IsReadAt, GivesAgain};
     ghost use Rattle.tk_clock.specs.Time.{nanoseconds};
     ghost use Rattle.tk_counter.specs.Counter.{second};
 
@@ -65,6 +66,27 @@ impl Snapshot {
             (λ refusal. read_refusal self.now.base clock reading ≡ Some refusal) }
     {
         self.base.get(clock, reading)
+    }
+
+    /// Returns the first reading, in cycles, at which the clock has reached `time`: at which `get`
+    /// gives `time` or a later time. A timer is set to it.
+    ///
+    /// It looks at the last command's reading and as far as half the counter's range after it. If
+    /// the clock has reached `time` at the last command, the result is that command's reading.
+    /// `time` may be any number of seconds and nanoseconds.
+    ///
+    /// Returns `None` if `get` gives no such time in that range: because the clocks are asleep, the
+    /// clock is a coarse one, the range is too short, or the clock reaches its limit first.
+    pub fn reading_at(&self, clock: ClockId, time: Timespec) -> Option<u64>
+        ensures first { let nanos = nanoseconds time in
+            MatchOption result
+            (IsNeverReached self.now.base clock nanos)
+            (λ reading. IsFirstReached self.now.base clock nanos reading) }
+        ensures again { let nanos = nanoseconds time in
+            (reading : ℕ) → IsReadAt self.now.base clock nanos reading →
+            GivesAgain self.now.base clock nanos reading result }
+    {
+        self.base.reading_at(clock, time)
     }
 
     /// Returns the description of the counter that the readings come from.

@@ -1,4 +1,5 @@
 ghost use Rattle.std.specs.Prelude.{◌≡◌, ◌*◌, ◌^◌, ◌<◌, pos, ◌≤ℤ◌, ◌<ℤ◌};
+ghost use Rattle.std.specs.Int.{int_max};
 ghost use Rattle.tk_clock.specs.Time.{nanoseconds, timespec_of};
 ghost use Rattle.tk_clock.specs.Limits.{clock_end};
 
@@ -38,5 +39,19 @@ pub(crate) fn timespec_of(nanos: u64) -> Timespec
     Timespec {
         sec: (nanos / NANOS_PER_SECOND) as i64,
         nsec: (nanos % NANOS_PER_SECOND) as u32,
+    }
+}
+
+/// Converts a time to nanoseconds. A time before 0 gives 0.
+pub(crate) fn nanos_from_zero(time: Timespec) -> u128
+    ensures value { pos result ≡ int_max (pos 0) (nanoseconds time) }
+    ensures low { result < 2 ^ 94 }
+{
+    let whole = u128::from(time.sec.unsigned_abs()) * u128::from(NANOS_PER_SECOND);
+    let rest = u128::from(time.nsec);
+    if time.sec < 0 {
+        rest.saturating_sub(whole)
+    } else {
+        whole + rest
     }
 }

@@ -15,7 +15,9 @@ use Rattle.tk_clock.specs.Limits.{limit}
 use Rattle.tk_clock.specs.Read.{read_of}
 use Rattle.tk_clock.proofs.Offsets.{cycles_since-self}
 use Rattle.tk_lanes.specs.declared.line.Line.{Line}
-use Rattle.tk_lanes.specs.Line.{line_cycles, line_nanos, nanos_after, IsNear, is_coarse, units_at_last, running_mult, mult_of, offset_of}
+use Rattle.tk_clock.specs.Origin.{is_coarse, units_at_last, running_mult, mult_of, offset_of}
+use Rattle.tk_clock.proofs.Origin.{same_units, counted, value_is}
+use Rattle.tk_lanes.specs.Line.{line_cycles, line_nanos, nanos_after, IsNear}
 
 -- a line with a clock's numbers: seconds at the last reading, the span in cycles, and the
 -- nanoseconds to the clock's limit
@@ -57,33 +59,6 @@ pub whole_gap : (counter : Counter) (m gap : ℕ) → m ≡ mask counter → gap
 whole_gap counter m gap p low =
     ap (bit_and gap) p ∙ and_mask gap counter.bits
     ∙ mod-eq_of_lt (omega (arith, p, low, pow_pos counter.bits))
-
--- a clock that stands still has no units for a cycle
-same_units : (asleep coarse : Bool) (counter : Counter) (last stamp u : ℕ) →
-    cycles_since counter false last stamp * (if asleep || coarse then 0 else u)
-    ≡ cycles_since counter asleep last (if coarse then last else stamp) * u
-same_units true coarse counter last stamp u = omega arith
-same_units false true counter last stamp u =
-    let none = cycles_since-self counter false last in rw none (omega arith)
-same_units false false counter last stamp u = refl
-
--- what a clock counts at a stamp, in nanoseconds, without its offset
-abbrev counted : ReadBase → ClockId → ℕ → ℕ
-counted base clock stamp =
-    (units_at_last base clock
-    + cycles_since base.counter base.asleep base.last
-    (if is_coarse clock then base.last else stamp) * running_mult base clock)
-    / 2 ^ base.counter.shift
-
-value_is : (base : ReadBase) (clock : ClockId) (stamp : ℕ) →
-    base_value base clock stamp ≡ pos (counted base clock stamp) +ℤ offset_of base clock
-value_is base Monotonic stamp = omega (arith, ints)
-value_is base Realtime stamp = refl
-value_is base Boottime stamp = refl
-value_is base Tai stamp = omega (arith, ints)
-value_is base RealtimeCoarse stamp = refl
-value_is base MonotonicCoarse stamp = omega (arith, ints)
-value_is base MonotonicRaw stamp = omega (arith, ints)
 
 -- the nanoseconds of seconds and further units
 split_amount : (sec units shift : ℕ) →

@@ -2,7 +2,7 @@
 ghost use Rattle.std.specs.Prelude.{◌≡◌, ◌+◌, ◌*◌, ◌^◌, ◌<◌, ◌≤◌, pos};
 ghost use Rattle.tk_counter.specs.Counter.{second};
 ghost use Rattle.tk_clock.specs.Limits.{limit, clock_end};
-ghost use Rattle.tk_lanes.specs.Line.{is_coarse, is_raw, units_at_last, mult_of, offset_of};
+ghost use Rattle.tk_clock.specs.Origin.{is_coarse, is_raw, units_at_last, mult_of, offset_of};
 
 use tk_clock::{ClockId, Snapshot};
 
