@@ -21,6 +21,11 @@ IsTracedInPieces journal clock fronts stamps new (Err error) =
 abbrev pub Items : Type 0
 Items = ℕ → Result ℤ TraceError
 
+-- these are the results of a trace's items, and the number of its items
+abbrev pub IsNamed : Items → ℕ → Journal → ClockId → List ℕ → List ℕ → Type 0
+IsNamed item count journal clock fronts stamps =
+    (item ≡ item_of journal clock fronts stamps) × (count ≡ length stamps)
+
 -- the words contain the value of each item from place `at` on, in nanoseconds
 abbrev pub HoldFrom : Items → ℕ → List ℕ → Type 0
 HoldFrom item at words =

@@ -6,10 +6,12 @@
 //! itself. If no buffer comes back for a while, the other thread ends. The calling thread waits
 //! only for that end.
 ghost use Rattle.std.specs.Prelude.{◌≡◌, ◌+◌, ◌<◌, ◌≤◌, [], length, MatchResult, OnOk, IfErr, IfSome};
-ghost use Rattle.tk_keeper.specs.Trace.{IsConverted, IsFault, item_of};
+ghost use Rattle.tk_keeper.specs.Trace.{IsConverted, IsFault};
 ghost use Rattle.tk_keeper.specs.declared.trace_error.TraceError.TheVariants.{Memory};
-ghost use Rattle.tk_pieces.specs.Pieces.{HoldFirst, HoldFrom, IsFaultFrom};
+ghost use Rattle.tk_pieces.specs.Input.{of_input};
+ghost use Rattle.tk_pieces.specs.Pieces.{HoldFirst, HoldFrom, IsFaultFrom, IsNamed};
 
+use crate::input::Input;
 use crate::pieces::{convert_at_once, moved};
 use rtrb::{Consumer, Producer, RingBuffer};
 use std::alloc::{AllocError, Allocator};
@@ -143,22 +145,23 @@ fn ends<N: NamesTrace, A: Allocator + Copy>(
 /// Converts the piece that begins at `at`. It has as many items as there are words, up to the end
 /// of the list.
 fn convert<N: NamesTrace, A: Allocator + Copy>(
-    keeper: &Timekeeper<A>,
-    fronts: &[u64],
-    stamps: &[u64],
-    clock: ClockId,
+    input: Input<'_, A>,
     at: usize,
     words: Vec<u64, A>,
 ) -> Result<Piece<N, A>, TraceError>
-    requires beside { length fronts.now ≡ length stamps.now }
-    requires named { (N.item ≡ item_of keeper.now.journal clock fronts.now stamps.now)
-        × (N.count ≡ length stamps.now) }
-    requires inside { at < length stamps.now }
+    requires named { of_input (IsNamed N.item N.count) input }
+    requires inside { at < length input.stamps.now }
     requires filled { 0 < length words.items }
     ensures { MatchResult result (λ piece. piece.at ≡ at)
         (λ error. IsFaultFrom N.item N.count at error) }
 {
     let mut words = words;
+    let Input {
+        keeper,
+        fronts,
+        stamps,
+        clock,
+    } = input;
     words.truncate(stamps.len() - at);
     let end = at + words.len();
     let out = words.as_mut_slice();
@@ -174,27 +177,19 @@ fn convert<N: NamesTrace, A: Allocator + Copy>(
 
 /// Converts pieces from the first on. Ends after the last piece, at a fault, or if no words come
 /// back.
-fn convert_ahead<N: NamesTrace, A: Allocator + Copy>(
-    keeper: &Timekeeper<A>,
-    fronts: &[u64],
-    stamps: &[u64],
-    clock: ClockId,
-    supply: Supply<N, A>,
-)
-    requires beside { length fronts.now ≡ length stamps.now }
-    requires named { (N.item ≡ item_of keeper.now.journal clock fronts.now stamps.now)
-        × (N.count ≡ length stamps.now) }
+fn convert_ahead<N: NamesTrace, A: Allocator + Copy>(input: Input<'_, A>, supply: Supply<N, A>)
+    requires named { of_input (IsNamed N.item N.count) input }
 {
     let mut supply = supply;
     let mut at = 0;
-    'pieces: while at < stamps.len() {
+    'pieces: while at < input.stamps.len() {
         let Some(words) = supply.words() else {
             return;
         };
         if words.is_empty() {
             return;
         }
-        let Ok(piece) = convert(keeper, fronts, stamps, clock, at, words) else {
+        let Ok(piece) = convert(input, at, words) else {
             return;
         };
         at += piece.words.len();
@@ -224,25 +219,20 @@ fn append<N: NamesTrace, A: Allocator, B: Allocator>(
 
 /// Appends all pieces in order. Takes a piece that is ready, and otherwise converts it itself.
 fn append_all<N: NamesTrace, A: Allocator + Copy, B: Allocator>(
-    keeper: &Timekeeper<A>,
-    fronts: &[u64],
-    stamps: &[u64],
-    clock: ClockId,
+    input: Input<'_, A>,
     intake: Intake<N, A>,
     words: Vec<u64, A>,
     values: Vec<u64, B>,
 ) -> Result<Vec<u64, B>, TraceError>
-    requires beside { length fronts.now ≡ length stamps.now }
-    requires named { (N.item ≡ item_of keeper.now.journal clock fronts.now stamps.now)
-        × (N.count ≡ length stamps.now) }
+    requires named { of_input (IsNamed N.item N.count) input }
     requires empty { values.items ≡ [] }
     requires filled { 0 < length words.items }
     ensures { MatchResult result
-        (λ values. IsConverted keeper.now.journal clock fronts.now stamps.now values.items)
-        (λ error. IsFault keeper.now.journal clock fronts.now stamps.now error) }
+        (λ values. of_input IsConverted input.entry values.items)
+        (λ error. of_input IsFault input.entry error) }
 {
     let (mut intake, mut own, mut values) = (intake, words, values);
-    'pieces: while values.len() < stamps.len() {
+    'pieces: while values.len() < input.stamps.len() {
         let at = values.len();
         match intake.take(at) {
             Some(piece) => {
@@ -250,7 +240,7 @@ fn append_all<N: NamesTrace, A: Allocator + Copy, B: Allocator>(
                 intake.give_back(piece);
             }
             None => {
-                let piece: Piece<N, A> = convert(keeper, fronts, stamps, clock, at, own)?;
+                let piece: Piece<N, A> = convert(input, at, own)?;
                 append(&mut values, &piece)?;
                 own = piece.words;
             }
@@ -284,44 +274,29 @@ pub(crate) fn trace_ahead<
     R: Threads + Sync,
     A: Allocator + Copy + Send + Sync,
     B: Allocator,
->(
-    rt: &R,
-    keeper: &Timekeeper<A>,
-    fronts: &[u64],
-    stamps: &[u64],
-    clock: ClockId,
-    values: Vec<u64, B>,
-) -> Result<Vec<u64, B>, TraceError>
-    requires beside { length fronts.now ≡ length stamps.now }
-    requires named { (N.item ≡ item_of keeper.now.journal clock fronts.now stamps.now)
-        × (N.count ≡ length stamps.now) }
-    requires filled { 0 < length stamps.now }
+>(rt: &R, input: Input<'_, A>, values: Vec<u64, B>) -> Result<Vec<u64, B>, TraceError>
+    requires named { of_input (IsNamed N.item N.count) input }
+    requires filled { 0 < length input.stamps.now }
     requires empty { values.items ≡ [] }
     ensures { MatchResult result
-        (λ values. IsConverted keeper.now.journal clock fronts.now stamps.now values.items)
-        (λ error. IsFault keeper.now.journal clock fronts.now stamps.now error) }
+        (λ values. of_input IsConverted input.entry values.items)
+        (λ error. of_input IsFault input.entry error) }
 {
-    let Some((supply, intake, words)) = prepared::<N, A>(keeper) else {
-        return convert_at_once(rt, keeper, fronts, stamps, clock, values);
+    let Some((supply, intake, words)) = prepared::<N, A>(input.keeper) else {
+        return convert_at_once(rt, input, values);
     };
-    let (_, told) = thread::join(
+    let (_, values) = thread::join(
         rt,
         move ||
-            requires { (length fronts.now ≡ length stamps.now)
-                × (N.item ≡ item_of keeper.now.journal clock fronts.now stamps.now)
-                × (N.count ≡ length stamps.now) }
-        { convert_ahead(keeper, fronts, stamps, clock, supply) },
+            requires { of_input (IsNamed N.item N.count) input }
+        { convert_ahead(input, supply) },
         move || -> Result<Vec<u64, B>, TraceError>
-            requires { (length fronts.now ≡ length stamps.now)
-                × (N.item ≡ item_of keeper.now.journal clock fronts.now stamps.now)
-                × (N.count ≡ length stamps.now) × (values.items ≡ [])
-                × (0 < length words.items) }
+            requires { of_input (IsNamed N.item N.count) input
+                × (values.items ≡ []) × (0 < length words.items) }
             ensures { MatchResult result
-                (λ values. IsConverted keeper.entry.now.journal clock fronts.entry.now
-                stamps.entry.now values.items)
-                (λ error. IsFault keeper.entry.now.journal clock fronts.entry.now
-                stamps.entry.now error) }
-        { append_all(keeper, fronts, stamps, clock, intake, words, values) },
+                (λ values. of_input IsConverted input.entry values.items)
+                (λ error. of_input IsFault input.entry error) }
+        { append_all(input, intake, words, values) },
     );
-    told
+    values
 }

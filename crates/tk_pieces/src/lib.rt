@@ -9,6 +9,7 @@
 #![tactic(auto)]
 
 mod ahead;
+mod input;
 mod pieces;
 #[cfg(test)]
 mod tests;

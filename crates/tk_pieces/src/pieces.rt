@@ -5,9 +5,11 @@
 //! are made by `ahead`.
 ghost use Rattle.std.specs.Prelude.{[], ◌≡◌, ◌+◌, ◌<◌, ◌≤◌, ◌^◌, length, MatchResult};
 ghost use Rattle.tk_keeper.specs.Trace.{AreValues, IsConverted, IsFault};
+ghost use Rattle.tk_pieces.specs.Input.{of_input};
 ghost use Rattle.tk_pieces.specs.Pieces.{ArePieces, IsPiece, IsTracedInPieces, further_on, place_told};
 
 use crate::ahead::trace_ahead;
+use crate::input::Input;
 use rayon::current_num_threads;
 use rayon::prelude::*;
 use std::alloc::Allocator;
@@ -63,33 +65,35 @@ pub fn trace_all<R: Threads + Sync, A: Allocator + Copy + Send + Sync, B: Alloca
     let Ok(values) = Vec::with_capacity(alloc, stamps.len()) else {
         return Err(TraceError::Memory);
     };
+    let input = Input {
+        keeper,
+        fronts,
+        stamps,
+        clock,
+    };
     if stamps.len() < UNTOUCHED || current_num_threads(rt) < 2 {
-        return convert_at_once(rt, keeper, fronts, stamps, clock, values);
+        return convert_at_once(rt, input, values);
     }
-    trace_ahead::<Brand, R, A, B>(rt, keeper, fronts, stamps, clock, values)
+    trace_ahead::<Brand, R, A, B>(rt, input, values)
 }
 
 /// Does what `trace_all` does, into an empty list: fills it with zeros, and then converts in place.
 pub(crate) fn convert_at_once<R: Threads + Sync, A: Allocator + Copy + Sync, B: Allocator>(
     rt: &R,
-    keeper: &Timekeeper<A>,
-    fronts: &[u64],
-    stamps: &[u64],
-    clock: ClockId,
+    input: Input<'_, A>,
     values: Vec<u64, B>,
 ) -> Result<Vec<u64, B>, TraceError>
-    requires beside { length fronts.now ≡ length stamps.now }
-    requires filled { 0 < length stamps.now }
+    requires filled { 0 < length input.stamps.now }
     requires empty { values.items ≡ [] }
     ensures { MatchResult result
-        (λ values. IsConverted keeper.now.journal clock fronts.now stamps.now values.items)
-        (λ error. IsFault keeper.now.journal clock fronts.now stamps.now error) }
+        (λ values. of_input IsConverted input.entry values.items)
+        (λ error. of_input IsFault input.entry error) }
 {
     let mut values = values;
-    let Ok(()) = values.resize(stamps.len(), 0) else {
+    let Ok(()) = values.resize(input.stamps.len(), 0) else {
         return Err(TraceError::Memory);
     };
-    trace_all_into(rt, keeper, fronts, stamps, clock, values.as_mut_slice())?;
+    write_all(rt, input, values.as_mut_slice())?;
     Ok(values)
 }
 
@@ -113,73 +117,83 @@ pub fn trace_all_into<R: Threads + Sync, A: Allocator + Copy + Sync>(
     requires room { length stamps.now ≡ length out.old }
     ensures { IsTracedInPieces keeper.now.journal clock fronts.now stamps.now out.new result }
 {
-    if stamps.len() < SHARED {
-        return keeper.trace_into(fronts, stamps, clock, out);
+    let input = Input {
+        keeper,
+        fronts,
+        stamps,
+        clock,
+    };
+    write_all(rt, input, out)
+}
+
+/// Does what `trace_all_into` does.
+fn write_all<R: Threads + Sync, A: Allocator + Copy + Sync>(
+    rt: &R,
+    input: Input<'_, A>,
+    out: &mut [u64],
+) -> Result<(), TraceError>
+    requires room { length input.stamps.now ≡ length out.old }
+    ensures { of_input IsTracedInPieces input.entry out.new result }
+{
+    if input.stamps.len() < SHARED {
+        return input
+            .keeper
+            .trace_into(input.fronts, input.stamps, input.clock, out);
     }
-    trace_in_pieces(rt, PIECE, keeper, fronts, stamps, clock, out)
+    trace_in_pieces(rt, PIECE, input, out)
 }
 
 /// Does what `trace_all_into` does, in pieces of `size` items, however few items there are.
 pub(crate) fn trace_in_pieces<R: Threads + Sync, A: Allocator + Copy + Sync>(
     rt: &R,
     size: usize,
-    keeper: &Timekeeper<A>,
-    fronts: &[u64],
-    stamps: &[u64],
-    clock: ClockId,
+    input: Input<'_, A>,
     out: &mut [u64],
 ) -> Result<(), TraceError>
     requires filled { 0 < size }
-    requires beside { length fronts.now ≡ length stamps.now }
-    requires room { length stamps.now ≡ length out.old }
-    ensures { IsTracedInPieces keeper.now.journal clock fronts.now stamps.now out.new result }
+    requires room { length input.stamps.now ≡ length out.old }
+    ensures { of_input IsTracedInPieces input.entry out.new result }
 {
-    convert_pieces(rt, size, keeper, fronts, stamps, clock, out);
-    first_fault(size, keeper, fronts, stamps, clock, out)
+    convert_pieces(rt, size, input, out);
+    first_fault(size, input, out)
 }
 
 /// Converts all pieces, in parallel.
 fn convert_pieces<R: Threads + Sync, A: Allocator + Copy + Sync>(
     rt: &R,
     size: usize,
-    keeper: &Timekeeper<A>,
-    fronts: &[u64],
-    stamps: &[u64],
-    clock: ClockId,
+    input: Input<'_, A>,
     out: &mut [u64],
 )
     requires filled { 0 < size }
-    requires beside { length fronts.now ≡ length stamps.now }
-    requires room { length stamps.now ≡ length out.old }
-    ensures { ArePieces size keeper.now.journal clock fronts.now stamps.now out.new }
+    requires room { length input.stamps.now ≡ length out.old }
+    ensures { of_input (ArePieces size) input.entry out.new }
 {
     par_chunks_mut_for_each(
         rt,
         out,
         size,
         |at: usize, piece: &mut [u64]|
-            requires { (length fronts.now ≡ length stamps.now) × (0 < length piece.old)
-                × (at + length piece.old ≤ length stamps.now) }
-            ensures { IsPiece keeper.entry.now.journal clock fronts.entry.now stamps.entry.now at
-                piece.new }
-        { convert_piece(keeper, fronts, stamps, clock, at, piece) },
+            requires { (0 < length piece.old)
+                × (at + length piece.old ≤ length input.stamps.now) }
+            ensures { of_input IsPiece input.entry at piece.new }
+        { convert_piece(input, at, piece) },
     );
 }
 
 /// Converts the piece that begins at `at`, and marks it if one of its items has a fault.
-fn convert_piece<A: Allocator + Copy>(
-    keeper: &Timekeeper<A>,
-    fronts: &[u64],
-    stamps: &[u64],
-    clock: ClockId,
-    at: usize,
-    piece: &mut [u64],
-)
-    requires beside { length fronts.now ≡ length stamps.now }
+fn convert_piece<A: Allocator + Copy>(input: Input<'_, A>, at: usize, piece: &mut [u64])
     requires filled { 0 < length piece.old }
-    requires inside { at + length piece.old ≤ length stamps.now }
-    ensures { IsPiece keeper.now.journal clock fronts.now stamps.now at piece.new }
+    requires inside { at + length piece.old ≤ length input.stamps.now }
+    ensures { of_input IsPiece input.entry at
+        piece.new }
 {
+    let Input {
+        keeper,
+        fronts,
+        stamps,
+        clock,
+    } = input;
     let end = at + piece.len();
     match keeper.trace_into(&fronts[at..end], &stamps[at..end], clock, piece) {
         Ok(()) => {}
@@ -190,24 +204,21 @@ fn convert_piece<A: Allocator + Copy>(
 /// Checks the pieces in order, and converts again from the first marked one on.
 fn first_fault<A: Allocator + Copy>(
     size: usize,
-    keeper: &Timekeeper<A>,
-    fronts: &[u64],
-    stamps: &[u64],
-    clock: ClockId,
+    input: Input<'_, A>,
     out: &mut [u64],
 ) -> Result<(), TraceError>
     requires filled { 0 < size }
-    requires beside { length fronts.now ≡ length stamps.now }
-    requires room { length stamps.now ≡ length out.old }
-    requires pieces { ArePieces size keeper.now.journal clock fronts.now stamps.now out.old }
-    ensures { IsTracedInPieces keeper.now.journal clock fronts.now stamps.now out.new result }
+    requires room { length input.stamps.now ≡ length out.old }
+    requires pieces { of_input (ArePieces size) input out.old }
+    ensures { of_input IsTracedInPieces input.entry out.new result }
 {
+    let count = input.stamps.len();
     let mut at = 0;
-    'pieces: while at < stamps.len() {
+    'pieces: while at < count {
         if out[at] >= REFUSED {
-            return rest(keeper, fronts, stamps, clock, at, out);
+            return rest(input, at, out);
         }
-        if stamps.len() - at <= size {
+        if count - at <= size {
             return Ok(());
         }
         at += size;
@@ -217,23 +228,22 @@ fn first_fault<A: Allocator + Copy>(
 
 /// Converts the items from `at` on. Those before it are converted already.
 fn rest<A: Allocator + Copy>(
-    keeper: &Timekeeper<A>,
-    fronts: &[u64],
-    stamps: &[u64],
-    clock: ClockId,
+    input: Input<'_, A>,
     at: usize,
     out: &mut [u64],
 ) -> Result<(), TraceError>
-    requires beside { length fronts.now ≡ length stamps.now }
-    requires room { length stamps.now ≡ length out.old }
-    requires inside { at ≤ length stamps.now }
-    requires before { AreValues keeper.now.journal clock fronts.now stamps.now at out.old }
-    ensures { IsTracedInPieces keeper.now.journal clock fronts.now stamps.now out.new result }
+    requires room { length input.stamps.now ≡ length out.old }
+    requires inside { at ≤ length input.stamps.now }
+    requires before { of_input AreValues input at out.old }
+    ensures { of_input IsTracedInPieces input.entry out.new result }
 {
-    let (_, late_fronts) = fronts.split_at(at);
-    let (_, late_stamps) = stamps.split_at(at);
+    let (_, fronts) = input.fronts.split_at(at);
+    let (_, stamps) = input.stamps.split_at(at);
     let (_, late_out) = out.split_at_mut(at);
-    match keeper.trace_into(late_fronts, late_stamps, clock, late_out) {
+    match input
+        .keeper
+        .trace_into(fronts, stamps, input.clock, late_out)
+    {
         Ok(()) => Ok(()),
         Err(error) => Err(moved(error, at)),
     }

@@ -1,5 +1,6 @@
 //! Pieces of few items: so lists of any length are converted by several threads.
 
+use crate::input::Input;
 use crate::pieces::trace_in_pieces;
 use std::fmt::Debug;
 use std::process::Abort;
@@ -76,16 +77,13 @@ fn the_first_fault_of_three_thousand_pieces_decides(rt: HostRuntime) -> Result<(
         if fronts.len() != stamps.len() || stamps.len() != out.len() {
             return Err("lists of several lengths".into());
         }
-        let clock = ClockId::Monotonic;
-        let done = trace_in_pieces(
-            &rt,
-            SIZE,
-            &keeper,
+        let input = Input {
+            keeper: &keeper,
             fronts,
             stamps,
-            clock,
-            out.as_mut_slice(),
-        );
+            clock: ClockId::Monotonic,
+        };
+        let done = trace_in_pieces(&rt, SIZE, input, out.as_mut_slice());
         assert_same(&rt, &done.err(), &fault);
         for (at, value) in out.iter().take(place).enumerate() {
             assert_same(&rt, value, &(at as u64));

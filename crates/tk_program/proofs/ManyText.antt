@@ -6,7 +6,7 @@ use Rattle.std.proofs.lemmas.List.{append-nil, take_more, length-take-le}
 use Rattle.tk_script.specs.declared.script_error.ScriptError.{ScriptError}
 use Rattle.tk_program.specs.ManyText.{heading, outcome_text, text_from}
 
--- one file more stands at the end
+-- one more file at the end
 text_from-push : (index : ℕ) (outcomes : List (Result (Vec ℕ) ScriptError))
     (outcome : Result (Vec ℕ) ScriptError) (count : ℕ) → count ≡ index + length outcomes →
     text_from index (outcomes ++ outcome ∷ [])

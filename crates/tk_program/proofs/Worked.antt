@@ -1,4 +1,4 @@
--- What words come to, computed by the definitions alone.
+-- What words ask for, computed by the definitions alone.
 use Rattle.std.proofs.Common.{◌≡◌, List, [], ◌∷◌, codes, refl}
 use Rattle.std.specs.Prelude.{Option, Some, None}
 use Rattle.clap.specs.Words.{Text}
@@ -7,7 +7,7 @@ use Rattle.tk_clock.specs.declared.clock_id.ClockId.TheVariants.{MonotonicRaw, T
 use Rattle.tk_program.specs.Request.{Task, Replay, Trace, Many, Race}
 use Rattle.tk_program.specs.CommandLine.{asked_by}
 
--- what the words behind the program's own ask for
+-- what the words after the program's own ask for
 abbrev ask_for : List Text → Option Task
 unfolding asked_by
 ask_for words = asked_by (codes "tkcore" ∷ words)

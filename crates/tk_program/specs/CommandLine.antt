@@ -55,7 +55,7 @@ program_words =
     (files_words (codes "many") (codes "WORKERS")).top)
     (files_words (codes "race") (codes "STEP")).top
 
--- what a subcommand of this name asks for, by what was found behind it
+-- what a subcommand of this name asks for, by what was found after it
 abbrev pub task_by : Text → List Row → Option Task
 task_by name rows =
     if bytes_eq name (codes "replay") then replay_by (first_of (codes "keep") rows)
@@ -73,21 +73,22 @@ abbrev pub task_found : Option (Text × List Row) → Option Task
 task_found None = Some (Replay None)
 task_found (Some found) = task_by found.0 found.1
 
--- what is asked for where nothing is wrong with the words
+-- what is asked for if nothing is wrong with the words
 abbrev pub task_if : Kinds → Option (Text × List Row) → Option Task
 task_if [] found = task_found found
 task_if (kind ∷ kinds) found = None
 
--- what these words ask for, the first of which is the program's own; nothing where they are refused
+-- what these words ask for, the first of which is the program's own; `None` if they are refused
 unfoldable pub asked_by : List Text → Option Task
 asked_by words = task_if (fault_of program_words words) (subcommand_of program_words words)
 
--- words that can't be taken, since one of them is no text, ask for nothing
+-- words of which one isn't UTF-8 ask for nothing
 abbrev pub asked_of : Option (List Text) → Option Task
 asked_of None = None
 asked_of (Some words) = asked_by words
 
--- what is asked for was found, or that it is nothing; want of memory may take the place of either
+-- the result is the request that is asked for, or `Refused` if there is none; `Memory` may replace
+-- either
 abbrev pub Asks : Option Task → Result Request WordsError → Type 0
 Asks task (Ok request) = task ≡ Some (task_of request)
 Asks task (Err errors.Refused) = task ≡ None

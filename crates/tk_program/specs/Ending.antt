@@ -15,7 +15,7 @@ use Rattle.tk_program.specs.declared.command_line.WordsError.TheVariants as erro
 use Rattle.tk_program.specs.declared.ending.Ending.{Ending}
 use Rattle.tk_program.specs.declared.ending.Ending.TheVariants as endings
 
--- its exit status: 0 where all was done, 1 for a fault, 2 for words that are refused
+-- its exit status: 0 if all was done, 1 for a fault, 2 for words that are refused
 abbrev pub status_of : Ending → ℕ
 status_of endings.Done = 0
 status_of endings.Words = 2
@@ -26,8 +26,8 @@ status_of (endings.File index error) = 1
 status_of endings.Openings = 1
 status_of (endings.Race error) = 1
 
--- what is told of it, of a writer that tells its bytes: nothing where all was done, and nothing more
--- where faults were told in its place, and else a line; the line of a script's fault is not said here
+-- the line of an ending, for a writer whose bytes are known: none if all was done or if the output
+-- has the faults, and otherwise one; the text of a script's fault is not stated here
 abbrev pub IsToldIn : {W : Type 0} → (W → Option (List ℕ)) → W → W → Ending → Type 0
 IsToldIn contents old new endings.Done = new ≡ old
 IsToldIn contents old new endings.Faulty = new ≡ old
@@ -49,7 +49,7 @@ abbrev pub ending_of : Result Unit Fault → Ending
 ending_of (Ok done) = endings.Done
 ending_of (Err fault) = endings.Fault fault
 
--- the ending that the fault of a race's file at this place is; want of memory has no place
+-- the ending for the fault of a race's file at this place; an allocation failure has no place
 abbrev pub ending_of_file : ℕ → ScriptError → Ending
 ending_of_file index scripts.Memory = endings.Fault faults.Memory
 ending_of_file index scripts.TooLarge = endings.File index scripts.TooLarge

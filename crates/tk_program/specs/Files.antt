@@ -1,4 +1,4 @@
--- What reading files by their names comes to.
+-- The result of reading files by their names.
 use Rattle.std.specs.Prelude.{◌≡◌, ℕ, ◌<◌, List, [], length, map, Option, Some, None, ◌⊎◌, slice_index_or}
 use Rattle.std.specs.Borrow.{Bor}
 use Rattle.std.specs.List.{AllZip}
@@ -7,8 +7,8 @@ use Rattle.tk_replay.specs.declared.fault.Fault.{Fault}
 use Rattle.tk_replay.specs.declared.fault.Fault.TheVariants as faults
 use Rattle.tk_replay.specs.Reading.{IsReadToEnd, ReadFailed}
 
--- of a folder and its files: what opening a name came to, what is known of a file's bytes, and what
--- its reads came to
+-- of a folder and its files: the result of opening each name, the bytes of a file that are known,
+-- and the results of its reads
 module _ {D F : Type 0} (open_gives : D → List ℕ → Option F → Type 0)
     (remaining : F → Option (List ℕ)) (read_gives : F → Option ℕ → F → Type 0) (folder : D) where
   -- a file of this name was opened, and this was read of it, to its end or as much as is read
@@ -21,7 +21,7 @@ module _ {D F : Type 0} (open_gives : D → List ℕ → Option F → Type 0)
   IsUnread name = open_gives folder name None
       ⊎ ((file : F) × (file' : F) × open_gives folder name (Some file) × ReadFailed read_gives file')
 
-  -- why a file isn't read to its end, or that memory was refused
+  -- why a file isn't read to its end, or that an allocation failed
   abbrev pub StopsFile : List ℕ → Fault → Type 0
   StopsFile name faults.Read = IsUnread name
   StopsFile name faults.Memory = Unit {0}
@@ -34,7 +34,7 @@ module _ {D F : Type 0} (open_gives : D → List ℕ → Option F → Type 0)
   abbrev pub AreReadFrom : List (Bor (List ℕ)) → List (Vec ℕ) → Type 0
   AreReadFrom names texts = AllZip (λ name text. IsReadFrom name.now text.items) names texts
 
-  -- why files aren't all read: one of them, at this place, isn't; or memory was refused
+  -- why files aren't all read: one of them, at this place, isn't; or an allocation failed
   abbrev pub StopsFiles : List (Bor (List ℕ)) → Fault → Type 0
   StopsFiles names fault = (fault ≡ faults.Memory)
       ⊎ ((place : ℕ) × (place < length names)

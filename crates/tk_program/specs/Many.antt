@@ -16,16 +16,16 @@ use Rattle.tk_program.specs.declared.ending.Ending.TheVariants as endings
 use Rattle.tk_program.specs.Files.{AreReadFrom, StopsFiles}
 use Rattle.tk_program.specs.ManyText.{text_from}
 
--- the ending of what scripts came to, when all of it is told: done, or one of them has a fault
+-- the ending when all outcomes of scripts are written: done, or one of them has a fault
 abbrev pub ending_of_outcomes : List (Result (Vec ℕ) ScriptError) → Ending
 ending_of_outcomes outcomes = if list_all is_ok outcomes then endings.Done else endings.Faulty
 
--- of a writer, before and after: what is known of its bytes, and what its calls came to
+-- of a writer, before and after: its bytes, if they are known, and the results of its calls
 module _ {W : Type 0} (contents : W → Option (List ℕ))
     (write_gives : W → List ℕ → Option ℕ → W → Type 0) (flush_gives : W → Bool → W → Type 0)
     (writer writer' : W) where
   -- a text was written to the end and flushed, and that is this ending; or the last write or the
-  -- flush failed, when so many bytes of it had gone out
+  -- flush failed, after `written` bytes of it were written
   abbrev pub EndsWriting : List ℕ → Ending → Ending → Type 0
   EndsWriting text done ending =
       ((ending ≡ done) × Appends (contents writer) (contents writer') text
@@ -34,13 +34,13 @@ module _ {W : Type 0} (contents : W → Option (List ℕ))
       × IsWrittenUpTo (contents writer) (contents writer') text written
       × WriteFailed write_gives flush_gives writer')
 
-  -- memory was refused, and nothing is written; or what scripts came to was written
+  -- an allocation failed, and nothing is written; or the outcomes of scripts were written
   abbrev pub EndsTelling : List (Result (Vec ℕ) ScriptError) → Ending → Type 0
   EndsTelling outcomes ending =
       ((ending ≡ endings.Fault faults.Memory) × (writer' ≡ writer))
       ⊎ EndsWriting (text_from 0 outcomes) (ending_of_outcomes outcomes) ending
 
-  -- the scripts of these texts were replayed: memory was refused or a thread was not started, and
+  -- the scripts of these texts were replayed: an allocation failed or a thread was not started, and
   -- nothing is written; or the outcomes were written. The number of workers is always in range
   abbrev pub EndsReplays : List (Vec ℕ) → Ending → Type 0
   EndsReplays texts ending =

@@ -8,7 +8,7 @@ use Rattle.tk_script.specs.declared.script_error.ScriptError.TheVariants as erro
 abbrev pub record_text : ℕ → List ℕ → List ℕ
 record_text row what = codes "record " ++ decimal row ++ codes ": " ++ what
 
--- what is told of a script's fault
+-- the text of a script's fault
 abbrev pub error_text : ScriptError → List ℕ
 error_text errors.TooLarge = codes "larger than 16777216 bytes"
 error_text errors.Empty = codes "no record"
@@ -31,7 +31,7 @@ abbrev pub outcome_text : Result (Vec ℕ) ScriptError → List ℕ
 outcome_text (Ok report) = report.items
 outcome_text (Err error) = fault_line error
 
--- what scripts came to, each under its heading; the first one has this number
+-- the outcomes of scripts, each under its heading; the first one has this number
 abbrev pub text_from : ℕ → List (Result (Vec ℕ) ScriptError) → List ℕ
 text_from index [] = []
 text_from index (outcome ∷ outcomes) =

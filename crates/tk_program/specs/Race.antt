@@ -40,8 +40,8 @@ part_of script = map action_of script.rows.items
 abbrev pub IsOpenable : Script → Type 0
 IsOpenable script = opening_refusal script.desc script.reading script.real ≡ None
 
--- of a folder and its files: what opening a name came to, what is known of a file's bytes, and what
--- its reads came to
+-- of a folder and its files: the result of opening each name, the bytes of a file that are known,
+-- and the results of its reads
 module _ {D F : Type 0} (open_gives : D → List ℕ → Option F → Type 0)
     (remaining : F → Option (List ℕ)) (read_gives : F → Option ℕ → F → Type 0) (folder : D) where
   -- a file of this name was read, and its bytes are this script, by which clocks can be opened
@@ -54,8 +54,8 @@ module _ {D F : Type 0} (open_gives : D → List ℕ → Option F → Type 0)
   abbrev pub AreScriptsFrom : List (Bor (List ℕ)) → List Script → Type 0
   AreScriptsFrom names scripts = AllZip (λ name script. IsScriptFrom name.now script) names scripts
 
-  -- why the file at this place gives no script: it couldn't be read, or its bytes have this fault;
-  -- or memory was refused
+  -- why the file at this place gives no script: it couldn't be read, its bytes have this fault, or
+  -- an allocation failed
   abbrev pub StopsScript : ℕ → List ℕ → Ending → Type 0
   StopsScript place name ending =
       ((fault : Fault) × (ending ≡ endings.Fault fault)
@@ -63,8 +63,8 @@ module _ {D F : Type 0} (open_gives : D → List ℕ → Option F → Type 0)
       ⊎ ((error : ScriptError) × (text : List ℕ) × (ending ≡ ending_of_file place error)
       × IsReadFrom open_gives remaining read_gives folder name text × Fails error (parse_of text))
 
-  -- why files don't all give scripts: one of them doesn't, and those before it do; or memory was
-  -- refused
+  -- why files don't all give scripts: one of them doesn't, and those before it do; or an allocation
+  -- failed
   abbrev pub StopsScripts : List (Bor (List ℕ)) → Ending → Type 0
   StopsScripts names ending =
       (ending ≡ endings.Fault faults.Memory)
@@ -72,19 +72,20 @@ module _ {D F : Type 0} (open_gives : D → List ℕ → Option F → Type 0)
       × AreScriptsFrom (take place names) scripts
       × StopsScript place (slice_index_or (map (λ name. name.now) names) place []) ending)
 
--- of a writer, before and after: what is known of its bytes, and what its calls came to
+-- of a writer, before and after: its bytes, if they are known, and the results of its calls
 module _ {W : Type 0} (contents : W → Option (List ℕ))
     (write_gives : W → List ℕ → Option ℕ → W → Type 0) (flush_gives : W → Bool → W → Type 0)
     (writer writer' : W) where
-  -- what a race has come to was told; or memory was refused, and nothing is written
+  -- the lines of a race were written; or an allocation failed, and nothing is written
   abbrev pub EndsTold : Journal → List (List RaceReply) → Ending → Type 0
   EndsTold journal replies ending =
       ((ending ≡ endings.Fault faults.Memory) × (writer' ≡ writer))
       ⊎ EndsWriting contents write_gives flush_gives writer writer'
       (race_lines (accepted_count journal) replies) endings.Done ending
 
-  -- so many parts were raced on clocks that were opened as this script says; or there are too many,
-  -- memory was refused or a thread was not started, and nothing is written. The opening is always valid
+  -- `count` parts were raced on clocks that were opened as this script says; or there are too many,
+  -- an allocation failed or a thread was not started, and nothing is written. The opening is always
+  -- valid
   abbrev pub EndsParts : Script → ℕ → List (List Action) → Ending → Type 0
   EndsParts first count parts ending =
       ((error : RaceError) × (ending ≡ endings.Race error)

@@ -1,4 +1,4 @@
--- What a race is told in.
+-- The text of a race.
 use Rattle.std.specs.Prelude.{ℕ, ◌+◌, List, [], ◌∷◌, ◌++◌, codes, decimal, sum_by}
 use Rattle.tk_race.specs.declared.action.RaceReply.{RaceReply}
 use Rattle.tk_race.specs.declared.action.RaceReply.TheVariants.{Refused}

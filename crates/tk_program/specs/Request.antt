@@ -3,8 +3,9 @@ use Rattle.std.specs.Prelude.{ℕ, ◌≤◌, List, Option, Some, None, map, nat
 use Rattle.tk_clock.specs.declared.clock_id.ClockId.{ClockId}
 use Rattle.tk_script.specs.Number.{number_of}
 use Rattle.tk_script.specs.Word.{clock_of}
-use Rattle.tk_replay.specs.Folding.{greatest_keep}
-use Rattle.tk_replay.specs.Report.{IsReport, IsReportUnlimited}
+use Rattle.tk_replay.specs.Folding.{greatest_keep, rule_of}
+use Rattle.tk_replay.specs.Many.{most_workers}
+use Rattle.tk_replay.specs.Report.{IsReportBy}
 use Rattle.tk_program.specs.declared.request.Request.{Request}
 use Rattle.tk_program.specs.declared.request.Request.TheVariants as requests
 
@@ -15,7 +16,7 @@ pub data Task : Type 0 where
   Many : ℕ → List (List ℕ) → Task
   Race : ℕ → List (List ℕ) → Task
 
--- what a request asks for, wherever its texts lie in memory
+-- what a request asks for, regardless of the place of its texts in memory
 abbrev pub task_of : Request → Task
 task_of (requests.Replay keep) = Replay keep
 task_of (requests.Trace clock script stamps) = Trace clock script.now stamps.now
@@ -30,10 +31,6 @@ between least most (Some n) = if nat_le least n && nat_le n most then Some n els
 -- how many entries a text says to keep: a number as in scripts, from 1 to the greatest
 abbrev pub keep_of : List ℕ → Option ℕ
 keep_of text = between 1 greatest_keep (number_of text)
-
--- the most threads that work at once
-abbrev pub most_workers : ℕ
-most_workers = 64
 
 -- how many threads a text says: a number as in scripts, from 1 to the most
 abbrev pub workers_of : List ℕ → Option ℕ
@@ -72,8 +69,7 @@ IsAllowed (requests.Trace clock script stamps) = Unit {0}
 IsAllowed (requests.Many workers files) = (1 ≤ workers) × (workers ≤ most_workers)
 IsAllowed (requests.Race step files) = Unit {0}
 
--- which text is the report of which bytes: of a journal that may be full, or of one that is folded
--- in time
-abbrev pub told_by : Option ℕ → List ℕ → List ℕ → Type 0
-told_by None = IsReport
-told_by (Some keep) = IsReportUnlimited
+-- the report of a script with these bytes: a full journal refuses commands, or is folded to its
+-- last `keep` entries
+abbrev pub IsReportKeeping : Option ℕ → List ℕ → List ℕ → Type 0
+IsReportKeeping keep = IsReportBy (rule_of keep)

@@ -14,9 +14,9 @@ use Rattle.tk_program.specs.CommandLine.{asked_of}
 use Rattle.tk_program.specs.Ending.{ending_of}
 use Rattle.tk_program.specs.Many.{EndsMany}
 use Rattle.tk_program.specs.Race.{EndsRace}
-use Rattle.tk_program.specs.Request.{Task, Replay, Trace, Many, Race, told_by}
+use Rattle.tk_program.specs.Request.{IsReportKeeping, Task, Replay, Trace, Many, Race}
 
--- of a writer, before and after: what is known of its bytes, and what its calls came to
+-- of a writer, before and after: its bytes, if they are known, and the results of its calls
 module _ {W : Type 0} (contents : W → Option (List ℕ))
     (write_gives : W → List ℕ → Option ℕ → W → Type 0) (flush_gives : W → Bool → W → Type 0)
     (writer writer' : W) where
@@ -25,7 +25,7 @@ module _ {W : Type 0} (contents : W → Option (List ℕ))
       R → R → Option ℕ → Ending → Type 0
   EndsReplay remaining read_gives reader reader' keep ending =
       (result : Result Unit Fault) × (ending ≡ ending_of result)
-      × IsReplayed (told_by keep) (remaining reader) (remaining reader')
+      × IsReplayed (IsReportKeeping keep) (remaining reader) (remaining reader')
       (ReadFailed read_gives reader') contents write_gives flush_gives writer writer' result
 
   -- a trace of two open files ended so, which it left as they are then
@@ -51,8 +51,8 @@ module _ {W : Type 0} (contents : W → Option (List ℕ))
       × open_gives folder script (Some first) × open_gives folder stamps (Some later)
       × EndsTraceOf remaining read_gives clock first first' later later' ending)
 
--- of a writer, of a reader, and of a folder and its files: what is known of their bytes, what their
--- calls came to, and each before and after
+-- of a writer, of a reader, and of a folder and its files: their bytes, if they are known, the
+-- results of their calls, and each before and after
 module _ {R W D F : Type 0} (remaining : R → Option (List ℕ)) (read_gives : R → Option ℕ → R → Type 0)
     (contents : W → Option (List ℕ)) (write_gives : W → List ℕ → Option ℕ → W → Type 0)
     (flush_gives : W → Bool → W → Type 0) (open_gives : D → List ℕ → Option F → Type 0)
@@ -80,7 +80,7 @@ module _ {R W D F : Type 0} (remaining : R → Option (List ℕ)) (read_gives : 
       × EndsRace contents write_gives flush_gives writer writer'
       open_gives file_remaining file_gives folder names ending)
 
-  -- words ended so: as what they ask for, or memory was refused before that was known
+  -- words ended so: as what they ask for, or an allocation failed before that was known
   abbrev pub IsRun : Option (List Text) → Ending → Type 0
   IsRun words ending =
       ((ending ≡ endings.Fault faults.Memory) × IsUntouched) ⊎ Ends (asked_of words) ending

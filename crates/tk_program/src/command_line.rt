@@ -12,7 +12,11 @@ use clap::error::ErrorKind;
 use clap::{Arg, ArgAction, ArgMatches, Command};
 use std::alloc::{AllocError, Global};
 use std::io;
+use tk_replay::MOST_WORKERS;
 use tk_script::{clock_word, number};
+
+/// The greatest number of entries that a full journal is folded to: half of what it lists.
+const GREATEST_KEEP: u64 = 524_288;
 
 /// Says why words ask for nothing.
 #[derive(Clone, Copy, Debug, PartialEq, Eq)]
@@ -76,26 +80,34 @@ fn request_by<'a>(
     ensures allowed { IfOk result IsAllowed }
 {
     if name == "replay" {
-        replay_in(found).ok_or(WordsError::Refused)
+        replay_asked(text_in(found, "keep")).ok_or(WordsError::Refused)
     } else if name == "trace" {
-        trace_in(found).ok_or(WordsError::Refused)
+        let clock = text_in(found, "CLOCK");
+        let script = text_in(found, "SCRIPT");
+        let stamps = text_in(found, "STAMPS");
+        trace_asked(clock, script, stamps).ok_or(WordsError::Refused)
     } else if name == "many" {
-        many_in(alloc, found)
+        many_asked(alloc, text_in(found, "WORKERS"), files_in(found))
     } else if name == "race" {
-        race_in(alloc, found)
+        race_asked(alloc, text_in(found, "STEP"), files_in(found))
     } else {
         Err(WordsError::Refused)
     }
 }
 
-/// Makes the request of `replay`.
-fn replay_in<'a>(found: &ArgMatches<'a>) -> Option<Request<'a>>
-    ensures asked { option_map task_of result
-        ≡ replay_by (first_of (codes "keep") (rows_of (found_of found.now))) }
-    ensures allowed { IfSome result IsAllowed }
+/// Returns the text of the argument of this name, if it was found.
+fn text_in<'a>(found: &ArgMatches<'a>, name: &str) -> Option<&'a str>
+    ensures { option_map (λ t. t.now) result ≡ first_of name.now (rows_of (found_of found.now)) }
 {
-    let keep = found.get_str("keep");
-    replay_asked(keep)
+    found.get_str(name)
+}
+
+/// Returns the texts of FILE.., if they were found.
+fn files_in<'a, 'b>(found: &'b ArgMatches<'a>) -> Option<&'b [&'a str]>
+    ensures { option_map (λ names. map (λ t. t.now) names.now) result
+        ≡ all_of (codes "FILE") (rows_of (found_of found.now)) }
+{
+    found.get_strs("FILE")
 }
 
 /// Makes the replay that the text of `--keep` asks for, if there is one.
@@ -116,21 +128,7 @@ fn replay_asked<'a>(keep: Option<&str>) -> Option<Request<'a>>
 fn keep_in(text: &str) -> Option<u64>
     ensures { result ≡ keep_of text.now }
 {
-    number(text.as_bytes()).filter(|keep| (1..=524_288).contains(keep))
-}
-
-/// Makes the request of `trace`.
-fn trace_in<'a>(found: &ArgMatches<'a>) -> Option<Request<'a>>
-    ensures asked { option_map task_of result
-        ≡ trace_by (first_of (codes "CLOCK") (rows_of (found_of found.now)))
-        (first_of (codes "SCRIPT") (rows_of (found_of found.now)))
-        (first_of (codes "STAMPS") (rows_of (found_of found.now))) }
-    ensures allowed { IfSome result IsAllowed }
-{
-    let clock = found.get_str("CLOCK");
-    let script = found.get_str("SCRIPT");
-    let stamps = found.get_str("STAMPS");
-    trace_asked(clock, script, stamps)
+    number(text.as_bytes()).filter(|keep| (1..=GREATEST_KEEP).contains(keep))
 }
 
 /// Makes the trace that three texts ask for, if all are there.
@@ -155,17 +153,6 @@ fn trace_asked<'a>(
         }),
         None => None,
     }
-}
-
-/// Makes the request of `many`.
-fn many_in<'a>(alloc: Global, found: &ArgMatches<'a>) -> Result<Request<'a>, WordsError>
-    ensures asked { Asks (many_by (first_of (codes "WORKERS") (rows_of (found_of found.now)))
-        (all_of (codes "FILE") (rows_of (found_of found.now)))) result }
-    ensures allowed { IfOk result IsAllowed }
-{
-    let workers = found.get_str("WORKERS");
-    let files = found.get_strs("FILE");
-    many_asked(alloc, workers, files)
 }
 
 /// Makes the request that the texts of WORKERS and of FILE.. ask for, if they are there.
@@ -194,18 +181,7 @@ fn many_asked<'a>(
 fn workers_in(text: &str) -> Option<u64>
     ensures { result ≡ workers_of text.now }
 {
-    number(text.as_bytes()).filter(|workers| (1..=64).contains(workers))
-}
-
-/// Makes the request of `race`.
-fn race_in<'a>(alloc: Global, found: &ArgMatches<'a>) -> Result<Request<'a>, WordsError>
-    ensures asked { Asks (race_by (first_of (codes "STEP") (rows_of (found_of found.now)))
-        (all_of (codes "FILE") (rows_of (found_of found.now)))) result }
-    ensures allowed { IfOk result IsAllowed }
-{
-    let step = found.get_str("STEP");
-    let files = found.get_strs("FILE");
-    race_asked(alloc, step, files)
+    number(text.as_bytes()).filter(|workers| (1..=MOST_WORKERS as u64).contains(workers))
 }
 
 /// Makes the race that the texts of STEP and of FILE.. ask for, if they are there.

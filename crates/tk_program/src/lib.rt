@@ -13,7 +13,7 @@
 //! | `same_opening` | compares the openings of two scripts |
 //! | `Ending` | says how the program ends: its status and its line of error |
 //!
-//! Each subcommand has a variant of `Request` and a module. docs/TKCORE.md describes the program.
+//! Each subcommand has a variant of `Request`. docs/TKCORE.md describes the program.
 #![tactic(auto)]
 
 mod command_line;
@@ -24,7 +24,6 @@ mod many;
 mod openings;
 mod race_lines;
 mod racing;
-mod replaying;
 mod reports_text;
 mod request;
 mod running;

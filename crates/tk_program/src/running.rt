@@ -9,7 +9,7 @@ use crate::command_line::{WordsError, asked};
 use crate::ending::Ending;
 use crate::folder::Folder;
 use crate::request::Request;
-use crate::{many, racing, replaying, tracing};
+use crate::{many, racing, tracing};
 use std::alloc::Global;
 use std::env;
 use std::io::Write;
@@ -17,7 +17,7 @@ use std::process::ExitCode;
 use std::rt::Env;
 use std::sync::Wait;
 use std::thread::Threads;
-use tk_replay::{Sink, Source};
+use tk_replay::{Sink, Source, replay_with};
 
 /// Does what the words ask for, and returns how it ended. The first word is the program's name.
 ///
@@ -61,7 +61,7 @@ fn answer<E: Threads + Wait + Sync, D: Folder, R: Source, W: Sink>(
         (Some (task_of request.now)) result }
 {
     match request {
-        Request::Replay { keep } => replaying::answer(alloc, reader, writer, *keep),
+        Request::Replay { keep } => Ending::from(replay_with(alloc, reader, writer, *keep)),
         Request::Trace {
             clock,
             script,

@@ -8,13 +8,15 @@
 //! | `report_rows` | makes it from rows that are still to be read, in the caller's memory |
 //! | `replay` | reads a script to its end and writes its report |
 //! | `replay_bounded` | does the same with `report_bounded` |
+//! | `replay_with` | does either, by an optional number of entries to keep |
 //! | `trace` | reads a script and a stamp file, and writes a clock's value at each stamp |
 //! | `keeper_of`, `keeper_after` | return the clocks after all accepted commands of a script |
 //! | `convert` | makes the lines of stamps from a keeper's clocks |
 //! | `trace_all`, `trace_all_into` | convert lists of stamps on several threads; from `tk_pieces` |
 //! | `replay_all` | makes the reports of many scripts on several threads |
+//! | `MOST_WORKERS` | is the greatest number of workers |
 //! | `ManyError` | says why `replay_all` made no reports |
-//! | `Gate`, `NoGate` | are called before and after each piece of `replay_all` and `race`; from `tk_gate` |
+//! | `Gate`, `NoGate` | are called before and after each piece of `replay_all` and `race`; from `tk_race` |
 //! | `race`, `RaceReport`, `RaceError` | actors in threads on one keeper; from `tk_race` |
 //! | `Action`, `RaceReply` | what an actor does, and the reply to it; from `tk_race` |
 //! | `read_to_end` | reads a whole input, up to one byte more than the largest script |
@@ -41,13 +43,12 @@ mod worklist;
 pub use converting::convert;
 pub use fault::Fault;
 pub use journaling::{keeper_after, keeper_of};
-pub use many::replay_all;
+pub use many::{MOST_WORKERS, replay_all};
 pub use many_error::ManyError;
-pub use replaying::{replay, replay_bounded};
+pub use replaying::{replay, replay_bounded, replay_with};
 pub use reporting::{report, report_bounded, report_rows};
 pub use sink::{Sink, write_whole};
 pub use source::{Source, read_to_end};
-pub use tk_gate::{Gate, NoGate};
 pub use tk_pieces::{trace_all, trace_all_into};
-pub use tk_race::{Action, RaceError, RaceReply, RaceReport, race};
+pub use tk_race::{Action, Gate, NoGate, RaceError, RaceReply, RaceReport, race};
 pub use tracing::trace;

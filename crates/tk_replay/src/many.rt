@@ -10,11 +10,11 @@ use std::marker::Brand;
 use std::sync::{Mutex, Wait};
 use std::thread;
 use std::thread::{Scope, Threads};
-use tk_gate::Gate;
+use tk_race::Gate;
 use tk_script::ScriptError;
 
 /// The greatest number of workers.
-const MOST_WORKERS: usize = 64;
+pub const MOST_WORKERS: usize = 64;
 
 /// Makes the report of each script, as `report` does, on at most `workers` threads, and returns the
 /// results in the scripts' order.

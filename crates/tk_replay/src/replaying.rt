@@ -33,7 +33,7 @@ pub fn replay<R: Source, W: Sink>(
         (ReadFailed R.Source.read_gives reader.new)
         W.Write.contents W.Sink.write_gives W.Sink.flush_gives writer.old writer.new result }
 {
-    replay_by(alloc, reader, writer, None)
+    replay_with(alloc, reader, writer, None)
 }
 
 /// Reads a script to its end, makes its report as `report_bounded` does, writes it and flushes.
@@ -55,12 +55,18 @@ pub fn replay_bounded<R: Source, W: Sink>(
         (ReadFailed R.Source.read_gives reader.new)
         W.Write.contents W.Sink.write_gives W.Sink.flush_gives writer.old writer.new result }
 {
-    replay_by(alloc, reader, writer, Some(keep))
+    replay_with(alloc, reader, writer, Some(keep))
 }
 
-/// Reads a script to its end, makes its report, writes it and flushes. A full journal is folded to
-/// its last `keep` entries; without `keep` it refuses commands.
-fn replay_by<R: Source, W: Sink>(
+/// Does what `replay` does without `keep`, and what `replay_bounded` does with it.
+///
+/// `keep` is at most 524,288. A full journal is folded to its last `keep` entries; without `keep`
+/// it refuses commands.
+///
+/// # Errors
+///
+/// Returns the same faults as `replay`.
+pub fn replay_with<R: Source, W: Sink>(
     alloc: Global,
     reader: &mut R,
     writer: &mut W,

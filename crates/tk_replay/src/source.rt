@@ -1,6 +1,6 @@
-ghost use Rattle.std.specs.Prelude.{◌≡◌, ℕ, ◌+◌, ◌≤◌, ◌<◌, ◌^◌, Option, take, drop, length, IfOk, IfErr, IfSome, OnOk, MatchOption, vec_len};
+ghost use Rattle.std.specs.Prelude.{◌≡◌, ℕ, ◌+◌, ◌≤◌, ◌<◌, Option, take, drop, length, IfOk, IfErr, IfSome, OnOk, MatchOption, vec_len};
 ghost use Rattle.std.specs.Io.KnownBytes.{Consumes, IsAtEnd, Keeps};
-ghost use Rattle.tk_replay.specs.Reading.{IsReadToEnd, IsReadWithin, ReadFailed, StopsReading};
+ghost use Rattle.tk_replay.specs.Reading.{IsReadToEnd, IsReadWithin, ReadFailed, StopsReading, reading_limit};
 
 use crate::fault::Fault;
 use std::alloc::{AllocError, Global};
@@ -81,10 +81,10 @@ pub fn read_to_end<S: Source>(alloc: Global, source: &mut S) -> Result<Vec<u8>, 
 /// stays.
 fn make_room(room: &mut Vec<u8>, filled: usize) -> Result<(), AllocError>
     requires within { filled ≤ vec_len room.old }
-    requires below { filled < 2 ^ 24 + 1 }
-    requires most { vec_len room.old ≤ 2 ^ 24 + 1 }
+    requires below { filled < reading_limit }
+    requires most { vec_len room.old ≤ reading_limit }
     ensures free { OnOk result (filled < vec_len room.new) }
-    ensures most { OnOk result (vec_len room.new ≤ 2 ^ 24 + 1) }
+    ensures most { OnOk result (vec_len room.new ≤ reading_limit) }
     ensures kept { OnOk result (take filled room.new.items ≡ take filled room.old.items) }
 {
     if filled < room.len() {

@@ -12,13 +12,13 @@ returns-in_err-piece-in-None g c =
     let here = subst (λ at. IsFaultFrom g.N.NamesTrace.item g.N.NamesTrace.count at error)
     (c.len-at.ensures ∙ c.pieces.values.ok.0) c.in_err-piece-in-None.ensures in
     rw (exit.1, exit.2)
-    (stopped c.args.keeper.now.journal c.args.clock c.args.fronts.now c.args.stamps.now
+    (stopped c.args.input.keeper.now.journal c.args.input.clock c.args.input.fronts.now c.args.input.stamps.now
     g.N.NamesTrace.item g.N.NamesTrace.count c.pieces.values.items error
     c.requires.named.0 c.requires.named.1 c.pieces.invariant.so_far here)
 
 pub returns : goal.returns
 returns g c =
-    ended c.args.keeper.now.journal c.args.clock c.args.fronts.now c.args.stamps.now
+    ended c.args.input.keeper.now.journal c.args.input.clock c.args.input.fronts.now c.args.input.stamps.now
     g.N.NamesTrace.item g.N.NamesTrace.count c.pieces.values.items
     c.requires.named.0 c.requires.named.1 c.pieces.invariant.so_far c.pieces.invariant.inside
     (search rules)

@@ -10,4 +10,4 @@ invariant-pieces g l = record {
 }
 
 abbrev pub decreases-pieces : goal.decreases-pieces
-decreases-pieces g l = length l.stamps - length l.values.items
+decreases-pieces g l = length l.input.stamps.now - length l.values.items

@@ -6,16 +6,16 @@ use Rattle.tk_pieces.proofs.ahead.convert.Goals as goal
 
 pub returns-in-Err : goal.returns-in-Err
 returns-in-Err g c =
-    let journal = c.args.keeper.now.journal in
-    let fronts = c.args.fronts.now in
-    let stamps = c.args.stamps.now in
+    let journal = c.args.input.keeper.now.journal in
+    let fronts = c.args.input.fronts.now in
+    let stamps = c.args.input.stamps.now in
     let at = c.args.at in
     let n = at + c.len.result - at in
-    let whole = part_refused journal c.args.clock fronts stamps at n _ _ c.in-Err.error (search rules)
+    let whole = part_refused journal c.args.input.clock fronts stamps at n _ _ c.in-Err.error (search rules)
     c.in-Err.ensures in
-    let told = subst (IsFaultFrom (item_of journal c.args.clock fronts stamps) (length stamps) at)
+    let told = subst (IsFaultFrom (item_of journal c.args.input.clock fronts stamps) (length stamps) at)
     (sym c.moved.ensures) whole in
-    let counted = subst (λ count. IsFaultFrom (item_of journal c.args.clock fronts stamps) count at
+    let counted = subst (λ count. IsFaultFrom (item_of journal c.args.input.clock fronts stamps) count at
     c.moved.result) (sym c.requires.named.1) told in
     subst (λ item. IsFaultFrom item g.N.NamesTrace.count at c.moved.result)
     (sym c.requires.named.0) counted

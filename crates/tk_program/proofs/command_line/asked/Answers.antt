@@ -12,7 +12,7 @@ nothing : (kinds : Kinds) (found : Option (Text × List Row)) → kinds ≢ [] �
 nothing [] found differs = absurd (differs refl)
 nothing (kind ∷ kinds) found differs = refl
 
--- an error where words have a fault, or memory was refused
+-- an error if words have a fault, or an allocation failed
 failed : (words : List Text) (error : WordsError) →
     (error ≡ errors.Refused → fault_of program_words words ≢ []) → IsAsked words (Err error)
 unfolding asked_by

@@ -1,0 +1,27 @@
+ghost use Rattle.std.specs.Prelude.{◌≡◌, length};
+
+use std::alloc::{AllocError, Allocator};
+use tk_clock::ClockId;
+use tk_keeper::Timekeeper;
+
+/// Contains what a call converts: the stamp at each index by the journal at the front with the same
+/// index, to one clock's time.
+pub(crate) struct Input<'a, A: Allocator> {
+    /// The keeper with the journal.
+    pub(crate) keeper: &'a Timekeeper<A>,
+    /// The front of each item: the number of commands accepted before it.
+    pub(crate) fronts: &'a [u64],
+    /// The stamp of each item, in cycles.
+    pub(crate) stamps: &'a [u64],
+    /// The clock to read at each stamp.
+    pub(crate) clock: ClockId,
+    ghost paired: { length fronts.now ≡ length stamps.now },
+}
+
+impl<'a, A: Allocator> Clone for Input<'a, A> {
+    fn clone(&self) -> Result<Input<'a, A>, AllocError> {
+        Ok(*self)
+    }
+}
+
+impl<'a, A: Allocator> Copy for Input<'a, A> {}
