@@ -1,5 +1,5 @@
-//! Tests `tk_clock` through its public calls alone. The tests are a separate crate, so that the
-//! gate proves `tk_clock` only once.
+//! Tests `tk_counter`, `tk_clock` and `tk_lanes` through their public calls alone. It is a separate
+//! crate, so that the gate proves the code under test once.
 #![tactic(auto)]
 
 #[cfg(test)]

@@ -1,20 +1,13 @@
-//! Tests values that were worked out manually, outside the contracts, and the edges of each range.
+//! Tests values that come from outside the contracts, and compares calls with plain implementations.
 
-mod copies;
-mod openings;
-mod parts;
-mod refusals;
-mod settings;
-mod sleep;
-mod steering;
-mod updates;
-mod words;
+mod clock;
+mod counter;
+mod lanes;
 
 use std::fmt::Debug;
 use std::process::Abort;
 use std::test::Fail;
-use tk_clock::{Clock, ClockId, Command, Refusal, Timespec};
-use tk_counter::CounterDesc;
+use tk_test_support::mixed_up;
 
 /// Stops the test if `found` is not equal to `wanted`. It is a separate call to keep the proof of
 /// each test short.
@@ -22,43 +15,8 @@ fn assert_same<T: PartialEq + Debug>(rt: &impl Abort, found: &T, wanted: &T) {
     assert_eq!(rt; found, wanted);
 }
 
-/// Returns a counter of one nanosecond a cycle, with readings of 32 bits.
-fn nanosecond_counter() -> Result<CounterDesc, Fail> {
-    Ok(CounterDesc::new(32, 16_777_216, 24)?)
-}
-
-/// Returns a counter of 4,194,304 nanoseconds a cycle, with readings of 64 bits.
-fn wide_counter() -> Result<CounterDesc, Fail> {
-    Ok(CounterDesc::new(64, 4_194_304, 0)?)
-}
-
-/// Returns clocks of `nanosecond_counter`, opened at reading 0, with REALTIME at 1,700,000,000 s.
-fn opened() -> Result<Clock, Fail> {
-    let desc = nanosecond_counter()?;
-    Ok(Clock::open(desc, 0, time(1_700_000_000, 0))?)
-}
-
-fn time(sec: i64, nsec: u32) -> Timespec {
-    Timespec { sec, nsec }
-}
-
-/// Applies a command and checks its answer. A refused command must leave the words unchanged.
-fn answers(
-    rt: &impl Abort,
-    clock: &mut Clock,
-    reading: u64,
-    cmd: Command,
-    answer: Result<(), Refusal>,
-) {
-    let before = clock.snapshot(0).words();
-    assert_eq!(rt; clock.apply(reading, cmd), answer, "{cmd:?} at {reading}");
-    if answer.is_err() {
-        assert_eq!(rt; clock.snapshot(0).words(), before, "{cmd:?} at {reading}");
-    }
-}
-
-/// Reads a clock and checks its time.
-fn reads(rt: &impl Abort, clock: &Clock, id: ClockId, reading: u64, told: Timespec) {
-    let read = clock.snapshot(0).get(id, reading);
-    assert_eq!(rt; read, Ok(told), "{id:?} at {reading}");
+/// Checks that each value is equal to its clone, and to no other value of the list.
+fn are_distinct<T: Copy + PartialEq>(rt: &impl Abort, values: &[T]) -> Result<(), Fail> {
+    assert_same(rt, &mixed_up(values)?, &None);
+    Ok(())
 }

@@ -1,5 +1,5 @@
-//! The tests of `tk_replay`, by its public calls alone: a crate of their own, so that the gate proves
-//! what they test once.
+//! Tests `tk_script` and `tk_replay` through their public calls alone. It is a separate crate, so
+//! that the gate proves the code under test once.
 #![tactic(auto)]
 
 #[cfg(test)]

@@ -1,31 +1,13 @@
-//! What no clause says: the printed lines, the texts of the faults, and that calls go through at
-//! all.
+//! Tests what no clause says: printed lines, texts of faults, and outside values.
 
-mod fakes;
-mod files;
-mod full;
-mod long_traces;
-mod many;
-mod memory;
-mod reports;
-mod scenarios;
-mod streams;
-mod traces;
+mod replay;
+mod script;
 
 use std::fmt::Debug;
 use std::process::Abort;
 
-/// Opens a counter of one nanosecond a cycle, and brings the clocks forward by half of the
-/// counter's range.
-const SCRIPT: &[u8] = b"open,32,16777216,24,0,1700000000,0\nget,0,monotonic\nupdate,2147483647\n\
-get,2147483648,monotonic\nupdate,0\n";
-
-/// Its report, of 97 bytes.
-const REPORT: &[u8] = b"open,32,16777216,24\nat,monotonic,0.000000000\nok,1,2.147483647\n\
-at,monotonic,2.147483648\nno,behind\n";
-
-/// Stops the test where what was found isn't what was wanted. (A call of its own, so that the proof
-/// of a test is short.)
+/// Stops the test if `found` is not equal to `wanted`. It is a separate call to keep the proof of
+/// each test short.
 fn assert_same<T: PartialEq + Debug>(rt: &impl Abort, found: &T, wanted: &T) {
     assert_eq!(rt; found, wanted);
 }

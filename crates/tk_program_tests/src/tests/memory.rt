@@ -4,9 +4,9 @@ use super::assert_same;
 use super::many_text::{SHORT, TEXT, WHOLE};
 use super::race_lines::{actors_in, raced};
 use std::test::Fail;
-use tk_heap::Heap;
 use tk_program::{many_text, race_text};
 use tk_replay::{Fault, report};
+use tk_test_support::Heap;
 
 #[test]
 fn each_request_of_many_reports_refused_in_turn(rt: HostRuntime) -> Result<(), Fail> {

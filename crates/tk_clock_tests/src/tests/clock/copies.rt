@@ -1,0 +1,136 @@
+use super::{are_distinct, assert_same, opened, time};
+use std::test::Fail;
+use tk_clock::{Clock, ClockId, Command, Entry, ReadError, Refusal, Snapshot};
+
+#[test]
+fn a_time_is_its_two_numbers(rt: HostRuntime) -> Result<(), Fail> {
+    are_distinct(&rt, &[time(1, 2), time(-1, 2), time(1, 3)])
+}
+
+#[test]
+fn no_clock_is_another(rt: HostRuntime) -> Result<(), Fail> {
+    are_distinct(
+        &rt,
+        &[
+            ClockId::Realtime,
+            ClockId::Monotonic,
+            ClockId::Boottime,
+            ClockId::Tai,
+            ClockId::RealtimeCoarse,
+            ClockId::MonotonicCoarse,
+            ClockId::MonotonicRaw,
+        ],
+    )
+}
+
+#[test]
+fn no_refusal_is_another(rt: HostRuntime) -> Result<(), Fail> {
+    are_distinct(
+        &rt,
+        &[
+            Refusal::Full,
+            Refusal::Asleep,
+            Refusal::Awake,
+            Refusal::Invalid,
+            Refusal::Behind,
+            Refusal::Range,
+            Refusal::Memory,
+        ],
+    )?;
+    are_distinct(&rt, &[ReadError::Invalid, ReadError::Range])
+}
+
+#[test]
+fn a_command_is_its_kind_and_its_numbers(rt: HostRuntime) -> Result<(), Fail> {
+    are_distinct(
+        &rt,
+        &[
+            Command::Update,
+            Command::SetTime(time(1, 2)),
+            Command::SetTime(time(1, 3)),
+            Command::Step(time(1, 2)),
+            Command::Step(time(1, 3)),
+            Command::Freq(10_000),
+            Command::Freq(-10_000),
+            Command::Tick(10_000),
+            Command::Tick(10_001),
+            Command::Tai(10_000),
+            Command::Tai(10_001),
+            Command::Suspend,
+            Command::Resume(time(1, 2)),
+            Command::Resume(time(1, 3)),
+        ],
+    )
+}
+
+#[test]
+fn an_entry_is_its_caller_reading_and_command(rt: HostRuntime) -> Result<(), Fail> {
+    let entry = Entry {
+        who: 1,
+        reading: 2,
+        cmd: Command::Tai(3),
+    };
+    are_distinct(
+        &rt,
+        &[
+            entry,
+            Entry { who: 2, ..entry },
+            Entry {
+                reading: 3,
+                ..entry
+            },
+            Entry {
+                cmd: Command::Tai(4),
+                ..entry
+            },
+        ],
+    )
+}
+
+/// Returns clocks whose parts all have different values.
+fn varied() -> Result<Clock, Fail> {
+    let mut clock = opened()?;
+    for (reading, cmd) in [
+        (1_000, Command::Tick(10_007)),
+        (2_000, Command::Freq(-65_536)),
+        (3_000, Command::Tai(37)),
+        (4_000, Command::Suspend),
+        (5_000, Command::Resume(time(6, 7))),
+        (8_000, Command::Suspend),
+    ] {
+        clock.apply(reading, cmd)?;
+    }
+    Ok(clock)
+}
+
+#[test]
+fn a_clone_of_the_clocks_tells_and_goes_on_as_they_do(rt: HostRuntime) -> Result<(), Fail> {
+    let clock = varied()?;
+    for (reading, cmd) in [
+        (9_000, Command::Freq(65_536)),
+        (9_000, Command::Tick(9_007)),
+    ] {
+        let mut copy = clock.clone()?;
+        let mut own = clock;
+        assert_same(&rt, &copy.snapshot(9).words(), &own.snapshot(9).words());
+        for cmd in [Command::Resume(time(1, 1)), cmd] {
+            copy.apply(reading, cmd)?;
+            own.apply(reading, cmd)?;
+        }
+        assert_eq!(rt;
+            copy.snapshot(9).words(),
+            own.snapshot(9).words(),
+            "{cmd:?}"
+        );
+    }
+    Ok(())
+}
+
+#[test]
+fn a_clone_of_a_snapshot_has_its_words_and_its_counter(rt: HostRuntime) -> Result<(), Fail> {
+    let snapshot: Snapshot = varied()?.snapshot(9);
+    let copy = snapshot.clone()?;
+    assert_same(&rt, &copy.words(), &snapshot.words());
+    assert_same(&rt, &copy.desc(), &snapshot.desc());
+    Ok(())
+}

@@ -1,0 +1,216 @@
+//! Tests the first reading at which a clock has reached a time against a search by halves, on
+//! snapshots of random journals, which are the same in each run.
+
+use super::time;
+use std::process::Abort;
+use std::test::Fail;
+use tk_clock::{Clock, ClockId, Command, Snapshot, Timespec};
+use tk_counter::CounterDesc;
+
+const CLOCKS: [ClockId; 7] = [
+    ClockId::Realtime,
+    ClockId::Monotonic,
+    ClockId::Boottime,
+    ClockId::Tai,
+    ClockId::RealtimeCoarse,
+    ClockId::MonotonicCoarse,
+    ClockId::MonotonicRaw,
+];
+
+/// Returns the number after `seed` of a xorshift generator.
+fn next(seed: u64) -> u64 {
+    let seed = seed ^ seed.wrapping_shl(13);
+    let seed = seed ^ (seed >> 7);
+    seed ^ seed.wrapping_shl(17)
+}
+
+/// Makes a counter from a number: of 8 to 64 bits, with any shift.
+fn counter(number: u64) -> Result<CounterDesc, Fail> {
+    let bits = ((number >> 8) % 57) as u32;
+    let shift = ((number >> 16) % 33) as u32;
+    let mult = ((number >> 24) % 3_869_000_000) as u32;
+    Ok(CounterDesc::new(bits.wrapping_add(8), mult.max(256), shift)?)
+}
+
+/// Makes a command from a number.
+fn command(number: u64) -> Command {
+    let part = (number >> 8) as i64;
+    match number % 8 {
+        0 => Command::SetTime(time(part & 0x1_ffff_ffff, 5)),
+        1 => Command::Step(time(part & 0xffff, 999_999_999)),
+        2 => Command::Freq(part),
+        3 => Command::Tick((part & 0x7ff).saturating_add(9_000)),
+        4 => Command::Tai(part & 0x1_ffff),
+        5 => Command::Suspend,
+        6 => Command::Resume(time(part & 0xfff_ffff, 1)),
+        _ => Command::Update,
+    }
+}
+
+/// Makes a snapshot of a random journal.
+fn snapshot(mut seed: u64) -> Result<Snapshot, Fail> {
+    let desc = counter(seed)?;
+    let mask = desc.mask();
+    let mut clock = Clock::open(desc, seed & mask, time(1_700_000_000, 0))?;
+    for _ in 0..seed % 16 {
+        seed = next(seed);
+        let last = clock.snapshot(0).last();
+        let reading = last.wrapping_add(seed >> 40) & mask;
+        // a refused command changes nothing
+        let _ = clock.apply(reading, command(seed));
+    }
+    Ok(clock.snapshot(0))
+}
+
+/// Computes a clock after a number of cycles, in ns, in integers of 128 bits.
+fn value(snapshot: &Snapshot, clock: ClockId, cycles: u64) -> u128 {
+    let (sec, frac, mult) = match clock {
+        ClockId::MonotonicRaw => (
+            snapshot.raw_sec(),
+            snapshot.raw_frac(),
+            snapshot.desc().mult(),
+        ),
+        _ => (snapshot.sec(), snapshot.frac(), snapshot.mult()),
+    };
+    let counted = match clock {
+        ClockId::RealtimeCoarse | ClockId::MonotonicCoarse => 0,
+        _ if snapshot.asleep() => 0,
+        _ => cycles,
+    };
+    let offset = match clock {
+        ClockId::Realtime | ClockId::RealtimeCoarse => u128::from(snapshot.real_offset()),
+        ClockId::Boottime => u128::from(snapshot.boot_offset()),
+        ClockId::Tai => u128::from(snapshot.real_offset()).wrapping_add(u128::from(
+            snapshot.tai(),
+        ).wrapping_mul(1_000_000_000)),
+        _ => 0,
+    };
+    let second = 1_000_000_000u128.wrapping_shl(snapshot.desc().shift());
+    u128::from(sec)
+        .wrapping_mul(second)
+        .wrapping_add(u128::from(frac))
+        .wrapping_add(u128::from(counted).wrapping_mul(u128::from(mult)))
+        .wrapping_shr(snapshot.desc().shift())
+        .wrapping_add(offset)
+}
+
+/// Returns the end of a clock, in ns.
+fn end(clock: ClockId) -> u128 {
+    match clock {
+        ClockId::Monotonic | ClockId::MonotonicCoarse => 946_080_000_000_000_000,
+        _ => 9_223_372_036_000_000_000,
+    }
+}
+
+/// Searches for the first reading by halves.
+fn searched(snapshot: &Snapshot, clock: ClockId, nanos: u128) -> Option<u64> {
+    let mut low = 0;
+    let mut high = snapshot.desc().half();
+    if value(snapshot, clock, high) < nanos {
+        return None;
+    }
+    for _ in 0..64u32 {
+        let middle = (low & high).wrapping_add((low ^ high) >> 1);
+        if value(snapshot, clock, middle) < nanos {
+            low = middle.wrapping_add(1);
+        } else {
+            high = middle;
+        }
+    }
+    if value(snapshot, clock, high) >= end(clock) {
+        return None;
+    }
+    Some(snapshot.last().wrapping_add(high) & snapshot.desc().mask())
+}
+
+/// Converts nanoseconds to a time.
+fn timespec(nanos: u64) -> Timespec {
+    time(
+        (nanos / 1_000_000_000) as i64,
+        (nanos % 1_000_000_000) as u32,
+    )
+}
+
+/// Compares the two searches for a time. Returns whether there is such a reading.
+fn agrees(rt: &impl Abort, snapshot: &Snapshot, clock: ClockId, nanos: u64) -> bool {
+    let at = timespec(nanos);
+    let found = snapshot.reading_at(clock, at);
+    let wanted = searched(snapshot, clock, u128::from(nanos));
+    assert_eq!(rt; found, wanted, "{clock:?} at {at:?} of {snapshot:?}");
+    found.is_some()
+}
+
+/// Compares the two searches at the value after a number of cycles, and at a nanosecond less and
+/// more. Returns how many of them are reached.
+fn agrees_near(rt: &impl Abort, snapshot: &Snapshot, clock: ClockId, cycles: u64) -> u64 {
+    let nanos = (value(snapshot, clock, cycles) & 0xffff_ffff_ffff_ffff) as u64;
+    let mut reached: u64 = 0;
+    for nanos in [nanos.saturating_sub(1), nanos, nanos.saturating_add(1)] {
+        if agrees(rt, snapshot, clock, nanos) {
+            reached = reached.wrapping_add(1);
+        }
+    }
+    reached
+}
+
+#[test]
+fn the_first_reading_agrees_with_a_search(rt: HostRuntime) -> Result<(), Fail> {
+    let mut seed = 88_172_645_463_325_252;
+    let mut reached: u64 = 0;
+    let mut tried: u64 = 0;
+    for _ in 0..300u64 {
+        seed = next(seed);
+        let snapshot = snapshot(seed)?;
+        let half = snapshot.desc().half();
+        for clock in CLOCKS {
+            for cycles in [
+                0,
+                seed % 1_000,
+                (seed >> 20) & half,
+                half.wrapping_sub(seed % 3) & half,
+                half.saturating_add(1),
+            ] {
+                let more = agrees_near(&rt, &snapshot, clock, cycles);
+                reached = reached.wrapping_add(more);
+                tried = tried.wrapping_add(3);
+            }
+        }
+    }
+    assert!(rt; reached > 10_000, "{reached} of {tried} were reached");
+    assert!(rt;
+        tried.wrapping_sub(reached) > 5_000,
+        "{reached} of {tried} were reached"
+    );
+    Ok(())
+}
+
+#[test]
+fn a_time_that_was_read_is_given_again(rt: HostRuntime) -> Result<(), Fail> {
+    let mut seed = 6_364_136_223_846_793_005;
+    let mut given: u64 = 0;
+    for _ in 0..300u64 {
+        seed = next(seed);
+        let snapshot = snapshot(seed)?;
+        let desc = snapshot.desc();
+        let reading = snapshot.last().wrapping_add((seed >> 9) & desc.half()) & desc.mask();
+        for clock in CLOCKS {
+            let Ok(read) = snapshot.get(clock, reading) else {
+                continue;
+            };
+            let first = snapshot.reading_at(clock, read).ok_or("the time was read")?;
+            assert_eq!(rt;
+                snapshot.get(clock, first),
+                Ok(read),
+                "{clock:?} at {reading}"
+            );
+            let far = desc.gap(snapshot.last(), reading);
+            assert!(rt;
+                desc.gap(snapshot.last(), first) <= far,
+                "{clock:?} at {reading}"
+            );
+            given = given.wrapping_add(1);
+        }
+    }
+    assert!(rt; given > 1_000, "{given} times were given again");
+    Ok(())
+}

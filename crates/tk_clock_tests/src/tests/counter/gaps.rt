@@ -1,0 +1,49 @@
+use super::{assert_same, nanosecond_counter, quick};
+use std::test::Fail;
+use tk_counter::CounterDesc;
+
+#[test]
+fn a_gap_goes_over_the_wrap(rt: HostRuntime) -> Result<(), Fail> {
+    let desc = nanosecond_counter()?;
+    for (last, now, gap) in [
+        (0, 0, 0),
+        (1_000, 2_000, 1_000),
+        (4_294_967_295, 0, 1),
+        (4_294_967_295, 1, 2),
+        (2_000, 1_000, 4_294_966_296),
+    ] {
+        assert_eq!(rt; desc.gap(last, now), gap, "from {last} to {now}");
+    }
+    assert_same(&rt, &quick()?.gap(u64::MAX, 1), &2);
+    Ok(())
+}
+
+#[test]
+fn bits_above_the_counters_do_not_count(rt: HostRuntime) -> Result<(), Fail> {
+    let desc = CounterDesc::new(8, 256, 0)?;
+    assert_same(&rt, &desc.gap(0x1234_56fe, 0xabcd_ef03), &5);
+    Ok(())
+}
+
+#[test]
+fn half_the_range_leads_forward_and_one_more_leads_back(rt: HostRuntime) -> Result<(), Fail> {
+    let desc = nanosecond_counter()?;
+    for (last, now, behind) in [
+        (0, 0, false),
+        (0, 2_147_483_647, false),
+        (0, 2_147_483_648, true),
+        (4_294_967_295, 2_147_483_646, false),
+        (4_294_967_295, 2_147_483_647, true),
+        (1, 0, true),
+    ] {
+        assert_eq!(rt;
+            desc.is_behind(desc.gap(last, now)),
+            behind,
+            "from {last} to {now}"
+        );
+    }
+    let wide = quick()?;
+    assert!(rt; !wide.is_behind(u64::MAX >> 1));
+    assert!(rt; wide.is_behind(1 << 63));
+    Ok(())
+}

@@ -1,0 +1,76 @@
+use super::{assert_same, nanosecond_counter, next};
+use std::test::Fail;
+use tk_counter::CounterDesc;
+
+/// Computes `mult_at` in an integer of 128 bits.
+fn plain_mult_at(desc: &CounterDesc, freq: i64, tick: i64) -> Option<u128> {
+    let rate = tick
+        .checked_mul(6_553_600)?
+        .checked_add(freq.clamp(-32_768_000, 32_768_000))?;
+    let rate = u64::try_from(rate).ok()?;
+    Some(u128::from(desc.mult()) * u128::from(rate) / 65_536_000_000)
+}
+
+/// Returns whether the two computations agree.
+fn agrees(desc: &CounterDesc, freq: i64, tick: i64) -> bool {
+    if tick < 9_000 || tick > 11_000 {
+        return false;
+    }
+    Some(u128::from(desc.mult_at(freq, tick))) == plain_mult_at(desc, freq, tick)
+}
+
+#[test]
+fn a_frequency_is_followed_up_to_500_ppm(rt: HostRuntime) -> Result<(), Fail> {
+    let desc = nanosecond_counter()?;
+    for (freq, mult) in [
+        (0, 16_777_216),
+        (32_768_000, 16_785_604),
+        (65_536_000, 16_785_604),
+        (i64::MAX, 16_785_604),
+        (-32_768_000, 16_768_827),
+        (i64::MIN, 16_768_827),
+    ] {
+        assert_eq!(rt; desc.mult_for(freq), mult, "at {freq}");
+        assert_eq!(rt; desc.mult_at(freq, 10_000), mult, "at {freq}");
+    }
+    Ok(())
+}
+
+#[test]
+fn a_longer_tick_is_faster(rt: HostRuntime) -> Result<(), Fail> {
+    let desc = nanosecond_counter()?;
+    assert_same(&rt, &desc.mult_at(0, 11_000), &18_454_937);
+    assert_same(&rt, &desc.mult_at(32_768_000, 11_000), &18_463_326);
+    Ok(())
+}
+
+#[test]
+fn every_tick_agrees_with_wide_integers(rt: HostRuntime) -> Result<(), Fail> {
+    for mult in [256, 16_777_216, 3_869_339_906] {
+        let desc = CounterDesc::new(64, mult, 24)?;
+        for tick in 9_000..=11_000 {
+            assert!(rt; agrees(&desc, 32_768_000, tick), "{mult} {tick}");
+            assert!(rt; agrees(&desc, -32_768_000, tick), "{mult} {tick}");
+            assert!(rt;
+                agrees(&desc, tick.wrapping_mul(-3_119), tick),
+                "{mult} {tick}"
+            );
+        }
+    }
+    Ok(())
+}
+
+#[test]
+fn any_frequency_agrees_with_wide_integers(rt: HostRuntime) -> Result<(), Fail> {
+    let mut seed = 88_172_645_463_325_252;
+    for _ in 0..10_000 {
+        seed = next(seed);
+        let mult = 256 + (seed % 3_869_339_651) as u32;
+        let desc = CounterDesc::new(64, mult, 24)?;
+        seed = next(seed);
+        let freq = (seed & 0x7ff_ffff) as i64 - 0x400_0000;
+        let tick = 9_000 + (seed >> 32) as i64 % 2_001;
+        assert!(rt; agrees(&desc, freq, tick), "{mult} {freq} {tick}");
+    }
+    Ok(())
+}

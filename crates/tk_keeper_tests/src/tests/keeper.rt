@@ -1,0 +1,128 @@
+//! Tests values that were worked out manually, outside the contracts, and the edges of each range.
+
+mod copies;
+mod folding;
+mod fronts;
+mod full;
+mod memory;
+mod past;
+mod refusals;
+mod runs;
+mod settings;
+mod sleep;
+mod steering;
+mod times;
+mod traces;
+
+use super::assert_same;
+use std::alloc::Allocator;
+use std::process::Abort;
+use std::test::Fail;
+use tk_clock::{ClockId, Command, Refusal, Snapshot, Timespec};
+use tk_keeper::Timekeeper;
+use tk_test_support::{OPENED_REAL, OPENED_TIME, nanosecond_counter};
+
+/// The words of the snapshot at the opening.
+const OPENED_WORDS: [u64; 10] = [0, 0, 16_777_216, 0, 0, OPENED_REAL, 0, 0, 0, 0];
+
+/// A thousand nanoseconds, in units of 2^-24 ns.
+const THOUSAND: u64 = 16_777_216_000;
+
+/// The words after a Suspend at reading 1,000.
+const ASLEEP_WORDS: [u64; 10] = [
+    1,
+    1_000,
+    16_777_216,
+    THOUSAND,
+    0,
+    OPENED_REAL,
+    0,
+    1,
+    THOUSAND,
+    0,
+];
+
+/// The words after that Suspend and a Resume at reading 5, 5.5 s later.
+const AWAKE_WORDS: [u64; 10] = [
+    2,
+    5,
+    16_777_216,
+    THOUSAND,
+    0,
+    1_700_000_005_500_000_000,
+    5_500_000_000,
+    0,
+    THOUSAND,
+    0,
+];
+
+/// The words after a Tick to 11,000 at reading 0, and the highest frequency from reading 10^9 on.
+const TICKED_WORDS: [u64; 10] = [
+    2,
+    1_000_000_000,
+    18_463_326,
+    1_677_721_000_000_000,
+    1,
+    OPENED_REAL,
+    0,
+    0,
+    0,
+    1,
+];
+
+/// Returns a timekeeper of one nanosecond a cycle, opened at reading 0, with REALTIME at
+/// 1,700,000,000 s.
+fn opened<A: Allocator + Copy>(alloc: A) -> Result<Timekeeper<A>, Fail> {
+    opened_at(alloc, 0)
+}
+
+/// Returns the same timekeeper, opened at another reading.
+fn opened_at<A: Allocator + Copy>(alloc: A, reading: u64) -> Result<Timekeeper<A>, Fail> {
+    let desc = nanosecond_counter()?;
+    Ok(Timekeeper::open(alloc, desc, reading, OPENED_TIME)?)
+}
+
+fn time(sec: i64, nsec: u32) -> Timespec {
+    Timespec { sec, nsec }
+}
+
+/// Returns how many commands were accepted, and the words of the snapshot.
+fn told<A: Allocator + Copy>(keeper: &Timekeeper<A>) -> (usize, [u64; 10]) {
+    (keeper.len(), keeper.snapshot().words())
+}
+
+/// Applies a command. If memory was refused, checks that nothing changed, and applies it once more.
+fn applied<A: Allocator + Copy>(
+    rt: &impl Abort,
+    keeper: &mut Timekeeper<A>,
+    reading: u64,
+    cmd: Command,
+) -> Result<u64, Refusal> {
+    let before = (told(keeper), keeper.spare());
+    let answer = keeper.apply(0, reading, cmd);
+    if answer != Err(Refusal::Memory) {
+        return answer;
+    }
+    assert_same(rt, &(told(keeper), keeper.spare()), &before);
+    keeper.apply(0, reading, cmd)
+}
+
+/// Applies commands in their order, and checks the answer to each.
+fn answers(
+    rt: &impl Abort,
+    keeper: &mut Timekeeper,
+    steps: &[(u64, Command, Result<u64, Refusal>)],
+) {
+    for (reading, cmd, answer) in steps {
+        let told = applied(rt, keeper, *reading, *cmd);
+        assert_eq!(rt; told, *answer, "{cmd:?} at {reading}");
+    }
+}
+
+/// Reads clocks, and checks the time of each.
+fn reads(rt: &impl Abort, snapshot: &Snapshot, values: &[(ClockId, u64, Timespec)]) {
+    for (clock, reading, told) in values {
+        let read = snapshot.get(*clock, *reading);
+        assert_eq!(rt; read, Ok(*told), "{clock:?} at {reading}");
+    }
+}

@@ -1,0 +1,34 @@
+use super::assert_same;
+use std::process::Abort;
+use std::test::Fail;
+use tk_keeper::{FrontError, TraceError};
+use tk_test_support::mixed_up;
+
+/// Checks that each value is equal to its clone, and to no other value of the list.
+fn are_distinct<T: Copy + PartialEq>(rt: &impl Abort, values: &[T]) -> Result<(), Fail> {
+    assert_same(rt, &mixed_up(values)?, &None);
+    Ok(())
+}
+
+#[test]
+fn no_fault_of_a_front_is_another(rt: HostRuntime) -> Result<(), Fail> {
+    are_distinct(&rt, &[FrontError::Unknown, FrontError::Folded])
+}
+
+#[test]
+fn a_fault_of_a_trace_is_its_kind_and_its_item(rt: HostRuntime) -> Result<(), Fail> {
+    are_distinct(
+        &rt,
+        &[
+            TraceError::Unknown { index: 1 },
+            TraceError::Unknown { index: 2 },
+            TraceError::Folded { index: 1 },
+            TraceError::Folded { index: 2 },
+            TraceError::Invalid { index: 1 },
+            TraceError::Invalid { index: 2 },
+            TraceError::Range { index: 1 },
+            TraceError::Range { index: 2 },
+            TraceError::Memory,
+        ],
+    )
+}

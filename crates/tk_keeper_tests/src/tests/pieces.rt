@@ -1,0 +1,204 @@
+//! Long lists by pieces, beside the same lists by one thread and worked values.
+
+mod long;
+
+use self::long::LONG;
+use super::assert_same;
+use std::alloc::{Allocator, Global};
+use std::marker::{Send, Sync};
+use std::test::Fail;
+use std::thread::Threads;
+use tk_clock::{ClockId, Command};
+use tk_keeper::{Timekeeper, TraceError};
+use tk_pieces::{trace_all, trace_all_into};
+use tk_test_support::{Heap, OPENED_TIME, nanosecond_counter};
+
+/// The first reading above the mask.
+const ABOVE: u64 = 4_294_967_296;
+
+/// Items that make five pieces, the last of one item.
+const MANY: usize = 262_145;
+
+/// A trace, with the memory that it is converted into.
+#[derive(Drop)]
+struct Lists {
+    fronts: Vec<u64>,
+    stamps: Vec<u64>,
+    out: Vec<u64>,
+}
+
+/// A timekeeper of one nanosecond a cycle, with two settings of the frequency.
+fn steered<A: Allocator + Copy>(alloc: A) -> Result<Timekeeper<A>, Fail> {
+    let mut keeper = Timekeeper::open(alloc, nanosecond_counter()?, 0, OPENED_TIME)?;
+    keeper.apply(0, 0, Command::Freq(65_536_000))?;
+    keeper.apply(0, 1_000_000_000, Command::Freq(-32_768_000))?;
+    Ok(keeper)
+}
+
+/// So many items as of the opening, each stamp its own number.
+fn counted(alloc: Global, many: usize) -> Result<Lists, Fail> {
+    let mut lists = Lists {
+        fronts: vec![in alloc; 0; many]?,
+        stamps: vec![in alloc; 0; many]?,
+        out: vec![in alloc; 77; many]?,
+    };
+    for (place, stamp) in lists.stamps.iter_mut().enumerate() {
+        *stamp = place as u64;
+    }
+    Ok(lists)
+}
+
+/// Writes an item, where the list has that place.
+fn put(list: &mut Vec<u64>, place: usize, number: u64) {
+    if let Some(item) = list.get_mut(place) {
+        *item = number;
+    }
+}
+
+/// What `trace_all` answers, out of another allocator.
+fn asked<A: Allocator + Copy + Send + Sync, B: Allocator>(
+    alloc: B,
+    rt: &(impl Threads + Sync),
+    keeper: &Timekeeper<A>,
+    lists: &Lists,
+) -> Result<Vec<u64, B>, TraceError> {
+    let fronts = lists.fronts.as_slice();
+    let stamps = lists.stamps.as_slice();
+    if fronts.len() != stamps.len() {
+        return Err(TraceError::Range { index: usize::MAX });
+    }
+    trace_all(alloc, rt, keeper, fronts, stamps, ClockId::Monotonic)
+}
+
+/// What both calls answer, which must be the same.
+fn answered(
+    alloc: Global,
+    rt: &(impl Threads + Sync),
+    keeper: &Timekeeper,
+    lists: &mut Lists,
+) -> Result<Result<Vec<u64>, TraceError>, Fail> {
+    let clock = ClockId::Monotonic;
+    let fronts = lists.fronts.as_slice();
+    let stamps = lists.stamps.as_slice();
+    if fronts.len() != stamps.len() || stamps.len() != lists.out.len() {
+        return Err("lists of several lengths".into());
+    }
+    let done = trace_all_into(rt, keeper, fronts, stamps, clock, lists.out.as_mut_slice());
+    let list = asked(alloc, rt, keeper, lists);
+    match &list {
+        Ok(values) => {
+            if done.is_err() || values.as_slice() != lists.out.as_slice() {
+                return Err("memory has other values".into());
+            }
+        }
+        Err(error) => {
+            if done != Err(*error) {
+                return Err("memory is told another fault".into());
+            }
+        }
+    }
+    Ok(list)
+}
+
+#[test]
+fn lists_of_each_length_are_converted(rt: HostRuntime) -> Result<(), Fail> {
+    let alloc = rt.alloc();
+    let keeper = steered(alloc)?;
+    for many in [0, 1, 100_000, 131_071, 131_072, 131_073, 196_608, MANY] {
+        let mut lists = counted(alloc, many)?;
+        let values = answered(alloc, &rt, &keeper, &mut lists)??;
+        assert_same(&rt, &values.len(), &many);
+        for (place, value) in values.iter().enumerate() {
+            assert_same(&rt, value, &(place as u64));
+        }
+    }
+    Ok(())
+}
+
+#[test]
+fn the_first_fault_of_all_pieces_decides(rt: HostRuntime) -> Result<(), Fail> {
+    let alloc = rt.alloc();
+    let mut keeper = steered(alloc)?;
+    let mut lists = counted(alloc, MANY)?;
+    // each fault stands before those that came earlier
+    for (place, front, stamp, fault) in [
+        (262_144, 0, ABOVE, TraceError::Invalid { index: 262_144 }),
+        (200_000, 3, 0, TraceError::Unknown { index: 200_000 }),
+        (131_072, 0, ABOVE, TraceError::Invalid { index: 131_072 }),
+        (131_071, 9, ABOVE, TraceError::Unknown { index: 131_071 }),
+        (9_000, 0, ABOVE, TraceError::Invalid { index: 9_000 }),
+        (5_000, 0, ABOVE, TraceError::Invalid { index: 5_000 }),
+        (4_999, 3, 0, TraceError::Unknown { index: 4_999 }),
+    ] {
+        put(&mut lists.fronts, place, front);
+        put(&mut lists.stamps, place, stamp);
+        let answer = answered(alloc, &rt, &keeper, &mut lists)?;
+        assert_same(&rt, &answer.err(), &Some(fault));
+        for (at, value) in lists.out.iter().take(place).enumerate() {
+            assert_same(&rt, value, &(at as u64));
+        }
+    }
+    keeper.fold(1);
+    let answer = answered(alloc, &rt, &keeper, &mut lists)?;
+    assert_same(&rt, &answer.err(), &Some(TraceError::Folded { index: 0 }));
+    Ok(())
+}
+
+#[test]
+fn fronts_up_and_down_are_told_as_by_one_thread(rt: HostRuntime) -> Result<(), Fail> {
+    let alloc = rt.alloc();
+    let keeper = steered(alloc)?;
+    let mut lists = counted(alloc, MANY)?;
+    let mut seed: u64 = 88_172_645_463_325_252;
+    for place in 0..MANY {
+        seed ^= seed.wrapping_shl(13);
+        seed ^= seed >> 7;
+        seed ^= seed.wrapping_shl(17);
+        put(&mut lists.fronts, place, seed % 3);
+        put(&mut lists.stamps, place, (seed >> 8) % ABOVE);
+    }
+    put(&mut lists.fronts, MANY - 1, 2);
+    put(&mut lists.stamps, MANY - 1, 1_000_000_001);
+    let values = answered(alloc, &rt, &keeper, &mut lists)??;
+    assert_same(&rt, &values.last(), &Some(&1_000_499_964));
+    for ((front, stamp), value) in lists.fronts.iter().zip(&lists.stamps).zip(&values) {
+        let alone = keeper.trace(&[*front], &[*stamp], ClockId::Monotonic)?;
+        assert_same(&rt, &alone.as_slice(), &[*value].as_slice());
+    }
+    Ok(())
+}
+
+#[test]
+fn room_is_asked_for_first(rt: HostRuntime) -> Result<(), Fail> {
+    let alloc = rt.alloc();
+    let heap = Heap::new(alloc);
+    let keeper = steered(alloc)?;
+    let none = counted(alloc, 0)?;
+    for many in [3, MANY, LONG] {
+        let mut lists = counted(alloc, many)?;
+        put(&mut lists.fronts, 2, 7);
+        heap.refuse_all();
+        let refused = asked(&heap, &rt, &keeper, &lists);
+        assert_same(&rt, &refused.err(), &Some(TraceError::Memory));
+        assert_same(&rt, &asked(&heap, &rt, &keeper, &none)?.len(), &0);
+        heap.grant_all();
+        let fault = asked(&heap, &rt, &keeper, &lists);
+        assert_same(&rt, &fault.err(), &Some(TraceError::Unknown { index: 2 }));
+    }
+    Ok(())
+}
+
+#[test]
+fn the_answer_takes_one_request_of_its_own_length(rt: HostRuntime) -> Result<(), Fail> {
+    let alloc = rt.alloc();
+    let heap = Heap::new(alloc);
+    let keeper = steered(alloc)?;
+    for many in [1, 3, MANY, LONG] {
+        let lists = counted(alloc, many)?;
+        heap.refuse(2);
+        let values = asked(&heap, &rt, &keeper, &lists)?;
+        assert_same(&rt, &heap.grant_all(), &true);
+        assert_same(&rt, &(values.len(), values.capacity()), &(many, many));
+    }
+    Ok(())
+}

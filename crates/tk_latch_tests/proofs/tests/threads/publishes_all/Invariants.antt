@@ -1,8 +1,0 @@
-use Rattle.std.proofs.Common.{◌≡◌, length}
-use Rattle.tk_latch_tests.proofs.tests.threads.publishes_all.Given as goal
-
-abbrev pub invariant-loop-number : goal.invariant-loop-number
-invariant-loop-number l = record {
-  latch : l.writer.latch ≡ l.initial.writer.latch;
-  count : length l.writer.publications ≡ l.number;
-}

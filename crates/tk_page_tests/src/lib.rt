@@ -1,6 +1,0 @@
-//! Tests `tk_page` through its public calls alone. It is a separate crate, so that the gate proves
-//! the code under test once.
-#![tactic(auto)]
-
-#[cfg(test)]
-mod tests;

@@ -1,0 +1,212 @@
+//! Memory that is refused: the whole report, or `Memory` and nothing written.
+
+use super::assert_same;
+use super::fakes::{Turn, Writer};
+use super::traces::{STAMPS, STEERED, TRACE, traced, willing};
+use std::alloc::Global;
+use std::process::Abort;
+use std::test::Fail;
+use std::thread::Threads;
+use tk_clock::ClockId;
+use tk_keeper::Timekeeper;
+use tk_replay::{
+    Fault, convert, keeper_after, keeper_of, replay, replay_bounded, report, report_bounded,
+    report_rows,
+};
+use tk_script::{RowReader, ScriptError, Stamps};
+use tk_test_support::Heap;
+
+/// How long the script is: its opening, and 600 updates.
+const LENGTH: usize = 35 + 600 * 9;
+
+/// A script whose report takes several growths of each table. It takes no memory itself.
+fn script() -> [u8; LENGTH] {
+    let mut script = [0; LENGTH];
+    script[..35].copy_from_slice(b"open,32,16777216,24,0,1700000000,0\n");
+    for record in 0..600 {
+        let start = 35 + record * 9;
+        script[start..start + 9].copy_from_slice(b"update,0\n");
+    }
+    script
+}
+
+/// The report is there, or memory was refused.
+fn assert_report(rt: &impl Abort, told: Result<Vec<u8>, ScriptError>) {
+    match told {
+        Ok(text) => {
+            assert!(rt; text.starts_with(b"open,32,16777216,24\nok,1,0.000000000\n"));
+            assert!(rt; text.ends_with(b"\nok,600,0.000000000\n"));
+        }
+        Err(error) => assert_same(rt, &error, &ScriptError::Memory),
+    }
+}
+
+#[test]
+fn report_or_want_of_it(rt: HostRuntime) {
+    assert_report(&rt, report(rt.alloc(), &script()));
+}
+
+#[test]
+fn bounded_report_or_want_of_it(rt: HostRuntime) {
+    assert_report(&rt, report_bounded(rt.alloc(), &script(), 1));
+}
+
+/// The whole report was written, or memory was refused and nothing was.
+fn assert_written(rt: &impl Abort, outcome: Result<(), Fault>, writer: &Writer) {
+    match outcome {
+        Ok(()) => assert!(rt; writer.len > 0),
+        Err(fault) => {
+            assert_same(rt, &fault, &Fault::Memory);
+            assert_same(rt, &writer.len, &0);
+        }
+    }
+}
+
+#[test]
+fn replay_or_want_of_it(rt: HostRuntime) {
+    let script = script();
+    let mut reader = script.as_slice();
+    let mut writer = Writer::new(1000, u32::MAX, Turn::TakesNone);
+    let outcome = replay(rt.alloc(), &mut reader, &mut writer);
+    assert_written(&rt, outcome, &writer);
+}
+
+#[test]
+fn bounded_replay_or_want_of_it(rt: HostRuntime) {
+    let script = script();
+    let mut reader = script.as_slice();
+    let mut writer = Writer::new(1000, u32::MAX, Turn::TakesNone);
+    let outcome = replay_bounded(rt.alloc(), &mut reader, &mut writer, 1);
+    assert_written(&rt, outcome, &writer);
+}
+
+#[test]
+fn there_is_memory(rt: HostRuntime) -> Result<(), Fail> {
+    let script = script();
+    let text = report_bounded(rt.alloc(), &script, 1)?;
+    assert!(rt; text == report(rt.alloc(), &script)?);
+    Ok(())
+}
+
+/// A script whose report takes growths of the journal, of the text and of two dates.
+const DATED: &[u8] = b"open,64,16777216,24,0,1700000000,0\n\
+update,1\nupdate,2\nupdate,3\nupdate,4\nupdate,5\nget,5,realtime\nupdate,6\nupdate,7\n\
+update,8\nupdate,9\nget,86400000000000,realtime\nget,86400000000000,tai\nupdate,10\n";
+
+#[test]
+fn each_growth_of_a_report_refused_in_turn(rt: HostRuntime) -> Result<(), Fail> {
+    let heap = Heap::new(rt.alloc());
+    let whole = report(rt.alloc(), DATED)?;
+    assert!(rt;
+        whole.ends_with(
+            b",2023-11-15T22:13:20.000000000Z\n\
+at,tai,1700086400.000000000\nok,10,0.000000010\n"
+        )
+    );
+    for keep in [None, Some(1)] {
+        let mut is_whole = false;
+        'requests: for request in 1..=1_000 {
+            let (start, mut rows) = RowReader::open(rt.alloc(), DATED)?;
+            heap.refuse(request);
+            let told = report_rows(&heap, start, &mut rows, keep);
+            is_whole = heap.grant_all();
+            match told {
+                Ok(text) => {
+                    assert!(rt; is_whole && request > 5);
+                    assert_same(&rt, &text.as_slice(), &whole.as_slice());
+                    break 'requests;
+                }
+                Err(error) => {
+                    assert!(rt; !is_whole);
+                    assert_same(&rt, &error, &ScriptError::Memory);
+                }
+            }
+        }
+        assert!(rt; is_whole);
+    }
+    Ok(())
+}
+
+#[test]
+fn trace_or_want_of_it(rt: HostRuntime) {
+    let mut writer = willing();
+    let outcome = traced(&rt, STEERED, STAMPS, ClockId::Monotonic, &mut writer);
+    assert_written(&rt, outcome, &writer);
+}
+
+#[test]
+fn there_is_memory_for_a_trace(rt: HostRuntime) {
+    let mut writer = willing();
+    let outcome = traced(&rt, STEERED, STAMPS, ClockId::Monotonic, &mut writer);
+    assert_same(&rt, &outcome, &Ok(()));
+    assert_same(&rt, &writer.text(), &TRACE);
+}
+
+/// The commands of `DATED` out of the heap.
+fn commands<'h>(
+    alloc: Global,
+    heap: &'h Heap<Global>,
+) -> Result<Timekeeper<&'h Heap<Global>>, ScriptError> {
+    let (start, mut rows) = RowReader::open(alloc, DATED)?;
+    keeper_after(heap, start, &mut rows)
+}
+
+#[test]
+fn each_growth_of_a_traces_journal_refused_in_turn(rt: HostRuntime) {
+    let heap = Heap::new(rt.alloc());
+    let mut is_whole = false;
+    'requests: for request in 1..=1_000 {
+        heap.refuse(request);
+        let told = commands(rt.alloc(), &heap);
+        is_whole = heap.grant_all();
+        match told {
+            Ok(keeper) => {
+                assert!(rt; is_whole && request > 2);
+                assert_same(&rt, &keeper.len(), &10);
+                break 'requests;
+            }
+            Err(error) => {
+                assert!(rt; !is_whole);
+                assert_same(&rt, &error, &ScriptError::Memory);
+            }
+        }
+    }
+    assert!(rt; is_whole);
+}
+
+/// The lines of stamps by the journal of `DATED`, out of the heap.
+fn lines<'h>(
+    heap: &'h Heap<Global>,
+    rt: &(impl AllocGlobal + Threads + Sync),
+    stamps: &[u8],
+) -> Result<Vec<u8, &'h Heap<Global>>, Fault> {
+    let keeper = keeper_of(rt.alloc(), DATED)?;
+    let items = Stamps::from_bytes(rt.alloc(), stamps)?;
+    convert(heap, rt, &keeper, &items, ClockId::Monotonic)
+}
+
+#[test]
+fn each_growth_of_a_traces_lines_refused_in_turn(rt: HostRuntime) {
+    let heap = Heap::new(rt.alloc());
+    let mut is_whole = false;
+    'requests: for request in 1..=1_000 {
+        heap.refuse(request);
+        let told = lines(&heap, &rt, b"10,12\n0,7\n9,1000\n");
+        is_whole = heap.grant_all();
+        match told {
+            Ok(text) => {
+                assert!(rt; is_whole && request > 2);
+                assert_same(&rt, &text.as_slice(), &b"12\n7\n1000\n".as_slice());
+                break 'requests;
+            }
+            Err(fault) => {
+                assert!(rt; !is_whole);
+                assert_same(&rt, &fault, &Fault::Memory);
+            }
+        }
+    }
+    assert!(rt; is_whole);
+    heap.refuse_all();
+    assert!(rt; matches!(lines(&heap, &rt, b"10,12\n"), Err(Fault::Memory)));
+    heap.grant_all();
+}

@@ -1,0 +1,12 @@
+use Rattle.tk_shared_tests.proofs.tests.shared.readings.readings_of_48_bits_keep_their_upper_bits.Given as goal
+
+-- the names are those of what was prepared
+abbrev pub ghosts-updated-L-Named : goal.ghosts-updated-L-Named
+ghosts-updated-L-Named g a = record {
+  page = a.prepared.page;
+  latch = a.prepared.latch;
+  callers = a.prepared.callers;
+}
+
+abbrev pub ghosts-updated-L-Ledger : goal.ghosts-updated-L-Ledger
+ghosts-updated-L-Ledger g a = record { name = a.prepared.ledger; parts = a.prepared.callers }

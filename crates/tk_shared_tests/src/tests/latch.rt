@@ -1,0 +1,47 @@
+//! Tests values that were worked out manually, outside the contracts, the edges of each range, and
+//! threads.
+mod changes;
+mod openings;
+mod publications;
+mod threads;
+
+use super::assert_same;
+use std::test::Fail;
+use tk_clock::{Clock, Snapshot};
+use tk_test_support::{OPENED_REAL, OPENED_TIME, nanosecond_counter};
+
+/// The words of the snapshot at the opening.
+const OPENED_WORDS: [u64; 10] = [0, 0, 16_777_216, 0, 0, OPENED_REAL, 0, 0, 0, 0];
+
+/// The words after an Update at reading 100.
+const UPDATED_WORDS: [u64; 10] = [
+    1,
+    100,
+    16_777_216,
+    1_677_721_600,
+    0,
+    OPENED_REAL,
+    0,
+    0,
+    1_677_721_600,
+    0,
+];
+
+/// The words after that Update and a TAI offset of 37 s at reading 300.
+const TAI_WORDS: [u64; 10] = [
+    2,
+    300,
+    16_777_216,
+    5_033_164_800,
+    0,
+    OPENED_REAL,
+    0,
+    74,
+    5_033_164_800,
+    0,
+];
+
+/// Returns its clocks, opened at reading 0, with REALTIME at 1,700,000,000 s.
+fn opened() -> Result<Clock, Fail> {
+    Ok(Clock::open(nanosecond_counter()?, 0, OPENED_TIME)?)
+}

@@ -1,0 +1,139 @@
+ghost use Rattle.std.specs.Prelude.{◌≡◌, length};
+ghost use Rattle.std.specs.Thread.{IsSync};
+
+use super::changes::{PUBLICATIONS, publication, words_at};
+use super::nanosecond_counter;
+use std::test::Fail;
+use std::thread::{Threads, join};
+use tk_counter::CounterDesc;
+use tk_latch::{Latch, LatchReader, LatchWriter, Moved};
+
+/// Publishes all publications in order, and returns whether each was published.
+fn publishes_all(latch: &Latch, mut writer: LatchWriter, desc: CounterDesc) -> bool
+    requires latch { writer.latch ≡ latch.now }
+    requires counter { desc ≡ latch.now.counter }
+    requires opened { length writer.publications ≡ 1 }
+{
+    for number in 1..=PUBLICATIONS {
+        let Some(snapshot) = publication(desc, number) else {
+            return false;
+        };
+        if writer.publish(latch, snapshot).is_err() {
+            return false;
+        }
+    }
+    true
+}
+
+/// Reads until it has read the last publication. Returns whether each one was whole, and none was
+/// older than one that the reader knew of.
+fn reads_all(latch: &Latch, mut reader: LatchReader) -> bool
+    requires { reader.latch ≡ latch.now }
+{
+    let mut is_good = true;
+    for _ in 0..u64::MAX {
+        let mark = reader.mark();
+        match reader.try_read(latch) {
+            Ok(snapshot) => {
+                let front = snapshot.front();
+                is_good = is_good && mark <= front && reader.mark() == front;
+                is_good = is_good && front <= PUBLICATIONS && snapshot.words() == words_at(front);
+                if front >= PUBLICATIONS {
+                    return is_good;
+                }
+            }
+            Err(Moved { first, last }) => {
+                is_good = is_good && first < last && mark <= first / 2 && reader.mark() == last / 2;
+            }
+        }
+    }
+    false
+}
+
+/// Reads on two threads.
+fn read_beside<R: Threads + Sync>(
+    rt: &R,
+    latch: &Latch,
+    one: LatchReader,
+    other: LatchReader,
+) -> bool
+    requires one { one.latch ≡ latch.now }
+    requires other { other.latch ≡ latch.now }
+{
+    let (this, that) = join(
+        rt,
+        move || -> bool
+            requires { one.latch ≡ latch.now }
+        { reads_all(latch, one) },
+        move || -> bool
+            requires { other.latch ≡ latch.now }
+        { reads_all(latch, other) },
+    );
+    this && that
+}
+
+/// Publishes on one thread, and reads on another.
+fn publish_beside<R: Threads + Sync>(
+    rt: &R,
+    latch: &Latch,
+    writer: LatchWriter,
+    desc: CounterDesc,
+    reader: LatchReader,
+) -> bool
+    requires writer { writer.latch ≡ latch.now }
+    requires counter { desc ≡ latch.now.counter }
+    requires opened { length writer.publications ≡ 1 }
+    requires reader { reader.latch ≡ latch.now }
+{
+    let (published, read) = join(
+        rt,
+        move || -> bool
+            requires { (writer.latch ≡ latch.now) × (desc ≡ latch.now.counter)
+                × (length writer.publications ≡ 1) }
+        { publishes_all(latch, writer, desc) },
+        move || -> bool
+            requires { reader.latch ≡ latch.now }
+        { reads_all(latch, reader) },
+    );
+    published && read
+}
+
+/// Publishes on one thread, and reads on three.
+fn race<R: Threads + Sync>(
+    rt: &R,
+    latch: &Latch,
+    writer: LatchWriter,
+    desc: CounterDesc,
+    readers: (LatchReader, LatchReader, LatchReader),
+) -> bool
+    requires writer { writer.latch ≡ latch.now }
+    requires counter { desc ≡ latch.now.counter }
+    requires opened { length writer.publications ≡ 1 }
+    requires readers { (readers.0.latch ≡ latch.now) × (readers.1.latch ≡ latch.now)
+        × (readers.2.latch ≡ latch.now) }
+{
+    let (one, two, three) = readers;
+    let (published, read) = join(
+        rt,
+        move || -> bool
+            requires { IsSync R.row × (writer.latch ≡ latch.now) × (desc ≡ latch.now.counter)
+                × (length writer.publications ≡ 1) × (one.latch ≡ latch.now) }
+        { publish_beside(rt, latch, writer, desc, one) },
+        move || -> bool
+            requires { IsSync R.row × (two.latch ≡ latch.now) × (three.latch ≡ latch.now) }
+        { read_beside(rt, latch, two, three) },
+    );
+    published && read
+}
+
+#[test]
+fn three_readers_beside_a_writer_read_whole_publications(rt: HostRuntime) -> Result<(), Fail> {
+    let desc = nanosecond_counter()?;
+    let opening = publication(desc, 0).ok_or("the opening")?;
+    let (latch, writer, mut readers) = Latch::open(rt.alloc(), opening, 3)?;
+    let one = readers.pop().ok_or("a reader")?;
+    let two = readers.pop().ok_or("a reader")?;
+    let three = readers.pop().ok_or("a reader")?;
+    assert!(rt; race(&rt, &latch, writer, desc, (one, two, three)));
+    Ok(())
+}

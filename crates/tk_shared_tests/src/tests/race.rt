@@ -1,0 +1,42 @@
+//! Values that contracts do not fix, and threads.
+
+mod gates;
+mod memory;
+mod replies;
+
+use super::assert_same;
+use std::alloc::{AllocError, Global};
+use tk_clock::Command;
+use tk_race::{Action, RaceReply};
+use tk_test_support::{OPENED_TIME, nanosecond_counter};
+
+/// An order that only brings the clocks to the reading.
+const UPDATE: Action = Action::Order(Command::Update);
+
+/// Returns `actors` actors with `actions` copies of one action each.
+fn alike(
+    alloc: Global,
+    actors: usize,
+    action: Action,
+    actions: usize,
+) -> Result<Vec<Vec<Action>>, AllocError> {
+    let mut all = Vec::new(alloc);
+    for _ in 0..actors {
+        all.push(vec![in alloc; action; actions]?)?;
+    }
+    Ok(all)
+}
+
+/// Returns whether all these orders were done, with numbers that rise from above `last`.
+fn rise(mut last: u64, replies: &[RaceReply]) -> bool {
+    for reply in replies {
+        let RaceReply::Done(number) = *reply else {
+            return false;
+        };
+        if number <= last {
+            return false;
+        }
+        last = number;
+    }
+    true
+}

@@ -1,0 +1,228 @@
+//! The replies that actors get.
+
+use super::{OPENED_TIME, UPDATE, alike, assert_same, nanosecond_counter, rise};
+use std::alloc::Global;
+use std::process::Abort;
+use std::sync::Wait;
+use std::test::Fail;
+use std::thread::Threads;
+use tk_clock::{ClockId, Command, Refusal, Timespec};
+use tk_counter::CounterDesc;
+use tk_race::{Action, NoGate, RaceError, RaceReply, race};
+
+#[test]
+fn two_actors_of_three_updates_make_six_entries(rt: HostRuntime) -> Result<(), Fail> {
+    let desc = nanosecond_counter()?;
+    let actors = alike(rt.alloc(), 2, UPDATE, 3)?;
+    let report = race(
+        rt.alloc(),
+        &rt,
+        desc,
+        0,
+        OPENED_TIME,
+        1_000,
+        actors.as_slice(),
+        &NoGate,
+    )
+    .ok()
+    .ok_or("a report")?;
+    assert_same(&rt, &(report.keeper.len(), report.replies.len()), &(6, 2));
+    for replies in report.replies.as_slice() {
+        assert!(&rt; replies.len() == 3 && rise(0, replies.as_slice()));
+    }
+    // each reading is the counter's next one, whichever actor gave the command
+    for number in 1..=6u64 {
+        let entry = report.keeper.entry(number).ok_or("an entry")?;
+        assert_same(
+            &rt,
+            &(entry.reading, entry.cmd),
+            &(1_000 * number, Command::Update),
+        );
+    }
+    Ok(())
+}
+
+/// The readings of three updates by one actor on a counter of one nanosecond a cycle, and MONOTONIC
+/// at the last one.
+fn three_updates<R: Threads + Wait + Sync>(
+    rt: &R,
+    alloc: Global,
+    bits: u32,
+    reading: u64,
+    step: u64,
+) -> Result<([u64; 3], Timespec), Fail> {
+    let desc = CounterDesc::new(bits, 16_777_216, 24)?;
+    let actors = alike(alloc, 1, UPDATE, 3)?;
+    let keeper = race(
+        alloc,
+        rt,
+        desc,
+        reading,
+        OPENED_TIME,
+        step,
+        actors.as_slice(),
+        &NoGate,
+    )
+    .ok()
+    .ok_or("a report")?
+    .keeper;
+    let mut readings = [0; 3];
+    for (number, place) in (1..).zip(&mut readings) {
+        *place = keeper.entry(number).ok_or("an entry")?.reading;
+    }
+    Ok((readings, keeper.get(ClockId::Monotonic, readings[2])?))
+}
+
+#[test]
+fn readings_and_steps_keep_their_upper_bits(rt: HostRuntime) -> Result<(), Fail> {
+    for (bits, reading, step, readings, sec, nsec) in [
+        (32, 0, 4_294_968_296, [1_000, 2_000, 3_000], 0, 3_000),
+        (
+            48,
+            4_294_967_301,
+            1_000,
+            [4_294_968_301, 4_294_969_301, 4_294_970_301],
+            0,
+            3_000,
+        ),
+        (
+            64,
+            4_294_967_301,
+            4_294_968_296,
+            [8_589_935_597, 12_884_903_893, 17_179_872_189],
+            12,
+            884_904_888,
+        ),
+    ] {
+        assert_same(
+            &rt,
+            &three_updates(&rt, rt.alloc(), bits, reading, step)?,
+            &(readings, Timespec { sec, nsec }),
+        );
+    }
+    Ok(())
+}
+
+#[test]
+fn one_actor_is_answered_as_on_one_thread(rt: HostRuntime) -> Result<(), Fail> {
+    let desc = nanosecond_counter()?;
+    let actions = vec![in rt.alloc();
+        UPDATE,
+        Action::Glance,
+        Action::Look,
+        Action::Order(Command::Tai(100_001)),
+        Action::Order(Command::Suspend),
+        UPDATE,
+        Action::Order(Command::Resume(Timespec { sec: 1, nsec: 0 })),
+        Action::Look,
+        Action::Glance,
+    ]?;
+    let actors = vec![in rt.alloc(); actions]?;
+    let report = race(
+        rt.alloc(),
+        &rt,
+        desc,
+        5,
+        OPENED_TIME,
+        10,
+        actors.as_slice(),
+        &NoGate,
+    )
+    .ok()
+    .ok_or("a report")?;
+    let expected = [
+        RaceReply::Done(1),
+        RaceReply::Glanced(1),
+        RaceReply::Saw(1),
+        RaceReply::Refused(Refusal::Invalid),
+        RaceReply::Done(2),
+        RaceReply::Refused(Refusal::Asleep),
+        RaceReply::Done(3),
+        RaceReply::Saw(3),
+        RaceReply::Glanced(3),
+    ];
+    let replies = report.replies.first().ok_or("replies")?;
+    assert!(&rt; replies.as_slice() == expected.as_slice());
+    // a refused order has also read the counter
+    let resumed = report.keeper.entry(3).ok_or("an entry")?;
+    assert_same(&rt, &(report.keeper.len(), resumed.reading), &(3, 55));
+    Ok(())
+}
+
+/// The error of a race of so many actors without actions.
+fn error_of<R: Abort + Threads + Wait + Sync>(
+    rt: &R,
+    alloc: Global,
+    actors: usize,
+    desc: CounterDesc,
+    reading: u64,
+    real: Timespec,
+) -> Result<Option<RaceError>, Fail> {
+    let actors = alike(alloc, actors, UPDATE, 0)?;
+    Ok(race(
+        alloc,
+        rt,
+        desc,
+        reading,
+        real,
+        1,
+        actors.as_slice(),
+        &NoGate,
+    )
+    .err())
+}
+
+#[test]
+fn one_to_64_actors_race(rt: HostRuntime) -> Result<(), Fail> {
+    let desc = nanosecond_counter()?;
+    for (actors, error) in [
+        (0, Some(RaceError::Count)),
+        (1, None),
+        (2, None),
+        (64, None),
+        (65, Some(RaceError::Count)),
+    ] {
+        assert_same(
+            &rt,
+            &error_of(&rt, rt.alloc(), actors, desc, 0, OPENED_TIME)?,
+            &error,
+        );
+    }
+    Ok(())
+}
+
+#[test]
+fn count_comes_before_invalid(rt: HostRuntime) -> Result<(), Fail> {
+    let desc = nanosecond_counter()?;
+    let late = Timespec {
+        sec: 8_277_292_036,
+        nsec: 0,
+    };
+    for (actors, reading, real, error) in [
+        (1, 4_294_967_295, OPENED_TIME, None),
+        (1, 4_294_967_296, OPENED_TIME, Some(RaceError::Invalid)),
+        (1, 0, late, Some(RaceError::Invalid)),
+        (0, 4_294_967_296, late, Some(RaceError::Count)),
+        (65, 4_294_967_296, late, Some(RaceError::Count)),
+    ] {
+        assert_same(
+            &rt,
+            &error_of(&rt, rt.alloc(), actors, desc, reading, real)?,
+            &error,
+        );
+    }
+    Ok(())
+}
+
+#[test]
+fn each_error_has_its_text(rt: HostRuntime) -> Result<(), Fail> {
+    for (error, text) in [
+        (RaceError::Count, "count out of range"),
+        (RaceError::Invalid, "invalid opening"),
+        (RaceError::Memory, "out of memory"),
+        (RaceError::Threads, "cannot start a thread"),
+    ] {
+        assert!(&rt; format!(in rt.alloc(); "{error}")?.as_str() == text);
+    }
+    Ok(())
+}

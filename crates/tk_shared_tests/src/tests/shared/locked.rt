@@ -1,0 +1,115 @@
+//! Reads are answered while a command holds the lock.
+ghost use Rattle.std.specs.Prelude.{◌≡◌};
+ghost use Rattle.tk_shared.specs.Opening.{IsNamed};
+
+use super::{assert_same, commanded, glanced, open_two, read_by, ready};
+use std::alloc::Global;
+use std::marker::Brand;
+use std::process::Abort;
+use std::sync::Wait;
+use std::sync::atomic::{AtomicU64, Ordering};
+use std::test::Fail;
+use std::thread::{self, Threads, join};
+use tk_clock::{Command, Refusal};
+use tk_shared::{Caller, Counter, Named, Prepared, SharedKeeper};
+
+/// How often a thread looks for the other before it gives up.
+const TURNS: u32 = 50_000_000;
+
+/// Waits, in a command, until reads were answered. Its reading tells whether they were.
+#[derive(Drop)]
+struct Waits<'a> {
+    inside: &'a AtomicU64,
+    answered: &'a AtomicU64,
+    opened: bool,
+}
+
+impl Counter for Waits<'_> {
+    ghost use Rattle.std.specs.Prelude.{◌≤◌};
+
+    ghost answers = { λ _ answer. answer ≤ 2 };
+
+    fn read(&mut self) -> u64 {
+        if !self.opened {
+            self.opened = true;
+            return 0;
+        }
+        self.inside.store(1, Ordering::SeqCst);
+        if is_set(self.answered) { 1 } else { 2 }
+    }
+}
+
+/// Waits until the flag is set: was it?
+fn is_set(flag: &AtomicU64) -> bool {
+    for _ in 0..TURNS {
+        if flag.load(Ordering::SeqCst) == 1 {
+            return true;
+        }
+        thread::yield_now();
+    }
+    false
+}
+
+/// An Update, and the reading that the clocks then have.
+fn updates<L: Named, C: Counter, R: Wait>(
+    rt: &R,
+    keeper: &SharedKeeper<L, C>,
+    caller: &mut Caller<L>,
+) -> (Result<u64, Refusal>, u64) {
+    let done = commanded(rt, keeper, caller, Command::Update);
+    (done, read_by(rt, keeper, caller).last())
+}
+
+/// Both reads while a command holds the lock, which is let go after them: was it held, and how many
+/// commands did they find?
+fn reads<L: Named, C: Counter, R: Wait>(
+    rt: &R,
+    keeper: &SharedKeeper<L, C>,
+    caller: &mut Caller<L>,
+    inside: &AtomicU64,
+    answered: &AtomicU64,
+) -> (bool, Option<u64>, u64) {
+    let entered = is_set(inside);
+    let fast = match glanced(keeper, caller) {
+        Ok(seen) => Some(seen.front()),
+        Err(_) => None,
+    };
+    let front = read_by(rt, keeper, caller).front();
+    answered.store(1, Ordering::SeqCst);
+    (entered, fast, front)
+}
+
+#[test]
+fn reads_are_answered_while_a_command_holds_the_lock(rt: HostRuntime) -> Result<(), Fail> {
+    let inside = AtomicU64::new(0);
+    let answered = AtomicU64::new(0);
+    let counter = Waits {
+        inside: &inside,
+        answered: &answered,
+        opened: false,
+    };
+    let prepared = ready(&rt, rt.alloc(), counter, 2)?;
+    beside::<Brand, _>(&rt, rt.alloc(), prepared, &inside, &answered)
+}
+
+fn beside<'a, L: Named + Send + Sync, R: Threads + Wait + Abort + Sync>(
+    rt: &R,
+    alloc: Global,
+    prepared: Prepared<Waits<'a>>,
+    inside: &AtomicU64,
+    answered: &AtomicU64,
+) -> Result<(), Fail>
+    requires named { IsNamed prepared L.page L.latch L.name L.parts L.callers }
+    requires two { prepared.callers ≡ 2 }
+{
+    let (keeper, mut one, mut two) = open_two::<L, Waits<'a>>(alloc, prepared)?;
+    let (shared, first, second) = (&keeper, &mut one, &mut two);
+    let ((done, last), (entered, fast, front)) = join(
+        rt,
+        move || updates(rt, shared, first),
+        move || reads(rt, shared, second, inside, answered),
+    );
+    assert_same(rt, &(entered, done, last), &(true, Ok(1), 1));
+    assert_same(rt, &(fast, front), &(Some(0), 0));
+    Ok(())
+}

@@ -1,0 +1,99 @@
+//! What the counter answers.
+ghost use Rattle.tk_shared.specs.Opening.{IsNamed};
+
+use super::{assert_same, commanded, opened, read_by, ready, ready_on, time};
+use std::alloc::Global;
+use std::marker::Brand;
+use std::process::Abort;
+use std::sync::Wait;
+use std::test::Fail;
+use tk_clock::{ClockId, Command, Refusal};
+use tk_counter::CounterDesc;
+use tk_shared::{Caller, Counter, Named, Prepared, SharedKeeper, Ticker};
+
+/// Answers one reading, and then others.
+#[derive(Drop)]
+struct Answers {
+    first: Option<u64>,
+    others: u64,
+}
+
+impl Counter for Answers {
+    ghost use Rattle.std.specs.Prelude.{◌≡◌};
+    ghost use Rattle.std.specs.Option.{unwrap_or};
+
+    ghost answers = { λ counter answer. answer ≡ unwrap_or counter.first counter.others };
+
+    fn read(&mut self) -> u64 {
+        self.first.take().unwrap_or(self.others)
+    }
+}
+
+/// What an Update answers, and the reading and MONOTONIC that the clocks then have.
+fn updated<L: Named, C: Counter, R: Wait + Abort>(
+    rt: &R,
+    alloc: Global,
+    prepared: Prepared<C>,
+    answer: Result<u64, Refusal>,
+    last: u64,
+    nanos: u32,
+) -> Result<(), Fail>
+    requires named { IsNamed prepared L.page L.latch L.name L.parts L.callers }
+{
+    let (keeper, mut callers) = opened::<L, C>(alloc, prepared)?;
+    updated_by(rt, &keeper, callers.as_mut_slice(), answer, last, nanos)
+}
+
+fn updated_by<L: Named, C: Counter, R: Wait + Abort>(
+    rt: &R,
+    keeper: &SharedKeeper<L, C>,
+    callers: &mut [Caller<L>],
+    answer: Result<u64, Refusal>,
+    last: u64,
+    nanos: u32,
+) -> Result<(), Fail> {
+    let caller = callers.first_mut().ok_or("a caller")?;
+    assert_same(rt, &commanded(rt, keeper, caller, Command::Update), &answer);
+    let seen = read_by(rt, keeper, caller);
+    assert_same(rt, &seen.front(), &answer.unwrap_or(0));
+    assert_same(rt, &caller.accepted(), &seen.front());
+    assert_same(rt, &seen.last(), &last);
+    assert_same(rt, &seen.get(ClockId::Monotonic, last), &Ok(time(0, nanos)));
+    Ok(())
+}
+
+#[test]
+fn a_counter_that_runs_back_is_refused(rt: HostRuntime) -> Result<(), Fail> {
+    let counter = Answers {
+        first: Some(3_000),
+        others: 2_999,
+    };
+    let prepared = ready(&rt, rt.alloc(), counter, 1)?;
+    updated::<Brand, _, _>(&rt, rt.alloc(), prepared, Err(Refusal::Behind), 3_000, 0)
+}
+
+#[test]
+fn answers_above_the_mask_are_masked(rt: HostRuntime) -> Result<(), Fail> {
+    let counter = Answers {
+        first: Some((1 << 32) + 5),
+        others: (1 << 63) + 7,
+    };
+    let prepared = ready(&rt, rt.alloc(), counter, 1)?;
+    updated::<Brand, _, _>(&rt, rt.alloc(), prepared, Ok(1), 7, 2)
+}
+
+#[test]
+fn readings_of_48_bits_keep_their_upper_bits(rt: HostRuntime) -> Result<(), Fail> {
+    let desc = CounterDesc::new(48, 16_777_216, 24)?;
+    let start = (1 << 32) + 5;
+    let prepared = ready_on(&rt, rt.alloc(), desc, Ticker::new(start, 1_000), 1)?;
+    updated::<Brand, _, _>(&rt, rt.alloc(), prepared, Ok(1), (1 << 32) + 1_005, 1_000)
+}
+
+#[test]
+fn a_ticker_wraps_at_64_bits(rt: HostRuntime) -> Result<(), Fail> {
+    let mut ticker = Ticker::new(u64::MAX - 999, 1_000);
+    assert_same(&rt, &(ticker.read(), ticker.read()), &(u64::MAX - 999, 0));
+    let prepared = ready(&rt, rt.alloc(), Ticker::new(u64::MAX - 999, 1_000), 1)?;
+    updated::<Brand, _, _>(&rt, rt.alloc(), prepared, Ok(1), 0, 1_000)
+}

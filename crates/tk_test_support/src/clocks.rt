@@ -1,0 +1,21 @@
+//! Describes the clocks that most tests and benchmarks open.
+use tk_clock::Timespec;
+use tk_counter::{CounterDesc, DescError};
+
+/// REALTIME at the opening.
+pub const OPENED_TIME: Timespec = Timespec {
+    sec: 1_700_000_000,
+    nsec: 0,
+};
+
+/// The same time in nanoseconds.
+pub const OPENED_REAL: u64 = 1_700_000_000_000_000_000;
+
+/// Returns the description of a counter of 32 bits and one nanosecond a cycle.
+///
+/// # Errors
+///
+/// Returns the fault of these numbers. They have none.
+pub fn nanosecond_counter() -> Result<CounterDesc, DescError> {
+    CounterDesc::new(32, 16_777_216, 24)
+}

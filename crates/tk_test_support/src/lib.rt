@@ -1,0 +1,37 @@
+//! Provides what tests and benchmarks of several crates share.
+//!
+//! | Item | What it is |
+//! |---|---|
+//! | `Heap` | an allocator that forwards requests to another one, and refuses chosen ones |
+//! | `nanosecond_counter`, `OPENED_TIME`, `OPENED_REAL` | the clocks that most tests open |
+//! | `mixed_up` | finds two values of a list whose comparison is wrong |
+//! | `PageDesk`, `opened_page` | clocks with the publisher of their journal, on a page |
+//! | `STEP`, `reading_of` | clocks that are updated in equal steps |
+//! | `weight`, `weighed` | numbers computed from the words of a snapshot |
+//! | `effort_of`, `is_asked` | what a timing program's words ask for: the length of turns, the jobs |
+//! | `is_told` | prints the line of a job that was timed |
+//! | `Effort`, `TURNS` | the length of a turn, and the number of turns |
+//! | `Turn`, `IN_MILLISECONDS` | the result of a turn |
+//!
+//! Times are those of the system's clock. Readings are in cycles of a nanosecond. Requests are
+//! counted from 1. A `&Heap` is an allocator that is `Copy`.
+#![tactic(auto)]
+
+mod clocks;
+mod copies;
+mod heap;
+mod page_desk;
+mod running;
+mod steps;
+mod turn;
+
+pub use clocks::{OPENED_REAL, OPENED_TIME, nanosecond_counter};
+pub use copies::mixed_up;
+pub use heap::Heap;
+pub use page_desk::{PageDesk, opened_page};
+pub use running::{effort_of, is_asked, is_told};
+pub use steps::{STEP, reading_of, weighed, weight};
+pub use turn::{Effort, IN_MILLISECONDS, TURNS, Turn};
+
+#[cfg(test)]
+mod tests;

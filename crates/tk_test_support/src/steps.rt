@@ -1,0 +1,36 @@
+//! Describes clocks that are updated in equal steps, and numbers of their snapshots.
+use tk_clock::Snapshot;
+
+/// The cycles between two commands, each a nanosecond.
+pub const STEP: u64 = 1_000;
+
+/// Returns the reading of a command by its number, in cycles: `number * STEP`. It isn't reduced to
+/// the 32 bits of the counter.
+pub fn reading_of(number: u64) -> u64 {
+    number.wrapping_mul(STEP)
+}
+
+/// Returns a number computed from all ten words of a snapshot. It is the same after each update,
+/// because each update is a step later than the one before. Words mixed from two snapshots usually
+/// give another number.
+pub fn weight(snapshot: &Snapshot) -> u64 {
+    let steps = snapshot.last().wrapping_sub(reading_of(snapshot.front()));
+    let parts = snapshot.frac().wrapping_sub(snapshot.raw_frac());
+    let seconds = snapshot.sec().wrapping_sub(snapshot.raw_sec());
+    steps
+        .wrapping_add(parts)
+        .wrapping_add(seconds)
+        .wrapping_add(u64::from(snapshot.mult()))
+        .wrapping_add(snapshot.real_offset())
+        .wrapping_add(snapshot.boot_offset())
+        .wrapping_add(u64::from(snapshot.tai()))
+}
+
+/// Returns a number computed from the ten words of a snapshot and their places.
+pub fn weighed(snapshot: &Snapshot) -> u64 {
+    let mut sum = 0u64;
+    for word in snapshot.words() {
+        sum = sum.wrapping_mul(31).wrapping_add(word);
+    }
+    sum
+}
