@@ -2,14 +2,14 @@
 /* The jobs, done by calls of the library. */
 #include "jobs.h"
 
-#include <tk.h>
+#include <tkcore.h>
 
 const int copies = 0;
 
-static struct tk_clock clock;
-static struct tk_snapshot snapshot;
-static struct tk_counter counter;
-static uint64_t words[TK_WORDS];
+static struct tkc_clock clock;
+static struct tkc_snapshot snapshot;
+static struct tkc_counter counter;
+static uint64_t words[TKC_WORDS];
 
 static void need(uint32_t code)
 {
@@ -19,18 +19,18 @@ static void need(uint32_t code)
 
 void open_clocks(void)
 {
-	need(tk_counter_new(&counter, 64, MULT, SHIFT));
-	need(tk_clock_open(&clock, &counter, OPENED_AT, REAL, 0));
-	tk_clock_snapshot(&snapshot, &clock);
-	tk_snapshot_words(words, &snapshot);
+	need(tkc_counter_new(&counter, 64, MULT, SHIFT));
+	need(tkc_clock_open(&clock, &counter, OPENED_AT, REAL, 0));
+	tkc_clock_snapshot(&snapshot, &clock);
+	tkc_snapshot_words(words, &snapshot);
 }
 
 void get_each(struct list *list)
 {
-	struct tk_time time;
+	struct tkc_time time;
 
 	for (size_t i = 0; i < list->count; i++) {
-		need(tk_snapshot_get(&time, &snapshot, TK_CLOCK_MONOTONIC, list->stamps[i]));
+		need(tkc_snapshot_get(&time, &snapshot, TKC_CLOCK_MONOTONIC, list->stamps[i]));
 		list->out[i] = (uint64_t)time.sec ^ time.nsec;
 	}
 }
@@ -38,26 +38,26 @@ void get_each(struct list *list)
 /* Tests the words at each read, as a reader of a page does. */
 void get_words_each(struct list *list)
 {
-	struct tk_snapshot taken;
-	struct tk_time time;
+	struct tkc_snapshot taken;
+	struct tkc_time time;
 
 	for (size_t i = 0; i < list->count; i++) {
-		need(tk_snapshot_from_words(&taken, &counter, words));
-		need(tk_snapshot_get(&time, &taken, TK_CLOCK_MONOTONIC, list->stamps[i]));
+		need(tkc_snapshot_from_words(&taken, &counter, words));
+		need(tkc_snapshot_get(&time, &taken, TKC_CLOCK_MONOTONIC, list->stamps[i]));
 		list->out[i] = (uint64_t)time.sec ^ time.nsec;
 	}
 }
 
 void update_each(struct list *list)
 {
-	struct tk_clock running = clock;
-	struct tk_snapshot updated;
-	uint64_t reading = OPENED_AT, told[TK_WORDS];
+	struct tkc_clock running = clock;
+	struct tkc_snapshot updated;
+	uint64_t reading = OPENED_AT, told[TKC_WORDS];
 
 	for (size_t i = 0; i < list->count; i++)
-		need(tk_clock_apply(&running, reading += HZ / 1000000, TK_CMD_UPDATE, 0, 0));
-	tk_clock_snapshot(&updated, &running);
-	tk_snapshot_words(told, &updated);
+		need(tkc_clock_apply(&running, reading += HZ / 1000000, TKC_CMD_UPDATE, 0, 0));
+	tkc_clock_snapshot(&updated, &running);
+	tkc_snapshot_words(told, &updated);
 	for (size_t i = 0; i < 5; i++)
 		list->out[i] = told[i];
 	list->out[5] = told[8];
@@ -68,8 +68,8 @@ void convert_all(struct list *list)
 {
 	size_t done;
 
-	need(tk_snapshot_convert(list->out, list->count, &done, &snapshot, TK_CLOCK_MONOTONIC,
-				 list->stamps, list->count));
+	need(tkc_snapshot_convert(list->out, list->count, &done, &snapshot, TKC_CLOCK_MONOTONIC,
+				  list->stamps, list->count));
 }
 
 void convert_untested(struct list *list)

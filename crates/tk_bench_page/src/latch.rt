@@ -7,8 +7,8 @@ use std::alloc::Global;
 use std::sync::atomic::{AtomicBool, Ordering};
 use std::thread::{self, Threads};
 use std::time::{Clock as Hours, Duration, Instant};
-use tk_bench_turns::{Effort, Turn, weight};
 use tk_latch::{Latch, LatchReader};
+use tk_test_support::{Effort, Turn, weight};
 
 /// The number of reads in a full turn; the next constant is that of publications.
 const READS: u64 = 10_000_000;

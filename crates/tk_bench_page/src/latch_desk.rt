@@ -2,9 +2,9 @@ ghost use Rattle.std.specs.Prelude.{◌≡◌, IfSome};
 
 use std::alloc::Global;
 use std::marker::Model;
-use tk_bench_turns::{OPENED_TIME, nanosecond_counter, reading_of};
 use tk_clock::{Clock, Command};
 use tk_latch::{Latch, LatchReader, LatchWriter};
+use tk_test_support::{OPENED_TIME, nanosecond_counter, reading_of};
 
 /// Updates clocks and publishes each update in a latch.
 ///
@@ -35,7 +35,7 @@ pub fn opened(alloc: Global) -> Option<(Latch, LatchDesk, LatchReader)>
     ensures desk { IfSome result (λ opened. opened.1.latch ≡ opened.0) }
     ensures reader { IfSome result (λ opened. opened.2.latch ≡ opened.0) }
 {
-    let clock = Clock::open(nanosecond_counter()?, 0, OPENED_TIME).ok()?;
+    let clock = Clock::open(nanosecond_counter().ok()?, 0, OPENED_TIME).ok()?;
     let (latch, writer, mut readers) = Latch::open(alloc, clock.snapshot(0), 1).ok()?;
     let reader = readers.pop()?;
     let desk = LatchDesk {

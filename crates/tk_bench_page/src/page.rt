@@ -2,19 +2,30 @@
 ghost use Rattle.std.specs.Prelude.{◌≡◌};
 ghost use Rattle.std.specs.Thread.{IsSync};
 
-use crate::page_desk::{PageDesk, opened};
 use std::alloc::Global;
 use std::sync::Wait;
 use std::sync::atomic::{AtomicBool, Ordering};
 use std::thread::{self, Threads};
 use std::time::{Clock as Hours, Duration, Instant};
-use tk_bench_turns::{Effort, Turn, weight};
+use tk_clock::Command;
 use tk_page::{Page, Viewer};
+use tk_test_support::{Effort, PageDesk, Turn, opened_page, reading_of, weight};
 
 /// The number of reads in a full turn; the next constant is that of publications.
 const READS: u64 = 10_000_000;
 
 const PUBLICATIONS: u64 = 1_000_000;
+
+/// Updates the clocks, a step after the last update, and publishes them. Returns `None` if the
+/// update is refused.
+fn update<R: Wait>(rt: &R, page: &Page, desk: &mut PageDesk) -> Option<()>
+    requires { desk.old.page ≡ page.now }
+    ensures { desk.new.page ≡ desk.old.page }
+{
+    let reading = reading_of(desk.front().wrapping_add(1));
+    desk.command(rt, page, reading, Command::Update).ok()?;
+    Some(())
+}
 
 /// Reads `count` times, and returns the sum of the weights.
 fn reads<R: Wait>(rt: &R, page: &Page, viewer: &mut Viewer, count: u64) -> u64
@@ -44,8 +55,8 @@ fn timed_reads<R: Wait + Hours>(
 
 /// Times reads while nobody publishes. Returns `None` if a call fails.
 pub fn quiet<R: Wait + Hours>(rt: &R, alloc: Global, effort: Effort) -> Option<Turn> {
-    let (page, mut desk, mut viewer) = opened(rt, alloc)?;
-    desk.update(rt, &page).ok()?;
+    let (page, mut desk, mut viewer) = opened_page(rt, alloc)?;
+    update(rt, &page, &mut desk)?;
     timed_reads(rt, &page, &mut viewer, effort.of(READS))
 }
 
@@ -54,7 +65,7 @@ fn publishes_slowly<R: Wait + Hours>(rt: &R, page: &Page, desk: &mut PageDesk, e
     requires { desk.old.page ≡ page.now }
 {
     for _ in 0..PUBLICATIONS {
-        if enough.load(Ordering::SeqCst) || desk.update(rt, page).is_err() {
+        if enough.load(Ordering::SeqCst) || update(rt, page, desk).is_none() {
             return;
         }
         thread::sleep(rt, Duration::from_millis(1));
@@ -97,7 +108,7 @@ pub fn beside<R: Threads + Wait + Hours + Sync>(
     alloc: Global,
     effort: Effort,
 ) -> Option<Turn> {
-    let (page, desk, viewer) = opened(rt, alloc)?;
+    let (page, desk, viewer) = opened_page(rt, alloc)?;
     both(rt, &page, desk, viewer, effort.of(READS))
 }
 
@@ -106,14 +117,14 @@ fn publications<R: Wait>(rt: &R, page: &Page, desk: &mut PageDesk, count: u64) -
     requires { desk.old.page ≡ page.now }
 {
     for _ in 0..count {
-        desk.update(rt, page).ok()?;
+        update(rt, page, desk)?;
     }
     Some(())
 }
 
 /// Times updates of clocks, each published. Returns `None` if a call fails.
 pub fn publishing<R: Wait + Hours>(rt: &R, alloc: Global, effort: Effort) -> Option<Turn> {
-    let (page, mut desk, mut viewer) = opened(rt, alloc)?;
+    let (page, mut desk, mut viewer) = opened_page(rt, alloc)?;
     let count = effort.of(PUBLICATIONS);
     let start = Instant::now(rt).ok()?;
     publications(rt, &page, &mut desk, count)?;

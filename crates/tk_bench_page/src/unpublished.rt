@@ -1,7 +1,7 @@
 //! Times updates of clocks that aren't published.
 use std::time::{Clock as Hours, Instant};
-use tk_bench_turns::{Effort, OPENED_TIME, Turn, nanosecond_counter, reading_of, weight};
 use tk_clock::{Clock, Command};
+use tk_test_support::{Effort, OPENED_TIME, Turn, nanosecond_counter, reading_of, weight};
 
 /// The number of updates of a full turn.
 const UPDATES: u64 = 10_000_000;
@@ -23,7 +23,7 @@ fn updates(clock: &mut Clock, count: u64) -> Option<u64> {
 pub fn turn<R: Hours>(rt: &R, effort: Effort) -> Option<Turn> {
     let count = effort.of(UPDATES);
     let each = count.min(UPDATES_LIMIT);
-    let opened = Clock::open(nanosecond_counter()?, 0, OPENED_TIME).ok()?;
+    let opened = Clock::open(nanosecond_counter().ok()?, 0, OPENED_TIME).ok()?;
     let mut check = 0u64;
     let start = Instant::now(rt).ok()?;
     for _ in 0..count / each.max(1) {

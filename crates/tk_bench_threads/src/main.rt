@@ -22,7 +22,7 @@ use std::sync::Wait;
 use std::thread::Threads;
 use std::time::Clock as Hours;
 use std::{env, io};
-use tk_bench_turns::{Effort, TURNS, Turn, effort_of, is_asked, is_told};
+use tk_test_support::{Effort, TURNS, Turn, effort_of, is_asked, is_told};
 
 /// Names a job.
 #[derive(Clone, Copy)]

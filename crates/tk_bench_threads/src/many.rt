@@ -4,9 +4,9 @@ use std::fmt::Write;
 use std::sync::Wait;
 use std::thread::Threads;
 use std::time::{Clock as Hours, Instant};
-use tk_bench_turns::{Effort, IN_MILLISECONDS, Turn};
-use tk_gate::NoGate;
+use tk_race::NoGate;
 use tk_replay::replay_all;
+use tk_test_support::{Effort, IN_MILLISECONDS, Turn};
 
 const SCRIPTS: usize = 8;
 

@@ -3,10 +3,9 @@ use std::alloc::{AllocError, Global};
 use std::sync::Wait;
 use std::thread::Threads;
 use std::time::{Clock as Hours, Instant};
-use tk_bench_turns::{Effort, OPENED_TIME, STEP, Turn, nanosecond_counter, weighed};
 use tk_clock::Command;
-use tk_gate::NoGate;
-use tk_race::{Action, race};
+use tk_race::{Action, NoGate, race};
+use tk_test_support::{Effort, OPENED_TIME, STEP, Turn, nanosecond_counter, weighed};
 
 const ACTORS: usize = 4;
 
@@ -28,7 +27,7 @@ pub fn turn<R: Threads + Wait + Hours + Sync>(
     alloc: Global,
     effort: Effort,
 ) -> Option<Turn> {
-    let desc = nanosecond_counter()?;
+    let desc = nanosecond_counter().ok()?;
     let actors = updates(alloc, effort.of(ORDERS)).ok()?;
     let start = Instant::now(rt).ok()?;
     let report = race(

@@ -7,9 +7,9 @@ use std::sync::Wait;
 use std::sync::atomic::{AtomicU64, Ordering};
 use std::thread::{self, Threads};
 use std::time::{Clock as Hours, Instant};
-use tk_bench_turns::{Effort, OPENED_TIME, STEP, Turn, nanosecond_counter, weighed, weight};
 use tk_clock::Command;
 use tk_shared::{Caller, Named, Prepared, SharedKeeper, Ticker, prepare};
+use tk_test_support::{Effort, OPENED_TIME, STEP, Turn, nanosecond_counter, weighed, weight};
 
 /// The number of commands of a full turn, in all threads together.
 const COMMANDS: u64 = 300_000;
@@ -37,7 +37,7 @@ pub fn turn<R: Threads + Wait + Hours + Sync>(
     effort: Effort,
 ) -> Option<Turn> {
     let counter = Ticker::new(0, STEP);
-    let desc = nanosecond_counter()?;
+    let desc = nanosecond_counter().ok()?;
     let prepared = prepare(alloc, rt, desc, OPENED_TIME, counter, 5, ROOM).ok()?;
     worked::<Brand, R>(rt, alloc, prepared, work, effort.of(COMMANDS))
 }
