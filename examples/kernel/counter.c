@@ -1,0 +1,66 @@
+// SPDX-License-Identifier: GPL-2.0
+/* The counter that the clocks run over, and the clocks' opening. */
+#define pr_fmt(fmt) "tkc: " fmt
+
+#include "trial.h"
+
+#include <asm/tsc.h>
+#include <linux/math64.h>
+#include <linux/string.h>
+
+enum { BITS = 64, SPAN_SEC = 600 };
+
+static u64 read_tsc(void)
+{
+	return rdtsc_ordered();
+}
+
+/* ktime_get_raw() for any context. */
+static u64 read_raw(void)
+{
+	return ktime_get_raw_fast_ns();
+}
+
+static bool counts_tsc(void)
+{
+	return trial.clocks.read_counter == read_tsc;
+}
+
+/* The counter's reading at which the kernel read its clocks. */
+u64 counter_reading(const struct system_time_snapshot *kernel)
+{
+	return counts_tsc() ? kernel->cycles : ktime_to_ns(kernel->raw);
+}
+
+static bool describe(const char *name)
+{
+	u32 bits;
+
+	trial.clocks.read_counter = strcmp(name, "raw") ? read_tsc : read_raw;
+	trial.hz = counts_tsc() ? tsc_khz * 1000 : NSEC_PER_SEC;
+	if (tkc_counter_from_hz(&trial.clocks.counter, BITS, trial.hz,
+				SPAN_SEC))
+		return false;
+	tkc_counter_numbers(&bits, &trial.mult, &trial.shift,
+			    &trial.clocks.counter);
+	return true;
+}
+
+bool counter_open(const char *name)
+{
+	struct clocks *clocks = &trial.clocks;
+
+	if (tkc_version() != TKC_VERSION || !describe(name))
+		return false;
+	trial.opened = kernel_times(&trial.kernel);
+	trial.time.sec = div_s64_rem(trial.kernel.of[REALTIME], NSEC_PER_SEC,
+				     &trial.time.nsec);
+	if (counts_tsc() && read_tsc() - trial.opened > trial.hz) {
+		pr_err("the TSC isn't the clocksource: load with counter=raw\n");
+		return false;
+	}
+	pr_info("counter %s: %u Hz, mult %u, shift %u\n",
+		counts_tsc() ? "tsc" : "raw", trial.hz, trial.mult,
+		trial.shift);
+	return !clocks_open(clocks, trial.opened, &trial.time);
+}

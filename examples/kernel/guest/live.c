@@ -1,0 +1,206 @@
+// SPDX-License-Identifier: GPL-2.0
+/*
+ * Gives the kernel's clocks and the module's the same commands, and compares
+ * both after each: STEP, SET_TIME, FREQ, TICK, TAI_OFFSET, and SUSPEND with
+ * RESUME. Its status is 1 at the first command after which they differ.
+ */
+#include <inttypes.h>
+#include <stdio.h>
+#include <stdlib.h>
+#include <string.h>
+#include <sys/timex.h>
+#include <time.h>
+
+enum clock { RAW, MONOTONIC, REALTIME, BOOTTIME, TAI, CLOCKS };
+
+enum {
+	STEP_SEC = -2,
+	STEP_NSEC = 250000000,
+	SET_SEC = 1700000000,
+	SET_NSEC = 123456789,
+	FREQUENCY = 100 << 16, /* 100 ppm */
+	TICK_US = 10100,
+	TAI_SEC = 37,
+	/* what the kernel's discipline of its rate may add in the meantime */
+	NEAR_NS = 100000,
+	/* a tick of 1 % more, given to one clock some time before the other */
+	TICK_NEAR_NS = 1000000,
+	/* what the kernel may count between its suspend and the module's */
+	AWAKE_NS = 1000000000,
+};
+
+/* Beyond 32 bits. */
+#define PAST_2038_SEC INT64_C(2200000000)
+
+struct times {
+	long long of[CLOCKS];
+};
+
+static void fail(const char *what)
+{
+	printf("live: %s\n", what);
+	exit(1);
+}
+
+static struct times compare(void)
+{
+	FILE *file = fopen("/proc/tkcore/compare", "r");
+	struct times now;
+
+	if (!file || fscanf(file, "%lld %lld %lld %lld %lld", &now.of[RAW],
+			    &now.of[MONOTONIC], &now.of[REALTIME],
+			    &now.of[BOOTTIME], &now.of[TAI]) != CLOCKS)
+		fail("the clocks can't be compared");
+	fclose(file);
+	return now;
+}
+
+static void write_file(const char *path, const char *text)
+{
+	FILE *file = fopen(path, "w");
+
+	if (!file || fputs(text, file) < 0 || fclose(file)) {
+		printf("live: %s: %s isn't taken\n", path, text);
+		exit(1);
+	}
+}
+
+/* Gives the module a command, and the kernel the same one if there is one. */
+static void both(const char *text, struct timex *timex)
+{
+	if (timex && adjtimex(timex) < 0)
+		fail("adjtimex() failed");
+	write_file("/proc/tkcore/command", text);
+}
+
+static long long changed(const struct times *from, const struct times *to,
+			 enum clock clock)
+{
+	return to->of[clock] - from->of[clock];
+}
+
+/* Each clock differs from the kernel's as it did, except for `near` ns. */
+static void same(const char *what, const struct times *from, long long near)
+{
+	struct times now = compare();
+
+	printf("live: %s: differences changed by %lld %lld %lld %lld %lld ns\n",
+	       what, changed(from, &now, RAW), changed(from, &now, MONOTONIC),
+	       changed(from, &now, REALTIME), changed(from, &now, BOOTTIME),
+	       changed(from, &now, TAI));
+	for (enum clock clock = RAW; clock < CLOCKS; clock++) {
+		if (llabs(changed(from, &now, clock)) > (clock ? near : 1))
+			fail("the clocks differ");
+	}
+}
+
+static void usual_rate(void)
+{
+	struct timex timex = { .modes = ADJ_FREQUENCY | ADJ_TICK,
+			       .tick = 10000 };
+
+	both("freq 0", &timex);
+	both("tick 10000", NULL);
+}
+
+/* The trial at insmod steered the module's clocks alone. */
+static void begin(void)
+{
+	struct timex timex = { .modes = ADJ_TAI };
+
+	usual_rate();
+	both("tai 0", &timex);
+}
+
+static void step(void)
+{
+	struct timex timex = { .modes = ADJ_SETOFFSET | ADJ_NANO,
+			       .time = { STEP_SEC, STEP_NSEC } };
+	struct times from = compare();
+	char text[64];
+
+	snprintf(text, sizeof(text), "step %d %d", STEP_SEC, STEP_NSEC);
+	both(text, &timex);
+	same("step", &from, NEAR_NS);
+}
+
+/* The module itself compares REALTIME, to the nanosecond. */
+static void set(int64_t sec)
+{
+	char text[64];
+
+	snprintf(text, sizeof(text), "set %" PRId64 " %d", sec, SET_NSEC);
+	both(text, NULL);
+	printf("live: %s: as do_settimeofday64() sets it\n", text);
+}
+
+static void rates(void)
+{
+	struct timex frequency = { .modes = ADJ_FREQUENCY, .freq = FREQUENCY };
+	struct timex tick = { .modes = ADJ_TICK, .tick = TICK_US };
+	struct timespec pause = { 0, 300000000 };
+	struct times from = compare();
+	char text[64];
+
+	snprintf(text, sizeof(text), "freq %d", FREQUENCY);
+	both(text, &frequency);
+	nanosleep(&pause, NULL);
+	same("freq", &from, NEAR_NS);
+	from = compare();
+	snprintf(text, sizeof(text), "tick %d", TICK_US);
+	both(text, &tick);
+	nanosleep(&pause, NULL);
+	same("tick", &from, TICK_NEAR_NS);
+	usual_rate();
+}
+
+static void tai(void)
+{
+	struct timex timex = { .modes = ADJ_TAI, .constant = TAI_SEC };
+	struct times from = compare();
+	char text[64];
+
+	snprintf(text, sizeof(text), "tai %d", TAI_SEC);
+	both(text, &timex);
+	same("tai", &from, NEAR_NS);
+}
+
+/*
+ * Suspends the system up to the point at which the firmware would be called.
+ * The kernel counts for a while between the module's SUSPEND and its own
+ * suspend, and so before the module's RESUME: by that while alone, which is
+ * the same for all clocks, the module's clocks then lag.
+ */
+static void suspend(void)
+{
+	struct times from = compare(), now;
+
+	write_file("/sys/power/pm_test", "core");
+	write_file("/sys/power/state", "mem");
+	now = compare();
+	printf("live: suspend: the clocks lag by %lld %lld %lld %lld %lld ns\n",
+	       -changed(&from, &now, RAW), -changed(&from, &now, MONOTONIC),
+	       -changed(&from, &now, REALTIME), -changed(&from, &now, BOOTTIME),
+	       -changed(&from, &now, TAI));
+	for (enum clock clock = RAW; clock < CLOCKS; clock++) {
+		long long lag = -changed(&from, &now, clock);
+
+		if (lag < 0 || lag > AWAKE_NS ||
+		    llabs(lag + changed(&from, &now, RAW)) > NEAR_NS)
+			fail("the clocks differ");
+	}
+}
+
+int main(void)
+{
+	setvbuf(stdout, NULL, _IOLBF, 0);
+	begin();
+	step();
+	set(PAST_2038_SEC);
+	set(SET_SEC);
+	tai();
+	rates();
+	suspend();
+	step();
+	return 0;
+}

@@ -1,0 +1,223 @@
+// SPDX-License-Identifier: GPL-2.0
+/* Readers in process, softirq, hardirq and NMI context on each processor. */
+#define pr_fmt(fmt) "tkc: " fmt
+
+#include "trial.h"
+
+#include <asm/apic.h>
+#include <asm/nmi.h>
+#include <linux/delay.h>
+#include <linux/hrtimer.h>
+#include <linux/kthread.h>
+#include <linux/math64.h>
+#include <linux/random.h>
+
+enum { PERIOD_NS = 300000, READS_IN_A_ROW = 20, PAUSE_US = 128 };
+
+enum context { PROCESS, SOFTIRQ, HARDIRQ, NMI, CONTEXTS };
+
+static const char *const CONTEXT_WORDS[] = { "process", "softirq", "hardirq",
+					     "nmi" };
+
+/* What a context's reads on one processor found. */
+struct seen {
+	u64 reads, refused, wrong, amid, back, most_back;
+};
+
+static DEFINE_PER_CPU(struct seen[CONTEXTS], seen);
+static DEFINE_PER_CPU(struct hrtimer, softirq_timer);
+static DEFINE_PER_CPU(struct hrtimer, hardirq_timer);
+static DEFINE_PER_CPU(struct task_struct *, reader);
+static bool has_nmi;
+static atomic64_t latest; /* MONOTONIC that any reader but an NMI has seen */
+
+static void raise_latest(u64 value)
+{
+	s64 old = atomic64_read(&latest);
+
+	while ((u64)old < value &&
+	       !atomic64_try_cmpxchg(&latest, &old, value))
+		;
+}
+
+/* MONOTONIC_RAW follows the counter's description alone, to the nanosecond. */
+static bool is_raw(const struct tkc_snapshot *snapshot, u64 reading)
+{
+	struct tkc_time raw;
+
+	if (tkc_snapshot_get(&raw, snapshot, TKC_CLOCK_MONOTONIC_RAW, reading))
+		return false;
+	return tkc_time_ns(&raw) == mul_u64_u64_shr(reading - trial.opened,
+						    trial.mult, trial.shift);
+}
+
+/* Gives a writer time to apply a command between a snapshot and a reading. */
+static void pause_a_while(void)
+{
+	udelay(get_random_u32() % PAUSE_US);
+}
+
+static void note_back(struct seen *mine, u64 earlier, u64 value)
+{
+	if (value >= earlier)
+		return;
+	mine->back++;
+	mine->most_back = max(mine->most_back, earlier - value);
+}
+
+/* Reads once. The caller stays on its processor. */
+static void look(enum context context)
+{
+	struct seen *mine = &(*this_cpu_ptr(&seen))[context];
+	u64 earlier = atomic64_read(&latest);
+	struct tkc_snapshot snapshot;
+	struct tkc_time time;
+	u64 reading;
+
+	smp_mb(); /* `latest` is read before the counter */
+	mine->reads++;
+	if (context == NMI) {
+		mine->amid += READ_ONCE(trial.clocks.writer) ==
+			      smp_processor_id();
+		clocks_look_fast(&trial.clocks, &snapshot, &reading);
+	} else {
+		clocks_look(&trial.clocks,
+			    context == PROCESS ? pause_a_while : NULL,
+			    &snapshot, &reading);
+	}
+	mine->wrong += !is_raw(&snapshot, reading);
+	if (tkc_snapshot_get(&time, &snapshot, TKC_CLOCK_MONOTONIC, reading)) {
+		mine->refused++;
+		return;
+	}
+	if (context == NMI)
+		return; /* may go back, as ktime_get_mono_fast_ns() may */
+	note_back(mine, earlier, tkc_time_ns(&time));
+	raise_latest(tkc_time_ns(&time));
+}
+
+static int read_in_process(void *unused)
+{
+	while (!kthread_should_stop()) {
+		for (int i = 0; i < READS_IN_A_ROW; i++) {
+			preempt_disable();
+			look(PROCESS);
+			preempt_enable();
+		}
+		usleep_range(100, 200);
+	}
+	return 0;
+}
+
+static enum hrtimer_restart read_in_softirq(struct hrtimer *timer)
+{
+	look(SOFTIRQ);
+	hrtimer_forward_now(timer, PERIOD_NS);
+	return HRTIMER_RESTART;
+}
+
+static enum hrtimer_restart read_in_hardirq(struct hrtimer *timer)
+{
+	look(HARDIRQ);
+	hrtimer_forward_now(timer, PERIOD_NS);
+	return HRTIMER_RESTART;
+}
+
+static int read_in_nmi(unsigned int type, struct pt_regs *regs)
+{
+	look(NMI);
+	return NMI_HANDLED;
+}
+
+/* Interrupts the writer, which runs on this processor. */
+static void send_nmi(void)
+{
+	apic->send_IPI(smp_processor_id(), NMI_VECTOR);
+}
+
+static void start_timers(void *unused)
+{
+	struct hrtimer *soft = this_cpu_ptr(&softirq_timer);
+	struct hrtimer *hard = this_cpu_ptr(&hardirq_timer);
+
+	hrtimer_init(soft, CLOCK_MONOTONIC, HRTIMER_MODE_REL_PINNED_SOFT);
+	soft->function = read_in_softirq;
+	hrtimer_start(soft, PERIOD_NS, HRTIMER_MODE_REL_PINNED_SOFT);
+	hrtimer_init(hard, CLOCK_MONOTONIC, HRTIMER_MODE_REL_PINNED_HARD);
+	hard->function = read_in_hardirq;
+	hrtimer_start(hard, PERIOD_NS, HRTIMER_MODE_REL_PINNED_HARD);
+}
+
+bool readers_start(bool with_nmi)
+{
+	int cpu;
+
+	on_each_cpu(start_timers, NULL, 1);
+	for_each_online_cpu(cpu) {
+		struct task_struct *task;
+
+		task = kthread_run_on_cpu(read_in_process, NULL, cpu, "tkc/%u");
+		if (IS_ERR(task))
+			return false;
+		per_cpu(reader, cpu) = task;
+	}
+	if (!with_nmi)
+		return true;
+	if (register_nmi_handler(NMI_LOCAL, read_in_nmi, 0, "tkc"))
+		return false;
+	has_nmi = true;
+	WRITE_ONCE(trial.clocks.midway, send_nmi);
+	return true;
+}
+
+/* The caller has stopped the commands. */
+void readers_stop(void)
+{
+	int cpu;
+
+	trial.clocks.midway = NULL;
+	if (has_nmi) {
+		msleep(20); /* for an NMI that is on its way */
+		unregister_nmi_handler(NMI_LOCAL, "tkc");
+	}
+	for_each_online_cpu(cpu) {
+		if (per_cpu(reader, cpu))
+			kthread_stop(per_cpu(reader, cpu));
+		hrtimer_cancel(per_cpu_ptr(&softirq_timer, cpu));
+		hrtimer_cancel(per_cpu_ptr(&hardirq_timer, cpu));
+	}
+}
+
+/* Prints the reads of a context, and returns whether each was right. */
+static bool report(enum context context)
+{
+	struct seen all = { 0 };
+	int cpu;
+
+	for_each_possible_cpu(cpu) {
+		struct seen *one = &per_cpu(seen, cpu)[context];
+
+		all.reads += one->reads;
+		all.refused += one->refused;
+		all.wrong += one->wrong;
+		all.amid += one->amid;
+		all.back += one->back;
+		all.most_back = max(all.most_back, one->most_back);
+	}
+	pr_info("%s: %llu reads, %llu refused, %llu wrong, %llu went back, by at most %llu ns\n",
+		CONTEXT_WORDS[context], all.reads, all.refused, all.wrong,
+		all.back, all.most_back);
+	if (context != NMI)
+		return all.reads && !all.refused && !all.wrong && !all.back;
+	pr_info("nmi: %llu reads interrupted a command\n", all.amid);
+	return !all.refused && !all.wrong && (all.amid || !has_nmi);
+}
+
+bool readers_report(void)
+{
+	bool is_well = true;
+
+	for (enum context context = 0; context < CONTEXTS; context++)
+		is_well &= report(context);
+	return is_well;
+}

@@ -1,0 +1,78 @@
+/* SPDX-License-Identifier: GPL-2.0 */
+/* What the files of the trial share. */
+#ifndef TRIAL_H
+#define TRIAL_H
+
+#include "clocks.h"
+
+#include <linux/ktime.h>
+
+struct seq_file;
+
+/* The clocks that the kernel and the module both have. */
+enum clock { RAW, MONOTONIC, REALTIME, BOOTTIME, TAI, CLOCKS };
+
+/* The clocks' times at one reading, or differences of them, in ns. */
+struct times {
+	s64 of[CLOCKS];
+};
+
+/* The clocks of the trial, and their opening. */
+struct trial {
+	struct clocks clocks;
+	u32 hz;
+	u32 mult, shift; /* of the counter */
+	u64 opened; /* the reading */
+	struct tkc_time time; /* REALTIME there */
+	struct times kernel; /* the kernel's clocks there */
+	bool saves_sse; /* call kernel_fpu_begin() when a call needs it */
+	u64 refused; /* commands */
+	u64 lists, lists_wrong, lists_postponed; /* converted in interrupts */
+};
+
+extern struct trial trial;
+
+static inline u64 tkc_time_ns(const struct tkc_time *time)
+{
+	return (u64)time->sec * NSEC_PER_SEC + time->nsec;
+}
+
+/* counter.c: the counter, and clocks that open at the kernel's time. */
+bool counter_open(const char *name);
+u64 counter_reading(const struct system_time_snapshot *kernel);
+
+/* commands.c: commands, also from an hrtimer. */
+u32 command_apply(u32 command, s64 number, u32 nsec);
+void command_timer_start(void);
+void command_timer_stop(void);
+void command_timer_steer(bool is_steered);
+void steer_in_process(void);
+
+/* readers.c: readers in each context. */
+bool readers_start(bool with_nmi);
+void readers_stop(void);
+bool readers_report(void);
+
+/* compare.c: the kernel's clocks, and the module's clocks minus the kernel's. */
+u64 kernel_times(struct times *times);
+bool compare(struct times *differences);
+bool compare_steady(unsigned int milliseconds);
+bool compare_steered(unsigned int milliseconds);
+bool compare_set(const struct timespec64 *time);
+
+/* calls.c: words and lists. */
+bool calls_check_words(void);
+void calls_convert_in_interrupt(void);
+
+/* suspend.c: SUSPEND and RESUME at the system's suspend. */
+void suspend_register(void);
+void suspend_unregister(void);
+
+/* files.c and print.c: the files in /proc/tkcore. */
+int files_create(void);
+void files_remove(void);
+void print_opening(struct seq_file *file, const struct tkc_counter *counter);
+void print_row(struct seq_file *file, const struct row *row);
+void print_answer(struct seq_file *file, const struct entry *entry);
+
+#endif
