@@ -17,14 +17,14 @@ The program ends with status 1 if the clocks don't get within a microsecond of t
 import argparse
 import sys
 
-import tk
+import tkcore
 
 HZ = 24_000_000
 OFF_PPB = 37_250  # how much too fast the oscillator runs, in parts of 10^9
-STARTED = 1_700_000_000 * tk.NANOS
-POLL = 16 * tk.NANOS
+STARTED = 1_700_000_000 * tkcore.NANOS
+POLL = 16 * tkcore.NANOS
 POLLS = 8
-STEP_LIMIT = tk.NANOS // 8
+STEP_LIMIT = tkcore.NANOS // 8
 PPM = 65_536  # one ppm, in a frequency's unit of 2^-16 ppm
 
 
@@ -33,14 +33,14 @@ class Machine:
 
     def __init__(self, library):
         counter = library.counter_from_hz(bits=48, hz=HZ, maxsec=600)
-        self.clock = library.open(counter, self.reading(STARTED), sec=STARTED // tk.NANOS - 3,
-                                  nsec=tk.NANOS // 2)
+        self.clock = library.open(counter, self.reading(STARTED), sec=STARTED // tkcore.NANOS - 3,
+                                  nsec=tkcore.NANOS // 2)
         self.frequency = 0
         self.offset = None
 
     def reading(self, true_time):
         """Returns the counter's reading at a true time."""
-        cycles = (true_time - STARTED) * HZ * (tk.NANOS + OFF_PPB) // tk.NANOS**2
+        cycles = (true_time - STARTED) * HZ * (tkcore.NANOS + OFF_PPB) // tkcore.NANOS**2
         return (cycles + 987_654_321) % 2**48
 
     def measure(self, true_time):
@@ -73,7 +73,7 @@ def check_batch(machine, true_time):
     """Returns whether converting a thousand stamps at once gives the times of single reads."""
     snapshot = machine.clock.snapshot()
     stamps = [machine.reading(true_time + 1_000_003 * i) for i in range(1000)]
-    times = snapshot.convert("TAI", (tk.U64 * len(stamps))(*stamps))
+    times = snapshot.convert("TAI", (tkcore.U64 * len(stamps))(*stamps))
     return list(times) == [snapshot.get("TAI", stamp) for stamp in stamps]
 
 
@@ -81,7 +81,7 @@ def check_refusal(machine, true_time):
     """Returns whether a reading behind the last one is refused."""
     try:
         machine.clock.apply(machine.reading(true_time) - 1, "UPDATE")
-    except tk.Refused as refused:
+    except tkcore.Refused as refused:
         return refused.code == "BEHIND"
     return False
 
@@ -89,13 +89,14 @@ def check_refusal(machine, true_time):
 def main():
     parser = argparse.ArgumentParser(description=__doc__.split("\n", maxsplit=1)[0])
     parser.add_argument("folder", help="what tools/build_c made")
-    library = tk.Library(parser.parse_args().folder)
+    library = tkcore.Library(parser.parse_args().folder)
     machine = Machine(library)
     offset, true_time = None, STARTED
     for _ in range(POLLS):
         true_time += POLL
         offset = machine.poll(true_time)
-        print(f"{(true_time - STARTED) // tk.NANOS:5} {offset:12} {machine.frequency / PPM:9.3f}")
+        seconds, frequency = (true_time - STARTED) // tkcore.NANOS, machine.frequency / PPM
+        print(f"{seconds:5} {offset:12} {frequency:9.3f}")
     is_right = check_batch(machine, true_time) and check_refusal(machine, true_time)
     is_right = is_right and check_numbers(library)
     sys.exit(0 if is_right and abs(offset) < 1000 else 1)

@@ -1,7 +1,7 @@
 # SPDX-License-Identifier: MIT OR Apache-2.0
-"""Offers the clocks of libtk_c to Python, through ctypes.
+"""Offers the clocks of libtkcore to Python, through ctypes.
 
-    library = tk.Library("dist")
+    library = tkcore.Library("dist")
     counter = library.counter_from_hz(bits=48, hz=24_000_000, maxsec=600)
     clock = library.open(counter, reading=0, sec=1_700_000_000)
     clock.apply(24_000_000, "FREQ", 65_536)
@@ -31,9 +31,9 @@ class Refused(Exception):
 
 
 class Time(ctypes.Structure):
-    """`struct tk_time` of the header."""
+    """`struct tkc_time` of the header."""
 
-    _fields_ = [("sec", I64), ("nsec", U32)]
+    _fields_ = [("sec", I64), ("nsec", U32), ("padding", U32)]
 
 
 def enum(header, name, prefix):
@@ -44,9 +44,9 @@ def enum(header, name, prefix):
 
 def value(header, name):
     """Returns a ctypes structure for a value whose contents only the library reads."""
-    told = re.search(rf"struct {name} {{\s*uint(\d+)_t tk_private\[(\d+)\]", header)
+    told = re.search(rf"struct {name} {{\s*uint(\d+)_t tkc_private\[(\d+)\]", header)
     word = {"32": U32, "64": U64}[told.group(1)]
-    fields = [("tk_private", word * int(told.group(2)))]
+    fields = [("tkc_private", word * int(told.group(2)))]
     return type(name, (ctypes.Structure,), {"_fields_": fields})
 
 
@@ -54,14 +54,14 @@ class Library:
     """The shared object and the header of a folder that tools/build_c made."""
 
     def __init__(self, folder):
-        header = Path(folder, "include", "tk.h").read_text()
-        self.codes = {number: word for word, number in enum(header, "tk_code", "TK_").items()}
-        self.commands = enum(header, "tk_command", "TK_CMD_")
-        self.clocks = enum(header, "tk_clock_id", "TK_CLOCK_")
-        self.counter_value = value(header, "tk_counter")
-        self.clock_value = value(header, "tk_clock")
-        self.snapshot_value = value(header, "tk_snapshot")
-        self.calls = ctypes.CDLL(str(Path(folder, "lib", "libtk_c.so").resolve()))
+        header = Path(folder, "include", "tkcore.h").read_text()
+        self.codes = {number: word for word, number in enum(header, "tkc_code", "TKC_").items()}
+        self.commands = enum(header, "tkc_command", "TKC_CMD_")
+        self.clocks = enum(header, "tkc_clock_id", "TKC_CLOCK_")
+        self.counter_value = value(header, "tkc_counter")
+        self.clock_value = value(header, "tkc_clock")
+        self.snapshot_value = value(header, "tkc_snapshot")
+        self.calls = ctypes.CDLL(str(Path(folder, "lib", "libtkcore.so").resolve()))
 
     def call(self, name, *arguments):
         """Calls a function that returns a code."""
@@ -72,25 +72,25 @@ class Library:
     def counter(self, bits, mult, shift):
         """Returns the counter that has these numbers."""
         counter = self.counter_value()
-        self.call("tk_counter_new", byref(counter), U32(bits), U32(mult), U32(shift))
+        self.call("tkc_counter_new", byref(counter), U32(bits), U32(mult), U32(shift))
         return counter
 
     def counter_from_hz(self, bits, hz, maxsec):
         """Returns the counter that runs at hz cycles a second, for gaps of up to maxsec seconds."""
         counter = self.counter_value()
-        self.call("tk_counter_from_hz", byref(counter), U32(bits), U32(hz), U32(maxsec))
+        self.call("tkc_counter_from_hz", byref(counter), U32(bits), U64(hz), U32(maxsec))
         return counter
 
     def numbers(self, counter):
         """Returns the bits, the mult and the shift of a counter."""
         numbers = [U32(), U32(), U32()]
-        self.calls.tk_counter_numbers(*map(byref, numbers), byref(counter))
+        self.calls.tkc_counter_numbers(*map(byref, numbers), byref(counter))
         return tuple(number.value for number in numbers)
 
     def open(self, counter, reading, sec, nsec=0):
         """Opens clocks at a reading, with REALTIME at sec seconds and nsec nanoseconds."""
         clock = Clock(self)
-        self.call("tk_clock_open", byref(clock.value), byref(counter), U64(reading), I64(sec),
+        self.call("tkc_clock_open", byref(clock.value), byref(counter), U64(reading), I64(sec),
                   U32(nsec))
         return clock
 
@@ -105,7 +105,7 @@ class Clock:
     def apply(self, reading, command, number=0, nsec=0):
         """Applies a command of the header, by its name: `apply(reading, "TICK", 10_001)`."""
         command = self.library.commands[command]
-        self.library.call("tk_clock_apply", byref(self.value), U64(reading), U32(command),
+        self.library.call("tkc_clock_apply", byref(self.value), U64(reading), U32(command),
                           I64(number), U32(nsec))
 
     def step(self, reading, nanoseconds):
@@ -115,7 +115,7 @@ class Clock:
     def snapshot(self):
         """Returns a snapshot of the clocks."""
         snapshot = Snapshot(self.library)
-        self.library.calls.tk_clock_snapshot(byref(snapshot.value), byref(self.value))
+        self.library.calls.tkc_clock_snapshot(byref(snapshot.value), byref(self.value))
         return snapshot
 
 
@@ -129,7 +129,7 @@ class Snapshot:
     def get(self, clock, reading):
         """Returns a clock's time at a reading, in ns: `get("REALTIME", reading)`."""
         time, clock = Time(), self.library.clocks[clock]
-        self.library.call("tk_snapshot_get", byref(time), byref(self.value), U32(clock),
+        self.library.call("tkc_snapshot_get", byref(time), byref(self.value), U32(clock),
                           U64(reading))
         return time.sec * NANOS + time.nsec
 
@@ -139,7 +139,7 @@ class Snapshot:
         count, done, clock = len(stamps), SIZE(), self.library.clocks[clock]
         out = (U64 * count)()
         try:
-            self.library.call("tk_snapshot_convert", out, SIZE(count), byref(done),
+            self.library.call("tkc_snapshot_convert", out, SIZE(count), byref(done),
                               byref(self.value), U32(clock), stamps, SIZE(count))
         except Refused as refused:
             raise Refused(refused.code, done.value) from None
@@ -148,5 +148,5 @@ class Snapshot:
     def words(self):
         """Returns the ten words of the snapshot."""
         words = (U64 * 10)()
-        self.library.calls.tk_snapshot_words(words, byref(self.value))
+        self.library.calls.tkc_snapshot_words(words, byref(self.value))
         return list(words)
