@@ -8,7 +8,7 @@
 #include <stdbool.h>
 #include <stdio.h>
 #include <stdlib.h>
-#include <tk.h>
+#include <tkcore.h>
 
 enum {
 	STAMPS = 1000000,
@@ -19,7 +19,7 @@ enum {
 
 static const uint64_t OPENED_AT = 12345;
 
-/* Returns whether the code is TK_OK, and reports the call if it isn't. */
+/* Returns whether the code is TKC_OK, and reports the call if it isn't. */
 static bool is_done(uint32_t code, const char *call)
 {
 	if (code)
@@ -33,22 +33,22 @@ static bool is_done(uint32_t code, const char *call)
  * 20 ppm a quarter of a second after the opening, and stepped forward by 1.5 s
  * half a second after it.
  */
-static bool make_snapshot(struct tk_snapshot *snapshot)
+static bool make_snapshot(struct tkc_snapshot *snapshot)
 {
-	struct tk_counter counter;
-	struct tk_clock clock;
+	struct tkc_counter counter;
+	struct tkc_clock clock;
 
-	if (!is_done(tk_counter_from_hz(&counter, 48, HZ, 600), "counter") ||
-	    !is_done(tk_clock_open(&clock, &counter, OPENED_AT, 1700000000, 0),
+	if (!is_done(tkc_counter_from_hz(&counter, 48, HZ, 600), "counter") ||
+	    !is_done(tkc_clock_open(&clock, &counter, OPENED_AT, 1700000000, 0),
 		     "open") ||
-	    !is_done(tk_clock_apply(&clock, OPENED_AT + HZ / 4, TK_CMD_FREQ,
-				    -20 * 65536, 0),
+	    !is_done(tkc_clock_apply(&clock, OPENED_AT + HZ / 4, TKC_CMD_FREQ,
+				     -20 * 65536, 0),
 		     "frequency") ||
-	    !is_done(tk_clock_apply(&clock, OPENED_AT + HZ / 2, TK_CMD_STEP, 1,
-				    500000000),
+	    !is_done(tkc_clock_apply(&clock, OPENED_AT + HZ / 2, TKC_CMD_STEP, 1,
+				     500000000),
 		     "step"))
 		return false;
-	tk_clock_snapshot(snapshot, &clock);
+	tkc_clock_snapshot(snapshot, &clock);
 	return true;
 }
 
@@ -58,15 +58,15 @@ static void make_stamps(uint64_t stamps[STAMPS])
 		stamps[i] = OPENED_AT + HZ / 2 + i * CYCLES;
 }
 
-static bool convert(uint64_t times[STAMPS], const struct tk_snapshot *snapshot,
+static bool convert(uint64_t times[STAMPS], const struct tkc_snapshot *snapshot,
 		    const uint64_t stamps[STAMPS])
 {
 	uint64_t sum = 0;
 	size_t done;
 	uint32_t code;
 
-	code = tk_snapshot_convert(times, STAMPS, &done, snapshot,
-				   TK_CLOCK_REALTIME, stamps, STAMPS);
+	code = tkc_snapshot_convert(times, STAMPS, &done, snapshot,
+				    TKC_CLOCK_REALTIME, stamps, STAMPS);
 	if (!is_done(code, "convert"))
 		return false;
 	for (size_t i = 0; i < done; i++)
@@ -78,16 +78,16 @@ static bool convert(uint64_t times[STAMPS], const struct tk_snapshot *snapshot,
 }
 
 static bool convert_spoilt(uint64_t times[STAMPS],
-			   const struct tk_snapshot *snapshot,
+			   const struct tkc_snapshot *snapshot,
 			   uint64_t stamps[STAMPS])
 {
 	uint32_t code;
 	size_t done;
 
 	stamps[SPOILT] = UINT64_MAX; /* no reading of 48 bits */
-	code = tk_snapshot_convert(times, STAMPS, &done, snapshot,
-				   TK_CLOCK_REALTIME, stamps, STAMPS);
-	if (code != TK_INVALID) {
+	code = tkc_snapshot_convert(times, STAMPS, &done, snapshot,
+				    TKC_CLOCK_REALTIME, stamps, STAMPS);
+	if (code != TKC_INVALID) {
 		fprintf(stderr, "convert: a stamp of 64 bits was taken\n");
 		return false;
 	}
@@ -98,7 +98,7 @@ static bool convert_spoilt(uint64_t times[STAMPS],
 int main(void)
 {
 	static uint64_t stamps[STAMPS], times[STAMPS];
-	struct tk_snapshot snapshot;
+	struct tkc_snapshot snapshot;
 
 	if (!make_snapshot(&snapshot))
 		return EXIT_FAILURE;

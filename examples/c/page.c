@@ -1,30 +1,16 @@
 /* SPDX-License-Identifier: MIT OR Apache-2.0 */
 /*
- * Publishes snapshots on a page of words. One thread applies commands and
- * publishes each snapshot. Readers load the latest one without a lock, as the
- * kernel's readers do under tk_core.seq (kernel/time/timekeeping.c,
+ * Publishes snapshots on a page of include/tkcore_page.h. One thread applies
+ * commands and publishes each snapshot. Readers read MONOTONIC without a lock,
+ * as the kernel's readers do under tk_core.seq (kernel/time/timekeeping.c,
  * Documentation/locking/seqlock.rst).
  *
- * The proof covers the library's calls, but not this sequence lock, which is
- * hand-written C11 (the crates tk_page and tk_latch have proved pages).
- * tk_snapshot_from_words validates its input, so a faulty lock cannot produce
- * an invalid snapshot.
+ * The writer reads the counter after tkc_page_begin, and tkc_page_now reads it
+ * before its second look. So a reader never combines a snapshot with a reading
+ * later than that of the next command, and it never sees MONOTONIC go back.
  *
- * The sequence is even while the page is at rest, and odd while it is written.
- *   Writer: 1. makes the sequence odd.
- *           2. reads the counter and applies the command.
- *           3. writes the words.
- *           4. makes the sequence even.
- *   Reader: 1. loads the sequence.
- *           2. loads the words and reads the counter.
- *           3. starts again if the sequence was odd or has changed.
- * The writer reads the counter after its step 1, and the reader before its
- * step 3. So a reader never combines a snapshot with a reading later than that
- * of the next command, and it never sees MONOTONIC go back.
- *
- * The counter here is a word in memory. With the TSC the reader has to read it
- * by "lfence; rdtsc", so that the reading is not taken before the words are
- * loaded, and by another "lfence" before its step 3.
+ * The counter here is a word in memory. tests/c/page_tsc.c does the same over
+ * the TSC.
  */
 #include <inttypes.h>
 #include <pthread.h>
@@ -32,7 +18,7 @@
 #include <stdbool.h>
 #include <stdio.h>
 #include <stdlib.h>
-#include <tk.h>
+#include <tkcore_page.h>
 
 enum {
 	READERS = 3,
@@ -41,29 +27,27 @@ enum {
 	FASTEST = 32768000, /* 500 ppm, in 2^-16 ppm */
 };
 
-struct page {
-	_Atomic uint64_t sequence;
-	_Atomic uint64_t words[TK_WORDS];
-};
-
 struct machine {
-	struct page page;
+	struct tkc_page page;
 	_Atomic uint64_t cycles; /* what the counter shows */
 	atomic_bool is_done;
-	struct tk_counter counter;
-	struct tk_clock clock; /* used by the writer alone */
+	struct tkc_counter counter;
+	struct tkc_clock clock; /* used by the writer alone */
 };
 
 struct reader {
 	pthread_t thread;
-	const struct machine *machine;
+	struct machine *machine;
 	uint64_t front, nanoseconds;
 	const char *wrong;
 };
 
-static uint64_t read_counter(const struct machine *machine)
+/* Returns the counter's reading. `context` is the word that it shows. */
+static uint64_t read_counter(void *context)
 {
-	return atomic_load_explicit(&machine->cycles, memory_order_relaxed);
+	_Atomic uint64_t *cycles = context;
+
+	return atomic_load_explicit(cycles, memory_order_relaxed);
 }
 
 static uint64_t advance_counter(struct machine *machine)
@@ -72,78 +56,18 @@ static uint64_t advance_counter(struct machine *machine)
 						  memory_order_relaxed);
 }
 
-/*
- * Does the writer's step 1. The fence is a full one: every reader must be able
- * to see the odd sequence before the counter is read in step 2. A release fence
- * doesn't order this store before a later load, nor before rdtsc.
- */
-static void begin_page(struct page *page)
-{
-	uint64_t sequence = atomic_load_explicit(&page->sequence,
-						 memory_order_relaxed);
-
-	atomic_store_explicit(&page->sequence, sequence + 1,
-			      memory_order_relaxed);
-	atomic_thread_fence(memory_order_seq_cst);
-}
-
-/* Does the writer's steps 3 and 4. */
-static void end_page(struct page *page, const uint64_t words[TK_WORDS])
-{
-	uint64_t sequence = atomic_load_explicit(&page->sequence,
-						 memory_order_relaxed);
-
-	for (int i = 0; i < TK_WORDS; i++)
-		atomic_store_explicit(&page->words[i], words[i],
-				      memory_order_relaxed);
-	atomic_store_explicit(&page->sequence, sequence + 1,
-			      memory_order_release);
-}
-
-/*
- * Does the reader's steps. Stores the words, and returns a reading that was taken
- * while they were the latest.
- */
-static uint64_t read_page(const struct machine *machine,
-			  uint64_t words[TK_WORDS])
-{
-	const struct page *page = &machine->page;
-	uint64_t before, after, reading;
-
-	do {
-		before = atomic_load_explicit(&page->sequence,
-					      memory_order_acquire);
-		for (int i = 0; i < TK_WORDS; i++)
-			words[i] = atomic_load_explicit(&page->words[i],
-							memory_order_relaxed);
-		reading = read_counter(machine);
-		atomic_thread_fence(memory_order_acquire);
-		after = atomic_load_explicit(&page->sequence,
-					     memory_order_relaxed);
-	} while (before % 2 || before != after);
-	return reading;
-}
-
-static void publish(struct machine *machine)
-{
-	struct tk_snapshot snapshot;
-	uint64_t words[TK_WORDS];
-
-	tk_clock_snapshot(&snapshot, &machine->clock);
-	tk_snapshot_words(words, &snapshot);
-	end_page(&machine->page, words);
-}
-
 /* Applies a command at the counter's reading and publishes the result. */
 static uint32_t command(struct machine *machine, uint32_t command,
 			int64_t number)
 {
+	struct tkc_snapshot snapshot;
 	uint32_t code;
 
-	begin_page(&machine->page);
-	code = tk_clock_apply(&machine->clock, advance_counter(machine),
-			      command, number, 0);
-	publish(machine);
+	tkc_page_begin(&machine->page);
+	code = tkc_clock_apply(&machine->clock, advance_counter(machine),
+			       command, number, 0);
+	tkc_clock_snapshot(&snapshot, &machine->clock);
+	tkc_page_publish(&machine->page, &snapshot);
 	return code;
 }
 
@@ -153,10 +77,10 @@ static uint32_t command(struct machine *machine, uint32_t command,
  */
 static uint32_t write_all(struct machine *machine)
 {
-	uint32_t code = TK_OK;
+	uint32_t code = TKC_OK;
 
 	for (int i = 0; i < COMMANDS && !code; i++) {
-		code = command(machine, TK_CMD_FREQ,
+		code = command(machine, TKC_CMD_FREQ,
 			       i % 2 ? FASTEST : -FASTEST);
 		advance_counter(machine);
 	}
@@ -164,26 +88,36 @@ static uint32_t write_all(struct machine *machine)
 	return code;
 }
 
-/* Reads MONOTONIC once. Returns what is wrong, or NULL. */
-static const char *look(struct reader *reader)
+/* Reads the front of the page's snapshot. Returns what is wrong, or NULL. */
+static const char *look_front(struct reader *reader)
 {
-	uint64_t words[TK_WORDS], reading, nanoseconds;
-	struct tk_snapshot snapshot;
-	struct tk_time time;
+	uint64_t words[TKC_WORDS];
+	struct tkc_snapshot snapshot;
 
-	reading = read_page(reader->machine, words);
-	if (tk_snapshot_from_words(&snapshot, &reader->machine->counter, words))
-		return "no snapshot stands in the page";
-	if (tk_snapshot_get(&time, &snapshot, TK_CLOCK_MONOTONIC, reading))
-		return "MONOTONIC has no time";
-	nanoseconds = (uint64_t)time.sec * 1000000000 + time.nsec;
+	if (tkc_page_read(&reader->machine->page, &snapshot))
+		return "no snapshot was read";
+	tkc_snapshot_words(words, &snapshot);
 	if (words[0] < reader->front)
 		return "the front went back";
+	reader->front = words[0];
+	return NULL;
+}
+
+/* Reads MONOTONIC, and then the front. Returns what is wrong, or NULL. */
+static const char *look(struct reader *reader)
+{
+	struct machine *machine = reader->machine;
+	uint64_t nanoseconds;
+	struct tkc_time time;
+
+	if (tkc_page_now(&machine->page, TKC_CLOCK_MONOTONIC, read_counter,
+			 &machine->cycles, &time))
+		return "MONOTONIC has no time";
+	nanoseconds = (uint64_t)time.sec * 1000000000 + time.nsec;
 	if (nanoseconds < reader->nanoseconds)
 		return "MONOTONIC went back";
-	reader->front = words[0];
 	reader->nanoseconds = nanoseconds;
-	return NULL;
+	return look_front(reader);
 }
 
 static void *read_all(void *argument)
@@ -201,22 +135,23 @@ static void *read_all(void *argument)
 
 static uint32_t open_machine(struct machine *machine)
 {
+	struct tkc_snapshot snapshot;
 	uint32_t code;
 
-	code = tk_counter_from_hz(&machine->counter, 56, 1000000000, 600);
+	code = tkc_counter_from_hz(&machine->counter, 56, 1000000000, 600);
 	if (code)
 		return code;
-	code = tk_clock_open(&machine->clock, &machine->counter,
-			     read_counter(machine), 1700000000, 0);
+	code = tkc_clock_open(&machine->clock, &machine->counter,
+			      read_counter(&machine->cycles), 1700000000, 0);
 	if (code)
 		return code;
-	begin_page(&machine->page);
-	publish(machine);
-	return TK_OK;
+	tkc_clock_snapshot(&snapshot, &machine->clock);
+	tkc_page_init(&machine->page, &machine->counter, &snapshot);
+	return TKC_OK;
 }
 
 static int start_readers(struct reader readers[READERS],
-			 const struct machine *machine)
+			 struct machine *machine)
 {
 	int started = 0;
 

@@ -18,17 +18,17 @@
 static const char *refusal_word(uint32_t code)
 {
 	switch (code) {
-	case TK_FULL:
+	case TKC_FULL:
 		return "full";
-	case TK_ASLEEP:
+	case TKC_ASLEEP:
 		return "asleep";
-	case TK_AWAKE:
+	case TKC_AWAKE:
 		return "awake";
-	case TK_INVALID:
+	case TKC_INVALID:
 		return "invalid";
-	case TK_BEHIND:
+	case TKC_BEHIND:
 		return "behind";
-	case TK_RANGE:
+	case TKC_RANGE:
 		return "range";
 	default:
 		return "unknown";
@@ -40,13 +40,13 @@ static void print_refusal(uint32_t code)
 	printf("no,%s\n", refusal_word(code));
 }
 
-static void print_time(const struct tk_time *time)
+static void print_time(const struct tkc_time *time)
 {
 	printf("%" PRId64 ".%09" PRIu32, time->sec, time->nsec);
 }
 
 /* Prints the date and time in UTC. The year has four digits. */
-static void print_utc(const struct tk_time *time)
+static void print_utc(const struct tkc_time *time)
 {
 	time_t sec = time->sec;
 	char text[sizeof("YYYY-MM-DDThh:mm:ss")];
@@ -59,48 +59,48 @@ static void print_utc(const struct tk_time *time)
 }
 
 /* Prints the counter: a cycle lasts mult / 2^shift ns. */
-static void print_opening(const struct tk_counter *counter)
+static void print_opening(const struct tkc_counter *counter)
 {
 	uint32_t bits, mult, shift;
 
-	tk_counter_numbers(&bits, &mult, &shift, counter);
+	tkc_counter_numbers(&bits, &mult, &shift, counter);
 	printf("open,%" PRIu32 ",%" PRIu32 ",%" PRIu32 "\n", bits, mult, shift);
 }
 
-static void print_read(const struct tk_snapshot *snapshot,
+static void print_read(const struct tkc_snapshot *snapshot,
 		       const struct row *row)
 {
-	struct tk_time time;
+	struct tkc_time time;
 	uint32_t code;
 
-	code = tk_snapshot_get(&time, snapshot, row->clock, row->reading);
+	code = tkc_snapshot_get(&time, snapshot, row->clock, row->reading);
 	if (code) {
 		print_refusal(code);
 		return;
 	}
 	printf("at,%s,", script_clock_word(row->clock));
 	print_time(&time);
-	if (row->clock == TK_CLOCK_REALTIME ||
-	    row->clock == TK_CLOCK_REALTIME_COARSE)
+	if (row->clock == TKC_CLOCK_REALTIME ||
+	    row->clock == TKC_CLOCK_REALTIME_COARSE)
 		print_utc(&time);
 	putchar('\n');
 }
 
 /* Prints the number of accepted commands, and MONOTONIC at the last one. */
-static void print_accepted(const struct tk_snapshot *snapshot)
+static void print_accepted(const struct tkc_snapshot *snapshot)
 {
-	uint64_t words[TK_WORDS];
-	struct tk_time time;
+	uint64_t words[TKC_WORDS];
+	struct tkc_time time;
 
-	tk_snapshot_words(words, snapshot);
-	if (tk_snapshot_get(&time, snapshot, TK_CLOCK_MONOTONIC, words[1]))
+	tkc_snapshot_words(words, snapshot);
+	if (tkc_snapshot_get(&time, snapshot, TKC_CLOCK_MONOTONIC, words[1]))
 		return; /* unreachable: MONOTONIC has a time after each command */
 	printf("ok,%" PRIu64 ",", words[0]);
 	print_time(&time);
 	putchar('\n');
 }
 
-static void run_row(struct tk_clock *clock, struct tk_snapshot *snapshot,
+static void run_row(struct tkc_clock *clock, struct tkc_snapshot *snapshot,
 		    const struct row *row)
 {
 	uint32_t code;
@@ -109,21 +109,21 @@ static void run_row(struct tk_clock *clock, struct tk_snapshot *snapshot,
 		print_read(snapshot, row);
 		return;
 	}
-	code = tk_clock_apply(clock, row->reading, row->command, row->number,
-			      row->nsec);
+	code = tkc_clock_apply(clock, row->reading, row->command, row->number,
+			       row->nsec);
 	if (code) {
 		print_refusal(code);
 		return;
 	}
-	tk_clock_snapshot(snapshot, clock);
+	tkc_clock_snapshot(snapshot, clock);
 	print_accepted(snapshot);
 }
 
 static void run(struct script *script)
 {
-	struct tk_snapshot snapshot;
+	struct tkc_snapshot snapshot;
 
-	tk_clock_snapshot(&snapshot, &script->clock);
+	tkc_clock_snapshot(&snapshot, &script->clock);
 	print_opening(&script->counter);
 	for (size_t i = 0; i < script->count; i++)
 		run_row(&script->clock, &snapshot, &script->rows[i]);

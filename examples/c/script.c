@@ -1,13 +1,11 @@
 /* SPDX-License-Identifier: MIT OR Apache-2.0 */
 #include "script.h"
 
-#include <stdlib.h>
-#include <string.h>
+#include "record.h"
 
-enum {
-	FIELDS_MOST = 7, /* of an opening, including its word */
-	FIRST_ROOM = 1024,
-};
+#include <stdlib.h>
+
+enum { FIRST_ROOM = 1024 };
 
 static const char NO_OPENING[] = "not a valid opening";
 static const char NO_WORD[] = "unknown word";
@@ -28,14 +26,14 @@ struct shape {
 };
 
 static const struct shape SHAPES[] = {
-	{ "update", false, TK_CMD_UPDATE, 1, { READING } },
-	{ "set", false, TK_CMD_SET_TIME, 3, { READING, NUMBER, NSEC } },
-	{ "step", false, TK_CMD_STEP, 3, { READING, NUMBER, NSEC } },
-	{ "freq", false, TK_CMD_FREQ, 2, { READING, NUMBER } },
-	{ "tick", false, TK_CMD_TICK, 2, { READING, NUMBER } },
-	{ "tai", false, TK_CMD_TAI_OFFSET, 2, { READING, NUMBER } },
-	{ "suspend", false, TK_CMD_SUSPEND, 1, { READING } },
-	{ "resume", false, TK_CMD_RESUME, 3, { READING, NUMBER, NSEC } },
+	{ "update", false, TKC_CMD_UPDATE, 1, { READING } },
+	{ "set", false, TKC_CMD_SET_TIME, 3, { READING, NUMBER, NSEC } },
+	{ "step", false, TKC_CMD_STEP, 3, { READING, NUMBER, NSEC } },
+	{ "freq", false, TKC_CMD_FREQ, 2, { READING, NUMBER } },
+	{ "tick", false, TKC_CMD_TICK, 2, { READING, NUMBER } },
+	{ "tai", false, TKC_CMD_TAI_OFFSET, 2, { READING, NUMBER } },
+	{ "suspend", false, TKC_CMD_SUSPEND, 1, { READING } },
+	{ "resume", false, TKC_CMD_RESUME, 3, { READING, NUMBER, NSEC } },
 	{ "get", true, 0, 2, { READING, CLOCK } },
 };
 
@@ -43,13 +41,13 @@ static const struct {
 	const char *word;
 	uint32_t clock;
 } CLOCKS[] = {
-	{ "realtime", TK_CLOCK_REALTIME },
-	{ "monotonic", TK_CLOCK_MONOTONIC },
-	{ "boottime", TK_CLOCK_BOOTTIME },
-	{ "tai", TK_CLOCK_TAI },
-	{ "realtime_coarse", TK_CLOCK_REALTIME_COARSE },
-	{ "monotonic_coarse", TK_CLOCK_MONOTONIC_COARSE },
-	{ "monotonic_raw", TK_CLOCK_MONOTONIC_RAW },
+	{ "realtime", TKC_CLOCK_REALTIME },
+	{ "monotonic", TKC_CLOCK_MONOTONIC },
+	{ "boottime", TKC_CLOCK_BOOTTIME },
+	{ "tai", TKC_CLOCK_TAI },
+	{ "realtime_coarse", TKC_CLOCK_REALTIME_COARSE },
+	{ "monotonic_coarse", TKC_CLOCK_MONOTONIC_COARSE },
+	{ "monotonic_raw", TKC_CLOCK_MONOTONIC_RAW },
 };
 
 #define COUNT_OF(array) (sizeof(array) / sizeof(*(array)))
@@ -62,133 +60,6 @@ struct opening {
 	int64_t sec;
 	uint32_t nsec;
 };
-
-struct reader {
-	char *next, *end;
-};
-
-struct field {
-	const char *text;
-	size_t length;
-};
-
-/* Fields after the first FIELDS_MOST are only counted. */
-struct record {
-	size_t number, count;
-	struct field fields[FIELDS_MOST];
-};
-
-static bool is_word(const struct field *field, const char *word)
-{
-	return field->length == strlen(word) &&
-	       !memcmp(field->text, word, field->length);
-}
-
-static bool ends_record(char c)
-{
-	return c == '\n' || c == '\r';
-}
-
-/*
- * Copies the text between quotes to `to`, and returns the end of the copy. The
- * first quote was already read.
- */
-static char *read_quoted(struct reader *reader, char *to)
-{
-	while (reader->next < reader->end) {
-		char c = *reader->next++;
-
-		if (c == '"') {
-			if (reader->next == reader->end || *reader->next != '"')
-				return to;
-			reader->next++;
-		}
-		*to++ = c;
-	}
-	return to;
-}
-
-/* Reads a field. Returns whether another field follows in the record. */
-static bool read_field(struct reader *reader, struct field *field)
-{
-	char *to = reader->next;
-
-	field->text = to;
-	if (reader->next < reader->end && *reader->next == '"') {
-		reader->next++;
-		to = read_quoted(reader, to);
-	}
-	while (reader->next < reader->end && *reader->next != ',' &&
-	       !ends_record(*reader->next))
-		*to++ = *reader->next++;
-	field->length = (size_t)(to - field->text);
-	return reader->next < reader->end && *reader->next++ == ',';
-}
-
-/* Reads a record. Returns false at the end. Empty lines are no records. */
-static bool read_record(struct reader *reader, struct record *record)
-{
-	struct field field;
-	bool more = true;
-
-	while (reader->next < reader->end && ends_record(*reader->next))
-		reader->next++;
-	if (reader->next == reader->end)
-		return false;
-	record->number++;
-	for (record->count = 0; more; record->count++) {
-		more = read_field(reader, &field);
-		if (record->count < FIELDS_MOST)
-			record->fields[record->count] = field;
-	}
-	return true;
-}
-
-static bool parse_digits(const char *text, size_t length, uint64_t most,
-			 uint64_t *out)
-{
-	uint64_t value = 0;
-
-	if (!length)
-		return false;
-	for (size_t i = 0; i < length; i++) {
-		unsigned int digit = (unsigned char)text[i] - '0';
-
-		if (digit > 9 || value > (most - digit) / 10)
-			return false;
-		value = value * 10 + digit;
-	}
-	*out = value;
-	return true;
-}
-
-static bool parse_u64(const struct field *field, uint64_t *out)
-{
-	return parse_digits(field->text, field->length, UINT64_MAX, out);
-}
-
-static bool parse_u32(const struct field *field, uint32_t *out)
-{
-	uint64_t value;
-
-	if (!parse_digits(field->text, field->length, UINT32_MAX, &value))
-		return false;
-	*out = (uint32_t)value;
-	return true;
-}
-
-static bool parse_i64(const struct field *field, int64_t *out)
-{
-	bool is_negative = field->length && *field->text == '-';
-	uint64_t most = (uint64_t)INT64_MAX + is_negative;
-	uint64_t value;
-
-	if (!parse_digits(field->text + is_negative,
-			  field->length - is_negative, most, &value))
-		return false;
-	*out = is_negative ? (int64_t)(0 - value) : (int64_t)value;
-	return true;
-}
 
 static const char *parse_clock(const struct field *field, uint32_t *clock)
 {
@@ -277,15 +148,15 @@ static const char *open_clocks(const struct opening *opening,
 	uint32_t code;
 
 	if (opening->by_frequency)
-		code = tk_counter_from_hz(&script->counter, numbers[0],
-					  numbers[1], numbers[2]);
+		code = tkc_counter_from_hz(&script->counter, numbers[0],
+					   numbers[1], numbers[2]);
 	else
-		code = tk_counter_new(&script->counter, numbers[0], numbers[1],
-				      numbers[2]);
+		code = tkc_counter_new(&script->counter, numbers[0], numbers[1],
+				       numbers[2]);
 	if (!code)
-		code = tk_clock_open(&script->clock, &script->counter,
-				     opening->reading, opening->sec,
-				     opening->nsec);
+		code = tkc_clock_open(&script->clock, &script->counter,
+				      opening->reading, opening->sec,
+				      opening->nsec);
 	return code ? NO_OPENING : NULL;
 }
 

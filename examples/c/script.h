@@ -10,7 +10,7 @@
 #include <stdbool.h>
 #include <stddef.h>
 #include <stdint.h>
-#include <tk.h>
+#include <tkcore.h>
 
 /* The greatest size of a script, in bytes. */
 enum { SCRIPT_LIMIT = 16777216 };
@@ -19,16 +19,16 @@ enum { SCRIPT_LIMIT = 16777216 };
 struct row {
 	bool is_read;
 	uint64_t reading;
-	uint32_t command; /* as tk_clock_apply takes it, with its numbers */
+	uint32_t command; /* as tkc_clock_apply takes it, with its numbers */
 	int64_t number;
 	uint32_t nsec;
-	uint32_t clock; /* as tk_snapshot_get takes it */
+	uint32_t clock; /* as tkc_snapshot_get takes it */
 };
 
 /* The clocks as the first record opens them, and the rows after it. */
 struct script {
-	struct tk_counter counter;
-	struct tk_clock clock;
+	struct tkc_counter counter;
+	struct tkc_clock clock;
 	struct row *rows;
 	size_t count;
 };

@@ -9,7 +9,7 @@
  * 16 bytes. It is 8 in a function that is compiled as the kernel compiles its
  * own, with -mpreferred-stack-boundary=3.
  */
-#include <tk.h>
+#include <tkcore.h>
 
 #ifndef STACK_OFF
 #define STACK_OFF 0
@@ -30,63 +30,63 @@ static void leave(long status)
 	} while (0)
 
 /* Opens clocks at reading 5. A cycle of the counter is a nanosecond. */
-static void open(struct tk_clock *clock, struct tk_counter *counter)
+static void open(struct tkc_clock *clock, struct tkc_counter *counter)
 {
 	uint32_t bits, mult, shift;
 
-	check(tk_version() == TK_VERSION);
-	check(tk_counter_from_hz(counter, 32, 1000000000, 4) == TK_OK);
-	check(tk_counter_new(counter, 32, 1 << 24, 24) == TK_OK);
-	tk_counter_numbers(&bits, &mult, &shift, counter);
+	check(tkc_version() == TKC_VERSION);
+	check(tkc_counter_from_hz(counter, 32, 1000000000, 4) == TKC_OK);
+	check(tkc_counter_new(counter, 32, 1 << 24, 24) == TKC_OK);
+	tkc_counter_numbers(&bits, &mult, &shift, counter);
 	check(bits == 32 && mult == 1 << 24 && shift == 24);
-	check(tk_clock_open(clock, counter, 5, 1700000000, 0) == TK_OK);
-	check(tk_clock_apply(clock, 1000000005, TK_CMD_UPDATE, 0, 0) == TK_OK);
+	check(tkc_clock_open(clock, counter, 5, 1700000000, 0) == TKC_OK);
+	check(tkc_clock_apply(clock, 1000000005, TKC_CMD_UPDATE, 0, 0) == TKC_OK);
 }
 
-static void read(const struct tk_snapshot *snapshot)
+static void read(const struct tkc_snapshot *snapshot)
 {
 	static const uint64_t stamps[9] = { 0, 1500000005, 1500000006 };
-	struct tk_time time;
+	struct tkc_time time;
 	uint64_t out[9];
 	size_t done;
 
-	check(tk_snapshot_get(&time, snapshot, TK_CLOCK_REALTIME,
-			      1500000005) == TK_OK);
+	check(tkc_snapshot_get(&time, snapshot, TKC_CLOCK_REALTIME,
+			       1500000005) == TKC_OK);
 	check(time.sec == 1700000001 && time.nsec == 500000000);
-	check(tk_snapshot_convert(out, 9, &done, snapshot, TK_CLOCK_MONOTONIC,
-				  stamps, 9) == TK_OK);
+	check(tkc_snapshot_convert(out, 9, &done, snapshot, TKC_CLOCK_MONOTONIC,
+				   stamps, 9) == TKC_OK);
 	check(done == 9 && out[0] == 1000000000 && out[2] == 1500000001);
-	check(tk_snapshot_convert(NULL, 0, &done, snapshot, TK_CLOCK_MONOTONIC,
-				  NULL, 0) == TK_OK);
+	check(tkc_snapshot_convert(NULL, 0, &done, snapshot, TKC_CLOCK_MONOTONIC,
+				   NULL, 0) == TKC_OK);
 	check(done == 0);
 }
 
 /* Checks that the words of clocks and of a snapshot give them back. */
-static void restore(const struct tk_clock *clock,
-		    const struct tk_counter *counter)
+static void restore(const struct tkc_clock *clock,
+		    const struct tkc_counter *counter)
 {
-	uint64_t words[TK_WORDS], same[TK_WORDS];
-	struct tk_snapshot snapshot;
-	struct tk_clock other;
+	uint64_t words[TKC_WORDS], same[TKC_WORDS];
+	struct tkc_snapshot snapshot;
+	struct tkc_clock other;
 	int64_t frequency, tick;
 
-	tk_clock_words(words, &frequency, &tick, clock);
+	tkc_clock_words(words, &frequency, &tick, clock);
 	check(frequency == 0 && tick == 10000);
-	check(tk_clock_from_words(&other, counter, words, frequency, tick) ==
-	      TK_OK);
-	tk_clock_snapshot(&snapshot, &other);
+	check(tkc_clock_from_words(&other, counter, words, frequency, tick) ==
+	      TKC_OK);
+	tkc_clock_snapshot(&snapshot, &other);
 	read(&snapshot);
-	check(tk_snapshot_from_words(&snapshot, counter, words) == TK_OK);
+	check(tkc_snapshot_from_words(&snapshot, counter, words) == TKC_OK);
 	read(&snapshot);
-	tk_snapshot_words(same, &snapshot);
-	for (int i = 0; i < TK_WORDS; i++)
+	tkc_snapshot_words(same, &snapshot);
+	for (int i = 0; i < TKC_WORDS; i++)
 		check(same[i] == words[i]);
 }
 
 void start(void)
 {
-	struct tk_counter counter;
-	struct tk_clock clock;
+	struct tkc_counter counter;
+	struct tkc_clock clock;
 
 	open(&clock, &counter);
 	restore(&clock, &counter);

@@ -1,1 +1,2 @@
 mod NoStamps
+mod Stored

@@ -1,4 +1,4 @@
--- The codes that a call returns to C: enum tk_code of include/tk.h.
+-- The codes that a call returns to C: enum tkc_code of include/tkcore.h.
 use Rattle.std.specs.Prelude.{ℕ}
 use Rattle.tk_counter.specs.declared.desc_error.DescError.{DescError}
 use Rattle.tk_counter.specs.declared.desc_error.DescError.TheVariants as faults

@@ -3,6 +3,7 @@ pub mod Named
 pub mod Storage
 pub mod Counted
 pub mod Converted
+pub mod Rate
 pub mod Restored
 pub mod Version
 pub mod Lists

@@ -1,4 +1,4 @@
--- The numbers of commands and clocks in C: enum tk_command and enum tk_clock_id of include/tk.h.
+-- The numbers of commands and clocks in C: enum tkc_command and enum tkc_clock_id of include/tkcore.h.
 use Rattle.std.specs.Prelude.{ℕ, ℤ, Option, Some, None, nat_eq, if◌then◌else◌}
 use Rattle.tk_clock.specs.declared.timespec.Timespec.{Timespec}
 use Rattle.tk_clock.specs.declared.command.Command.{Command}

@@ -3,10 +3,16 @@ use Rattle.std.specs.Prelude.{ℕ, ◌/◌, ◌%◌, unsigned_abs, if◌then◌e
 use Rattle.tk_counter.specs.Counter.{Counter, second}
 use Rattle.tk_clock.specs.Snapshot.{Snapshot}
 use Rattle.tk_clock.specs.State.{ReadBase, State}
+use Rattle.tk_clock.specs.declared.timespec.Timespec.{Timespec}
 use Rattle.tk_c.specs.declared.storage.CounterStorage.{CounterStorage}
 use Rattle.tk_c.specs.declared.storage.BaseStorage.{BaseStorage}
 use Rattle.tk_c.specs.declared.storage.SnapshotStorage.{SnapshotStorage}
+use Rattle.tk_c.specs.declared.storage.TimeStorage.{TimeStorage}
 use Rattle.tk_c.specs.declared.storage.ClockStorage.{ClockStorage}
+
+-- the time of a storage
+abbrev pub stored_time : TimeStorage → Timespec
+stored_time storage = record { sec = storage.sec; nsec = storage.nsec }
 
 -- a counter
 abbrev pub counter_storage : Counter → CounterStorage

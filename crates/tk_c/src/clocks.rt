@@ -12,7 +12,7 @@ ghost use Rattle.tk_c.specs.Storage.{snapshot_storage, clock_storage};
 use crate::code::Code;
 use crate::counted::CountedClock;
 use crate::named::command_named;
-use crate::storage::{ClockStorage, SnapshotStorage};
+use crate::storage::{ClockStorage, CounterStorage, SnapshotStorage};
 use tk_clock::{Clock, Refusal, Timespec};
 use tk_counter::CounterDesc;
 
@@ -29,7 +29,7 @@ const COUNTED_MOST: u64 = (1 << 63) - 1;
 /// Returns `Code::Invalid`, and leaves `out`, if the reading is above the mask or the time is out
 /// of its range.
 #[unsafe(no_mangle)]
-pub extern "C" fn tk_clock_open(
+pub extern "C" fn tkc_clock_open(
     out: &mut ClockStorage,
     counter: &CounterDesc,
     reading: u64,
@@ -53,8 +53,8 @@ pub extern "C" fn tk_clock_open(
 
 /// Applies the command of a number to the clocks and counts it (`Clock::apply`).
 ///
-/// `number` and `nsec` are the command's numbers, in the units of `enum tk_command` in
-/// include/tk.h. A number that the command doesn't use may have any value.
+/// `number` and `nsec` are the command's numbers, in the units of `enum tkc_command` in
+/// include/tkcore.h. A number that the command doesn't use may have any value.
 ///
 /// # Errors
 ///
@@ -65,7 +65,7 @@ pub extern "C" fn tk_clock_open(
 /// - the code of the first test that the command fails: `Asleep` or `Awake`, `Invalid` for the
 ///   reading and the numbers, `Behind`, `Range`, `Invalid` for the resulting REALTIME.
 #[unsafe(no_mangle)]
-pub extern "C" fn tk_clock_apply(
+pub extern "C" fn tkc_clock_apply(
     clock: &mut CountedClock,
     reading: u64,
     command: u32,
@@ -96,11 +96,25 @@ pub extern "C" fn tk_clock_apply(
 /// Writes a snapshot of the clocks to `out` (`Clock::snapshot`). Its front is the number of
 /// accepted commands.
 #[unsafe(no_mangle)]
-pub extern "C" fn tk_clock_snapshot(out: &mut SnapshotStorage, clock: &CountedClock)
+pub extern "C" fn tkc_clock_snapshot(out: &mut SnapshotStorage, clock: &CountedClock)
     ensures { out.new ≡ snapshot_storage (record {
       front = clock.now.front;
       base = clock.now.clock.base;
     }) }
 {
-    *out = SnapshotStorage::from(clock.clock.snapshot(clock.front));
+    // fields one by one, without neighbours in a row: the rattle backend would copy two neighbours
+    // by an SSE register, which an interrupt in a kernel must not use
+    let snapshot = clock.clock.snapshot(clock.front);
+    out.front = snapshot.front();
+    out.base.counter = CounterStorage::from(snapshot.desc());
+    out.base.last = snapshot.last();
+    out.base.mult = snapshot.mult();
+    out.base.sec = snapshot.sec();
+    out.base.raw_sec = snapshot.raw_sec();
+    out.base.real_offset = snapshot.real_offset();
+    out.base.frac = snapshot.frac();
+    out.base.raw_frac = snapshot.raw_frac();
+    out.base.boot_offset = snapshot.boot_offset();
+    out.base.tai = snapshot.tai();
+    out.base.asleep = u8::from(snapshot.asleep());
 }

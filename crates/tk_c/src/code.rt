@@ -4,7 +4,7 @@ ghost use Rattle.tk_c.specs.Codes.{number_of, code_of_refusal, code_of_read, cod
 use tk_clock::{ReadError, Refusal};
 use tk_counter::DescError;
 
-/// Names what a call returns, with the numbers of `enum tk_code` in include/tk.h.
+/// Names what a call returns, with the numbers of `enum tkc_code` in include/tkcore.h.
 #[derive(Clone, Copy, Debug, PartialEq, Eq)]
 pub enum Code {
     /// The call is done.
@@ -44,7 +44,7 @@ pub enum Code {
 }
 
 impl Code {
-    /// Returns the code's number in `enum tk_code`.
+    /// Returns the code's number in `enum tkc_code`.
     pub fn number(self) -> u32
         ensures { result ≡ number_of self }
     {

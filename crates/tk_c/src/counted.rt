@@ -1,6 +1,6 @@
 use tk_clock::Clock;
 
-/// Holds running clocks and the number of commands that they accepted: `struct tk_clock` in C.
+/// Holds running clocks and the number of commands that they accepted: `struct tkc_clock` in C.
 #[repr(C)]
 #[derive(Clone, Copy, Debug)]
 pub struct CountedClock {

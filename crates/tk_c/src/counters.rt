@@ -4,6 +4,7 @@ ghost use Rattle.tk_counter.specs.Description.{first_fault};
 ghost use Rattle.tk_counter.specs.Frequency.{from_frequency, frequency_fault};
 ghost use Rattle.tk_c.specs.Codes.{number_of, code_of_fault};
 ghost use Rattle.tk_c.specs.declared.code.Code.TheVariants.{Done};
+ghost use Rattle.tk_c.specs.Rate.{requested_rate};
 ghost use Rattle.tk_c.specs.Storage.{counter_storage};
 
 use crate::code::Code;
@@ -23,7 +24,7 @@ use tk_counter::CounterDesc;
 /// - `Code::BadMult` if `mult` is below 256;
 /// - `Code::BadAdjust` if `mult` plus 11 percent doesn't fit in 32 bits.
 #[unsafe(no_mangle)]
-pub extern "C" fn tk_counter_new(out: &mut CounterStorage, bits: u32, mult: u32, shift: u32) -> u32
+pub extern "C" fn tkc_counter_new(out: &mut CounterStorage, bits: u32, mult: u32, shift: u32) -> u32
     ensures { let counter : Counter = record { bits = bits; mult = mult; shift = shift } in
         MatchOption (first_fault counter)
         ((result ≡ number_of Done) × (out.new ≡ counter_storage counter))
@@ -47,20 +48,25 @@ pub extern "C" fn tk_counter_new(out: &mut CounterStorage, bits: u32, mult: u32,
 /// Leaves `out` and returns, in this order:
 ///
 /// - `Code::BadBits` unless `bits` is 8 to 64;
-/// - `Code::BadRate` if `hz` is 0, or unless `maxsec` is 1 to 600.
+/// - `Code::BadRate` if `hz` is 0 or above 2^32 - 1, or unless `maxsec` is 1 to 600.
 #[unsafe(no_mangle)]
-pub extern "C" fn tk_counter_from_hz(
+pub extern "C" fn tkc_counter_from_hz(
     out: &mut CounterStorage,
     bits: u32,
-    hz: u32,
+    hz: u64,
     maxsec: u32,
 ) -> u32
-    ensures { MatchOption (frequency_fault bits hz maxsec)
+    ensures { MatchOption (frequency_fault bits (requested_rate hz) maxsec)
         ((result ≡ number_of Done) × MatchOption (from_frequency bits hz maxsec) ⊥
         (λ counter. out.new ≡ counter_storage counter))
         (λ fault. (result ≡ number_of (code_of_fault fault)) × (out.new ≡ out.old)) }
 {
-    match CounterDesc::from_hz(bits, hz, maxsec) {
+    let rate = if hz > u64::from(u32::MAX) {
+        0
+    } else {
+        hz as u32
+    };
+    match CounterDesc::from_hz(bits, rate, maxsec) {
         Ok(counter) => {
             *out = CounterStorage::from(counter);
             Code::Done.number()
@@ -72,9 +78,9 @@ pub extern "C" fn tk_counter_from_hz(
 /// Writes the numbers of a counter (`CounterDesc::bits`, `mult` and `shift`): the bits of a
 /// reading, and the mult and shift of a cycle, which lasts `mult / 2^shift` ns.
 ///
-/// `tk_counter_new` makes the same counter from these numbers.
+/// `tkc_counter_new` makes the same counter from these numbers.
 #[unsafe(no_mangle)]
-pub extern "C" fn tk_counter_numbers(
+pub extern "C" fn tkc_counter_numbers(
     bits: &mut u32,
     mult: &mut u32,
     shift: &mut u32,

@@ -8,15 +8,17 @@ ghost use Rattle.tk_c.specs.declared.code.Code.TheVariants.{Done, BadClock};
 ghost use Rattle.tk_c.specs.Converted.{IsAnswered};
 ghost use Rattle.tk_c.specs.Lists.{owned_at, shared_at, Lists};
 ghost use Rattle.tk_c.specs.Named.{clock_named};
+ghost use Rattle.tk_c.specs.Storage.{stored_time};
 
 use crate::code::Code;
 use crate::named::clock_named;
+use crate::storage::TimeStorage;
 use std::slice::{from_raw_parts, from_raw_parts_mut};
-use tk_clock::{ClockId, Snapshot, Timespec};
+use tk_clock::{ClockId, Snapshot};
 use tk_lanes::{BatchError, lane_batch};
 
-/// Writes a clock's time at a reading to `out` (`Snapshot::get`). `clock` is a number of
-/// `enum tk_clock_id`.
+/// Writes a clock's time at a reading to `out`, and 0 to its padding (`Snapshot::get`). `clock` is
+/// a number of `enum tkc_clock_id`.
 ///
 /// # Errors
 ///
@@ -26,8 +28,8 @@ use tk_lanes::{BatchError, lane_batch};
 /// - `Code::Invalid` if the reading is above the mask;
 /// - `Code::Range` if the clock is at or past its limit.
 #[unsafe(no_mangle)]
-pub extern "C" fn tk_snapshot_get(
-    out: &mut Timespec,
+pub extern "C" fn tkc_snapshot_get(
+    out: &mut TimeStorage,
     snapshot: &Snapshot,
     clock: u32,
     reading: u64,
@@ -36,8 +38,8 @@ pub extern "C" fn tk_snapshot_get(
         ((result ≡ number_of BadClock) × (out.new ≡ out.old))
         (λ named. MatchOption (read_refusal snapshot.now.base named reading)
         ((result ≡ number_of Done)
-        × (nanoseconds out.new ≡ base_value snapshot.now.base named reading)
-        × (out.new.nsec < 10 ^ 9) × (pos 0 ≤ℤ out.new.sec))
+        × (nanoseconds (stored_time out.new) ≡ base_value snapshot.now.base named reading)
+        × (out.new.nsec < 10 ^ 9) × (pos 0 ≤ℤ out.new.sec) × (out.new.padding ≡ 0))
         (λ refusal. (result ≡ number_of (code_of_read refusal)) × (out.new ≡ out.old))) }
 {
     match clock {
@@ -47,18 +49,18 @@ pub extern "C" fn tk_snapshot_get(
     }
 }
 
-/// Writes the time of the clock that has a number, as `tk_snapshot_get` does for any number.
+/// Writes the time of the clock that has a number, as `tkc_snapshot_get` does for any number.
 ///
-/// `tk_snapshot_get` itself has separate branches for the two clocks that are read most. This
+/// `tkc_snapshot_get` itself has separate branches for the two clocks that are read most. This
 /// function is out of line, so that those branches don't start with a jump table.
 #[inline(never)]
-fn get_named(out: &mut Timespec, snapshot: &Snapshot, clock: u32, reading: u64) -> u32
+fn get_named(out: &mut TimeStorage, snapshot: &Snapshot, clock: u32, reading: u64) -> u32
     ensures { MatchOption (clock_named clock)
         ((result ≡ number_of BadClock) × (out.new ≡ out.old))
         (λ named. MatchOption (read_refusal snapshot.now.base named reading)
         ((result ≡ number_of Done)
-        × (nanoseconds out.new ≡ base_value snapshot.now.base named reading)
-        × (out.new.nsec < 10 ^ 9) × (pos 0 ≤ℤ out.new.sec))
+        × (nanoseconds (stored_time out.new) ≡ base_value snapshot.now.base named reading)
+        × (out.new.nsec < 10 ^ 9) × (pos 0 ≤ℤ out.new.sec) × (out.new.padding ≡ 0))
         (λ refusal. (result ≡ number_of (code_of_read refusal)) × (out.new ≡ out.old))) }
 {
     match clock_named(clock) {
@@ -69,18 +71,19 @@ fn get_named(out: &mut Timespec, snapshot: &Snapshot, clock: u32, reading: u64) 
 
 /// Writes a clock's time at a reading, or returns the code of the test that fails.
 #[inline(always)]
-fn get_known(out: &mut Timespec, snapshot: &Snapshot, clock: ClockId, reading: u64) -> u32
+fn get_known(out: &mut TimeStorage, snapshot: &Snapshot, clock: ClockId, reading: u64) -> u32
     ensures { MatchOption (read_refusal snapshot.now.base clock reading)
         ((result ≡ number_of Done)
-        × (nanoseconds out.new ≡ base_value snapshot.now.base clock reading)
-        × (out.new.nsec < 10 ^ 9) × (pos 0 ≤ℤ out.new.sec))
+        × (nanoseconds (stored_time out.new) ≡ base_value snapshot.now.base clock reading)
+        × (out.new.nsec < 10 ^ 9) × (pos 0 ≤ℤ out.new.sec) × (out.new.padding ≡ 0))
         (λ refusal. (result ≡ number_of (code_of_read refusal)) × (out.new ≡ out.old)) }
 {
     match snapshot.get(clock, reading) {
         Ok(time) => {
-            // two stores, of the fields as the read returned them
+            // three stores, two of them of the fields as the read returned them
             out.sec = time.sec;
             out.nsec = time.nsec;
+            out.padding = 0;
             Code::Done.number()
         }
         Err(refusal) => Code::from(refusal).number(),
@@ -103,7 +106,7 @@ fn get_known(out: &mut Timespec, snapshot: &Snapshot, clock: ClockId, reading: u
 /// - `Code::Invalid` or `Code::Range` if a read at stamp number `done` is refused so: the times of
 ///   the stamps before it are written.
 #[unsafe(no_mangle)]
-pub unsafe extern "C" fn tk_snapshot_convert(
+pub unsafe extern "C" fn tkc_snapshot_convert(
     out: *mut u64,
     room: usize,
     done: &mut usize,
@@ -160,7 +163,7 @@ fn convert_into_none(clock: u32) -> u32
     }
 }
 
-/// Converts stamps as `tk_snapshot_convert` does, for lists that are slices.
+/// Converts stamps as `tkc_snapshot_convert` does, for lists that are slices.
 pub(crate) fn convert(
     out: &mut [u64],
     done: &mut usize,

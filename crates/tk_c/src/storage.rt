@@ -13,9 +13,11 @@ const _: () = prove!(size_of::<CounterDesc>() == size_of::<CounterStorage>());
 
 const _: () = prove!(size_of::<Snapshot>() == size_of::<SnapshotStorage>());
 
+const _: () = prove!(size_of::<TimeStorage>() == 16);
+
 const _: () = prove!(size_of::<CountedClock>() == size_of::<ClockStorage>());
 
-/// Describes the memory that a counter is written to: `struct tk_counter`. A cycle lasts
+/// Describes the memory that a counter is written to: `struct tkc_counter`. A cycle lasts
 /// `mult / 2^shift` ns.
 #[repr(C)]
 #[derive(Clone, Copy, Debug, PartialEq, Eq)]
@@ -56,7 +58,7 @@ pub struct BaseStorage {
     pub asleep: u8,
 }
 
-/// Describes the memory that a snapshot is written to: `struct tk_snapshot`.
+/// Describes the memory that a snapshot is written to: `struct tkc_snapshot`.
 #[repr(C)]
 #[derive(Clone, Copy, Debug, PartialEq, Eq)]
 pub struct SnapshotStorage {
@@ -66,7 +68,7 @@ pub struct SnapshotStorage {
     pub base: BaseStorage,
 }
 
-/// Describes the memory that clocks are written to: `struct tk_clock`.
+/// Describes the memory that clocks are written to: `struct tkc_clock`.
 #[repr(C)]
 #[derive(Clone, Copy, Debug, PartialEq, Eq)]
 pub struct ClockStorage {
@@ -78,6 +80,18 @@ pub struct ClockStorage {
     pub tick: i64,
     /// The number of accepted commands.
     pub front: u64,
+}
+
+/// Describes the memory that a time is written to: `struct tkc_time`.
+#[repr(C)]
+#[derive(Clone, Copy, Debug, PartialEq, Eq)]
+pub struct TimeStorage {
+    /// Whole seconds.
+    pub sec: i64,
+    /// The nanoseconds below a second.
+    pub nsec: u32,
+    /// The bytes after them, 0 once a time is written.
+    pub padding: u32,
 }
 
 impl From<CounterDesc> for CounterStorage {

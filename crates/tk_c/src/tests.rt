@@ -1,4 +1,4 @@
-//! Tests meet each code of include/tk.h once by its number there, with values from outside the
+//! Tests meet each code of include/tkcore.h once by its number there, with values from outside the
 //! contracts.
 
 mod applied;
@@ -7,15 +7,15 @@ mod read;
 mod restored;
 
 use crate::{
-    BaseStorage, ClockStorage, CountedClock, CounterStorage, SnapshotStorage, tk_clock_apply,
-    tk_clock_words,
+    BaseStorage, ClockStorage, CountedClock, CounterStorage, SnapshotStorage, tkc_clock_apply,
+    tkc_clock_words,
 };
 use std::process::Abort;
 use std::test::Fail;
 use tk_clock::{Clock, Timespec};
 use tk_counter::CounterDesc;
 
-/// The numbers of the commands in `enum tk_command`.
+/// The numbers of the commands in `enum tkc_command`.
 const UPDATE: u32 = 0;
 
 const SET_TIME: u32 = 1;
@@ -32,7 +32,7 @@ const SUSPEND: u32 = 6;
 
 const RESUME: u32 = 7;
 
-/// The numbers of the clocks in `enum tk_clock_id`.
+/// The numbers of the clocks in `enum tkc_clock_id`.
 const REALTIME: u32 = 0;
 
 const MONOTONIC: u32 = 1;
@@ -125,7 +125,7 @@ fn words_of(clock: &CountedClock) -> ([u64; 10], i64, i64) {
     let mut words = [7; 10];
     let mut frequency = 7;
     let mut tick = 7;
-    tk_clock_words(&mut words, &mut frequency, &mut tick, clock);
+    tkc_clock_words(&mut words, &mut frequency, &mut tick, clock);
     (words, frequency, tick)
 }
 
@@ -140,7 +140,7 @@ fn answers(
     code: u32,
 ) {
     let before = words_of(clock);
-    let answer = tk_clock_apply(clock, reading, command, number, nsec);
+    let answer = tkc_clock_apply(clock, reading, command, number, nsec);
     assert_eq!(rt; answer, code, "{command} {number} at {reading}");
     if answer != 0 {
         assert_eq!(rt; words_of(clock), before, "{command} {number} at {reading}");

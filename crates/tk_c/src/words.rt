@@ -15,13 +15,13 @@ use crate::storage::{ClockStorage, SnapshotStorage};
 use tk_clock::{Clock, Snapshot};
 use tk_counter::CounterDesc;
 
-/// Writes the ten words of a snapshot (`Snapshot::words`). include/tk.h lists them with units.
+/// Writes the ten words of a snapshot (`Snapshot::words`). include/tkcore.h lists them with units.
 #[unsafe(no_mangle)]
-pub extern "C" fn tk_snapshot_words(words: &mut [u64; 10], snapshot: &Snapshot)
+pub extern "C" fn tkc_snapshot_words(words: &mut [u64; 10], snapshot: &Snapshot)
     ensures value { words.new ≡ words_of snapshot.now }
     ensures back { restored snapshot.now.base.counter words.new ≡ Some snapshot.now }
 {
-    *words = snapshot.words();
+    store(words, &snapshot.words());
 }
 
 /// Writes the snapshot of a counter that ten words represent to `out` (`Snapshot::from_words`).
@@ -31,7 +31,7 @@ pub extern "C" fn tk_snapshot_words(words: &mut [u64; 10], snapshot: &Snapshot)
 /// Returns `Code::BadWords`, and leaves `out`, if a word is out of its range, or if REALTIME,
 /// BOOTTIME or TAI would be at or past its limit at the last reading.
 #[unsafe(no_mangle)]
-pub extern "C" fn tk_snapshot_from_words(
+pub extern "C" fn tkc_snapshot_from_words(
     out: &mut SnapshotStorage,
     counter: &CounterDesc,
     words: &[u64; 10],
@@ -52,7 +52,7 @@ pub extern "C" fn tk_snapshot_from_words(
 /// Writes the ten words of the clocks' snapshot, the frequency in `2^-16` ppm as it was set, and
 /// the tick in microseconds.
 #[unsafe(no_mangle)]
-pub extern "C" fn tk_clock_words(
+pub extern "C" fn tkc_clock_words(
     words: &mut [u64; 10],
     frequency: &mut i64,
     tick: &mut i64,
@@ -65,7 +65,7 @@ pub extern "C" fn tk_clock_words(
         ≡ Some (counted_snapshot clock.now) }
     ensures running { IsRunning clock.now.clock.base frequency.new tick.new }
 {
-    *words = clock.clock.snapshot(clock.front).words();
+    store(words, &clock.clock.snapshot(clock.front).words());
     *frequency = clock.clock.frequency();
     *tick = clock.clock.tick();
 }
@@ -78,7 +78,7 @@ pub extern "C" fn tk_clock_words(
 /// Returns `Code::BadWords`, and leaves `out`, if the words represent no snapshot of the counter,
 /// or if running clocks of this frequency and tick never have this snapshot.
 #[unsafe(no_mangle)]
-pub extern "C" fn tk_clock_from_words(
+pub extern "C" fn tkc_clock_from_words(
     out: &mut ClockStorage,
     counter: &CounterDesc,
     words: &[u64; 10],
@@ -100,4 +100,24 @@ pub extern "C" fn tk_clock_from_words(
         front: snapshot.front(),
     });
     Code::Done.number()
+}
+
+/// Stores ten words one by one, without neighbours in a row.
+///
+/// The rattle backend would copy two neighbours by an SSE register, which an interrupt in a kernel
+/// must not use.
+fn store(words: &mut [u64; 10], told: &[u64; 10])
+    ensures { words.new ≡ told.now }
+{
+    let &[t0, t1, t2, t3, t4, t5, t6, t7, t8, t9] = told;
+    words[0] = t0;
+    words[2] = t2;
+    words[4] = t4;
+    words[6] = t6;
+    words[8] = t8;
+    words[1] = t1;
+    words[3] = t3;
+    words[5] = t5;
+    words[7] = t7;
+    words[9] = t9;
 }

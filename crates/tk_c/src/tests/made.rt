@@ -1,7 +1,7 @@
 use super::{OLD_CLOCK, OLD_COUNTER, OLD_SNAPSHOT, commanded, nanosecond_counter};
 use crate::{
-    BaseStorage, ClockStorage, CounterStorage, SnapshotStorage, tk_clock_open, tk_clock_snapshot,
-    tk_counter_from_hz, tk_counter_new, tk_counter_numbers, tk_version,
+    BaseStorage, ClockStorage, CounterStorage, SnapshotStorage, tkc_clock_open, tkc_clock_snapshot,
+    tkc_counter_from_hz, tkc_counter_new, tkc_counter_numbers, tkc_version,
 };
 use std::test::Fail;
 use tk_counter::CounterDesc;
@@ -24,7 +24,7 @@ fn a_counter_is_written_or_its_first_fault_told(rt: HostRuntime) {
         (32, 3_869_339_907, 24, 35),
     ] {
         let mut out = OLD_COUNTER;
-        let answer = tk_counter_new(&mut out, bits, mult, shift);
+        let answer = tkc_counter_new(&mut out, bits, mult, shift);
         assert_eq!(rt; answer, code, "{bits} {mult} {shift}");
         let told = if code == 0 { COUNTER } else { OLD_COUNTER };
         assert_eq!(rt; out, told, "{bits} {mult} {shift}");
@@ -38,9 +38,12 @@ fn a_frequency_gives_a_counter_or_its_first_fault(rt: HostRuntime) {
         (7, 0, 0, 32),
         (32, 0, 600, 36),
         (32, 24_000_000, 601, 36),
+        (32, 4_294_967_296, 1, 36),
+        (32, 4_318_967_296, 600, 36),
+        (65, 4_318_967_296, 600, 32),
     ] {
         let mut out = OLD_COUNTER;
-        let answer = tk_counter_from_hz(&mut out, bits, hz, maxsec);
+        let answer = tkc_counter_from_hz(&mut out, bits, hz, maxsec);
         assert_eq!(rt; answer, code, "{bits} {hz} {maxsec}");
         let scaled = CounterStorage {
             bits: 32,
@@ -49,6 +52,18 @@ fn a_frequency_gives_a_counter_or_its_first_fault(rt: HostRuntime) {
         };
         let told = if code == 0 { scaled } else { OLD_COUNTER };
         assert_eq!(rt; out, told, "{bits} {hz} {maxsec}");
+    }
+}
+
+/// The expected numbers are those of `clocks_calc_mult_shift`.
+#[test]
+fn the_highest_rate_has_32_bits(rt: HostRuntime) {
+    for (maxsec, mult, shift) in [(1, 1_000_000_000, 32), (600, 3_906_250, 24)] {
+        let mut out = OLD_COUNTER;
+        let bits = 64;
+        let answer = tkc_counter_from_hz(&mut out, bits, 4_294_967_295, maxsec);
+        assert_eq!(rt; answer, 0);
+        assert_eq!(rt; out, CounterStorage { bits, mult, shift });
     }
 }
 
@@ -67,7 +82,7 @@ fn a_counter_tells_its_numbers(rt: HostRuntime) -> Result<(), Fail> {
         ),
     ] {
         let (mut bits, mut mult, mut shift) = (7, 7, 7);
-        tk_counter_numbers(&mut bits, &mut mult, &mut shift, &counter);
+        tkc_counter_numbers(&mut bits, &mut mult, &mut shift, &counter);
         assert_eq!(rt; (bits, mult, shift), numbers);
     }
     Ok(())
@@ -101,7 +116,7 @@ fn clocks_are_opened_or_refused(rt: HostRuntime) -> Result<(), Fail> {
         (1_000, 1_700_000_000, 1_000_000_000, 4),
     ] {
         let mut out = OLD_CLOCK;
-        let answer = tk_clock_open(&mut out, &counter, reading, sec, nsec);
+        let answer = tkc_clock_open(&mut out, &counter, reading, sec, nsec);
         assert_eq!(rt; answer, code, "{sec} {nsec} at {reading}");
         let told = if code == 0 { opened } else { OLD_CLOCK };
         assert_eq!(rt; out, told, "{sec} {nsec} at {reading}");
@@ -113,7 +128,7 @@ fn clocks_are_opened_or_refused(rt: HostRuntime) -> Result<(), Fail> {
 fn a_snapshot_has_the_clocks_parts(rt: HostRuntime) -> Result<(), Fail> {
     let clock = commanded(&rt)?;
     let mut out = OLD_SNAPSHOT;
-    tk_clock_snapshot(&mut out, &clock);
+    tkc_clock_snapshot(&mut out, &clock);
     let told = SnapshotStorage {
         front: 8,
         base: BaseStorage {
@@ -136,5 +151,5 @@ fn a_snapshot_has_the_clocks_parts(rt: HostRuntime) -> Result<(), Fail> {
 
 #[test]
 fn the_version_is_that_of_the_header(rt: HostRuntime) {
-    assert_eq!(rt; tk_version(), 0x000100);
+    assert_eq!(rt; tkc_version(), 0x000200);
 }

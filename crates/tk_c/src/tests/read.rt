@@ -3,12 +3,15 @@ use super::{
     commanded, opened, wide_counter,
 };
 use crate::snapshots::convert;
-use crate::tk_snapshot_get;
+use crate::{TimeStorage, tkc_snapshot_get};
 use std::test::Fail;
-use tk_clock::Timespec;
 
 /// The time at `out` before a call.
-const OLD: Timespec = Timespec { sec: -7, nsec: 7 };
+const OLD: TimeStorage = TimeStorage {
+    sec: -7,
+    nsec: 7,
+    padding: 7,
+};
 
 #[test]
 fn each_clock_is_read_by_its_number(rt: HostRuntime) -> Result<(), Fail> {
@@ -24,8 +27,16 @@ fn each_clock_is_read_by_its_number(rt: HostRuntime) -> Result<(), Fail> {
         (TAI, 1_800_000_038, 5_109),
     ] {
         let mut out = OLD;
-        assert_eq!(rt; tk_snapshot_get(&mut out, &snapshot, id, 9_100), 0, "{id}");
-        assert_eq!(rt; out, Timespec { sec, nsec }, "{id}");
+        assert_eq!(rt; tkc_snapshot_get(&mut out, &snapshot, id, 9_100), 0, "{id}");
+        assert_eq!(rt;
+            out,
+            TimeStorage {
+                sec,
+                nsec,
+                padding: 0
+            },
+            "{id}"
+        );
     }
     Ok(())
 }
@@ -50,7 +61,7 @@ fn a_refused_read_is_told_by_its_code(rt: HostRuntime) -> Result<(), Fail> {
     ] {
         let mut out = OLD;
         assert_eq!(rt;
-            tk_snapshot_get(&mut out, snapshot, id, reading),
+            tkc_snapshot_get(&mut out, snapshot, id, reading),
             code,
             "{id}"
         );

@@ -1,6 +1,7 @@
 use super::{OLD_CLOCK, OLD_SNAPSHOT, commanded, nanosecond_counter, words_of};
 use crate::{
-    ClockStorage, SnapshotStorage, tk_clock_from_words, tk_snapshot_from_words, tk_snapshot_words,
+    ClockStorage, SnapshotStorage, tkc_clock_from_words, tkc_snapshot_from_words,
+    tkc_snapshot_words,
 };
 use std::test::Fail;
 
@@ -12,11 +13,11 @@ fn a_snapshot_comes_back_from_its_words(rt: HostRuntime) -> Result<(), Fail> {
     let clock = commanded(&rt)?;
     let snapshot = clock.clock.snapshot(clock.front);
     let mut words = [7; 10];
-    tk_snapshot_words(&mut words, &snapshot);
+    tkc_snapshot_words(&mut words, &snapshot);
     assert_eq!(rt; words, words_of(&clock).0);
     let mut out = OLD_SNAPSHOT;
     assert_eq!(rt;
-        tk_snapshot_from_words(&mut out, &snapshot.desc(), &words),
+        tkc_snapshot_from_words(&mut out, &snapshot.desc(), &words),
         0
     );
     assert_eq!(rt; out, SnapshotStorage::from(snapshot));
@@ -30,7 +31,7 @@ fn clocks_come_back_from_their_words(rt: HostRuntime) -> Result<(), Fail> {
     let mut out = OLD_CLOCK;
     let counter = nanosecond_counter()?;
     assert_eq!(rt;
-        tk_clock_from_words(&mut out, &counter, &words, frequency, tick),
+        tkc_clock_from_words(&mut out, &counter, &words, frequency, tick),
         0
     );
     assert_eq!(rt; out, ClockStorage::from(clock));
@@ -54,10 +55,10 @@ fn words_out_of_range_tell_nothing(rt: HostRuntime) -> Result<(), Fail> {
         let mut words = OPENING;
         *words.get_mut(place).ok_or("there are ten words")? = word;
         let mut snapshot = OLD_SNAPSHOT;
-        let answer = tk_snapshot_from_words(&mut snapshot, &counter, &words);
+        let answer = tkc_snapshot_from_words(&mut snapshot, &counter, &words);
         assert_eq!(rt; (answer, snapshot), (18, OLD_SNAPSHOT), "word {place}");
         let mut clock = OLD_CLOCK;
-        let answer = tk_clock_from_words(&mut clock, &counter, &words, 0, 10_000);
+        let answer = tkc_clock_from_words(&mut clock, &counter, &words, 0, 10_000);
         assert_eq!(rt; (answer, clock), (18, OLD_CLOCK), "word {place}");
     }
     Ok(())
@@ -81,7 +82,7 @@ fn clocks_have_the_rate_of_their_frequency_and_tick(rt: HostRuntime) -> Result<(
     ] {
         let words = [5, 0, mult, 0, 0, 0, 0, 0, raw_frac, 0];
         let mut out = OLD_CLOCK;
-        let answer = tk_clock_from_words(&mut out, &counter, &words, frequency, tick);
+        let answer = tkc_clock_from_words(&mut out, &counter, &words, frequency, tick);
         assert_eq!(rt; answer, code, "{mult} {frequency} {tick}");
         let front = if code == 0 { 5 } else { 7 };
         assert_eq!(rt; out.front, front, "{mult} {frequency} {tick}");

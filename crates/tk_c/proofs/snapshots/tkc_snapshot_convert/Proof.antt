@@ -1,4 +1,4 @@
--- `tk_snapshot_convert` meets its contract. The proof walks its code step by step and is
+-- `tkc_snapshot_convert` meets its contract. The proof walks its code step by step and is
 -- hand-written, because the call makes lists from addresses.
 -- Without stamps, or without an item in the output list, no address is read. Otherwise the output
 -- list is lent for a lifetime of this call, and is given back when that lifetime ends. The stamps
@@ -49,9 +49,9 @@ use Rattle.tk_c.specs.declared.code.Code.TheVariants.{Done, BadClock}
 use Rattle.tk_clock.specs.State.{ReadBase}
 use Rattle.tk_clock.specs.contracts.snapshot.Snapshot.{the_row as R}
 use Rattle.tk_c.proofs.NoStamps.{none_answered}
-use Rattle.tk_c.specs.contracts.snapshots.tk_snapshot_convert as f
-use Rattle.tk_c.proofs.snapshots.tk_snapshot_convert.Statement.{statement}
-use Rattle.tk_c.proofs.snapshots.tk_snapshot_convert.Code as code
+use Rattle.tk_c.specs.contracts.snapshots.tkc_snapshot_convert as f
+use Rattle.tk_c.proofs.snapshots.tkc_snapshot_convert.Statement.{statement}
+use Rattle.tk_c.proofs.snapshots.tkc_snapshot_convert.Code as code
 use Rattle.tk_c.specs.contracts.snapshots.convert_none as g
 use Rattle.tk_c.proofs.snapshots.convert_none.Met as g_met
 use Rattle.tk_c.specs.contracts.snapshots.convert_into_none as h
@@ -84,8 +84,8 @@ module _ {M : Type 1} {𝓤 : Ura M} (𝓛 : Logic 𝓤) where
 abbrev stayed : Stays f.ended.signature.params f.ended.kept
 stayed = (stay_dropped _ yes, (stay_dropped _ yes, (gave_ref (0 ∷ []) tt (plain (λ _. usize)), (stay_dropped _ yes, (stay_dropped _ yes, (stay_dropped _ yes, (stay_dropped _ yes, tt)))))))
 
-pub tk_snapshot_convert_spec : {M : Type 1} → statement M
-tk_snapshot_convert_spec 𝓤 𝓛 𝓜 𝓡 wired =
+pub tkc_snapshot_convert_spec : {M : Type 1} → statement M
+tkc_snapshot_convert_spec 𝓤 𝓛 𝓜 𝓡 wired =
     let c = f.clauses 𝓛 𝓜.mem 𝓡.returns in let W = walk_of 𝓛 f.ended stayed c in let 𝓣 = tables 𝓤 𝓛.H 𝓜 𝓡 𝓡.env in
     let pointer = Goes-dropped 𝓛 2 (plain (λ _. RawPtr)) yes (λ κs x w. refl) in
     let size = Goes-dropped 𝓛 2 (plain (λ _. usize)) yes (λ κs x w. refl) in

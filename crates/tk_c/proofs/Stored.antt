@@ -1,0 +1,50 @@
+-- Ten words that are stored one by one.
+use Rattle.std.proofs.Common.{◌≡◌, ℕ, ◌<◌, ◌≤◌, ◌+◌, ◌∙◌, arith, refl, List, [], ◌∷◌, length, slice_index_or, slice_set}
+
+-- each word is overwritten, in the order of the stores
+set_each : (words : List ℕ) (a b c d e f g h i j : ℕ) → length words ≡ 10 →
+    slice_set (slice_set (slice_set (slice_set (slice_set (slice_set (slice_set (slice_set
+    (slice_set (slice_set words 0 a) 2 c) 4 e) 6 g) 8 i) 1 b) 3 d) 5 f) 7 h) 9 j
+    ≡ a ∷ b ∷ c ∷ d ∷ e ∷ f ∷ g ∷ h ∷ i ∷ j ∷ []
+set_each (a ∷ b ∷ c ∷ d ∷ e ∷ f ∷ g ∷ h ∷ i ∷ j ∷ []) _ _ _ _ _ _ _ _ _ _ all = refl
+set_each (a ∷ b ∷ c ∷ d ∷ e ∷ f ∷ g ∷ h ∷ i ∷ j ∷ k ∷ more) _ _ _ _ _ _ _ _ _ _ all =
+    absurd (omega arith)
+set_each (a ∷ b ∷ c ∷ d ∷ e ∷ f ∷ g ∷ h ∷ i ∷ []) _ _ _ _ _ _ _ _ _ _ all = absurd (omega arith)
+set_each (a ∷ b ∷ c ∷ d ∷ e ∷ f ∷ g ∷ h ∷ []) _ _ _ _ _ _ _ _ _ _ all = absurd (omega arith)
+set_each (a ∷ b ∷ c ∷ d ∷ e ∷ f ∷ g ∷ []) _ _ _ _ _ _ _ _ _ _ all = absurd (omega arith)
+set_each (a ∷ b ∷ c ∷ d ∷ e ∷ f ∷ []) _ _ _ _ _ _ _ _ _ _ all = absurd (omega arith)
+set_each (a ∷ b ∷ c ∷ d ∷ e ∷ []) _ _ _ _ _ _ _ _ _ _ all = absurd (omega arith)
+set_each (a ∷ b ∷ c ∷ d ∷ []) _ _ _ _ _ _ _ _ _ _ all = absurd (omega arith)
+set_each (a ∷ b ∷ c ∷ []) _ _ _ _ _ _ _ _ _ _ all = absurd (omega arith)
+set_each (a ∷ b ∷ []) _ _ _ _ _ _ _ _ _ _ all = absurd (omega arith)
+set_each (a ∷ []) _ _ _ _ _ _ _ _ _ _ all = absurd (omega arith)
+set_each [] _ _ _ _ _ _ _ _ _ _ all = absurd (omega arith)
+
+-- the words that are loaded one by one
+loaded : (words : List ℕ) → length words ≡ 10 →
+    slice_index_or words 0 0 ∷ slice_index_or words 1 0 ∷ slice_index_or words 2 0
+    ∷ slice_index_or words 3 0 ∷ slice_index_or words 4 0 ∷ slice_index_or words 5 0
+    ∷ slice_index_or words 6 0 ∷ slice_index_or words 7 0 ∷ slice_index_or words 8 0
+    ∷ slice_index_or words 9 0 ∷ [] ≡ words
+loaded (a ∷ b ∷ c ∷ d ∷ e ∷ f ∷ g ∷ h ∷ i ∷ j ∷ []) all = refl
+loaded (a ∷ b ∷ c ∷ d ∷ e ∷ f ∷ g ∷ h ∷ i ∷ j ∷ k ∷ more) all = absurd (omega arith)
+loaded (a ∷ b ∷ c ∷ d ∷ e ∷ f ∷ g ∷ h ∷ i ∷ []) all = absurd (omega arith)
+loaded (a ∷ b ∷ c ∷ d ∷ e ∷ f ∷ g ∷ h ∷ []) all = absurd (omega arith)
+loaded (a ∷ b ∷ c ∷ d ∷ e ∷ f ∷ g ∷ []) all = absurd (omega arith)
+loaded (a ∷ b ∷ c ∷ d ∷ e ∷ f ∷ []) all = absurd (omega arith)
+loaded (a ∷ b ∷ c ∷ d ∷ e ∷ []) all = absurd (omega arith)
+loaded (a ∷ b ∷ c ∷ d ∷ []) all = absurd (omega arith)
+loaded (a ∷ b ∷ c ∷ []) all = absurd (omega arith)
+loaded (a ∷ b ∷ []) all = absurd (omega arith)
+loaded (a ∷ []) all = absurd (omega arith)
+loaded [] all = absurd (omega arith)
+
+-- ten words that are stored over ten others are those words
+pub stored : (words told : List ℕ) → length words ≡ 10 → length told ≡ 10 →
+    slice_set (slice_set (slice_set (slice_set (slice_set (slice_set (slice_set (slice_set
+    (slice_set (slice_set words 0 (slice_index_or told 0 0)) 2 (slice_index_or told 2 0))
+    4 (slice_index_or told 4 0)) 6 (slice_index_or told 6 0)) 8 (slice_index_or told 8 0))
+    1 (slice_index_or told 1 0)) 3 (slice_index_or told 3 0)) 5 (slice_index_or told 5 0))
+    7 (slice_index_or told 7 0)) 9 (slice_index_or told 9 0) ≡ told
+stored words told ten all =
+    set_each words _ _ _ _ _ _ _ _ _ _ ten ∙ loaded told all

@@ -1,0 +1,5 @@
+use Rattle.tk_c.proofs.words.store.Goals as goal
+use Rattle.tk_c.proofs.Stored.{stored}
+
+pub returns : goal.returns
+returns c = stored c.args.words.now c.args.told.now c.told-words c.told-told

@@ -1,0 +1,54 @@
+/* SPDX-License-Identifier: MIT OR Apache-2.0 */
+/* What the files of any_bytes.c share. */
+#ifndef ANY_BYTES_H
+#define ANY_BYTES_H
+
+#include "random.h"
+#include "rooms.h"
+
+#include <stdbool.h>
+#include <stdint.h>
+#include <tkcore.h>
+
+#define COUNT_OF(array) (sizeof(array) / sizeof(*(array)))
+
+/* Ends the program if a condition doesn't hold. */
+#define check(holds) \
+	do { \
+		if (!(holds)) \
+			fail(#holds, __FILE__, __LINE__); \
+	} while (0)
+
+void fail(const char *what, const char *file, int line);
+
+/* Counts a code that a call returned, and returns it. */
+uint32_t saw(uint32_t code);
+
+/* Returns a number that is mostly 0 to 10^9. */
+uint32_t some_nsec(void);
+
+/* Makes a counter, and checks that its numbers give it back. */
+void some_counter(struct tkc_counter *counter);
+
+/* Reads clocks of a snapshot, one by one and in a list. */
+void try_reads(const struct tkc_snapshot *of);
+
+/* Returns whether a snapshot has these words. */
+bool is_same_snapshot(const struct tkc_snapshot *snapshot,
+		      const uint64_t words[TKC_WORDS]);
+
+/* Make the snapshot or the clocks that words represent. */
+void try_snapshot_words(const struct tkc_counter *of,
+			const uint64_t told[TKC_WORDS]);
+uint32_t try_clock_words(struct tkc_clock *clock, const struct tkc_counter *of,
+			 const uint64_t told[TKC_WORDS], int64_t frequency,
+			 int64_t tick);
+
+/* Checks that the words of a clock give it back, and tries changed words. */
+void try_words(const struct tkc_clock *of, const struct tkc_counter *counter);
+
+/* Opens clocks, applies commands to them, and takes a snapshot of them. */
+void try_clocks(struct tkc_clock *clock, const struct tkc_counter *counter,
+		struct tkc_snapshot *snapshot);
+
+#endif

@@ -1,0 +1,105 @@
+/* SPDX-License-Identifier: MIT OR Apache-2.0 */
+/* Reads snapshots at random readings, and converts random stamps. */
+#include "any_bytes.h"
+
+#include <string.h>
+
+enum { STAMPS_MOST = 40 };
+
+static const uint32_t CLOCKS[] = {
+	TKC_CLOCK_REALTIME,
+	TKC_CLOCK_MONOTONIC,
+	TKC_CLOCK_MONOTONIC_RAW,
+	TKC_CLOCK_REALTIME_COARSE,
+	TKC_CLOCK_MONOTONIC_COARSE,
+	TKC_CLOCK_BOOTTIME,
+	TKC_CLOCK_TAI,
+};
+
+static uint32_t get(struct tkc_time *time, const struct tkc_snapshot *snapshot,
+		    uint32_t clock, uint64_t reading)
+{
+	struct tkc_time before;
+	struct tkc_time *out = fill(rooms.time, &before, sizeof(before));
+	uint32_t code = saw(tkc_snapshot_get(out, snapshot, clock, reading));
+
+	check(code == TKC_OK || code == TKC_BAD_CLOCK || code == TKC_INVALID ||
+	      code == TKC_RANGE);
+	check(!code || !memcmp(out, &before, sizeof(before)));
+	check(code || (out->sec >= 0 && out->nsec < 1000000000 && !out->padding));
+	*time = *out;
+	return code;
+}
+
+/* Checks that each converted stamp has its time, and the code of the next. */
+static void check_converted(const struct tkc_snapshot *snapshot, uint32_t clock,
+			    const uint64_t *stamps, size_t done,
+			    const uint64_t *out, uint32_t code, size_t count)
+{
+	struct tkc_time time;
+
+	for (size_t i = 0; i < done; i++) {
+		check(!get(&time, snapshot, clock, stamps[i]));
+		check(out[i] ==
+		      (uint64_t)time.sec * 1000000000 + time.nsec);
+	}
+	check(code ? done < count : done == count);
+	if (code)
+		check(get(&time, snapshot, clock, stamps[done]) == code);
+}
+
+/* Returns the list, or for an empty list, NULL half of the time. */
+static uint64_t *or_null(uint64_t *list, size_t count)
+{
+	return count || one_in(2) ? list : NULL;
+}
+
+static void try_convert(const struct tkc_snapshot *snapshot, uint32_t clock,
+			uint64_t last)
+{
+	uint64_t before[STAMPS_MOST];
+	size_t count = below(STAMPS_MOST), room = count, *done;
+	size_t was_done = SIZE_MAX;
+	uint64_t *stamps = place(rooms.stamps, count * sizeof(*stamps));
+	uint64_t *out, *handed_out, *handed_stamps;
+	uint32_t code;
+
+	if (one_in(8))
+		room = below(STAMPS_MOST);
+	for (size_t i = 0; i < count; i++)
+		stamps[i] = one_in(20) ? some() : last + (any() >> below(64));
+	out = fill(rooms.out, before, room * sizeof(*out));
+	done = put(rooms.done, &was_done, sizeof(was_done));
+	handed_out = or_null(out, room);
+	handed_stamps = or_null(stamps, count);
+	code = saw(tkc_snapshot_convert(handed_out, room, done, snapshot, clock,
+					handed_stamps, count));
+	if (code == TKC_BAD_CLOCK || code == TKC_BAD_ROOM) {
+		check(code == TKC_BAD_CLOCK || room < count);
+		check(*done == SIZE_MAX);
+		check(!memcmp(out, before, room * sizeof(*out)));
+		return;
+	}
+	check(code == TKC_OK || code == TKC_INVALID || code == TKC_RANGE);
+	check(room >= count && *done <= count);
+	check(!memcmp(out + *done, before + *done,
+		      (room - *done) * sizeof(*out)));
+	check_converted(snapshot, clock, stamps, *done, out, code, count);
+}
+
+void try_reads(const struct tkc_snapshot *of)
+{
+	const struct tkc_snapshot *snapshot = put(rooms.snapshot, of,
+						  sizeof(*of));
+	uint32_t clock = CLOCKS[below(COUNT_OF(CLOCKS))];
+	uint64_t words[TKC_WORDS];
+	struct tkc_time time;
+
+	tkc_snapshot_words(words, snapshot);
+	get(&time, snapshot, clock, some());
+	check(get(&time, snapshot, TKC_CLOCK_MONOTONIC, words[1]) == TKC_OK);
+	check(get(&time, snapshot, 12 + (uint32_t)below(UINT32_MAX - 12), 0) ==
+	      TKC_BAD_CLOCK);
+	try_convert(snapshot, one_in(10) ? (uint32_t)some() : clock, words[1]);
+	check(!memcmp(snapshot, of, sizeof(*of)));
+}

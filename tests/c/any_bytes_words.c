@@ -1,0 +1,94 @@
+/* SPDX-License-Identifier: MIT OR Apache-2.0 */
+/* Restores snapshots and clocks from words: random ones, and stored ones with
+ * some of them changed. */
+#include "any_bytes.h"
+
+#include <string.h>
+
+bool is_same_snapshot(const struct tkc_snapshot *snapshot,
+		      const uint64_t words[TKC_WORDS])
+{
+	uint64_t told[TKC_WORDS];
+
+	tkc_snapshot_words(told, snapshot);
+	return !memcmp(told, words, sizeof(told));
+}
+
+static void spoil(uint64_t words[TKC_WORDS])
+{
+	for (uint64_t n = below(3); n > 0; n--) {
+		uint64_t *word = &words[below(TKC_WORDS)];
+
+		*word = one_in(2) ? some() : *word + below(3) - 1;
+	}
+}
+
+void try_snapshot_words(const struct tkc_counter *of,
+			const uint64_t told[TKC_WORDS])
+{
+	const struct tkc_counter *counter = put(rooms.counter, of, sizeof(*of));
+	uint64_t *words = put(rooms.words, told, TKC_WORDS * sizeof(*words));
+	struct tkc_snapshot before;
+	struct tkc_snapshot *out = fill(rooms.other, &before, sizeof(before));
+	uint32_t code = saw(tkc_snapshot_from_words(out, counter, words));
+
+	check(code == TKC_OK || code == TKC_BAD_WORDS);
+	check(!memcmp(words, told, TKC_WORDS * sizeof(*words)));
+	if (code) {
+		check(!memcmp(out, &before, sizeof(before)));
+		return;
+	}
+	check(is_same_snapshot(out, told));
+	try_reads(out);
+}
+
+static void check_clock_words(const struct tkc_clock *clock,
+			      const uint64_t words[TKC_WORDS], int64_t frequency,
+			      int64_t tick)
+{
+	uint64_t *told = place(rooms.words, TKC_WORDS * sizeof(*told));
+	int64_t *frequency_told = place(rooms.frequency, sizeof(frequency));
+	int64_t *tick_told = place(rooms.tick, sizeof(tick));
+
+	tkc_clock_words(told, frequency_told, tick_told, clock);
+	check(!memcmp(told, words, TKC_WORDS * sizeof(*told)));
+	check(*frequency_told == frequency && *tick_told == tick);
+}
+
+uint32_t try_clock_words(struct tkc_clock *clock, const struct tkc_counter *of,
+			 const uint64_t told[TKC_WORDS], int64_t frequency,
+			 int64_t tick)
+{
+	const struct tkc_counter *counter = put(rooms.counter, of, sizeof(*of));
+	uint64_t *words = put(rooms.words, told, TKC_WORDS * sizeof(*words));
+	struct tkc_clock before;
+	struct tkc_clock *out = fill(rooms.clock, &before, sizeof(before));
+	uint32_t code = saw(tkc_clock_from_words(out, counter, words, frequency,
+						 tick));
+
+	check(code == TKC_OK || code == TKC_BAD_WORDS);
+	if (code)
+		check(!memcmp(out, &before, sizeof(before)));
+	else
+		check_clock_words(out, told, frequency, tick);
+	*clock = *out;
+	return code;
+}
+
+void try_words(const struct tkc_clock *of, const struct tkc_counter *counter)
+{
+	const struct tkc_clock *clock = put(rooms.clock, of, sizeof(*of));
+	uint64_t words[TKC_WORDS];
+	int64_t frequency, tick;
+	struct tkc_clock same;
+
+	tkc_clock_words(words, &frequency, &tick, clock);
+	check(!try_clock_words(&same, counter, words, frequency, tick));
+	spoil(words);
+	try_snapshot_words(counter, words);
+	if (one_in(8))
+		frequency = (int64_t)some();
+	if (one_in(8))
+		tick = (int64_t)some();
+	(void)try_clock_words(&same, counter, words, frequency, tick);
+}

@@ -1,0 +1,195 @@
+/* SPDX-License-Identifier: MIT OR Apache-2.0 */
+/*
+ * Compares each call of the library with the model of model.h, for random counters, commands, reads
+ * and words.
+ *
+ *     compare_model CALLS [SEED]
+ */
+#include "model.h"
+#include "random.h"
+
+#include <inttypes.h>
+#include <stdio.h>
+#include <stdlib.h>
+#include <string.h>
+
+static uint64_t calls;
+
+#define CHECK(condition) check(condition, #condition, __LINE__)
+
+static void check(bool holds, const char *condition, int line)
+{
+	calls++;
+	if (holds)
+		return;
+	fprintf(stderr, "compare_model: line %d, after %" PRIu64 " checks: %s\n", line, calls,
+		condition);
+	exit(EXIT_FAILURE);
+}
+
+/* Makes a counter and the model of its clocks. Returns whether the numbers describe a counter. */
+static bool make_counter(struct tkc_counter *counter, struct model *model)
+{
+	uint32_t bits = (uint32_t)(below(9) ? 8 + below(57) : some());
+	uint32_t mult = (uint32_t)(any() >> below(64)), shift = (uint32_t)below(34);
+	uint32_t code, maxsec = (uint32_t)below(602);
+	uint64_t hz = any() >> below(64);
+	uint32_t told[3];
+
+	if (below(2)) {
+		code = model_counter(bits, mult, shift);
+		CHECK(tkc_counter_new(counter, bits, mult, shift) == code);
+	} else {
+		code = model_rate(bits, hz, maxsec);
+		CHECK(tkc_counter_from_hz(counter, bits, hz, maxsec) == code);
+		if (!code)
+			model_scale(hz, maxsec, &mult, &shift);
+	}
+	if (code)
+		return false;
+	tkc_counter_numbers(&told[0], &told[1], &told[2], counter);
+	CHECK(told[0] == bits && told[1] == mult && told[2] == shift);
+	model_open(model, bits, mult, shift);
+	return true;
+}
+
+/* Compares the clocks with the model by their words. */
+static void compare(const struct tkc_clock *clock, const struct model *model)
+{
+	uint64_t words[TKC_WORDS], expected[TKC_WORDS];
+	int64_t frequency, tick;
+
+	tkc_clock_words(words, &frequency, &tick, clock);
+	model_words(model, expected);
+	CHECK(!memcmp(words, expected, sizeof(words)));
+	CHECK(frequency == model->frequency && tick == model->tick);
+}
+
+static uint64_t reading_near(const struct model *model)
+{
+	uint64_t reading = model->last + (any() >> below(64));
+
+	return below(20) ? reading & model->mask : some();
+}
+
+static void try_command(struct tkc_clock *clock, struct model *model)
+{
+	uint32_t command = (uint32_t)(below(30) ? below(8) : some());
+	uint64_t reading = reading_near(model);
+	uint32_t nsec = (uint32_t)(below(8) ? below(1000000001) : some());
+	int64_t number = (int64_t)some();
+
+	if (model->asleep && below(4))
+		command = TKC_CMD_RESUME;
+	if (command == TKC_CMD_TICK && below(8))
+		number = (int64_t)(8999 + below(2003));
+	if (command == TKC_CMD_FREQ && below(2))
+		number = (int64_t)below(70000000) - 35000000;
+	if ((command == TKC_CMD_SET_TIME || command == TKC_CMD_STEP) && below(2))
+		number = (int64_t)below(8277292037);
+	CHECK(tkc_clock_apply(clock, reading, command, number, nsec) ==
+	      model_apply(model, reading, command, number, nsec));
+	compare(clock, model);
+}
+
+static void try_reads(const struct tkc_clock *clock, const struct model *model)
+{
+	enum { COUNT = 12 };
+	uint64_t stamps[COUNT], out[COUNT];
+	uint32_t id = (uint32_t)below(13), code = TKC_OK, expected;
+	struct tkc_snapshot snapshot;
+	struct tkc_time time;
+	size_t done = 99, i;
+	i128 value;
+
+	tkc_clock_snapshot(&snapshot, clock);
+	for (i = 0; i < COUNT; i++)
+		stamps[i] = reading_near(model);
+	expected = tkc_snapshot_convert(out, COUNT, &done, &snapshot, id, stamps, COUNT);
+	for (i = 0; i < COUNT && !code; i++) {
+		code = model_get(model, id, stamps[i], &value);
+		CHECK(tkc_snapshot_get(&time, &snapshot, id, stamps[i]) == code);
+		if (code)
+			break;
+		CHECK(time.sec * NANOS + time.nsec == value && time.nsec < 1000000000);
+		CHECK((i128)out[i] == value);
+	}
+	CHECK(expected == code);
+	CHECK(done == (code == TKC_BAD_CLOCK ? 99 : i));
+}
+
+/* Restores clocks from their words, some of which are changed. */
+static void try_words(const struct tkc_counter *counter, const struct tkc_clock *clock,
+		      const struct model *model)
+{
+	uint64_t words[TKC_WORDS], told[TKC_WORDS];
+	struct model restored = *model;
+	struct tkc_snapshot snapshot;
+	struct tkc_clock other;
+	bool is_snapshot;
+
+	tkc_clock_words(words, &restored.frequency, &restored.tick, clock);
+	if (below(2))
+		words[below(TKC_WORDS)] = some();
+	if (!below(4))
+		words[1 + below(9)] += below(5) - 2;
+	if (!below(8))
+		restored.frequency = (int64_t)some();
+	if (!below(8))
+		restored.tick += (int64_t)below(3) - 1;
+	is_snapshot = model_from_words(&restored, words);
+	CHECK(tkc_snapshot_from_words(&snapshot, counter, words) ==
+	      (is_snapshot ? TKC_OK : TKC_BAD_WORDS));
+	if (is_snapshot) {
+		tkc_snapshot_words(told, &snapshot);
+		CHECK(!memcmp(told, words, sizeof(words)));
+	}
+	is_snapshot = is_snapshot && model_is_running(&restored, words);
+	CHECK(tkc_clock_from_words(&other, counter, words, restored.frequency, restored.tick) ==
+	      (is_snapshot ? TKC_OK : TKC_BAD_WORDS));
+	if (is_snapshot) {
+		compare(&other, &restored);
+		try_command(&other, &restored);
+	}
+}
+
+static void round_of_calls(void)
+{
+	struct tkc_counter counter;
+	struct tkc_clock clock;
+	struct model model;
+	int64_t sec = (int64_t)(below(8) ? below(8277292036) : some());
+	uint32_t nsec = (uint32_t)(below(8) ? below(1000000000) : some());
+	uint64_t reading = some();
+	bool is_valid;
+
+	if (!make_counter(&counter, &model))
+		return;
+	reading = below(8) ? reading & model.mask : reading;
+	is_valid = reading <= model.mask && sec >= 0 && sec < 8277292036 && nsec < 1000000000;
+	CHECK(tkc_clock_open(&clock, &counter, reading, sec, nsec) ==
+	      (is_valid ? TKC_OK : TKC_INVALID));
+	if (!is_valid)
+		return;
+	model.last = reading;
+	model.real = sec * NANOS + nsec;
+	compare(&clock, &model);
+	for (int i = 0; i < 30; i++) {
+		try_command(&clock, &model);
+		try_reads(&clock, &model);
+		try_words(&counter, &clock, &model);
+	}
+}
+
+int main(int argc, char **argv)
+{
+	uint64_t wanted = argc > 1 ? strtoull(argv[1], NULL, 10) : 1000000;
+
+	if (argc > 2)
+		seed(strtoull(argv[2], NULL, 10) | 1);
+	CHECK(tkc_version() == TKC_VERSION);
+	while (calls < wanted)
+		round_of_calls();
+	printf("compare_model: %" PRIu64 " answers are those of the header\n", calls);
+	return EXIT_SUCCESS;
+}
