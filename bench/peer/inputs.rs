@@ -2,12 +2,17 @@
 
 pub const OPENING: u64 = 12_345;
 
+/// The number of commands in the script of a trace.
+pub const COMMANDS: u64 = 1_000;
+
+const FACTOR: u64 = 6364136223846793005;
+
 /// Pseudo-random stamps within the 275 seconds after the opening.
 pub fn stamps(count: usize) -> Vec<u64> {
     let mut state = 88172645463325252u64;
     let next = |_| {
         state = state
-            .wrapping_mul(6364136223846793005)
+            .wrapping_mul(FACTOR)
             .wrapping_add(1442695040888963407);
         OPENING + (state >> 26)
     };
@@ -27,13 +32,33 @@ pub fn script(updates: u64, clock: Option<&str>) -> Vec<u8> {
     script.into_bytes()
 }
 
-/// Fronts that rise by one every `stretch` stamps, or that run through 0 to `stretch - 1` again and
-/// again.
-pub fn stamp_file(count: u64, stretch: u64, rises: bool) -> Vec<u8> {
-    let mut file = String::new();
-    for n in 0..count {
-        let front = if rises { n / stretch } else { n % stretch };
-        file += &format!("{front},{}\n", n * 997);
+/// The fronts of a stamp file.
+#[derive(Clone, Copy)]
+pub enum Fronts {
+    Equal,
+    Thousands,
+    Tens,
+    Ones,
+    Random,
+}
+
+impl Fronts {
+    fn of_stamp(self, n: u64) -> u64 {
+        match self {
+            Fronts::Equal => COMMANDS,
+            Fronts::Thousands => n / 1_000,
+            Fronts::Tens => n / 10 % COMMANDS,
+            Fronts::Ones => n % COMMANDS,
+            Fronts::Random => {
+                let mixed = n.wrapping_mul(FACTOR);
+                ((mixed ^ (mixed >> 32)).wrapping_mul(FACTOR) >> 32) % COMMANDS
+            }
+        }
     }
-    file.into_bytes()
+}
+
+/// A stamp file with such fronts. The stamps rise by 997 cycles.
+pub fn stamp_file(count: u64, fronts: Fronts) -> Vec<u8> {
+    let lines = (0..count).map(|n| format!("{},{}\n", fronts.of_stamp(n), n * 997));
+    lines.collect::<String>().into_bytes()
 }

@@ -3,11 +3,9 @@
 use crate::bench::{Bench, Job, Unit};
 use crate::clocks::ClockId;
 use crate::digest::of_bytes;
-use crate::inputs::{script, stamp_file};
+use crate::inputs::{script, stamp_file, Fronts, COMMANDS};
 use crate::report::report;
 use crate::trace::trace;
-
-const STRETCH: u64 = 1_000;
 
 struct Report {
     script: Vec<u8>,
@@ -57,13 +55,16 @@ pub fn run(bench: &Bench) {
         };
         bench.run(name, Unit::Whole, turns, &mut job);
     }
-    for (name, stamps, rises) in [
-        ("text_trace_rising_1000000", 1_000_000, true),
-        ("text_trace_jumping_100000", 100_000, false),
+    for (name, stamps, fronts) in [
+        ("text_trace_equal_1000000", 1_000_000, Fronts::Equal),
+        ("text_trace_thousands_1000000", 1_000_000, Fronts::Thousands),
+        ("text_trace_tens_100000", 100_000, Fronts::Tens),
+        ("text_trace_ones_100000", 100_000, Fronts::Ones),
+        ("text_trace_random_100000", 100_000, Fronts::Random),
     ] {
         let mut job = Trace {
-            script: script(STRETCH, None),
-            stamps: stamp_file(stamps, STRETCH, rises),
+            script: script(COMMANDS, None),
+            stamps: stamp_file(stamps, fronts),
             text: Vec::new(),
         };
         bench.run(name, Unit::Whole, 4, &mut job);

@@ -69,13 +69,18 @@ bool clock_update(struct clock *clock, uint64_t words[WORDS]) {
     return true;
 }
 
-struct turn unpublished(uint64_t part) {
+/* Keeps what is at this address in memory: the compiler must take it as read and written here. */
+static inline void keep_in_memory(void *at) { __asm__ volatile("" : : "r"(at) : "memory"); }
+
+static inline struct turn updated(uint64_t part, bool in_memory) {
     uint64_t count = UPDATES / part, check = 0, words[WORDS];
     uint64_t each = count < UPDATES_LIMIT ? count : UPDATES_LIMIT;
     double start = nanoseconds();
     for (uint64_t n = 0; n < count / each; n++) {
         struct clock clock = clock_opened();
         for (uint64_t i = 0; i < each; i++) {
+            if (in_memory)
+                keep_in_memory(&clock);
             if (!clock_update(&clock, words))
                 abort();
             check += weight(words);
@@ -83,3 +88,7 @@ struct turn unpublished(uint64_t part) {
     }
     return (struct turn){nanoseconds() - start, count, check};
 }
+
+struct turn unpublished(uint64_t part) { return updated(part, false); }
+
+struct turn in_memory(uint64_t part) { return updated(part, true); }

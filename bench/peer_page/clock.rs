@@ -247,8 +247,19 @@ impl Desk {
     }
 }
 
-/// Times updates that are not published.
+/// Times updates that are not published. The compiler keeps the clock in registers.
 pub fn unpublished(effort: Effort) -> Turn {
+    updated(effort, |_| ())
+}
+
+/// Times updates that are not published, of a clock that stays in memory.
+pub fn in_memory(effort: Effort) -> Turn {
+    updated(effort, |desk| {
+        black_box(desk);
+    })
+}
+
+fn updated(effort: Effort, before_each: impl Fn(&mut Desk)) -> Turn {
     let count = effort.of(UPDATES);
     let each = count.min(UPDATES_LIMIT);
     let mut check = 0u64;
@@ -256,6 +267,7 @@ pub fn unpublished(effort: Effort) -> Turn {
     for _ in 0..count / each {
         let mut desk = Desk::opened();
         for _ in 0..each {
+            before_each(&mut desk);
             let words = desk.update().expect("an update is accepted");
             check = check.wrapping_add(weight(&words));
         }

@@ -56,4 +56,5 @@ void stop_slow(struct slow *slow);
 /* The jobs. Each does the given part of a full turn: all of it for 1, a thousandth for 1000. */
 struct turn page_read(uint64_t part), page_read_beside(uint64_t part), page_publish(uint64_t part);
 struct turn latch_read(uint64_t part), latch_read_beside(uint64_t part);
-struct turn latch_publish(uint64_t part), unpublished(uint64_t part);
+struct turn latch_publish(uint64_t part);
+struct turn unpublished(uint64_t part), in_memory(uint64_t part);

@@ -20,6 +20,7 @@ static const struct job {
     {"latch_read_beside", "ns/read", latch_read_beside},
     {"latch_publish", "ns/publication", latch_publish},
     {"update_unpublished", "ns/command", unpublished},
+    {"update_in_memory", "ns/command", in_memory},
 };
 
 double nanoseconds(void) {

@@ -12,7 +12,7 @@ mod turns;
 use std::process::ExitCode;
 use turns::{run_jobs, Job};
 
-const JOBS: [Job; 7] = [
+const JOBS: [Job; 8] = [
     ("page_read", "ns/read", page::quiet),
     ("page_read_beside", "ns/read", page::beside),
     ("page_publish", "ns/publication", page::publishing),
@@ -20,6 +20,7 @@ const JOBS: [Job; 7] = [
     ("latch_read_beside", "ns/read", latch::beside),
     ("latch_publish", "ns/publication", latch::publishing),
     ("update_unpublished", "ns/command", clock::unpublished),
+    ("update_in_memory", "ns/command", clock::in_memory),
 ];
 
 fn main() -> ExitCode {

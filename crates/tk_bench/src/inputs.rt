@@ -6,6 +6,12 @@ use std::alloc::{AllocError, Global};
 /// The reading at which the clocks of lists of stamps are opened.
 pub(crate) const OPENING: u64 = 12_345;
 
+/// The number of commands in the script of a trace.
+pub(crate) const COMMANDS: u64 = 1_000;
+
+/// The factor of the sequences that have no order.
+const FACTOR: u64 = 6364136223846793005;
+
 /// Returns a list of `count` times the number.
 pub(crate) fn repeated(alloc: Global, count: usize, number: u64) -> Result<Vec<u64>, AllocError> {
     vec![in alloc; number; count]
@@ -16,9 +22,7 @@ pub(crate) fn stamps(alloc: Global, count: usize) -> Result<Vec<u64>, AllocError
     let mut stamps = repeated(alloc, count, 0)?;
     let mut state = 88172645463325252u64;
     for stamp in stamps.iter_mut() {
-        state = state
-            .wrapping_mul(6364136223846793005)
-            .wrapping_add(1442695040888963407);
+        state = state.wrapping_mul(FACTOR).wrapping_add(1442695040888963407);
         *stamp = OPENING + (state >> 26);
     }
     Ok(stamps)
@@ -38,14 +42,42 @@ pub(crate) fn script(alloc: Global, updates: u64, clock: Option<&str>) -> Result
     Ok(script)
 }
 
-/// Returns a stamp file whose fronts rise by one each `stretch` stamps, or else repeat the numbers
-/// below `stretch`.
-pub(crate) fn stamp_file(alloc: Global, count: u64, stretch: u64, rises: bool) -> Result<Vec<u8>> {
+/// The fronts of a stamp file: how many commands of the script each stamp follows.
+#[derive(Clone, Copy)]
+pub(crate) enum Fronts {
+    /// The whole script for every stamp.
+    Equal,
+    /// One more for each thousand stamps.
+    Thousands,
+    /// One more for each ten stamps, up to 999 and then from 0 again.
+    Tens,
+    /// One more for each stamp, up to 999 and then from 0 again.
+    Ones,
+    /// In no order, below 1,000.
+    Random,
+}
+
+impl Fronts {
+    /// Returns the front of the stamp with this number, from 0.
+    fn of_stamp(self, n: u64) -> u64 {
+        match self {
+            Fronts::Equal => COMMANDS,
+            Fronts::Thousands => n / 1_000,
+            Fronts::Tens => n / 10 % COMMANDS,
+            Fronts::Ones => n % COMMANDS,
+            Fronts::Random => {
+                let mixed = n.wrapping_mul(FACTOR);
+                ((mixed ^ (mixed >> 32)).wrapping_mul(FACTOR) >> 32) % COMMANDS
+            }
+        }
+    }
+}
+
+/// Returns a stamp file with such fronts. The stamps rise by 997 cycles.
+pub(crate) fn stamp_file(alloc: Global, count: u64, fronts: Fronts) -> Result<Vec<u8>> {
     let mut file = Vec::new(alloc);
-    let stretch = stretch.max(1);
     for n in 0..count {
-        let front = if rises { n / stretch } else { n % stretch };
-        let stamp = n.wrapping_mul(997);
+        let (front, stamp) = (fronts.of_stamp(n), n.wrapping_mul(997));
         file.extend_from_slice(format!(in alloc; "{front},{stamp}\n")?.as_bytes())?;
     }
     Ok(file)

@@ -2,15 +2,12 @@
 
 use crate::bench::{Bench, Job, Unit};
 use crate::digest::of_bytes;
-use crate::inputs::{script, stamp_file};
+use crate::inputs::{COMMANDS, Fronts, script, stamp_file};
 use anyhow::Result;
 use std::alloc::Global;
 use std::thread::Threads;
 use tk_clock::ClockId;
 use tk_replay::{report, trace};
-
-/// The commands of the script, and the stamps in a row that have one front if fronts rise.
-const STRETCH: u64 = 1_000;
 
 /// Makes the report of a script.
 #[derive(Drop)]
@@ -61,7 +58,7 @@ impl Job for Trace {
     }
 }
 
-/// Times reports of 100,000 and a million records, and traces of a million and 100,000 stamps.
+/// Times reports of 100,000 and a million records, and traces.
 pub(crate) fn run_texts(rt: &(impl Threads + Sync), bench: &Bench<'_>) -> Result<()> {
     if !bench.wants_any("text_") {
         return Ok(());
@@ -79,14 +76,23 @@ pub(crate) fn run_texts(rt: &(impl Threads + Sync), bench: &Bench<'_>) -> Result
         };
         bench.run(rt, name, Unit::Whole, turns, &mut job)?;
     }
-    for (name, stamps, rises) in [
-        ("text_trace_rising_1000000", 1_000_000, true),
-        ("text_trace_jumping_100000", 100_000, false),
+    run_text_traces(rt, bench)
+}
+
+/// Times traces of a million and 100,000 stamps, with fronts of each kind.
+fn run_text_traces(rt: &(impl Threads + Sync), bench: &Bench<'_>) -> Result<()> {
+    let alloc = bench.alloc();
+    for (name, stamps, fronts) in [
+        ("text_trace_equal_1000000", 1_000_000, Fronts::Equal),
+        ("text_trace_thousands_1000000", 1_000_000, Fronts::Thousands),
+        ("text_trace_tens_100000", 100_000, Fronts::Tens),
+        ("text_trace_ones_100000", 100_000, Fronts::Ones),
+        ("text_trace_random_100000", 100_000, Fronts::Random),
     ] {
         let mut job = Trace {
             alloc,
-            script: script(alloc, STRETCH, None)?,
-            stamps: stamp_file(alloc, stamps, STRETCH, rises)?,
+            script: script(alloc, COMMANDS, None)?,
+            stamps: stamp_file(alloc, stamps, fronts)?,
             text: Vec::new(alloc),
         };
         bench.run(rt, name, Unit::Whole, 4, &mut job)?;
