@@ -5,6 +5,7 @@
  * RESUME. Its status is 1 at the first command after which they differ.
  */
 #include <inttypes.h>
+#include <stdbool.h>
 #include <stdio.h>
 #include <stdlib.h>
 #include <string.h>
@@ -25,6 +26,8 @@ enum {
 	NEAR_NS = 100000,
 	/* a tick of 1 % more, given to one clock some time before the other */
 	TICK_NEAR_NS = 1000000,
+	/* a rate is compared again if the host paused the guest between the two */
+	TRIES = 10,
 	/* what the kernel may count between its suspend and the module's */
 	AWAKE_NS = 1000000000,
 };
@@ -79,8 +82,9 @@ static long long changed(const struct times *from, const struct times *to,
 	return to->of[clock] - from->of[clock];
 }
 
-/* Each clock differs from the kernel's as it did, except for `near` ns. */
-static void same(const char *what, const struct times *from, long long near)
+/* Returns whether each clock differs from the kernel's as it did, except for
+ * `near` ns. */
+static bool is_same(const char *what, const struct times *from, long long near)
 {
 	struct times now = compare();
 
@@ -90,8 +94,23 @@ static void same(const char *what, const struct times *from, long long near)
 	       changed(from, &now, TAI));
 	for (enum clock clock = RAW; clock < CLOCKS; clock++) {
 		if (llabs(changed(from, &now, clock)) > (clock ? near : 1))
-			fail("the clocks differ");
+			return false;
 	}
+	return true;
+}
+
+static void same(const char *what, const struct times *from)
+{
+	if (!is_same(what, from, NEAR_NS))
+		fail("the clocks differ");
+}
+
+/* The kernel changes its rate at its next timer interrupt. */
+static void pause_a_while(void)
+{
+	struct timespec pause = { 0, 300000000 };
+
+	nanosleep(&pause, NULL);
 }
 
 static void usual_rate(void)
@@ -101,6 +120,7 @@ static void usual_rate(void)
 
 	both("freq 0", &timex);
 	both("tick 10000", NULL);
+	pause_a_while();
 }
 
 /* The trial at insmod steered the module's clocks alone. */
@@ -121,7 +141,7 @@ static void step(void)
 
 	snprintf(text, sizeof(text), "step %d %d", STEP_SEC, STEP_NSEC);
 	both(text, &timex);
-	same("step", &from, NEAR_NS);
+	same("step", &from);
 }
 
 /* The module itself compares REALTIME, to the nanosecond. */
@@ -134,23 +154,34 @@ static void set(int64_t sec)
 	printf("live: %s: as do_settimeofday64() sets it\n", text);
 }
 
+/* Changes the rate of both clocks, and compares them after a while. */
+static void rate(const char *name, int number, const struct timex *timex,
+		 long long near)
+{
+	char text[64];
+
+	snprintf(text, sizeof(text), "%s %d", name, number);
+	for (int i = 0; i < TRIES; i++) {
+		struct timex kernel = *timex;
+		struct times from;
+
+		usual_rate();
+		from = compare();
+		both(text, &kernel);
+		pause_a_while();
+		if (is_same(name, &from, near))
+			return;
+	}
+	fail("the clocks differ");
+}
+
 static void rates(void)
 {
 	struct timex frequency = { .modes = ADJ_FREQUENCY, .freq = FREQUENCY };
 	struct timex tick = { .modes = ADJ_TICK, .tick = TICK_US };
-	struct timespec pause = { 0, 300000000 };
-	struct times from = compare();
-	char text[64];
 
-	snprintf(text, sizeof(text), "freq %d", FREQUENCY);
-	both(text, &frequency);
-	nanosleep(&pause, NULL);
-	same("freq", &from, NEAR_NS);
-	from = compare();
-	snprintf(text, sizeof(text), "tick %d", TICK_US);
-	both(text, &tick);
-	nanosleep(&pause, NULL);
-	same("tick", &from, TICK_NEAR_NS);
+	rate("freq", FREQUENCY, &frequency, NEAR_NS);
+	rate("tick", TICK_US, &tick, TICK_NEAR_NS);
 	usual_rate();
 }
 
@@ -162,7 +193,7 @@ static void tai(void)
 
 	snprintf(text, sizeof(text), "tai %d", TAI_SEC);
 	both(text, &timex);
-	same("tai", &from, NEAR_NS);
+	same("tai", &from);
 }
 
 /*
