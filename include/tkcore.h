@@ -160,6 +160,8 @@ enum tkc_code {
 	 * REALTIME or TAI after it unless it is SET_TIME or STEP. For a read: the clock that is
 	 * read. */
 	TKC_RANGE = 6,
+	/* No reading that tkc_snapshot_reading may give is late enough. */
+	TKC_NOT_REACHED = 8,
 
 	/* Numbers that this header doesn't define, words, and room. */
 
@@ -341,6 +343,23 @@ enum tkc_code tkc_snapshot_get(struct tkc_time *out, const struct tkc_snapshot *
 			       uint32_t clock, uint64_t reading);
 
 /*
+ * Finds the first reading at which a clock has reached a time: at which tkc_snapshot_get gives
+ * sec s plus nsec ns or a later time. A timer is set to it (clockevents_program_event in
+ * kernel/time/clockevents.c converts the time that is left instead). sec and nsec may be any
+ * numbers: the time is sec * 10^9 + nsec ns.
+ *
+ * The reading is the last command's if the clock has reached the time there. Otherwise it is up to
+ * (2^bits - 1) / 2 cycles after it, rounded down. With a later snapshot it may be another one.
+ *
+ * Returns TKC_BAD_CLOCK, and then TKC_NOT_REACHED if no such reading gives the time or a later one:
+ * because the range is too short, the clocks are asleep, the clock is a coarse one, or the clock
+ * reaches its limit before the time.
+ */
+TKC_MUST_CHECK
+enum tkc_code tkc_snapshot_reading(uint64_t *out, const struct tkc_snapshot *snapshot,
+				   uint32_t clock, int64_t sec, uint32_t nsec);
+
+/*
  * Converts each of `count` stamps into a clock's time in nanoseconds, and stores the times in the
  * first `count` of the `room` elements of `out` (timekeeping_cycles_to_ns). The other elements stay
  * as they were. *done is the number of stamps that were converted, `count` at TKC_OK. A `count` of
@@ -420,6 +439,7 @@ TKC_INLINE const char *tkc_code_name(uint32_t code)
 	case TKC_INVALID: return "TKC_INVALID";
 	case TKC_BEHIND: return "TKC_BEHIND";
 	case TKC_RANGE: return "TKC_RANGE";
+	case TKC_NOT_REACHED: return "TKC_NOT_REACHED";
 	case TKC_BAD_COMMAND: return "TKC_BAD_COMMAND";
 	case TKC_BAD_CLOCK: return "TKC_BAD_CLOCK";
 	case TKC_BAD_WORDS: return "TKC_BAD_WORDS";

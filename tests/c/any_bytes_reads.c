@@ -87,6 +87,41 @@ static void try_convert(const struct tkc_snapshot *snapshot, uint32_t clock,
 	check_converted(snapshot, clock, stamps, *done, out, code, count);
 }
 
+/* Finds the reading of a time, at which the clock must give it or a later one. */
+static uint32_t find(struct tkc_time *found, const struct tkc_snapshot *snapshot,
+		     uint32_t clock, int64_t sec, uint32_t nsec)
+{
+	uint64_t before;
+	uint64_t *out = fill(rooms.out, &before, sizeof(before));
+	uint32_t code = saw(tkc_snapshot_reading(out, snapshot, clock, sec, nsec));
+
+	check(code == TKC_OK || code == TKC_BAD_CLOCK || code == TKC_NOT_REACHED);
+	if (code) {
+		check(*out == before);
+		return code;
+	}
+	check(!get(found, snapshot, clock, *out));
+	sec += nsec / 1000000000;
+	nsec %= 1000000000;
+	check(found->sec > sec || (found->sec == sec && found->nsec >= nsec));
+	return code;
+}
+
+/* Finds the reading of any time, and of one that a read gives, which is read
+ * again there. */
+static void try_find(const struct tkc_snapshot *snapshot, uint32_t clock,
+		     uint64_t last)
+{
+	struct tkc_time time, again;
+
+	(void)find(&time, snapshot, one_in(10) ? (uint32_t)some() : clock,
+		   (int64_t)some(), some_nsec());
+	if (get(&time, snapshot, clock, last + (any() >> below(64))))
+		return;
+	check(!find(&again, snapshot, clock, time.sec, time.nsec));
+	check(!memcmp(&again, &time, sizeof(time)));
+}
+
 void try_reads(const struct tkc_snapshot *of)
 {
 	const struct tkc_snapshot *snapshot = put(rooms.snapshot, of,
@@ -101,5 +136,6 @@ void try_reads(const struct tkc_snapshot *of)
 	check(get(&time, snapshot, 12 + (uint32_t)below(UINT32_MAX - 12), 0) ==
 	      TKC_BAD_CLOCK);
 	try_convert(snapshot, one_in(10) ? (uint32_t)some() : clock, words[1]);
+	try_find(snapshot, clock, words[1]);
 	check(!memcmp(snapshot, of, sizeof(*of)));
 }

@@ -118,6 +118,39 @@ static void try_reads(const struct tkc_clock *clock, const struct model *model)
 	CHECK(done == (code == TKC_BAD_CLOCK ? 99 : i));
 }
 
+/* Returns a time in ns near one that the clock reads, or any other. */
+static i128 time_near(const struct model *model, uint32_t id)
+{
+	i128 time;
+
+	if (!below(4) || model_get(model, id, reading_near(model), &time))
+		return (int64_t)some() * NANOS + (int64_t)below(1000000000);
+	return time + (int64_t)below(5) - 2;
+}
+
+/* Finds the readings of times. */
+static void try_readings(const struct tkc_clock *clock, const struct model *model)
+{
+	struct tkc_snapshot snapshot;
+
+	tkc_clock_snapshot(&snapshot, clock);
+	for (int i = 0; i < 4; i++) {
+		uint32_t id = (uint32_t)below(13), nsec, code;
+		i128 time = time_near(model, id);
+		uint64_t reading = 99, expected = 99;
+		int64_t sec = (int64_t)(time / NANOS) - (time % NANOS < 0);
+
+		nsec = (uint32_t)(time - sec * NANOS);
+		if (!below(4) && sec > INT64_MIN + 4) {
+			sec -= 3;
+			nsec += 3000000000;
+		}
+		code = model_reading(model, id, sec, nsec, &expected);
+		CHECK(tkc_snapshot_reading(&reading, &snapshot, id, sec, nsec) == code);
+		CHECK(reading == (code ? 99 : expected));
+	}
+}
+
 /* Restores clocks from their words, some of which are changed. */
 static void try_words(const struct tkc_counter *counter, const struct tkc_clock *clock,
 		      const struct model *model)
@@ -177,6 +210,7 @@ static void round_of_calls(void)
 	for (int i = 0; i < 30; i++) {
 		try_command(&clock, &model);
 		try_reads(&clock, &model);
+		try_readings(&clock, &model);
 		try_words(&counter, &clock, &model);
 	}
 }

@@ -120,7 +120,7 @@ static void reads(const struct tkc_clock *clock, const struct tkc_counter *count
 {
 	static const uint64_t stamps[] = { 7, 8, 2000000000 };
 	struct tkc_snapshot snapshot, other;
-	uint64_t words[TKC_WORDS], out[3];
+	uint64_t words[TKC_WORDS], out[3], first;
 	struct tkc_time time;
 	size_t done;
 
@@ -131,6 +131,12 @@ static void reads(const struct tkc_clock *clock, const struct tkc_counter *count
 	     tkc_snapshot_get(&time, &snapshot, TKC_CLOCK_TAI, UINT64_MAX));
 	MEET(TKC_RANGE, tkc_snapshot_get(&time, &snapshot, TKC_CLOCK_MONOTONIC,
 					 2000000000));
+	MEET(TKC_OK, tkc_snapshot_reading(&first, &snapshot, TKC_CLOCK_BOOTTIME, 5, 0));
+	need(first == 7, "BOOTTIME was 5 s at the last command");
+	MEET(TKC_BAD_CLOCK, tkc_snapshot_reading(&first, &snapshot, 2, 5, 0));
+	MEET(TKC_NOT_REACHED, tkc_snapshot_reading(&first, &snapshot, TKC_CLOCK_TAI,
+						   INT64_MAX, 0));
+	need(first == 7, "a time that isn't reached has no reading");
 	MEET(TKC_RANGE, tkc_snapshot_convert(out, 3, &done, &snapshot,
 					     TKC_CLOCK_MONOTONIC, stamps, 3));
 	MEET(TKC_BAD_ROOM, tkc_snapshot_convert(out, 2, &done, &snapshot,

@@ -207,6 +207,39 @@ uint32_t model_get(const struct model *model, uint32_t clock, uint64_t reading, 
 	return *time >= end ? TKC_RANGE : TKC_OK;
 }
 
+/* Returns whether a read at so many cycles after the last reading gives the time or a later one. A
+ * clock never goes back there, so from the first such number of cycles on, each read does until the
+ * clock is at its limit. */
+static bool has_reached(const struct model *model, uint32_t clock, uint64_t cycles, i128 wanted)
+{
+	i128 time;
+
+	model_get(model, clock, (model->last + cycles) & model->mask, &time);
+	return time >= wanted;
+}
+
+uint32_t model_reading(const struct model *model, uint32_t clock, int64_t sec, uint32_t nsec,
+		       uint64_t *reading)
+{
+	uint64_t least = 0, most = model->mask / 2;
+	i128 wanted = sec * NANOS + nsec, time;
+
+	if (model_get(model, clock, model->last, &time) == TKC_BAD_CLOCK)
+		return TKC_BAD_CLOCK;
+	if (!has_reached(model, clock, most, wanted))
+		return TKC_NOT_REACHED;
+	while (least < most) {
+		uint64_t middle = least + (most - least) / 2;
+
+		if (has_reached(model, clock, middle, wanted))
+			most = middle;
+		else
+			least = middle + 1;
+	}
+	*reading = (model->last + least) & model->mask;
+	return model_get(model, clock, *reading, &time) ? TKC_NOT_REACHED : TKC_OK;
+}
+
 void model_words(const struct model *model, uint64_t words[TKC_WORDS])
 {
 	u128 second = (u128)1000000000 << model->shift;

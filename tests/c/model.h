@@ -43,6 +43,11 @@ uint32_t model_apply(struct model *model, uint64_t reading, uint32_t command, in
  * stored number means nothing. */
 uint32_t model_get(const struct model *model, uint32_t clock, uint64_t reading, i128 *time);
 
+/* Finds the first reading at which a clock has reached a time. Returns its code, and at TKC_OK
+ * stores the reading. */
+uint32_t model_reading(const struct model *model, uint32_t clock, int64_t sec, uint32_t nsec,
+		       uint64_t *reading);
+
 /* Stores the ten words of the model. */
 void model_words(const struct model *model, uint64_t words[TKC_WORDS]);
 

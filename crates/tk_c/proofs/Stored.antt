@@ -1,5 +1,5 @@
 -- Ten words that are stored one by one.
-use Rattle.std.proofs.Common.{◌≡◌, ℕ, ◌<◌, ◌≤◌, ◌+◌, ◌∙◌, arith, refl, List, [], ◌∷◌, length, slice_index_or, slice_set}
+use Rattle.std.proofs.Common.{◌≡◌, ℕ, ◌∙◌, arith, refl, List, [], ◌∷◌, length, slice_index_or, slice_set}
 
 -- each word is overwritten, in the order of the stores
 set_each : (words : List ℕ) (a b c d e f g h i j : ℕ) → length words ≡ 10 →

@@ -23,6 +23,8 @@ pub enum Code {
     Range = 6,
     /// An allocation failed. No call of this crate returns it, because none allocates.
     Memory = 7,
+    /// No reading that may be searched gives the time or a later one.
+    NotReached = 8,
     /// No command has this number.
     BadCommand = 16,
     /// No clock has this number.

@@ -5,7 +5,7 @@
 //! |---|---|
 //! | `tkc_counter_*` | make counters from numbers, and store a counter's numbers |
 //! | `tkc_clock_*` | open the running clocks, apply commands, convert clocks to and from words |
-//! | `tkc_snapshot_*` | read one time or a list of times, convert snapshots to and from words |
+//! | `tkc_snapshot_*` | read one time or a list of times, find the reading of a time, convert snapshots to and from words |
 //! | `tkc_version` | returns the archive's version |
 //! | `CountedClock` | the clocks with their count of commands, `struct tkc_clock` in C |
 //! | `CounterStorage`, `ClockStorage`, `SnapshotStorage`, `TimeStorage` | memory that a value is written to |
@@ -19,6 +19,7 @@ mod code;
 mod counted;
 mod counters;
 mod named;
+mod reached;
 mod snapshots;
 mod storage;
 mod version;
@@ -28,6 +29,7 @@ pub use clocks::{tkc_clock_apply, tkc_clock_open, tkc_clock_snapshot};
 pub use code::Code;
 pub use counted::CountedClock;
 pub use counters::{tkc_counter_from_hz, tkc_counter_new, tkc_counter_numbers};
+pub use reached::tkc_snapshot_reading;
 pub use snapshots::{tkc_snapshot_convert, tkc_snapshot_get};
 pub use storage::{BaseStorage, ClockStorage, CounterStorage, SnapshotStorage, TimeStorage};
 pub use version::tkc_version;

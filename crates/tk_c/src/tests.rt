@@ -3,6 +3,7 @@
 
 mod applied;
 mod made;
+mod reached;
 mod read;
 mod restored;
 
