@@ -73,9 +73,9 @@
  *   always may. A kernel module must follow the list in docs/C.md, "In the Linux kernel". In short:
  *     - Link the archive of `tools/build_c --backend rattle`. The archive of LLVM uses the red zone
  *       below the stack pointer, and requires a stack that is aligned to 16 bytes.
- *     - Then each call except these three may be made in any context: tkc_snapshot_convert,
- *       tkc_snapshot_from_words and tkc_clock_from_words use SSE registers. Make them between
- *       kernel_fpu_begin() and kernel_fpu_end(), and only if irq_fpu_usable().
+ *     - Then each call except tkc_snapshot_convert may be made in any context. That one uses SSE
+ *       registers. Make it between kernel_fpu_begin() and kernel_fpu_end(), and only if
+ *       irq_fpu_usable().
  *   Two threads must not write one value at the same time, and no thread may write a value while
  *   another reads it. The caller's lock must prevent both (as timekeeper_lock does, and tk_core.seq
  *   for readers; tkcore_page.h has such a page). A reader in an NMI must not wait for a writer that

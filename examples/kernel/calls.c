@@ -1,5 +1,5 @@
 // SPDX-License-Identifier: GPL-2.0
-/* The calls that use SSE registers, and those that go by words. */
+/* The call that uses SSE registers, and those that go by words and by times. */
 #define pr_fmt(fmt) "tkc: " fmt
 
 #include "trial.h"
@@ -45,24 +45,60 @@ static bool convert(const struct tkc_snapshot *snapshot, u64 reading)
 	return true;
 }
 
-/* In an interrupt a list waits if the interrupted code uses SSE registers. */
-void calls_convert_in_interrupt(void)
+/* Returns whether a snapshot comes back from its words. */
+static bool is_restored(const struct tkc_snapshot *snapshot)
+{
+	u64 words[TKC_WORDS], again[TKC_WORDS];
+	struct tkc_snapshot restored;
+
+	tkc_snapshot_words(words, snapshot);
+	if (tkc_snapshot_from_words(&restored, &trial.clocks.counter, words))
+		return false;
+	tkc_snapshot_words(again, &restored);
+	return !memcmp(words, again, sizeof(words));
+}
+
+/* Returns whether the time that a read gives is first read at the reading that
+ * tkc_snapshot_reading() finds. */
+static bool is_found(const struct tkc_snapshot *snapshot, u64 reading)
+{
+	struct tkc_time time, first, before;
+	u64 found, last;
+
+	if (tkc_snapshot_get(&time, snapshot, TKC_CLOCK_REALTIME, reading) ||
+	    tkc_snapshot_reading(&last, snapshot, TKC_CLOCK_REALTIME, 0, 0) ||
+	    tkc_snapshot_reading(&found, snapshot, TKC_CLOCK_REALTIME, time.sec,
+				 time.nsec) ||
+	    tkc_snapshot_get(&first, snapshot, TKC_CLOCK_REALTIME, found) ||
+	    tkc_snapshot_get(&before, snapshot, TKC_CLOCK_REALTIME, found - 1))
+		return false;
+	return tkc_time_ns(&first) == tkc_time_ns(&time) &&
+	       (found == last || tkc_time_ns(&before) < tkc_time_ns(&time));
+}
+
+/* In an interrupt a list waits if the interrupted code uses SSE registers. The
+ * other calls don't. */
+void calls_make_in_interrupt(void)
 {
 	struct tkc_snapshot snapshot;
 	u64 reading;
 
+	clocks_look(&trial.clocks, NULL, &snapshot, &reading);
+	if (is_restored(&snapshot) && is_found(&snapshot, reading))
+		trial.snapshots++;
+	else
+		trial.snapshots_wrong++;
 	if (trial.saves_sse && !irq_fpu_usable()) {
 		trial.lists_postponed++;
 		return;
 	}
-	clocks_look(&trial.clocks, NULL, &snapshot, &reading);
 	if (convert(&snapshot, reading))
 		trial.lists++;
 	else
 		trial.lists_wrong++;
 }
 
-/* Words restore clocks and snapshot. No command may run at the same time. */
+/* Words restore clocks. No command may run at the same time. */
 bool calls_check_words(void)
 {
 	u64 words[TKC_WORDS], again[TKC_WORDS];
@@ -72,17 +108,13 @@ bool calls_check_words(void)
 	s64 frequency, tick;
 	u32 code;
 
-	begin_sse();
 	tkc_clock_words(words, &frequency, &tick, &clocks->clock);
 	code = tkc_clock_from_words(&clock, &clocks->counter, words, frequency,
 				    tick);
 	if (!code) {
 		tkc_clock_snapshot(&snapshot, &clock);
 		tkc_snapshot_words(again, &snapshot);
-		code = tkc_snapshot_from_words(&snapshot, &clocks->counter,
-					       again);
 	}
-	end_sse();
 	if (code || memcmp(words, again, sizeof(words)) ||
 	    words[0] != clocks->front || !convert(&snapshot, words[1])) {
 		pr_err("words or a list differ\n");

@@ -57,7 +57,7 @@ static enum hrtimer_restart command_in_hardirq(struct hrtimer *timer)
 		steer();
 	else
 		command_apply(TKC_CMD_UPDATE, 0, 0);
-	calls_convert_in_interrupt();
+	calls_make_in_interrupt();
 	hrtimer_forward_now(timer, PERIOD_NS);
 	return HRTIMER_RESTART;
 }

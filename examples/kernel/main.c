@@ -72,7 +72,10 @@ static bool run(void)
 		trial.refused);
 	pr_info("interrupts converted %llu lists, %llu wrong, %llu postponed\n",
 		trial.lists, trial.lists_wrong, trial.lists_postponed);
-	return is_well && !trial.refused && trial.lists && !trial.lists_wrong;
+	pr_info("interrupts restored %llu snapshots and found their readings, %llu wrong\n",
+		trial.snapshots, trial.snapshots_wrong);
+	return is_well && !trial.refused && trial.lists && !trial.lists_wrong &&
+	       trial.snapshots && !trial.snapshots_wrong;
 }
 
 /* With a control the module stays loaded, so that its finding can be read. */

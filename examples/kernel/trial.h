@@ -28,6 +28,7 @@ struct trial {
 	bool saves_sse; /* call kernel_fpu_begin() when a call needs it */
 	u64 refused; /* commands */
 	u64 lists, lists_wrong, lists_postponed; /* converted in interrupts */
+	u64 snapshots, snapshots_wrong; /* restored from words in interrupts */
 };
 
 extern struct trial trial;
@@ -60,9 +61,9 @@ bool compare_steady(unsigned int milliseconds);
 bool compare_steered(unsigned int milliseconds);
 bool compare_set(const struct timespec64 *time);
 
-/* calls.c: words and lists. */
+/* calls.c: words, readings of times, and lists. */
 bool calls_check_words(void);
-void calls_convert_in_interrupt(void);
+void calls_make_in_interrupt(void);
 
 /* suspend.c: SUSPEND and RESUME at the system's suspend. */
 void suspend_register(void);

@@ -40,7 +40,7 @@ pub extern "C" fn tkc_snapshot_from_words(
         ((result ≡ number_of BadWords) × (out.new ≡ out.old))
         (λ snapshot. (result ≡ number_of Done) × (out.new ≡ snapshot_storage snapshot)) }
 {
-    match Snapshot::from_words(*counter, *words) {
+    match Snapshot::from_words(*counter, loaded(words)) {
         Some(snapshot) => {
             *out = SnapshotStorage::from(snapshot);
             Code::Done.number()
@@ -89,7 +89,7 @@ pub extern "C" fn tkc_clock_from_words(
         ((result ≡ number_of BadWords) × (out.new ≡ out.old))
         (λ snapshot. IsClockRestored snapshot frequency tick out.old out.new result) }
 {
-    let Some(snapshot) = Snapshot::from_words(*counter, *words) else {
+    let Some(snapshot) = Snapshot::from_words(*counter, loaded(words)) else {
         return Code::BadWords.number();
     };
     let Some(clock) = Clock::from_snapshot(snapshot, frequency, tick) else {
@@ -100,6 +100,37 @@ pub extern "C" fn tkc_clock_from_words(
         front: snapshot.front(),
     });
     Code::Done.number()
+}
+
+/// Loads ten words, and computes every second one.
+///
+/// The rattle backend would copy two neighbours by an SSE register, which an interrupt in a kernel
+/// must not use.
+#[inline(always)]
+fn loaded(words: &[u64; 10]) -> [u64; 10]
+    ensures { result ≡ words.now }
+{
+    let &[t0, t1, t2, t3, t4, t5, t6, t7, t8, t9] = words;
+    [
+        t0,
+        computed(t1),
+        t2,
+        computed(t3),
+        t4,
+        computed(t5),
+        t6,
+        computed(t7),
+        t8,
+        computed(t9),
+    ]
+}
+
+/// Returns the number, computed as twice its half plus the remainder. LLVM folds this.
+#[inline(always)]
+fn computed(number: u64) -> u64
+    ensures { result ≡ number }
+{
+    number / 2 * 2 + number % 2
 }
 
 /// Stores ten words one by one, without neighbours in a row.

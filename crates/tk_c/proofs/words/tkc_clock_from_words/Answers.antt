@@ -9,7 +9,7 @@ returns-in_default-from_snapshot c =
       to_z-of_z w64 c.args.tick c.ranges.tick,
     )
     at c.in_default-from_snapshot.ensures in
-    rw (← c.in-Some.ensures.value) (inr record {
+    rw (← (rw (c.loaded.ensures) at c.in-Some.ensures.value)) (inr record {
       not_running = refused;
       unchanged = refl;
       refused = c.number-in_default-from_snapshot.ensures;
@@ -22,7 +22,7 @@ returns c =
       to_z-of_z w64 c.args.tick c.ranges.tick,
     )
     at c.in-Some-from_snapshot.ensures in
-    rw (← c.in-Some.ensures.value) (inl record {
+    rw (← (rw (c.loaded.ensures) at c.in-Some.ensures.value)) (inl record {
       running = told.0;
       written = rw (told.1, c.front.ensures) at c.from.ensures;
       done = c.number-2.ensures;
