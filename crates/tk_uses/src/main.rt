@@ -1,10 +1,10 @@
-//! Runs the clocks of a counter of 1 MHz through settings, a sleep and a fold, and prints their
-//! values on the way.
+//! Runs the clocks of a counter of 1 MHz through settings, a timer, a sleep and a fold, and prints
+//! their values on the way.
 #![tactic(auto)]
 
 mod stop;
 
-ghost use Rattle.std.specs.Prelude.{◌≡◌, IfOk};
+ghost use Rattle.std.specs.Prelude.{◌≡◌, ◌≤ℤ◌, IfOk, IfSome};
 ghost use Rattle.tk_clock.specs.Clocks.{clock_value};
 ghost use Rattle.tk_clock.specs.Monotonic.{monotonic};
 ghost use Rattle.tk_clock.specs.Time.{nanoseconds};
@@ -42,7 +42,8 @@ fn settings(rt: &impl Print, keeper: &mut Timekeeper) -> Result<(), Stop> {
     act(rt, keeper, 4_000_000, Command::Step(time(-2, 750_000_000)))?;
     tell(rt, keeper, 4_000_000)?;
     act(rt, keeper, 5_000_000, Command::Freq(500 << 16))?;
-    tell(rt, keeper, 7_000_000)
+    tell(rt, keeper, 7_000_000)?;
+    timer(rt, keeper, time(1_700_000_106, 0))
 }
 
 /// Suspends the clocks, and resumes them with a counter that has restarted. The resume gives the
@@ -50,6 +51,7 @@ fn settings(rt: &impl Print, keeper: &mut Timekeeper) -> Result<(), Stop> {
 fn sleep(rt: &impl Print, keeper: &mut Timekeeper) -> Result<(), Stop> {
     act(rt, keeper, 7_000_000, Command::Suspend)?;
     tell(rt, keeper, 9_000_000)?;
+    timer(rt, keeper, time(1_700_000_106, 0))?;
     act(rt, keeper, 9_000_000, Command::Update)?;
     act(rt, keeper, 100, Command::Resume(time(60, 250_000_000)))?;
     tell(rt, keeper, 1_000_100)
@@ -80,6 +82,28 @@ fn act(rt: &impl Print, keeper: &mut Timekeeper, reading: u64, cmd: Command) -> 
         Err(refusal) => println!(rt; "at {reading}: {cmd:?} is refused: {refusal:?}")?,
     }
     Ok(())
+}
+
+/// Prints the reading to which a timer is set that expires at a REALTIME, and REALTIME there.
+fn timer(rt: &impl Print, keeper: &Timekeeper, at: Timespec) -> Result<(), Stop> {
+    match expiry(keeper, at) {
+        Some(reading) => {
+            let told = keeper.get(ClockId::Realtime, reading)?;
+            println!(rt; "timer at {reading}: {}.{:09}", told.sec, told.nsec)?;
+        }
+        None => println!(rt; "no timer for {}.{:09}", at.sec, at.nsec)?,
+    }
+    Ok(())
+}
+
+/// Returns the first reading at which REALTIME has reached a time. Set the timer anew after each
+/// command, which may change the answer. `None` if the clocks are asleep, or if the time is further
+/// off than half the counter's range.
+fn expiry(keeper: &Timekeeper, at: Timespec) -> Option<u64>
+    ensures { IfSome result (λ reading. nanoseconds at
+        ≤ℤ clock_value keeper.now.journal ClockId.Realtime reading) }
+{
+    keeper.snapshot().reading_at(ClockId::Realtime, at)
 }
 
 /// Returns REALTIME at a stamp that was noted at a front, by the journal as it was then.
