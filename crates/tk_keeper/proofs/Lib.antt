@@ -5,5 +5,6 @@ pub mod Room
 pub mod Running
 pub mod Steps
 pub mod Stretches
+pub mod Updates
 mod Worked
 pub mod Commands

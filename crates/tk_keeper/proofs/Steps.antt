@@ -1,7 +1,7 @@
 -- The listed entries of a legal journal, applied one by one.
-use Rattle.std.proofs.Common.{◌≡◌, ℕ, ◌+◌, ◌-◌, ◌<◌, ◌≤◌, List, [], ◌∷◌, ◌++◌, length, get_or, take, drop, length-drop, arith, refl, sym, ◌∙◌, ap}
+use Rattle.std.proofs.Common.{◌≡◌, ℕ, ◌+◌, ◌<◌, List, [], ◌∷◌, ◌++◌, length, get_or, take, refl, sym, ◌∙◌, ap}
 use Rattle.std.specs.Prelude.{Result, Ok, Err, Option, Some, None, IsOk, MatchResult, slice_get}
-use Rattle.std.proofs.lemmas.List.{take_more, length-take, get_or-take, get_or-drop}
+use Rattle.std.proofs.lemmas.List.{take_more}
 use Rattle.std.proofs.lemmas.Option.{slice_get_within, slice_get-get_or, get_or_from_slice_get}
 use Rattle.tk_clock.specs.declared.command.Entry.{Entry}
 use Rattle.tk_clock.specs.declared.refusal.Refusal.{Refusal}
@@ -42,16 +42,10 @@ pub is_done : (after : Type 0) (other : Refusal →
 is_done after other told (Ok done) none e = refl
 is_done after other told (Err refusal) none e = let some = e.0 in absurd (cc (none, some))
 
--- an item of a part of a list, by its place in the whole
-pub part_item : {X : Type 0} (xs : List X) (from to k : ℕ) (d : X) →
-    k < length (take (to - from) (drop from xs)) →
-    slice_get xs (from + k) ≡ Some (get_or (take (to - from) (drop from xs)) k d)
-part_item xs from to k d within =
-    let short = length-take (to - from) (drop from xs) in
-    let fewer = length-drop from xs in
-    slice_get-get_or xs (from + k) d (omega arith)
-    ∙ ap (λ x. Some x) (sym (get_or-take (to - from) (drop from xs) k d (omega arith)
-    ∙ get_or-drop from xs k d))
+-- an item that is found at a place within a list
+pub listed_item : {X : Type 0} (xs : List X) (k : ℕ) (x : X) → k < length xs →
+    x ≡ get_or xs k x → slice_get xs k ≡ Some x
+listed_item xs k x within e = slice_get-get_or xs k x within ∙ ap (λ y. Some y) (sym e)
 
 pub effect_of : (after : Type 0) (other : Refusal →
     Type 0) (told : Option Refusal) (result : Result (Unit {0}) Refusal) → told ≡ None →
@@ -59,10 +53,3 @@ pub effect_of : (after : Type 0) (other : Refusal →
     × other refusal) → after
 effect_of after other told (Ok done) none e = e.1
 effect_of after other told (Err refusal) none e = let some = e.0 in absurd (cc (none, some))
-
--- a part of a list after all its items were visited
-pub whole_part : {X : Type 0} (xs : List X) (from to k : ℕ) → from ≤ to → to ≤ length xs →
-    k ≤ length (take (to - from) (drop from xs)) →
-    length (take (to - from) (drop from xs)) ≤ k → from + k ≡ to
-whole_part xs from to k low high here there =
-    omega (arith, length-take (to - from) (drop from xs), length-drop from xs)

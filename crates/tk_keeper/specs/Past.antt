@@ -1,10 +1,12 @@
 -- The past of a journal, and what folding keeps of it.
-use Rattle.std.specs.Prelude.{◌≡◌, ℕ, ◌+◌, ◌-◌, ◌≤◌, drop, Option, Some, None, nat_lt, if◌then◌else◌}
+use Rattle.std.specs.Prelude.{◌≡◌, ℕ, ◌-◌, ◌≤◌, drop, Option, Some, None, nat_lt, if◌then◌else◌}
 use Rattle.tk_clock.specs.declared.clock_id.ClockId.{ClockId}
 use Rattle.tk_clock.specs.Journal.{Journal, prefix, accepted_count}
 use Rattle.tk_clock.specs.Clocks.{clock_value}
 use Rattle.tk_clock.specs.Snapshot.{snapshot_of}
-use Rattle.tk_clock.specs.State.{state_of}
+use Rattle.tk_clock.specs.declared.command.Command.TheVariants.{Update}
+use Rattle.tk_clock.specs.Refusal.{state_refusal}
+use Rattle.tk_clock.specs.State.{state_of, effect}
 use Rattle.tk_keeper.specs.declared.front_error.FrontError.{FrontError}
 use Rattle.tk_keeper.specs.declared.front_error.FrontError.TheVariants.{Unknown, Folded}
 use Rattle.tk_keeper.specs.declared.timekeeper.past.Cursor.{Cursor}
@@ -17,6 +19,12 @@ at_front front journal = prefix (front - journal.opening.count) journal
 -- a cursor has the clocks of its place in the journal
 abbrev pub IsAt : Journal → Cursor → Type 0
 IsAt journal cursor = cursor.clock ≡ state_of (prefix cursor.place journal)
+
+-- one update at this reading leads from a place of the journal to a later one
+pub record IsUpdated (journal : Journal) (from place reading : ℕ) : Type 0 where
+  pub passes : state_refusal (state_of (prefix from journal)) reading Update ≡ None
+  pub state : effect (state_of (prefix from journal)) reading Update
+      ≡ state_of (prefix place journal)
 
 -- why a front is refused: it is not reached yet, or it is before the opening
 abbrev pub front_refusal : Journal → ℕ → Option FrontError

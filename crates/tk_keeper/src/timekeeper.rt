@@ -3,6 +3,7 @@ ghost use Rattle.std.specs.Prelude.{◌≡◌, ◌≤◌, MatchResult, Some, Non
 mod applying;
 mod folding;
 mod past;
+mod replaying;
 mod running;
 mod tracing;
 

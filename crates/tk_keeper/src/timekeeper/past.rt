@@ -146,18 +146,4 @@ impl<A: Allocator + Copy> Timekeeper<A> {
             place: number - folded,
         }
     }
-
-    /// Brings the clocks at a place `from` forward to a later place: applies the entries between
-    /// the two again.
-    fn replay(&self, clock: &mut Clock, from: usize, place: usize)
-        requires state { clock.old ≡ state_of (prefix from self.now.journal) }
-        requires before { from ≤ place }
-        requires near { place < from + 256 }
-        requires listed { place ≤ length self.now.journal.entries }
-        ensures { clock.new ≡ state_of (prefix place self.now.journal) }
-    {
-        'later: for entry in &self.entries[from..place] {
-            clock.apply(entry.reading, entry.cmd).unwrap();
-        }
-    }
 }
