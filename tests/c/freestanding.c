@@ -47,12 +47,15 @@ static void read(const struct tkc_snapshot *snapshot)
 {
 	static const uint64_t stamps[9] = { 0, 1500000005, 1500000006 };
 	struct tkc_time time;
-	uint64_t out[9];
+	uint64_t out[9], first;
 	size_t done;
 
 	check(tkc_snapshot_get(&time, snapshot, TKC_CLOCK_REALTIME,
 			       1500000005) == TKC_OK);
 	check(time.sec == 1700000001 && time.nsec == 500000000);
+	check(tkc_snapshot_reading(&first, snapshot, TKC_CLOCK_REALTIME,
+				   1700000001, 500000000) == TKC_OK);
+	check(first == 1500000005);
 	check(tkc_snapshot_convert(out, 9, &done, snapshot, TKC_CLOCK_MONOTONIC,
 				   stamps, 9) == TKC_OK);
 	check(done == 9 && out[0] == 1000000000 && out[2] == 1500000001);
