@@ -4,9 +4,11 @@
 
 mod stop;
 
-ghost use Rattle.std.specs.Prelude.{◌≡◌, ◌≤ℤ◌, IfOk, IfSome};
+ghost use Rattle.std.specs.Prelude.{◌≡◌, ◌≤ℤ◌, IfOk, IfSome, MatchOption};
 ghost use Rattle.tk_clock.specs.Clocks.{clock_value};
 ghost use Rattle.tk_clock.specs.Monotonic.{monotonic};
+ghost use Rattle.tk_clock.specs.Reach.{IsFirstReached, IsNeverReached};
+ghost use Rattle.tk_clock.specs.Snapshot.{snapshot_of};
 ghost use Rattle.tk_clock.specs.Time.{nanoseconds};
 ghost use Rattle.tk_keeper.specs.Past.{at_front};
 
@@ -100,8 +102,11 @@ fn timer(rt: &impl Print, keeper: &Timekeeper, at: Timespec) -> Result<(), Stop>
 /// command, which may change the answer. `None` if the clocks are asleep, or if the time is further
 /// off than half the counter's range.
 fn expiry(keeper: &Timekeeper, at: Timespec) -> Option<u64>
-    ensures { IfSome result (λ reading. nanoseconds at
+    ensures reached { IfSome result (λ reading. nanoseconds at
         ≤ℤ clock_value keeper.now.journal ClockId.Realtime reading) }
+    ensures first { let base = (snapshot_of keeper.now.journal).base in MatchOption result
+        (IsNeverReached base ClockId.Realtime (nanoseconds at))
+        (λ reading. IsFirstReached base ClockId.Realtime (nanoseconds at) reading) }
 {
     keeper.snapshot().reading_at(ClockId::Realtime, at)
 }
