@@ -160,7 +160,7 @@ enum tkc_code {
 	 * REALTIME or TAI after it unless it is SET_TIME or STEP. For a read: the clock that is
 	 * read. */
 	TKC_RANGE = 6,
-	/* No reading that tkc_snapshot_reading may give is late enough. */
+	/* The clock reaches the time at none of the readings that tkc_snapshot_reading may give. */
 	TKC_NOT_REACHED = 8,
 
 	/* Numbers that this header doesn't define, words, and room. */
