@@ -14,6 +14,7 @@ use rayon::current_num_threads;
 use rayon::prelude::*;
 use std::alloc::Allocator;
 use std::marker::{Brand, Send, Sync};
+use std::sync::atomic::{AtomicUsize, Ordering};
 use std::thread::Threads;
 use tk_clock::ClockId;
 use tk_keeper::{Timekeeper, TraceError};
@@ -158,7 +159,7 @@ pub(crate) fn trace_in_pieces<R: Threads + Sync, A: Allocator + Copy + Sync>(
     first_fault(size, input, out)
 }
 
-/// Converts all pieces, in parallel.
+/// Converts all pieces, in parallel. Once a piece has a fault, the later ones are only marked.
 fn convert_pieces<R: Threads + Sync, A: Allocator + Copy + Sync>(
     rt: &R,
     size: usize,
@@ -169,6 +170,7 @@ fn convert_pieces<R: Threads + Sync, A: Allocator + Copy + Sync>(
     requires room { length input.stamps.now ≡ length out.old }
     ensures { of_input (ArePieces size) input.entry out.new }
 {
+    let refused = AtomicUsize::new(usize::MAX);
     par_chunks_mut_for_each(
         rt,
         out,
@@ -177,16 +179,21 @@ fn convert_pieces<R: Threads + Sync, A: Allocator + Copy + Sync>(
             requires { (0 < length piece.old)
                 × (at + length piece.old ≤ length input.stamps.now) }
             ensures { of_input IsPiece input.entry at piece.new }
-        { convert_piece(input, at, piece) },
+        { convert_piece(input, at, &refused, piece) },
     );
 }
 
-/// Converts the piece that begins at `at`, and marks it if one of its items has a fault.
-fn convert_piece<A: Allocator + Copy>(input: Input<'_, A>, at: usize, piece: &mut [u64])
+/// Converts the piece that begins at `at`, and marks it if one of its items has a fault. `refused`
+/// is where a piece with a fault begins, if one was found: a piece after that one is only marked.
+fn convert_piece<A: Allocator + Copy>(
+    input: Input<'_, A>,
+    at: usize,
+    refused: &AtomicUsize,
+    piece: &mut [u64],
+)
     requires filled { 0 < length piece.old }
     requires inside { at + length piece.old ≤ length input.stamps.now }
-    ensures { of_input IsPiece input.entry at
-        piece.new }
+    ensures { of_input IsPiece input.entry at piece.new }
 {
     let Input {
         keeper,
@@ -195,10 +202,13 @@ fn convert_piece<A: Allocator + Copy>(input: Input<'_, A>, at: usize, piece: &mu
         clock,
     } = input;
     let end = at + piece.len();
-    match keeper.trace_into(&fronts[at..end], &stamps[at..end], clock, piece) {
-        Ok(()) => {}
-        Err(_) => piece[0] = REFUSED,
+    if at <= refused.load(Ordering::SeqCst) {
+        match keeper.trace_into(&fronts[at..end], &stamps[at..end], clock, piece) {
+            Ok(()) => return,
+            Err(_) => refused.store(at, Ordering::SeqCst),
+        }
     }
+    piece[0] = REFUSED;
 }
 
 /// Checks the pieces in order, and converts again from the first marked one on.
