@@ -1,23 +1,27 @@
--- Of a run of updates, the last one alone leads to the same state.
-use Rattle.std.proofs.Common.{◌≡◌, ℕ, ◌+◌, ◌-◌, ◌*◌, ◌/◌, ◌%◌, ◌^◌, ◌<◌, ◌≤◌, refl, sym, ◌∙◌, ap, ap₂, arith, Bool, true, false, Some, None}
-use Rattle.std.specs.Prelude.{ℤ, Option, nat_lt, not, ◌&&◌, ◌||◌, if◌then◌else◌, slice_get}
+-- An update can be left out before another entry: that one leads to the same state alone.
+use Rattle.std.proofs.Common.{◌≡◌, ℕ, ◌+◌, ◌-◌, ◌*◌, ◌/◌, ◌%◌, ◌^◌, ◌<◌, ◌≤◌, get_or, length, refl, sym, ◌∙◌, ap, ap₂, subst, arith, Bool, true, false, Some, None}
+use Rattle.std.specs.Prelude.{pos, ◌+ℤ◌, ◌-ℤ◌, Option, nat_lt, int_lt, not, ◌&&◌, ◌||◌, if◌then◌else◌, slice_get}
 use Rattle.std.proofs.lemmas.Bool.{le-ltb}
 use Rattle.std.proofs.lemmas.Grind.{common_steps}
 use Rattle.std.proofs.lemmas.Nat.{pow_pos}
+use Rattle.std.proofs.lemmas.Option.{get_or_from_slice_get}
 use Rattle.std.proofs.Math.Nat.{add-mul-mod_self_left, div-add-mod, mod-lt, mod-add-mod, mod-eq_of_lt}
-use Rattle.tk_counter.specs.Counter.{Counter, mask, half, gap}
-use Rattle.tk_clock.specs.declared.clock_id.ClockId.{ClockId}
+use Rattle.tk_counter.specs.Counter.{Counter, mask, half, gap, multiplier}
 use Rattle.tk_clock.specs.declared.command.Entry.{Entry}
-use Rattle.tk_clock.specs.declared.command.Command.TheVariants.{Update}
+use Rattle.tk_clock.specs.declared.command.Command.{Command}
+use Rattle.tk_clock.specs.declared.command.Command.TheVariants.{Update, SetTime, Step, Freq, Tick, Tai, Suspend, Resume}
 use Rattle.tk_clock.specs.declared.refusal.Refusal.{Refusal}
 use Rattle.tk_clock.specs.declared.refusal.Refusal.TheVariants.{Asleep, Awake, Invalid, Behind, Range}
+use Rattle.tk_clock.specs.Command.{is_resume}
 use Rattle.tk_clock.specs.Journal.{Journal, prefix}
 use Rattle.tk_clock.specs.Legal.{IsAccepted}
 use Rattle.tk_clock.specs.Limits.{is_well_formed, is_past_limit, is_bad_setting}
+use Rattle.tk_clock.specs.Monotonic.{cycles_since}
 use Rattle.tk_clock.specs.Refusal.{first_of, state_refusal}
-use Rattle.tk_clock.specs.State.{State, base_value, state_of, effect}
-use Rattle.tk_keeper.specs.Past.{IsUpdated}
-use Rattle.tk_keeper.proofs.Steps.{passes, next_state}
+use Rattle.tk_clock.specs.State.{ReadBase, State, base_monotonic, base_value, forwarded, state_of, effect}
+use Rattle.tk_clock.specs.Time.{nanoseconds}
+use Rattle.tk_keeper.specs.Past.{IsRun}
+use Rattle.tk_keeper.proofs.Steps.{passes, next_state, listed_item}
 
 -- two gaps that together are less than a round add up to the gap from the first to the last
 gaps_add : (d a b c : ℕ) → 0 < d →
@@ -54,116 +58,199 @@ grown_twice amount g g' all mult e =
     let sum : (amount + g * mult) + g' * mult ≡ amount + (g + g') * mult = omega arith in
     sum ∙ ap (λ k. amount + k * mult) e
 
--- an update leaves what the one before it left, and the cycles of both
-update_twice : (state : State) (r r' : ℕ) →
-    gap state.base.counter state.base.last r + gap state.base.counter r r'
-    ≡ gap state.base.counter state.base.last r' →
-    effect (effect state r Update) r' Update ≡ effect state r' Update
-update_twice state r r' e =
-    let base = state.base in
-    let there : ℕ → ℕ → State = λ a w. record state {
-      base = record base { amount = a; raw_amount = w; last = r' };
-    } in
+-- a base that is forwarded twice is the base that is forwarded once
+forwarded_twice : (base : ReadBase) (r r' : ℕ) →
+    gap base.counter base.last r + gap base.counter r r' ≡ gap base.counter base.last r' →
+    forwarded (forwarded base r) r' ≡ forwarded base r'
+forwarded_twice base r r' e =
+    let there : ℕ → ℕ → ReadBase = λ a w.
+    record base { amount = a; raw_amount = w; last = r' } in
     ap₂ there
     (grown_twice base.amount (gap base.counter base.last r) (gap base.counter r r') _ base.mult e)
     (grown_twice base.raw_amount (gap base.counter base.last r) (gap base.counter r r') _
     base.counter.mult e)
 
--- the tests of an update, by their results
-abbrev tests : Bool → Bool → Bool → Bool → Bool → Option Refusal
-tests asleep above behind past bad =
+-- so a command after an update does what it does without that update, unless it is a resume
+effect_alone : (state : State) (r r' : ℕ) (cmd : Command) → is_resume cmd ≡ false →
+    forwarded (forwarded state.base r) r' ≡ forwarded state.base r' →
+    effect (effect state r Update) r' cmd ≡ effect state r' cmd
+effect_alone state r r' Update awake e =
+    ap (λ (now : ReadBase). let s : State = record state { base = now } in s) e
+effect_alone state r r' (SetTime time) awake e =
+    ap (λ (now : ReadBase). let s : State = record state {
+      base =
+          record now { real_offset = nanoseconds time -ℤ pos (now.amount / 2 ^ now.counter.shift) };
+    } in s) e
+effect_alone state r r' (Step by) awake e =
+    ap (λ (now : ReadBase). let s : State = record state {
+      base = record now { real_offset = now.real_offset +ℤ nanoseconds by };
+    } in s) e
+effect_alone state r r' (Freq frequency) awake e =
+    ap (λ (now : ReadBase). let s : State = record state {
+      base = record now { mult = multiplier now.counter frequency state.tick };
+      frequency = frequency;
+    } in s) e
+effect_alone state r r' (Tick tick) awake e =
+    ap (λ (now : ReadBase). let s : State = record state {
+      base = record now { mult = multiplier now.counter state.frequency tick };
+      tick = tick;
+    } in s) e
+effect_alone state r r' (Tai seconds) awake e =
+    ap (λ (now : ReadBase). let s : State = record state {
+      base = record now { tai = seconds };
+    } in s) e
+effect_alone state r r' Suspend awake e =
+    ap (λ (now : ReadBase). let s : State = record state {
+      base = record now { asleep = true };
+    } in s) e
+effect_alone state r r' (Resume away) awake e = absurd cc
+
+-- the tests of a command, by their results
+abbrev tests : Bool → Bool → Bool → Bool → Bool → Bool → Bool → Option Refusal
+tests asleep resumes above well behind past bad =
     first_of
-    (first_of (if asleep && not false then Some Asleep else if not asleep && false then Some Awake
-    else None)
-    (first_of (if above || not (is_well_formed Update) then Some Invalid else None)
-    (if not false && behind then Some Behind else None)))
+    (first_of (if asleep && not resumes then Some Asleep else if not asleep && resumes
+    then Some Awake else None)
+    (first_of (if above || not well then Some Invalid else None)
+    (if not resumes && behind then Some Behind else None)))
     (if past then Some Range else if bad then Some Invalid else None)
 
--- what the tests show if they pass
-passed : (asleep above behind past bad : Bool) → tests asleep above behind past bad ≡ None →
-    (asleep ≡ false) × (above ≡ false) × (behind ≡ false) × (past ≡ false)
-unfolding is_well_formed
-passed true above behind past bad e = absurd cc
-passed false true behind past bad e = absurd cc
-passed false false true past bad e = absurd cc
-passed false false false true bad e = absurd cc
-passed false false false false bad e = (refl, refl, refl, refl)
+-- what the tests of an update show if they pass
+passed_update : (asleep above well behind past bad : Bool) →
+    tests asleep false above well behind past bad ≡ None → (asleep ≡ false) × (behind ≡ false)
+passed_update true above well behind past bad e = absurd cc
+passed_update false true well behind past bad e = absurd cc
+passed_update false false false behind past bad e = absurd cc
+passed_update false false true true past bad e = absurd cc
+passed_update false false true false past bad e = (refl, refl)
 
-passing : (asleep above behind past bad : Bool) → asleep ≡ false → above ≡ false →
-    behind ≡ false → past ≡ false → bad ≡ false → tests asleep above behind past bad ≡ None
-unfolding is_well_formed
-passing true above behind past bad a b c d e = absurd cc
-passing false true behind past bad a b c d e = absurd cc
-passing false false true past bad a b c d e = absurd cc
-passing false false false true bad a b c d e = absurd cc
-passing false false false false true a b c d e = absurd cc
-passing false false false false false a b c d e = refl
+-- what the tests of any command show if they pass while the clocks are awake
+passed_awake : (resumes above well behind past bad : Bool) →
+    tests false resumes above well behind past bad ≡ None →
+    (resumes ≡ false) × (behind ≡ false)
+    × (tests false resumes above well false past bad ≡ None)
+passed_awake true above well behind past bad e = absurd cc
+passed_awake false true well behind past bad e = absurd cc
+passed_awake false false false behind past bad e = absurd cc
+passed_awake false false true true past bad e = absurd cc
+passed_awake false false true false past bad e = (refl, refl, e)
 
--- an update sets nothing
-sets_nothing : (before : ClockId → ℤ) → is_bad_setting before Update ≡ false
+-- the tests pass too where a test of order and the clocks' values are the same
+passing : (resumes above well behind past bad past' bad' : Bool) → behind ≡ false →
+    past' ≡ past → bad' ≡ bad → tests false resumes above well false past bad ≡ None →
+    tests false resumes above well behind past' bad' ≡ None
+passing resumes above well behind past bad past' bad' a b c e = rw (a, b, c) e
+
+-- while awake, a reading that is not behind counts the whole gap
+counted : (counter : Counter) (last reading : ℕ) →
+    nat_lt (half counter) (gap counter last reading) ≡ false →
+    cycles_since counter false last reading ≡ gap counter last reading
+counted counter last reading ahead =
+    ap (λ b. if b then 0 else gap counter last reading) ahead
+
+-- a setting is judged by MONOTONIC at its reading
+same_setting : (base base' : ReadBase) (reading : ℕ) (cmd : Command) →
+    base_monotonic base reading ≡ base_monotonic base' reading →
+    base.real_offset ≡ base'.real_offset →
+    is_bad_setting (λ clock. base_value base clock reading) cmd
+    ≡ is_bad_setting (λ clock. base_value base' clock reading) cmd
 unfolding is_bad_setting
-sets_nothing before = refl
+same_setting base base' reading (SetTime time) e f =
+    ap (λ n. int_lt (nanoseconds time) (pos n)) e
+same_setting base base' reading (Step by) e f = rw (e, f) refl
+same_setting base base' reading Update e f = refl
+same_setting base base' reading (Freq frequency) e f = refl
+same_setting base base' reading (Tick tick) e f = refl
+same_setting base base' reading (Tai seconds) e f = refl
+same_setting base base' reading Suspend e f = refl
+same_setting base base' reading (Resume away) e f = refl
 
--- an update that is refused neither after the one before it nor as behind without it is accepted
--- without it, and leaves the same state
-update_skipped : (state : State) (r r' : ℕ) → state_refusal state r Update ≡ None →
-    state_refusal (effect state r Update) r' Update ≡ None →
+-- a command that is refused neither after an update nor as behind without it is accepted without
+-- it, and leaves the same state
+alone : (state : State) (r r' : ℕ) (cmd : Command) → state_refusal state r Update ≡ None →
+    state_refusal (effect state r Update) r' cmd ≡ None →
     gap state.base.counter state.base.last r' ≤ half state.base.counter →
-    (state_refusal state r' Update ≡ None)
-    × (effect state r' Update ≡ effect (effect state r Update) r' Update)
-update_skipped state r r' one two near =
+    (state_refusal state r' cmd ≡ None)
+    × (effect state r' cmd ≡ effect (effect state r Update) r' cmd)
+alone state r r' cmd one two near =
     let base = state.base in
     let counter = base.counter in
     let after = effect state r Update in
+    let g = gap counter base.last r in
+    let g' = gap counter r r' in
+    let all = gap counter base.last r' in
     let ended : State → Bool = λ (s : State).
-    is_past_limit (λ clock. base_value s.base clock r') Update in
-    let first = passed base.asleep (nat_lt (mask counter) r)
-    (nat_lt (half counter) (gap counter base.last r))
+    is_past_limit (λ clock. base_value s.base clock r') cmd in
+    let bad : ReadBase → Bool = λ (b : ReadBase).
+    is_bad_setting (λ clock. base_value b clock r') cmd in
+    let above = nat_lt (mask counter) r' in
+    let first = passed_update base.asleep (nat_lt (mask counter) r) (is_well_formed Update)
+    (nat_lt (half counter) g)
     (is_past_limit (λ clock. base_value after.base clock r) Update)
     (is_bad_setting (λ clock. base_value base clock r) Update) one in
-    let second = passed base.asleep (nat_lt (mask counter) r')
-    (nat_lt (half counter) (gap counter r r'))
-    (ended (effect after r' Update))
-    (is_bad_setting (λ clock. base_value after.base clock r') Update) two in
-    let ahead = first.2 in
-    let ahead' = second.2 in
-    let low : gap counter base.last r ≤ half counter = grind (arith, common_steps, ahead) in
-    let low' : gap counter r r' ≤ half counter = grind (arith, common_steps, ahead') in
-    let same = update_twice state r r' (forward_gaps counter base.last r r' low low') in
-    let past = ap ended (sym same) ∙ second.3 in (
-      passing base.asleep (nat_lt (mask counter) r')
-          (nat_lt (half counter) (gap counter base.last r')) (ended (effect state r' Update))
-          (is_bad_setting (λ clock. base_value base clock r') Update) first.0 second.1
-          (le-ltb _ _ near) past (sets_nothing (λ clock. base_value base clock r')),
+    let awake = first.0 in
+    let there = subst (λ a. tests a (is_resume cmd) above (is_well_formed cmd)
+    (nat_lt (half counter) g') (ended (effect after r' cmd)) (bad after.base) ≡ None) awake two in
+    let second = passed_awake (is_resume cmd) above (is_well_formed cmd)
+    (nat_lt (half counter) g') (ended (effect after r' cmd)) (bad after.base) there in
+    let ahead = first.1 in
+    let ahead' = second.1 in
+    let low : g ≤ half counter = grind (arith, common_steps, ahead) in
+    let low' : g' ≤ half counter = grind (arith, common_steps, ahead') in
+    let e = forward_gaps counter base.last r r' low low' in
+    let same = effect_alone state r r' cmd second.0 (forwarded_twice base r r' e) in
+    let near' : nat_lt (half counter) all ≡ false = le-ltb _ _ near in
+    let nanos : ℕ → ℕ → ℕ = λ amount k. (amount + k * base.mult) / 2 ^ counter.shift in
+    let before : base_monotonic base r' ≡ nanos base.amount all =
+    ap (λ a. nanos base.amount (cycles_since counter a base.last r')) awake
+    ∙ ap (nanos base.amount) (counted counter base.last r' near') in
+    let later : base_monotonic after.base r' ≡ nanos after.base.amount g' =
+    ap (λ a. nanos after.base.amount (cycles_since counter a r r')) awake
+    ∙ ap (nanos after.base.amount) (counted counter r r' ahead') in
+    let now : base_monotonic base r' ≡ base_monotonic after.base r' =
+    before
+    ∙ ap (λ n. n / 2 ^ counter.shift) (sym (grown_twice base.amount g g' all base.mult e))
+    ∙ sym later in
+    let passes_alone = passing (is_resume cmd) above (is_well_formed cmd)
+    (nat_lt (half counter) all) (ended (effect after r' cmd)) (bad after.base)
+    (ended (effect state r' cmd)) (bad base) near' (ap ended (sym same))
+    (same_setting base after.base r' cmd now refl) second.2 in (
+      subst (λ a. tests a (is_resume cmd) above (is_well_formed cmd)
+          (nat_lt (half counter) all) (ended (effect state r' cmd)) (bad base) ≡ None) (sym awake)
+          passes_alone,
       sym same,
     )
 
--- a listed update is a run of its own
-pub first_update : (journal : Journal) (from : ℕ) (entry : Entry) → IsAccepted journal →
-    slice_get journal.entries from ≡ Some entry → entry.cmd ≡ Update →
-    IsUpdated journal from (from + 1) entry.reading
-first_update journal from entry all here e =
-    let state = state_of (prefix from journal) in
-    record {
-      passes = ap (λ cmd. state_refusal state entry.reading cmd) (sym e)
-          ∙ passes journal from entry all here;
-      state = ap (λ cmd. effect state entry.reading cmd) (sym e)
-          ∙ next_state journal from entry all here;
-    }
+-- an entry is a run of its own
+pub IsRun-one : (journal : Journal) (from : ℕ) → IsAccepted journal → IsRun journal from (from + 1)
+IsRun-one journal from all entry here =
+    let place : from + 1 - 1 ≡ from = omega arith in
+    let there = subst (λ k. slice_get journal.entries k ≡ Some entry) place here in
+    (passes journal from entry all there, next_state journal from entry all there)
 
--- a run goes on with the next entry, if that is an update and not behind the run's beginning
-pub next_update : (journal : Journal) (from place reading : ℕ) (entry : Entry) →
-    IsAccepted journal → IsUpdated journal from place reading →
-    slice_get journal.entries place ≡ Some entry → entry.cmd ≡ Update →
-    gap journal.opening.counter (state_of (prefix from journal)).base.last entry.reading
+-- a run goes on after an update, with an entry that is not behind the run's beginning
+pub IsRun-more : (journal : Journal) (from next : ℕ) (entry later : Entry) → IsAccepted journal →
+    IsRun journal from next → next - 1 < length journal.entries →
+    entry ≡ get_or journal.entries (next - 1) entry → entry.cmd ≡ Update →
+    later ≡ get_or journal.entries next later →
+    gap journal.opening.counter (state_of (prefix from journal)).base.last later.reading
     ≤ half journal.opening.counter →
-    IsUpdated journal from (place + 1) entry.reading
-next_update journal from place reading entry all held here e near =
-    let one = first_update journal place entry all here e in
-    let accepted = ap (λ s. state_refusal s entry.reading Update) held.state ∙ one.passes in
-    let both = update_skipped (state_of (prefix from journal)) reading entry.reading held.passes
-    accepted near in
-    record {
-      passes = both.0;
-      state = both.1 ∙ ap (λ s. effect s entry.reading Update) held.state ∙ one.state;
-    }
+    IsRun journal from (next + 1)
+IsRun-more journal from next entry later all held within e update e' near any here =
+    let state = state_of (prefix from journal) in
+    let place : next + 1 - 1 ≡ next = omega arith in
+    let there = subst (λ k. slice_get journal.entries k ≡ Some any) place here in
+    let same = e' ∙ get_or_from_slice_get journal.entries next any later there in
+    let near' = subst (λ (x : Entry). gap journal.opening.counter state.base.last x.reading
+    ≤ half journal.opening.counter) same near in
+    let led = held entry (listed_item journal.entries (next - 1) entry within e) in
+    let passed = ap (λ cmd. state_refusal state entry.reading cmd) (sym update) ∙ led.0 in
+    let left : effect state entry.reading Update ≡ state_of (prefix next journal) =
+    ap (λ cmd. effect state entry.reading cmd) (sym update) ∙ led.1 in
+    let accepted = ap (λ s. state_refusal s any.reading any.cmd) left
+    ∙ passes journal next any all there in
+    let both = alone state entry.reading any.reading any.cmd passed accepted near' in (
+      both.0,
+      both.1 ∙ ap (λ s. effect s any.reading any.cmd) left
+          ∙ next_state journal next any all there,
+    )

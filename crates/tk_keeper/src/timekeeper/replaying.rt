@@ -1,9 +1,9 @@
-//! Applies listed entries again. Of a run of updates it applies the last one alone, which leads to
-//! the same clocks: the cycles of all of them are added at one multiplier.
+//! Applies listed entries again. Updates before an entry are left out, because the entry alone
+//! leads to the same clocks: it adds the cycles of all of them at the same multiplier.
 ghost use Rattle.std.specs.Prelude.{◌≡◌, ◌+◌, ◌<◌, ◌≤◌, ◌↔◌, length, IsTrue};
 ghost use Rattle.tk_clock.specs.Journal.{prefix};
 ghost use Rattle.tk_clock.specs.State.{state_of};
-ghost use Rattle.tk_keeper.specs.Past.{IsUpdated};
+ghost use Rattle.tk_keeper.specs.Past.{IsRun};
 
 use super::Timekeeper;
 use std::alloc::Allocator;
@@ -25,8 +25,8 @@ impl<A: Allocator + Copy> Timekeeper<A> {
         }
     }
 
-    /// Applies the entry after the first `from` ones again, and if it is an update, as many of
-    /// those after it as it can at once. Returns how far the clocks are then, at most `place`.
+    /// Applies a run of the entries after the first `from` ones again, by its last entry alone.
+    /// Returns where the run ends, at most at `place`.
     fn apply_again(&self, clock: &mut Clock, from: usize, place: usize) -> usize
         requires state { clock.old ≡ state_of (prefix from self.now.journal) }
         requires before { from < place }
@@ -35,41 +35,33 @@ impl<A: Allocator + Copy> Timekeeper<A> {
         ensures further { from < result }
         ensures inside { result ≤ place }
     {
-        let entry = self.entries[from];
-        if !is_update(entry.cmd) {
-            clock.apply(entry.reading, entry.cmd).unwrap();
-            return from + 1;
-        }
-        let now = clock.snapshot(0);
-        let (next, reading) = self.last_of_run(&now, from, place, entry.reading);
-        clock.apply(reading, Command::Update).unwrap();
-        next
+        let end = self.run_end(&clock.snapshot(0), from, place);
+        let entry = self.entries[end - 1];
+        clock.apply(entry.reading, entry.cmd).unwrap();
+        end
     }
 
-    /// Returns where a run of updates ends, at most at `place`, and the reading of its last update.
-    /// The run begins after the first `from` entries, at the clocks `now`, with an update at
-    /// `reading`. It ends before an update that is behind the clocks: the cycles up to there exceed
-    /// half the mask.
-    fn last_of_run(&self, now: &Snapshot, from: usize, place: usize, reading: u64) -> (usize, u64)
+    /// Returns where a run ends that begins after the first `from` entries, at the clocks `now`, at
+    /// most at `place`. A run is updates and one entry of any kind after them. It ends before an
+    /// entry that is behind the clocks: the cycles up to there exceed half the mask.
+    fn run_end(&self, now: &Snapshot, from: usize, place: usize) -> usize
         requires base { now.now.base ≡ (state_of (prefix from self.now.journal)).base }
         requires before { from < place }
         requires listed { place ≤ length self.now.journal.entries }
-        requires update { IsUpdated self.now.journal from (from + 1) reading }
-        ensures further { from < result.0 }
-        ensures inside { result.0 ≤ place }
-        ensures run { IsUpdated self.now.journal from result.0 result.1 }
+        ensures further { from < result }
+        ensures inside { result ≤ place }
+        ensures run { IsRun self.now.journal from result }
     {
         let (desc, last) = (now.desc(), now.last());
         let half = desc.half();
-        let mut reading = reading;
         'run: for next in from + 1..place {
-            let entry = &self.entries[next];
-            if !is_update(entry.cmd) || desc.gap(last, entry.reading) > half {
-                return (next, reading);
+            let entry = &self.entries[next - 1];
+            let later = &self.entries[next];
+            if !is_update(entry.cmd) || desc.gap(last, later.reading) > half {
+                return next;
             }
-            reading = entry.reading;
         }
-        (place, reading)
+        place
     }
 }
 
