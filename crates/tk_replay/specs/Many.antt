@@ -1,5 +1,5 @@
 -- Reports of many scripts, made by several workers.
-use Rattle.std.specs.Prelude.{◌≡◌, ℕ, ◌<◌, ◌⊎◌, List, Result, Ok, Err}
+use Rattle.std.specs.Prelude.{◌≡◌, ℕ, ◌<◌, ◌⊎◌, List, Result, Ok, Err, get_or}
 use Rattle.std.specs.List.{AllZip}
 use Rattle.std.specs.Global.{Vec}
 use Rattle.tk_script.specs.declared.script_error.ScriptError.{ScriptError}
@@ -29,3 +29,13 @@ AreOutcomes scripts outcomes = AllZip IsOutcome scripts outcomes
 pub record Shared : Type 0 where
   pub taken : ℕ
   pub outcomes : List (Result (Vec ℕ) ScriptError)
+
+-- a script's index, and its outcome
+pub record Done : Type 0 where
+  pub piece : ℕ
+  pub outcome : Result (Vec ℕ) ScriptError
+
+-- this is an outcome of the script at this index
+abbrev pub IsOutcomeAt : List (Vec ℕ) → ℕ → Result (Vec ℕ) ScriptError → Type 0
+IsOutcomeAt scripts piece outcome =
+    (script : Vec ℕ) × (script ≡ get_or scripts piece script) × IsOutcome script outcome

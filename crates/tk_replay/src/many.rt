@@ -132,7 +132,7 @@ fn work<S: NamesScripts, G: Gate, R: Wait>(
         let script = &scripts[piece];
         gate.before(piece);
         let outcome = report(alloc, script.as_slice());
-        gate.after(piece);
-        shared.lock(rt).hand_in(job, script, outcome);
+        let finished = job.finish(gate, script, outcome);
+        shared.lock(rt).hand_in(finished);
     }
 }

@@ -4,6 +4,7 @@ ghost use Rattle.tk_replay.specs.Many.{AreOutcomes, IsOutcome};
 
 use std::alloc::{AllocError, Global};
 use std::marker::{Brand, Model, PhantomData};
+use tk_race::Gate;
 use tk_script::ScriptError;
 
 /// The report of a script, or its first fault.
@@ -27,7 +28,7 @@ impl NamesScripts for Brand {
 
 /// A script that one worker has taken.
 ///
-/// `Worklist::take` makes it, and `Worklist::hand_in` uses it up. It can't be copied or dropped.
+/// `Worklist::take` makes it, and `Job::finish` uses it up. It can't be copied or dropped.
 pub(crate) struct Job<S: NamesScripts> {
     piece: usize,
     of: PhantomData<S>,
@@ -51,6 +52,42 @@ impl<S: NamesScripts> Job<S> {
     {
         self.piece
     }
+
+    /// Calls `gate.after`, and returns the script's outcome as finished.
+    ///
+    /// `Worklist::hand_in` takes a `Finished` alone, and no other call makes one. So the outcome of
+    /// each script exists before this call of `gate.after`.
+    pub(crate) fn finish<G: Gate>(self, gate: &G, script: &Vec<u8>, outcome: Outcome) -> Finished<S>
+        requires script { script.now ≡ get_or S.scripts self script.now }
+        requires outcome { IsOutcome script.now outcome }
+        ensures piece { result.piece ≡ self }
+        ensures outcome { result.outcome ≡ outcome }
+    {
+        let Job { piece, of } = self;
+        gate.after(piece);
+        Finished { piece, outcome, of }
+    }
+}
+
+/// The outcome of a script that one worker took, after `gate.after` was called.
+///
+/// `Job::finish` makes it, and `Worklist::hand_in` uses it up.
+pub(crate) struct Finished<S: NamesScripts> {
+    piece: usize,
+    outcome: Outcome,
+    of: PhantomData<S>,
+}
+
+impl<S: NamesScripts> Model for Finished<S> {
+    ghost use Rattle.std.specs.Prelude.{◌<◌, length};
+    ghost use Rattle.tk_replay.specs.Many.{Done, IsOutcomeAt};
+
+    ghost Value = { Done };
+
+    ghost view = { λ f. record { piece = f.piece; outcome = f.outcome } };
+
+    ghost invariant = { λ f.
+        (f.piece < length S.scripts) × IsOutcomeAt S.scripts f.piece f.outcome };
 }
 
 /// The scripts that no worker has taken, and an outcome for each script.
@@ -111,13 +148,16 @@ impl<S: NamesScripts> Worklist<S> {
     }
 
     /// Stores the outcome of a script.
-    pub(crate) fn hand_in(&mut self, job: Job<S>, script: &Vec<u8>, outcome: Outcome)
-        requires script { script.now ≡ get_or S.scripts job script.now }
-        requires outcome { IsOutcome script.now outcome }
-        ensures outcomes { self.new.outcomes ≡ set self.old.outcomes job outcome }
+    pub(crate) fn hand_in(&mut self, finished: Finished<S>)
+        ensures outcomes { self.new.outcomes
+            ≡ set self.old.outcomes finished.piece finished.outcome }
         ensures taken { self.new.taken ≡ self.old.taken }
     {
-        let Job { piece, of: _ } = job;
+        let Finished {
+            piece,
+            outcome,
+            of: _,
+        } = finished;
         self.outcomes[piece] = outcome;
     }
 

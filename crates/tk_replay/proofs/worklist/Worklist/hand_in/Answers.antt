@@ -1,4 +1,4 @@
-use Rattle.std.proofs.Common.{◌≡◌, get_or, rules}
+use Rattle.std.proofs.Common.{rules}
 use Rattle.tk_replay.proofs.Outcomes.{outcomes_length, outcome_set}
 use Rattle.tk_replay.proofs.worklist.Worklist.hand_in.Goals as goal
 
@@ -9,9 +9,7 @@ index_mut-requires g c =
 
 pub invariant_of-self : goal.invariant_of-self
 invariant_of-self g c =
-    let here : c.args.script.now
-    ≡ get_or g.S.NamesScripts.scripts c.job.inside.piece c.args.script.now = search rules in
+    let at = c.finished.invariant.1 in
     let all = outcome_set g.S.NamesScripts.scripts c.self.inside.outcomes.items
-    c.job.inside.piece c.args.script.now c.args.outcome c.self.invariant.1 here
-    c.requires.outcome in
+    c.finished.inside.piece at.0 c.finished.inside.outcome c.self.invariant.1 at.1 at.2 in
     (search rules, all)
