@@ -6,6 +6,7 @@ mod files;
 mod full;
 mod long_traces;
 mod many;
+mod marks;
 mod memory;
 mod reports;
 mod scenarios;

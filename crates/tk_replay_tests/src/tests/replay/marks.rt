@@ -1,0 +1,53 @@
+//! What is done between the two calls of a gate.
+//!
+//! `tools/check_program` runs both tests with `tools/count_between.c` loaded, which counts the
+//! requests for memory between the two marks. Without it neither test can fail by its marks.
+
+use super::{REPORT, SCRIPT, assert_same};
+use std::alloc::Global;
+use std::test::Fail;
+use tk_replay::{Gate, replay_all, report};
+
+/// Makes one request for memory in each call. The library finds the call by the request's size.
+#[derive(Drop)]
+struct Marks {
+    alloc: Global,
+}
+
+impl Gate for Marks {
+    fn before(&self, _piece: usize) {
+        let _mark: Result<Vec<u8>, _> = Vec::with_capacity(self.alloc, 77_777);
+    }
+
+    fn after(&self, _piece: usize) {
+        let _mark: Result<Vec<u8>, _> = Vec::with_capacity(self.alloc, 99_991);
+    }
+}
+
+/// The test makes the first report itself. The library expects as many requests in each later pair.
+#[test]
+fn each_report_is_made_between_the_calls_of_its_gate(rt: HostRuntime) -> Result<(), Fail> {
+    let alloc = rt.alloc();
+    let gate = Marks { alloc };
+    let mut scripts = Vec::new(alloc);
+    for _ in 0..8 {
+        scripts.push(Vec::from_slice(alloc, SCRIPT)?)?;
+    }
+    gate.before(0);
+    let alone = report(alloc, SCRIPT)?;
+    gate.after(0);
+    assert_same(&rt, &alone.as_slice(), &REPORT);
+    for workers in [1, 3, 8] {
+        let outcomes = replay_all(alloc, &rt, scripts.as_slice(), workers, &gate)?;
+        assert_same(&rt, &outcomes.len(), &8);
+    }
+    Ok(())
+}
+
+/// With the library loaded this test must fail, because there is no work between its marks.
+#[test]
+fn a_gate_is_called_without_any_work(rt: HostRuntime) {
+    let gate = Marks { alloc: rt.alloc() };
+    gate.before(0);
+    gate.after(0);
+}
