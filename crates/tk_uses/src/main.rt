@@ -98,8 +98,8 @@ fn timer(rt: &impl Print, keeper: &Timekeeper, at: Timespec) -> Result<(), Stop>
     Ok(())
 }
 
-/// Returns the first reading at which REALTIME has reached a time. Set the timer anew after each
-/// command, which may change the answer. `None` if the clocks are asleep, or if the time is further
+/// Returns the first reading at which REALTIME has reached a time. A command may change it, so the
+/// timer must then be set again. Returns `None` if the clocks are asleep, or if the time is further
 /// off than half the counter's range.
 fn expiry(keeper: &Timekeeper, at: Timespec) -> Option<u64>
     ensures reached { IfSome result (λ reading. nanoseconds at
