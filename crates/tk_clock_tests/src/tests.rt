@@ -3,16 +3,23 @@
 mod clock;
 mod counter;
 mod lanes;
+mod random;
 
 use std::fmt::Debug;
 use std::process::Abort;
 use std::test::Fail;
+use tk_clock::Timespec;
 use tk_test_support::mixed_up;
 
 /// Stops the test if `found` is not equal to `wanted`. It is a separate call to keep the proof of
 /// each test short.
 fn assert_same<T: PartialEq + Debug>(rt: &impl Abort, found: &T, wanted: &T) {
     assert_eq!(rt; found, wanted);
+}
+
+/// Returns a time in seconds and nanoseconds.
+fn time(sec: i64, nsec: u32) -> Timespec {
+    Timespec { sec, nsec }
 }
 
 /// Checks that each value is equal to its clone, and to no other value of the list.

@@ -1,5 +1,5 @@
 //! Describes the clocks that most tests and benchmarks open.
-use tk_clock::Timespec;
+use tk_clock::{ClockId, Timespec};
 use tk_counter::{CounterDesc, DescError};
 
 /// REALTIME at the opening.
@@ -10,6 +10,17 @@ pub const OPENED_TIME: Timespec = Timespec {
 
 /// The same time in nanoseconds.
 pub const OPENED_REAL: u64 = 1_700_000_000_000_000_000;
+
+/// All clocks.
+pub const CLOCKS: [ClockId; 7] = [
+    ClockId::Realtime,
+    ClockId::Monotonic,
+    ClockId::Boottime,
+    ClockId::Tai,
+    ClockId::RealtimeCoarse,
+    ClockId::MonotonicCoarse,
+    ClockId::MonotonicRaw,
+];
 
 /// Returns the description of a counter of 32 bits and one nanosecond a cycle.
 ///

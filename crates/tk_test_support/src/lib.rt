@@ -4,6 +4,8 @@
 //! |---|---|
 //! | `Heap` | an allocator that forwards requests to another one, and refuses chosen ones |
 //! | `nanosecond_counter`, `OPENED_TIME`, `OPENED_REAL` | the clocks that most tests open |
+//! | `CLOCKS` | the names of all clocks |
+//! | `next_random` | the next number of a random generator |
 //! | `mixed_up` | finds two values of a list whose comparison is wrong |
 //! | `PageDesk`, `opened_page` | clocks with the publisher of their journal, on a page |
 //! | `STEP`, `reading_of` | clocks that are updated in equal steps |
@@ -21,14 +23,16 @@ mod clocks;
 mod copies;
 mod heap;
 mod page_desk;
+mod random;
 mod running;
 mod steps;
 mod turn;
 
-pub use clocks::{OPENED_REAL, OPENED_TIME, nanosecond_counter};
+pub use clocks::{CLOCKS, OPENED_REAL, OPENED_TIME, nanosecond_counter};
 pub use copies::mixed_up;
 pub use heap::Heap;
 pub use page_desk::{PageDesk, opened_page};
+pub use random::next_random;
 pub use running::{effort_of, is_asked, is_told};
 pub use steps::{STEP, reading_of, weighed, weight};
 pub use turn::{Effort, IN_MILLISECONDS, TURNS, Turn};

@@ -12,7 +12,7 @@ mod steering;
 mod updates;
 mod words;
 
-use super::{are_distinct, assert_same};
+use super::{are_distinct, assert_same, time};
 use std::process::Abort;
 use std::test::Fail;
 use tk_clock::{Clock, ClockId, Command, Refusal, Timespec};
@@ -28,10 +28,6 @@ fn wide_counter() -> Result<CounterDesc, Fail> {
 fn opened() -> Result<Clock, Fail> {
     let desc = nanosecond_counter()?;
     Ok(Clock::open(desc, 0, time(1_700_000_000, 0))?)
-}
-
-fn time(sec: i64, nsec: u32) -> Timespec {
-    Timespec { sec, nsec }
 }
 
 /// Applies a command and checks its answer. A refused command must leave the words unchanged.

@@ -10,7 +10,7 @@ mod multipliers;
 use super::{are_distinct, assert_same};
 use std::test::Fail;
 use tk_counter::CounterDesc;
-use tk_test_support::nanosecond_counter;
+use tk_test_support::{nanosecond_counter, next_random};
 
 /// Returns a counter of 24 MHz, with readings of 64 bits.
 fn quick() -> Result<CounterDesc, Fail> {
@@ -20,11 +20,4 @@ fn quick() -> Result<CounterDesc, Fail> {
 /// Returns a counter of 4,194,304 nanoseconds a cycle, with readings of 64 bits.
 fn slow() -> Result<CounterDesc, Fail> {
     Ok(CounterDesc::new(64, 4_194_304, 0)?)
-}
-
-/// Returns the number after `seed` of a xorshift generator.
-fn next(seed: u64) -> u64 {
-    let seed = seed ^ seed.wrapping_shl(13);
-    let seed = seed ^ (seed >> 7);
-    seed ^ seed.wrapping_shl(17)
 }

@@ -7,11 +7,11 @@ mod values;
 
 ghost use Rattle.std.specs.Prelude.{◌≡◌, vec_len, IfOk};
 
-use super::assert_same;
+use super::{assert_same, time};
 use std::alloc::{AllocError, Global};
 use std::process::Abort;
 use std::test::Fail;
-use tk_clock::{Clock, ClockId, Snapshot, Timespec};
+use tk_clock::{Clock, ClockId, Snapshot};
 use tk_counter::CounterDesc;
 use tk_lanes::{BatchError, lane_batch, plain_batch};
 
@@ -19,10 +19,6 @@ use tk_lanes::{BatchError, lane_batch, plain_batch};
 fn opened() -> Result<Clock, Fail> {
     let desc = CounterDesc::new(48, 16_777_216, 24)?;
     Ok(Clock::open(desc, 1_000, time(1_700_000_000, 0))?)
-}
-
-fn time(sec: i64, nsec: u32) -> Timespec {
-    Timespec { sec, nsec }
 }
 
 /// Returns a list of `n` sevens. An item that stays 7 was not written.

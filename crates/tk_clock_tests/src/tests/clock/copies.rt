@@ -1,6 +1,7 @@
 use super::{are_distinct, assert_same, opened, time};
 use std::test::Fail;
-use tk_clock::{Clock, ClockId, Command, Entry, ReadError, Refusal, Snapshot};
+use tk_clock::{Clock, Command, Entry, ReadError, Refusal, Snapshot};
+use tk_test_support::CLOCKS;
 
 #[test]
 fn a_time_is_its_two_numbers(rt: HostRuntime) -> Result<(), Fail> {
@@ -9,18 +10,7 @@ fn a_time_is_its_two_numbers(rt: HostRuntime) -> Result<(), Fail> {
 
 #[test]
 fn no_clock_is_another(rt: HostRuntime) -> Result<(), Fail> {
-    are_distinct(
-        &rt,
-        &[
-            ClockId::Realtime,
-            ClockId::Monotonic,
-            ClockId::Boottime,
-            ClockId::Tai,
-            ClockId::RealtimeCoarse,
-            ClockId::MonotonicCoarse,
-            ClockId::MonotonicRaw,
-        ],
-    )
+    are_distinct(&rt, &CLOCKS)
 }
 
 #[test]

@@ -2,65 +2,11 @@
 //! snapshots of random journals, which are the same in each run.
 
 use super::time;
+use crate::tests::random::clock_of;
 use std::process::Abort;
 use std::test::Fail;
-use tk_clock::{Clock, ClockId, Command, Snapshot, Timespec};
-use tk_counter::CounterDesc;
-
-const CLOCKS: [ClockId; 7] = [
-    ClockId::Realtime,
-    ClockId::Monotonic,
-    ClockId::Boottime,
-    ClockId::Tai,
-    ClockId::RealtimeCoarse,
-    ClockId::MonotonicCoarse,
-    ClockId::MonotonicRaw,
-];
-
-/// Returns the number after `seed` of a xorshift generator.
-fn next(seed: u64) -> u64 {
-    let seed = seed ^ seed.wrapping_shl(13);
-    let seed = seed ^ (seed >> 7);
-    seed ^ seed.wrapping_shl(17)
-}
-
-/// Makes a counter from a number: of 8 to 64 bits, with any shift.
-fn counter(number: u64) -> Result<CounterDesc, Fail> {
-    let bits = ((number >> 8) % 57) as u32;
-    let shift = ((number >> 16) % 33) as u32;
-    let mult = ((number >> 24) % 3_869_000_000) as u32;
-    Ok(CounterDesc::new(bits.wrapping_add(8), mult.max(256), shift)?)
-}
-
-/// Makes a command from a number.
-fn command(number: u64) -> Command {
-    let part = (number >> 8) as i64;
-    match number % 8 {
-        0 => Command::SetTime(time(part & 0x1_ffff_ffff, 5)),
-        1 => Command::Step(time(part & 0xffff, 999_999_999)),
-        2 => Command::Freq(part),
-        3 => Command::Tick((part & 0x7ff).saturating_add(9_000)),
-        4 => Command::Tai(part & 0x1_ffff),
-        5 => Command::Suspend,
-        6 => Command::Resume(time(part & 0xfff_ffff, 1)),
-        _ => Command::Update,
-    }
-}
-
-/// Makes a snapshot of a random journal.
-fn snapshot(mut seed: u64) -> Result<Snapshot, Fail> {
-    let desc = counter(seed)?;
-    let mask = desc.mask();
-    let mut clock = Clock::open(desc, seed & mask, time(1_700_000_000, 0))?;
-    for _ in 0..seed % 16 {
-        seed = next(seed);
-        let last = clock.snapshot(0).last();
-        let reading = last.wrapping_add(seed >> 40) & mask;
-        // a refused command changes nothing
-        let _ = clock.apply(reading, command(seed));
-    }
-    Ok(clock.snapshot(0))
-}
+use tk_clock::{ClockId, Snapshot, Timespec};
+use tk_test_support::{CLOCKS, next_random};
 
 /// Computes a clock after a number of cycles, in ns, in integers of 128 bits.
 fn value(snapshot: &Snapshot, clock: ClockId, cycles: u64) -> u128 {
@@ -159,8 +105,8 @@ fn the_first_reading_agrees_with_a_search(rt: HostRuntime) -> Result<(), Fail> {
     let mut reached: u64 = 0;
     let mut tried: u64 = 0;
     for _ in 0..300u64 {
-        seed = next(seed);
-        let snapshot = snapshot(seed)?;
+        seed = next_random(seed);
+        let snapshot = clock_of(seed)?.snapshot(0);
         let half = snapshot.desc().half();
         for clock in CLOCKS {
             for cycles in [
@@ -189,8 +135,8 @@ fn a_time_that_was_read_is_given_again(rt: HostRuntime) -> Result<(), Fail> {
     let mut seed = 6_364_136_223_846_793_005;
     let mut given: u64 = 0;
     for _ in 0..300u64 {
-        seed = next(seed);
-        let snapshot = snapshot(seed)?;
+        seed = next_random(seed);
+        let snapshot = clock_of(seed)?.snapshot(0);
         let desc = snapshot.desc();
         let reading = snapshot.last().wrapping_add((seed >> 9) & desc.half()) & desc.mask();
         for clock in CLOCKS {

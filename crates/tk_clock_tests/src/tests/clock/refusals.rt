@@ -1,6 +1,7 @@
 use super::{answers, opened, time, wide_counter};
 use std::test::Fail;
 use tk_clock::{Clock, ClockId, Command, ReadError, Refusal};
+use tk_test_support::CLOCKS;
 
 #[test]
 fn the_first_failed_test_is_told(rt: HostRuntime) -> Result<(), Fail> {
@@ -26,15 +27,7 @@ fn the_first_failed_test_is_told(rt: HostRuntime) -> Result<(), Fail> {
 #[test]
 fn no_clock_is_read_above_the_mask(rt: HostRuntime) -> Result<(), Fail> {
     let snapshot = opened()?.snapshot(0);
-    for id in [
-        ClockId::Realtime,
-        ClockId::Monotonic,
-        ClockId::Boottime,
-        ClockId::Tai,
-        ClockId::RealtimeCoarse,
-        ClockId::MonotonicCoarse,
-        ClockId::MonotonicRaw,
-    ] {
+    for id in CLOCKS {
         let read = snapshot.get(id, 4_294_967_296);
         assert_eq!(rt; read, Err(ReadError::Invalid), "{id:?}");
     }

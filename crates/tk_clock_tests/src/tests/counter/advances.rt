@@ -1,4 +1,4 @@
-use super::{nanosecond_counter, next, quick, slow};
+use super::{nanosecond_counter, next_random, quick, slow};
 use std::test::Fail;
 use tk_counter::CounterDesc;
 
@@ -133,12 +133,12 @@ fn edges_agree_with_wide_integers(rt: HostRuntime) -> Result<(), Fail> {
 fn any_gap_agrees_with_wide_integers(rt: HostRuntime) -> Result<(), Fail> {
     let mut seed = 88_172_645_463_325_252;
     for _ in 0..10_000 {
-        seed = next(seed);
+        seed = next_random(seed);
         let desc = CounterDesc::new(64, 256, (seed % 33) as u32)?;
-        seed = next(seed);
+        seed = next_random(seed);
         let mult = (seed & 0xffff_ffff) as u32;
         let frac = seed >> 2;
-        seed = next(seed);
+        seed = next_random(seed);
         assert!(rt; agrees(&desc, frac, seed, mult), "{frac} {seed} {mult}");
         assert!(rt;
             agrees(&desc, frac >> 24, seed >> 24, mult),

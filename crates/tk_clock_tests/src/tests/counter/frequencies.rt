@@ -1,4 +1,4 @@
-use super::{assert_same, next};
+use super::{assert_same, next_random};
 use std::test::Fail;
 use tk_counter::{CounterDesc, DescError};
 
@@ -88,7 +88,7 @@ fn the_bits_are_told_before_the_rate(rt: HostRuntime) {
 fn any_frequency_is_scaled_as_by_the_kernels_loops(rt: HostRuntime) -> Result<(), Fail> {
     let mut seed = 88_172_645_463_325_252;
     for _ in 0..4_000 {
-        seed = next(seed);
+        seed = next_random(seed);
         let hz = (seed >> 32 >> (seed & 31)) as u32 | 1;
         let maxsec = 1 + (seed >> 8 & 511) as u32;
         let desc = CounterDesc::from_hz(64, hz, maxsec)?;

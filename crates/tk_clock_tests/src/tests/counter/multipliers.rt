@@ -1,4 +1,4 @@
-use super::{assert_same, nanosecond_counter, next};
+use super::{assert_same, nanosecond_counter, next_random};
 use std::test::Fail;
 use tk_counter::CounterDesc;
 
@@ -64,10 +64,10 @@ fn every_tick_agrees_with_wide_integers(rt: HostRuntime) -> Result<(), Fail> {
 fn any_frequency_agrees_with_wide_integers(rt: HostRuntime) -> Result<(), Fail> {
     let mut seed = 88_172_645_463_325_252;
     for _ in 0..10_000 {
-        seed = next(seed);
+        seed = next_random(seed);
         let mult = 256 + (seed % 3_869_339_651) as u32;
         let desc = CounterDesc::new(64, mult, 24)?;
-        seed = next(seed);
+        seed = next_random(seed);
         let freq = (seed & 0x7ff_ffff) as i64 - 0x400_0000;
         let tick = 9_000 + (seed >> 32) as i64 % 2_001;
         assert!(rt; agrees(&desc, freq, tick), "{mult} {freq} {tick}");

@@ -1,0 +1,45 @@
+//! Makes clocks of random journals, which are the same in each run.
+
+use super::time;
+use std::test::Fail;
+use tk_clock::{Clock, Command};
+use tk_counter::CounterDesc;
+use tk_test_support::{OPENED_TIME, next_random};
+
+/// Makes a counter from a number: of 8 to 64 bits, with any shift.
+fn counter_of(number: u64) -> Result<CounterDesc, Fail> {
+    let bits = ((number >> 8) % 57) as u32;
+    let shift = ((number >> 16) % 33) as u32;
+    let mult = ((number >> 24) % 3_869_000_000) as u32;
+    Ok(CounterDesc::new(bits.wrapping_add(8), mult.max(256), shift)?)
+}
+
+/// Makes a command from a number. Each kind is about equally frequent.
+fn command_of(number: u64) -> Command {
+    let part = (number >> 8) as i64;
+    match number % 8 {
+        0 => Command::Update,
+        1 => Command::SetTime(time(part & 0x1_ffff_ffff, 5)),
+        2 => Command::Step(time(part & 0xffff, 999_999_999)),
+        3 => Command::Freq(part),
+        4 => Command::Tick((part & 0x7ff).saturating_add(9_000)),
+        5 => Command::Tai(part & 0x1_ffff),
+        6 => Command::Suspend,
+        _ => Command::Resume(time(part & 0xfff_ffff, 1)),
+    }
+}
+
+/// Makes clocks from a number: of any counter, after up to 15 commands.
+pub(super) fn clock_of(mut seed: u64) -> Result<Clock, Fail> {
+    let desc = counter_of(seed)?;
+    let mask = desc.mask();
+    let mut clock = Clock::open(desc, seed & mask, OPENED_TIME)?;
+    for _ in 0..seed % 16 {
+        seed = next_random(seed);
+        let last = clock.snapshot(0).last();
+        let reading = last.wrapping_add(seed >> 40) & mask;
+        // a refused command changes nothing
+        let _ = clock.apply(reading, command_of(seed));
+    }
+    Ok(clock)
+}
