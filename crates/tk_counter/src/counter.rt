@@ -123,6 +123,9 @@ impl CounterDesc {
 
     /// Returns the most cycles that convert within 64 bits at the fastest multiplier, which is
     /// `mult + max_adj`. It is at most `mask`.
+    ///
+    /// It serves a program that converts with one product of 64 bits, as the kernel does: it must
+    /// update its clocks more often than this. No clock here depends on it.
     pub fn max_cycles(&self) -> u64
         ensures { result ≡ max_cycles self.now }
     {
@@ -131,6 +134,9 @@ impl CounterDesc {
 
     /// Returns the most cycles that convert within 63 bits at the fastest multiplier, which is
     /// `mult + max_adj`. It is at most `half`.
+    ///
+    /// It serves a program that chooses how often to update: up to this gap, `advance` needs no
+    /// long product. Longer gaps convert as exactly, but more slowly.
     pub fn fast_span(&self) -> u64
         ensures { result ≡ fast_span self.now }
     {

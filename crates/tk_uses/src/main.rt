@@ -2,6 +2,7 @@
 //! their values on the way.
 #![tactic(auto)]
 
+mod numbers;
 mod stop;
 
 ghost use Rattle.std.specs.Prelude.{◌≡◌, ◌≤ℤ◌, IfOk, IfSome, MatchOption};
@@ -12,6 +13,7 @@ ghost use Rattle.tk_clock.specs.Snapshot.{snapshot_of};
 ghost use Rattle.tk_clock.specs.Time.{nanoseconds};
 ghost use Rattle.tk_keeper.specs.Past.{at_front};
 
+use numbers::bounds;
 use std::alloc::Global;
 use stop::Stop;
 use tk_clock::{ClockId, Command, Timespec};
@@ -23,6 +25,7 @@ const WHO: u32 = 7;
 
 fn main(rt: HostRuntime) -> Result<(), Stop> {
     let mut keeper = opened(rt.alloc())?;
+    bounds(&rt, keeper.snapshot().desc())?;
     tell(&rt, &keeper, 1_000_000)?;
     settings(&rt, &mut keeper)?;
     sleep(&rt, &mut keeper)?;

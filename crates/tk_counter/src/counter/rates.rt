@@ -9,7 +9,8 @@ impl CounterDesc {
     /// Returns the multiplier at a frequency, in `2^-16` ppm, and the usual tick of 10,000
     /// microseconds.
     ///
-    /// A frequency beyond 32,768,000 either way counts as that, as in adjtimex(2).
+    /// A frequency beyond 32,768,000 either way counts as that, as in adjtimex(2). It serves a program
+    /// that steers by the frequency alone; the clocks call `mult_at`.
     pub fn mult_for(&self, freq: i64) -> u32
         ensures value { result ≡ multiplier self.now freq usual_tick }
         ensures most { result ≤ fastest self.now }
