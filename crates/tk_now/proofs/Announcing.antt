@@ -1,0 +1,197 @@
+-- Each step of the announcer keeps the rule, as do a new watcher and a new notice.
+use Rattle.std.proofs.Common.{◌≡◌, ℕ, zero, suc, ◌+◌, ◌*◌, ◌≤◌, List, [], ◌∷◌, ◌++◌, length, Some, None, IsSome, true, false, true≢false, slice_get, get_or, set, refl, sym, ap, ◌∙◌, subst, ⊎_elim, arith, length-append, length-set, get_or-set_same}
+use Rattle.std.proofs.lemmas.Option.{same_Some}
+use mathlib.Core.List.{IsPrefix}
+use mathlib.Core.Option.{some, none, some-ne-none, some-injective}
+use lib.ListN.{get_elem?}
+use Rattle.atomic_table.specs.Table.{step, keeps, Allows, Splits, opening}
+use Rattle.atomic_table.proofs.Lists.{at_snoc, set_again}
+use Rattle.tk_now.specs.declared.rule.Taken.{Taken}
+use Rattle.tk_now.specs.declared.rule.View.{View}
+use Rattle.tk_now.specs.declared.rule.Role.{Role}
+use Rattle.tk_now.specs.declared.rule.Role.TheVariants.{Spent, Resting, Watching, Idle, Announced, Noting}
+use Rattle.tk_now.specs.Moments.{AreBefore, AreAnswered}
+use Rattle.tk_now.specs.Rule.{started, limit, Stands, Knows, Kept}
+use Rattle.tk_now.specs.Steps.{Seated, announced, accepted, withdrawn}
+use Rattle.tk_now.specs.Views.{view_of, taken, from_by, since_by, announcing, IsIdle, IsAnnounced}
+use Rattle.tk_now.proofs.Lists.{prefix_self, prefix_push, before_more, before_push, answered_more, ordered_push, life_command}
+use Rattle.tk_now.proofs.Keeping.{Words, word, kept_with, known_of}
+
+none_given : false ≡ true → ⊥
+none_given e = true≢false (sym e)
+
+-- an announcer's role
+pub announced_of : (role : Role) → role ≡ announcing (since_by role) → IsSome (since_by role) →
+    role ≡ Announced (from_by role)
+announced_of Spent e is = absurd (none_given is)
+announced_of (Noting noted answers) e is = absurd (none_given is)
+announced_of (Resting found) e is = absurd (none_given is)
+announced_of (Watching found first from) e is = absurd (none_given is)
+announced_of Idle e is = absurd (none_given is)
+announced_of (Announced from) e is = refl
+
+pub idle_of : (role : Role) → role ≡ announcing (since_by role) → since_by role ≡ None →
+    role ≡ Idle
+idle_of role e is = e ∙ ap announcing is
+
+-- the rule at the announcer's role
+stands_at : (s : Words) (r : Kept s) (role : Role) → r.role ≡ role →
+    Stands (word s) r.moment r.commands role
+stands_at s r role is = subst (Stands (word s) r.moment r.commands) is r.stands
+
+before_at : (s : Words) (r : Kept s) (role : Role) → r.role ≡ role →
+    AreBefore (limit role r.moment) r.commands
+before_at s r role is = subst (λ w. AreBefore (limit w r.moment) r.commands) is r.before
+
+answered_at : (s : Words) (r : Kept s) (role : Role) → r.role ≡ role →
+    AreAnswered (length r.commands) (limit role r.moment) r.log
+answered_at s r role is =
+    subst (λ w. AreAnswered (length r.commands) (limit w r.moment) r.log) is r.answered
+
+pub announces : (slots id : ℕ) (me : Seated) (odd : ℕ) → IsIdle me.0 →
+    odd + 1 ≡ 2 * length me.0.commands →
+    Allows Kept slots id me 0 (λ _. odd) (λ _. announced (step slots 0 odd 0 none) me odd)
+announces slots id me odd is up s r _ at _ =
+    let known = known_of s r id me.0 Idle at is in
+    let wide = r.wide in
+    let now = r.moment + 1 in
+    let long = ap length known.1 in
+    let ws = set s.words 0 odd in
+    let v0 : get_or ws 0 0 ≡ odd = get_or-set_same s.words 0 odd 0 (omega arith) in
+    let v = view_of me.0.commands me.0.log (Announced now) in (
+      v,
+      keeps,
+      tt,
+      kept_with s r ws id v now r.commands r.log (Announced now)
+          (length-set s.words 0 odd ∙ wide) (omega arith) (prefix_self r.commands)
+          (prefix_self r.log) (omega arith, omega arith)
+          (before_more r.moment now r.commands (omega arith) (before_at s r Idle known.2))
+          (answered_more (length r.commands) (length r.commands) r.moment now r.log (omega arith)
+          (omega arith) (answered_at s r Idle known.2))
+          r.ordered r.alive (λ seat apart own. absurd (apart (own ∙ sym known.0)))
+          (known.0, known.1, refl),
+      (refl, refl),
+    )
+
+pub accepts : (slots id : ℕ) (me : Seated) (even reading : ℕ) → IsAnnounced me.0 →
+    even ≡ 2 * length me.0.commands →
+    Allows Kept slots id me 0 (λ _. even) (λ _. accepted reading (step slots 0 even 0 none) me even)
+accepts slots id me even reading is up s r _ at _ =
+    let from = from_by me.0.role in
+    let known = known_of s r id me.0 (Announced from) at is in
+    let wide = r.wide in
+    let h = stands_at s r (Announced from) known.2 in
+    let low = h.1 in
+    let now = r.moment + 1 in
+    let long = ap length known.1 in
+    let t = taken from now reading in
+    let more = r.commands ++ t ∷ [] in
+    let longer = length-append r.commands (t ∷ []) in
+    let before = before_at s r (Announced from) known.2 in
+    let answered = answered_at s r (Announced from) known.2 in
+    let ws = set s.words 0 even in
+    let v0 : get_or ws 0 0 ≡ even = get_or-set_same s.words 0 even 0 (omega arith) in
+    let v = view_of (me.0.commands ++ t ∷ []) me.0.log Idle in (
+      v,
+      keeps,
+      tt,
+      kept_with s r ws id v now more r.log Idle (length-set s.words 0 even ∙ wide) (omega arith)
+          (prefix_push r.commands t) (prefix_self r.log) (omega arith)
+          (before_push from now r.commands t (omega arith) (omega arith) before)
+          (answered_more (length r.commands) (length more) from now r.log (omega arith)
+          (omega arith) answered)
+          (ordered_push from r.commands t before (omega arith) r.ordered)
+          (life_command from r.commands r.log t answered (omega arith) r.alive)
+          (λ seat apart own. absurd (apart (own ∙ sym known.0)))
+          (known.0, ap (λ (l : List Taken). l ++ t ∷ []) known.1, refl),
+      (refl, (from, now, refl, omega arith, refl)),
+    )
+
+pub withdraws : (slots id : ℕ) (me : Seated) (even : ℕ) → IsAnnounced me.0 →
+    even + 2 ≡ 2 * length me.0.commands →
+    Allows Kept slots id me 0 (λ _. even) (λ _. withdrawn (step slots 0 even 0 none) me even)
+withdraws slots id me even is up s r _ at _ =
+    let from = from_by me.0.role in
+    let known = known_of s r id me.0 (Announced from) at is in
+    let wide = r.wide in
+    let h = stands_at s r (Announced from) known.2 in
+    let low = h.1 in
+    let now = r.moment + 1 in
+    let long = ap length known.1 in
+    let ws = set s.words 0 even in
+    let v0 : get_or ws 0 0 ≡ even = get_or-set_same s.words 0 even 0 (omega arith) in
+    let v = view_of me.0.commands me.0.log Idle in (
+      v,
+      keeps,
+      tt,
+      kept_with s r ws id v now r.commands r.log Idle (length-set s.words 0 even ∙ wide)
+          (omega arith) (prefix_self r.commands) (prefix_self r.log) (omega arith)
+          (before_more from now r.commands (omega arith) (before_at s r (Announced from) known.2))
+          (answered_more (length r.commands) (length r.commands) from now r.log (omega arith)
+          (omega arith) (answered_at s r (Announced from) known.2))
+          r.ordered r.alive (λ seat apart own. absurd (apart (own ∙ sym known.0)))
+          (known.0, known.1, refl),
+      (refl, refl),
+    )
+
+-- the announcer's seat gives a watcher's
+pub hands : (id : ℕ) (view : View) → IsIdle view →
+    Splits Kept id view view (view_of view.commands [] (Resting []))
+hands id view is s r at =
+    let known = known_of s r id view Idle at is in
+    let new = view_of view.commands [] (Resting []) in
+    record {
+      moment = r.moment;
+      commands = r.commands;
+      log = r.log;
+      role = r.role;
+      announcer = r.announcer;
+      wide = r.wide;
+      stands = r.stands;
+      before = r.before;
+      answered = r.answered;
+      ordered = r.ordered;
+      alive = r.alive;
+      each = λ seat u e. ⊎_elim
+          (λ h. r.each seat u (subst (λ l. get_elem? l seat ≡ some u)
+          (set_again s.views id view at) h))
+          (λ (t : new ≡ u). subst
+          (λ (x : View). Knows r.moment r.commands r.log r.role r.announcer seat x.commands x.log
+          x.role) t (
+            subst (λ (l : List Taken). IsPrefix l r.commands) (sym known.1) (prefix_self r.commands),
+            (r.log, refl),
+          ))
+          (at_snoc (set s.views id view) new u seat e);
+    }
+
+-- only the opening
+only_opening : (reading place : ℕ) (t : Taken) → slice_get (taken 0 0 reading ∷ []) place ≡ Some t →
+    (place ≡ 0) × (taken 0 0 reading ≡ t)
+only_opening reading zero t e = (refl, same_Some (taken 0 0 reading) t e)
+only_opening reading (suc place) t e = absurd (cc (e))
+
+-- at the start
+pub starts : (reading : ℕ) → Kept (opening (0 ∷ []) [] (started reading))
+starts reading = record {
+  moment = 0;
+  commands = taken 0 0 reading ∷ [];
+  log = [];
+  role = Idle;
+  announcer = 0;
+  wide = refl;
+  stands = refl;
+  before = λ place t at. let e = (only_opening reading place t at).1 in
+      subst (λ (x : Taken). x.to ≤ 0) e (omega arith);
+  answered = λ i a at. absurd (cc (at));
+  ordered = λ i j t u less at_i at_j. let e = (only_opening reading j u at_j).0 in
+      absurd (omega arith);
+  alive = λ i place a t at_a at_t. absurd (cc (at_a));
+  each = one;
+}
+  where
+    one : (seat : ℕ) (view : View) → get_elem? (started reading ∷ []) seat ≡ some view →
+        Knows 0 (taken 0 0 reading ∷ []) [] Idle 0 seat view.commands view.log view.role
+    one zero view e = subst
+        (λ (w : View). Knows 0 (taken 0 0 reading ∷ []) [] Idle 0 0 w.commands w.log w.role)
+        (some-injective _ _ e) (refl, refl, refl)
+    one (suc seat) view e = absurd (some-ne-none view (sym e))

@@ -1,0 +1,161 @@
+-- What every step of a notice must keep.
+use Rattle.std.proofs.Common.{◌≡◌, ◌≢◌, ℕ, ◌%◌, ◌≤◌, List, length, get_or, set, sym, refl, ◌∙◌, subst, ⊎_elim, arith}
+use Rattle.std.proofs.lemmas.List.{set-get_or}
+use mathlib.Core.List.{IsPrefix}
+use mathlib.Core.Option.{some}
+use lib.ListN.{get_elem?}
+use Rattle.atomic_table.specs.Table.{State, keeps, stepped}
+use Rattle.atomic_table.proofs.Lists.{at_set}
+use Rattle.tk_now.specs.declared.rule.Taken.{Taken}
+use Rattle.tk_now.specs.declared.rule.Answer.{Answer}
+use Rattle.tk_now.specs.declared.rule.View.{View}
+use Rattle.tk_now.specs.declared.rule.Role.{Role}
+use Rattle.tk_now.specs.declared.rule.Role.TheVariants.{Spent, Resting, Watching, Idle, Announced, Noting}
+use Rattle.tk_now.specs.Moments.{AreBefore, AreAnswered, AreInOrder, AreInLife}
+use Rattle.tk_now.specs.Rule.{limit, Stands, Counts, Knows, Kept}
+use Rattle.tk_now.proofs.Lists.{prefix_self, prefix_trans}
+
+abbrev pub Words : Type 0
+Words = State (Unit {0}) View
+
+abbrev pub word : Words → ℕ
+word s = get_or s.words 0 0
+
+-- what the other seats know stays true
+others_know : (m m' : ℕ) (commands commands' : List Taken) (log log' : List Answer)
+    (role role' : Role) (announcer seat : ℕ) → m ≤ m' → IsPrefix commands commands' →
+    IsPrefix log log' → (seat ≡ announcer → (commands ≡ commands') × (role ≡ role')) →
+    (mine : List Taken) (told : List Answer) (own : Role) →
+    Knows m commands log role announcer seat mine told own →
+    Knows m' commands' log' role' announcer seat mine told own
+others_know m m' cs cs' lg lg' role role' by seat le p q same mine told Spent k = tt
+others_know m m' cs cs' lg lg' role role' by seat le p q same mine told (Noting noted answers) k = (
+  k.0,
+  k.1 ∙ (same k.0).0,
+  sym (same k.0).1 ∙ k.2,
+  prefix_trans noted cs cs' k.3 p,
+  prefix_trans answers lg lg' k.4 q,
+)
+others_know m m' cs cs' lg lg' role role' by seat le p q same mine told (Resting found) k =
+    (prefix_trans mine cs cs' k.0 p, prefix_trans told lg lg' k.1 q)
+others_know m m' cs cs' lg lg' role role' by seat le p q same mine told (Watching found first from) k =
+    let low = k.3 in
+    (prefix_trans mine cs cs' k.0 p, prefix_trans told lg lg' k.1 q, k.2, omega arith)
+others_know m m' cs cs' lg lg' role role' by seat le p q same mine told Idle k =
+    (k.0, k.1 ∙ (same k.0).0, sym (same k.0).1 ∙ k.2)
+others_know m m' cs cs' lg lg' role role' by seat le p q same mine told (Announced from) k =
+    (k.0, k.1 ∙ (same k.0).0, sym (same k.0).1 ∙ k.2)
+
+-- what holds of each seat after one of them has changed
+pub seats_after : (P : ℕ → View → Type 0) (views : List View) (id : ℕ) (view : View) → P id view →
+    ((seat : ℕ) (v : View) → seat ≢ id → get_elem? views seat ≡ some v → P seat v) →
+    (seat : ℕ) (v : View) → get_elem? (set views id view) seat ≡ some v → P seat v
+seats_after P views id view mine others seat v at =
+    ⊎_elim (λ (t : (seat ≡ id) × (view ≡ v)). subst (λ (x : ℕ × View). P x.0 x.1)
+    (λ i. (sym t.0 i, t.1 i)) mine)
+    (λ (t : (seat ≢ id) × (get_elem? views seat ≡ some v)). others seat v t.0 t.1)
+    (at_set views id seat view v at)
+
+-- the rule after a step
+pub kept_with : (s : Words) (r : Kept s) (ws : List ℕ) (id : ℕ) (v : View) (m : ℕ)
+    (commands : List Taken) (log : List Answer) (role : Role) → length ws ≡ 1 → r.moment ≤ m →
+    IsPrefix r.commands commands → IsPrefix r.log log →
+    Stands (get_or ws 0 0) m commands role → AreBefore (limit role m) commands →
+    AreAnswered (length commands) (limit role m) log → AreInOrder commands →
+    AreInLife commands log →
+    ((seat : ℕ) → seat ≢ id → seat ≡ r.announcer → (r.commands ≡ commands) × (r.role ≡ role)) →
+    Knows m commands log role r.announcer id v.commands v.log v.role →
+    Kept (record { words = ws; homes = s.homes; views = set s.views id v })
+kept_with s r ws id v m commands log role wide le p q stands before answered ordered alive same mine = record {
+  moment = m;
+  commands = commands;
+  log = log;
+  role = role;
+  announcer = r.announcer;
+  wide = wide;
+  stands = stands;
+  before = before;
+  answered = answered;
+  ordered = ordered;
+  alive = alive;
+  each = seats_after (λ seat u. Knows m commands log role r.announcer seat u.commands u.log u.role)
+      s.views id v mine
+      (λ seat u apart at. others_know r.moment m r.commands commands r.log log r.role role
+      r.announcer seat le p q (same seat apart) u.commands u.log u.role (r.each seat u at));
+}
+
+-- the same where the step is a load
+pub loads : (s : Words) (r : Kept s) (id : ℕ) (cs : List (ℕ × Unit {0})) (v : View) (m : ℕ)
+    (log : List Answer) → r.moment ≤ m → IsPrefix r.log log →
+    Stands (word s) m r.commands r.role → AreBefore (limit r.role m) r.commands →
+    AreAnswered (length r.commands) (limit r.role m) log → AreInLife r.commands log →
+    Knows m r.commands log r.role r.announcer id v.commands v.log v.role →
+    Kept (stepped s 0 (word s) id cs v keeps)
+loads s r id cs v m log le q stands before answered alive mine =
+    let after : List ℕ → Words =
+    λ ws. record { words = ws; homes = s.homes; views = set s.views id v } in
+    subst (λ ws. Kept (after ws)) (sym (set-get_or s.words 0 0))
+    (kept_with s r s.words id v m r.commands log r.role r.wide le (prefix_self r.commands) q
+    stands before answered r.ordered alive (λ seat apart own. (refl, refl)) mine)
+
+-- a load at which no moment passes and nothing is listed
+pub loads_as : (s : Words) (r : Kept s) (id : ℕ) (cs : List (ℕ × Unit {0})) (v : View) →
+    Knows r.moment r.commands r.log r.role r.announcer id v.commands v.log v.role →
+    Kept (stepped s 0 (word s) id cs v keeps)
+loads_as s r id cs v mine = loads s r id cs v r.moment r.log (omega arith) (prefix_self r.log)
+    r.stands r.before r.answered r.alive mine
+
+-- what the rule knows of one seat
+pub known_of : (s : Words) (r : Kept s) (id : ℕ) (view : View) (own : Role) →
+    get_elem? s.views id ≡ some view → view.role ≡ own →
+    Knows r.moment r.commands r.log r.role r.announcer id view.commands view.log own
+known_of s r id view own at same =
+    subst (λ (w : Role). Knows r.moment r.commands r.log r.role r.announcer id view.commands
+    view.log w) same (r.each id view at)
+
+-- what the word shows of the commands
+pub counted : (n m : ℕ) (commands : List Taken) (role : Role) → Stands n m commands role →
+    Counts commands n
+counted n m commands Spent h = absurd h
+counted n m commands (Noting noted answers) h = absurd h
+counted n m commands (Resting found) h = absurd h
+counted n m commands (Watching found first from) h = absurd h
+counted n m commands Idle h = (omega arith, omega arith)
+counted n m commands (Announced from) h = let e = h.0 in (omega arith, omega arith)
+
+-- an even word: no command is in progress
+pub at_rest : (n m : ℕ) (commands : List Taken) (role : Role) → Stands n m commands role →
+    n % 2 ≡ 0 → limit role m ≡ m
+at_rest n m commands Spent h even = absurd h
+at_rest n m commands (Noting noted answers) h even = absurd h
+at_rest n m commands (Resting found) h even = absurd h
+at_rest n m commands (Watching found first from) h even = absurd h
+at_rest n m commands Idle h even = refl
+at_rest n m commands (Announced from) h even = let e = h.0 in absurd (omega arith)
+
+-- time passes
+pub stands_on : (n m m' : ℕ) (commands : List Taken) (role : Role) → m ≤ m' →
+    Stands n m commands role → Stands n m' commands role
+stands_on n m m' commands Spent le h = absurd h
+stands_on n m m' commands (Noting noted answers) le h = absurd h
+stands_on n m m' commands (Resting found) le h = absurd h
+stands_on n m m' commands (Watching found first from) le h = absurd h
+stands_on n m m' commands Idle le h = h
+stands_on n m m' commands (Announced from) le h = let low = h.1 in (h.0, omega arith)
+
+pub limit_on : (role : Role) (m m' : ℕ) → m ≤ m' → limit role m ≤ limit role m'
+limit_on Spent m m' le = le
+limit_on (Noting noted answers) m m' le = le
+limit_on (Resting found) m m' le = le
+limit_on (Watching found first from) m m' le = le
+limit_on Idle m m' le = le
+limit_on (Announced from) m m' le = omega arith
+
+pub limited : (n m : ℕ) (commands : List Taken) (role : Role) → Stands n m commands role →
+    limit role m ≤ m
+limited n m commands Spent h = absurd h
+limited n m commands (Noting noted answers) h = absurd h
+limited n m commands (Resting found) h = absurd h
+limited n m commands (Watching found first from) h = absurd h
+limited n m commands Idle h = omega arith
+limited n m commands (Announced from) h = h.1

@@ -1,0 +1,6 @@
+pub mod Lists
+pub mod Keeping
+pub mod Announcing
+pub mod Watching
+pub mod Honesty
+pub mod Noting

@@ -1,0 +1,129 @@
+-- Lists of commands and of answers, and one more of them.
+use Rattle.std.proofs.Common.{◌≡◌, ℕ, zero, suc, ◌+◌, ◌<◌, ◌≤◌, ◌⊎◌, List, [], ◌∷◌, ◌++◌, length, Some, slice_get, refl, ap, sym, ◌∙◌, subst, ⊎_elim, inl, inr, arith, append_assoc, length-append}
+use Rattle.std.proofs.lemmas.List.{append-nil}
+use Rattle.std.proofs.lemmas.Option.{same_Some, slice_get_within}
+use mathlib.Core.List.{IsPrefix}
+use Rattle.tk_now.specs.declared.rule.Taken.{Taken}
+use Rattle.tk_now.specs.declared.rule.Answer.{Answer}
+use Rattle.tk_now.specs.Moments.{AreBefore, AreAnswered, AreInOrder, AreInLife}
+
+module _ {A : Type 0} where
+  pub prefix_self : (xs : List A) → IsPrefix xs xs
+  prefix_self xs = ([], append-nil xs)
+
+  pub prefix_trans : (xs ys zs : List A) → IsPrefix xs ys → IsPrefix ys zs → IsPrefix xs zs
+  prefix_trans xs ys zs p q =
+      (p.0 ++ q.0, sym (append_assoc xs p.0 q.0) ∙ (ap (λ w. w ++ q.0) p.1 ∙ q.1))
+
+  -- a beginning as long as the whole is the whole
+  pub prefix_whole : (xs ys : List A) → IsPrefix xs ys → length ys ≤ length xs → xs ≡ ys
+  prefix_whole [] [] p le = refl
+  prefix_whole [] (y ∷ ys) p le = absurd (omega arith)
+  prefix_whole (x ∷ xs) [] p le = absurd (cc (p.1))
+  prefix_whole (x ∷ xs) (y ∷ ys) p le =
+      let rest = prefix_whole xs ys (p.0, cc (p.1)) (omega arith) in cc (p.1, rest)
+
+  pub prefix_push : (xs : List A) (x : A) → IsPrefix xs (xs ++ x ∷ [])
+  prefix_push xs x = (x ∷ [], refl)
+
+  pub prefix_length : (xs ys : List A) → IsPrefix xs ys → length xs ≤ length ys
+  prefix_length xs ys p = omega (arith, sym (ap length p.1) ∙ length-append xs p.0)
+
+  -- an item of a list with one more item is an old one or the new one
+  pub get_push : (xs : List A) (x : A) (i : ℕ) (y : A) → slice_get (xs ++ x ∷ []) i ≡ Some y →
+      (slice_get xs i ≡ Some y) ⊎ ((i ≡ length xs) × (x ≡ y))
+  get_push [] x zero y e = inr (refl, same_Some x y e)
+  get_push [] x (suc i) y e = absurd (cc (e))
+  get_push (z ∷ zs) x zero y e = inl e
+  get_push (z ∷ zs) x (suc i) y e =
+      ⊎_elim inl (λ (t : (i ≡ length zs) × (x ≡ y)). inr (ap suc t.0, t.1)) (get_push zs x i y e)
+
+  -- an item of a beginning
+  get_append : (xs ys : List A) (i : ℕ) (y : A) → slice_get xs i ≡ Some y →
+      slice_get (xs ++ ys) i ≡ Some y
+  get_append [] ys i y e = absurd (cc (e))
+  get_append (x ∷ xs) ys zero y e = e
+  get_append (x ∷ xs) ys (suc i) y e = get_append xs ys i y e
+
+  pub get_first : (xs ys : List A) → IsPrefix xs ys → (i : ℕ) (y : A) → slice_get xs i ≡ Some y →
+      slice_get ys i ≡ Some y
+  get_first xs ys p i y e =
+      subst (λ (l : List A). slice_get l i ≡ Some y) p.1 (get_append xs p.0 i y e)
+
+pub before_more : (m m' : ℕ) (commands : List Taken) → m ≤ m' → AreBefore m commands →
+    AreBefore m' commands
+before_more m m' commands le b place t at = let l = b place t at in omega arith
+
+pub before_push : (m m' : ℕ) (commands : List Taken) (u : Taken) → m ≤ m' → u.to ≤ m' →
+    AreBefore m commands → AreBefore m' (commands ++ u ∷ [])
+before_push m m' commands u le over b place t at =
+    ⊎_elim (λ old. let l = b place t old in omega arith)
+    (λ (e : (place ≡ length commands) × (u ≡ t)). subst (λ (x : Taken). x.to ≤ m') e.1 over)
+    (get_push commands u place t at)
+
+pub answered_more : (n n' m m' : ℕ) (log : List Answer) → n ≤ n' → m ≤ m' → AreAnswered n m log →
+    AreAnswered n' m' log
+answered_more n n' m m' log l k b i a at =
+    let h = b i a at in let p = h.0 in let t = h.1 in (omega arith, omega arith)
+
+pub answered_push : (n m : ℕ) (log : List Answer) (b : Answer) → b.place < n → b.taken.to ≤ m →
+    AreAnswered n m log → AreAnswered n m (log ++ b ∷ [])
+answered_push n m log b place over all i a at =
+    ⊎_elim (λ old. all i a old)
+    (λ (e : (i ≡ length log) × (b ≡ a)).
+    subst (λ (x : Answer). (x.place < n) × (x.taken.to ≤ m)) e.1 (place, over))
+    (get_push log b i a at)
+
+-- one more command, announced after all others had their readings
+pub ordered_push : (m : ℕ) (commands : List Taken) (x : Taken) → AreBefore m commands →
+    m ≤ x.from → AreInOrder commands → AreInOrder (commands ++ x ∷ [])
+ordered_push m commands x b le all i j t u less at_i at_j =
+    ⊎_elim
+    (λ (old : slice_get commands j ≡ Some u). ⊎_elim
+    (λ (low : slice_get commands i ≡ Some t). all i j t u less low old)
+    (λ (e : (i ≡ length commands) × (x ≡ t)).
+    let same = e.0 in let within = slice_get_within commands j u old in absurd (omega arith))
+    (get_push commands x i t at_i))
+    (λ (new : (j ≡ length commands) × (x ≡ u)). ⊎_elim
+    (λ (low : slice_get commands i ≡ Some t).
+    let over = b i t low in
+    subst (λ (y : Taken). t.to ≤ y.from) new.1 (omega arith))
+    (λ (e : (i ≡ length commands) × (x ≡ t)).
+    let same = e.0 in let last = new.0 in absurd (omega arith))
+    (get_push commands x i t at_i))
+    (get_push commands x j u at_j)
+
+pub life_command : (m : ℕ) (commands : List Taken) (log : List Answer) (x : Taken) →
+    AreAnswered (length commands) m log → m ≤ x.from → AreInLife commands log →
+    AreInLife (commands ++ x ∷ []) log
+life_command m commands log x b le all i place a t at_a at_t =
+    ⊎_elim (λ (old : slice_get commands place ≡ Some t). all i place a t at_a old)
+    (λ (new : (place ≡ length commands) × (x ≡ t)).
+    let h = b i a at_a in
+    let count = h.0 in
+    let over = h.1 in
+    let last = new.0 in (
+      (λ later. subst (λ (y : Taken). a.taken.to ≤ y.from) new.1 (omega arith)),
+      (λ earlier. absurd (omega arith)),
+    ))
+    (get_push commands x place t at_t)
+
+-- the first of these answers
+pub life_first : (commands : List Taken) (log log' : List Answer) → IsPrefix log log' →
+    AreInLife commands log' → AreInLife commands log
+life_first commands log log' p all i place a t at_a at_t =
+    all i place a t (get_first log log' p i a at_a) at_t
+
+-- one more answer, after the latest command
+pub life_answer : (commands : List Taken) (log : List Answer) (b : Answer) →
+    AreBefore b.taken.from commands → length commands ≤ b.place + 1 → AreInLife commands log →
+    AreInLife commands (log ++ b ∷ [])
+life_answer commands log b before latest all i place a t at_a at_t =
+    ⊎_elim (λ (old : slice_get log i ≡ Some a). all i place a t old at_t)
+    (λ (new : (i ≡ length log) × (b ≡ a)).
+    let within = slice_get_within commands place t at_t in
+    let over = before place t at_t in
+    subst (λ (y : Answer).
+    (y.place < place → y.taken.to ≤ t.from) × (place ≤ y.place → t.to ≤ y.taken.from)) new.1
+    ((λ later. absurd (omega arith)), (λ _. over)))
+    (get_push log b i a at_a)

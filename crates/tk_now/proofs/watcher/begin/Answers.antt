@@ -1,0 +1,6 @@
+use Rattle.std.proofs.Common.{rules}
+use Rattle.tk_now.proofs.Watching.{begins}
+use Rattle.tk_now.proofs.watcher.begin.Goals as goal
+
+pub load-requires : goal.load-requires
+load-requires g c = (search rules, search rules, begins _ _ _ c.requires.resting)

@@ -1,0 +1,5 @@
+pub mod Views
+pub mod Moments
+pub mod Rule
+pub mod Steps
+pub mod Honest

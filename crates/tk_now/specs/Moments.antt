@@ -1,0 +1,71 @@
+-- Readings by the moments around them.
+use Rattle.std.specs.Prelude.{◌≡◌, ℕ, ◌+◌, ◌*◌, ◌%◌, ◌<◌, ◌≤◌, List, [], ◌∷◌, ◌++◌, length, Option, Some, slice_get}
+use mathlib.Core.List.{IsPrefix}
+use Rattle.tk_now.specs.declared.rule.Taken.{Taken}
+use Rattle.tk_now.specs.declared.rule.Answer.{Answer}
+use Rattle.tk_now.specs.Views.{Watched, taken}
+
+-- each of these commands had its reading by this moment
+abbrev pub AreBefore : ℕ → List Taken → Type 0
+AreBefore moment commands =
+    (place : ℕ) (t : Taken) → slice_get commands place ≡ Some t → t.to ≤ moment
+
+-- each of these answers follows one of the first `count` commands, and had its reading by this
+-- moment
+abbrev pub AreAnswered : ℕ → ℕ → List Answer → Type 0
+AreAnswered count moment log =
+    (i : ℕ) (a : Answer) → slice_get log i ≡ Some a → (a.place < count) × (a.taken.to ≤ moment)
+
+-- each command had its reading before the next one's was begun
+abbrev pub AreInOrder : List Taken → Type 0
+AreInOrder commands =
+    (i j : ℕ) (t u : Taken) → i < j → slice_get commands i ≡ Some t →
+    slice_get commands j ≡ Some u → t.to ≤ u.from
+
+-- each answer's reading was over before that of any later command was begun, and was begun after
+-- those of its command and of the earlier ones were over
+abbrev pub AreInLife : List Taken → List Answer → Type 0
+AreInLife commands log =
+    (i place : ℕ) (a : Answer) (t : Taken) → slice_get log i ≡ Some a →
+    slice_get commands place ≡ Some t →
+    (a.place < place → a.taken.to ≤ t.from) × (place ≤ a.place → t.to ≤ a.taken.from)
+
+-- a counter answered a read that followed the announcement
+abbrev pub IsReadAt : {C : Type 0} → (C → ℕ → ℕ → Type 0) → C → Option ℕ → ℕ → Type 0
+IsReadAt answers counter since reading =
+    (from : ℕ) × (since ≡ Some from) × answers counter from reading
+
+-- one more command was accepted, at a reading that was taken since its announcement
+abbrev pub IsAcceptedAt : Option ℕ → List Taken → ℕ → List Taken → Type 0
+IsAcceptedAt since commands reading commands' =
+    (from to : ℕ) × (since ≡ Some from) × (from ≤ to)
+    × (commands' ≡ commands ++ taken from to reading ∷ [])
+
+-- a watcher's answer: the counter gave the reading to a read that followed this call's first look.
+-- It follows the latest accepted command. The answers that any thread had by the first look are of
+-- no later command, and had their readings by then. It is listed after them
+pub record IsTimed {C : Type 0} (answers : C → ℕ → ℕ → Type 0) (counter : C) (old new : Watched)
+    (place reading : ℕ) : Type 0 where
+  pub word : ℕ
+  pub found : new.found ≡ old.found ++ word ∷ word ∷ []
+  pub even : word ≡ 2 * place
+  pub latest : place + 1 ≡ length new.commands
+  pub from : ℕ
+  pub given : answers counter from reading
+  pub begun : List Answer
+  pub known : IsPrefix old.log begun
+  pub above : AreAnswered (length new.commands) from begun
+  pub after : AreBefore from new.commands
+  pub to : ℕ
+  pub span : from ≤ to
+  pub between : List Answer
+  pub extends : IsPrefix begun between
+  pub listed : new.log
+      ≡ between ++ (record { place = place; taken = taken from to reading }) ∷ []
+
+-- no answer: the two looks found these words, which differ or are odd. The first is no earlier than
+-- the commands that were known
+pub record IsBusy (old new : Watched) (first last : ℕ) : Type 0 where
+  pub found : new.found ≡ old.found ++ first ∷ last ∷ []
+  pub from : 2 * length old.commands ≤ first + 2
+  pub busy : first ≡ last → first % 2 ≡ 1

@@ -1,0 +1,97 @@
+use crate::rule::View;
+use atomic_table::Seat;
+use std::sync::atomic::{AtomicU64, Ordering};
+use std::time::{Clock, Instant};
+
+/// Shows that a look at a notice, or an announcement, was made. A read of a counter follows it.
+///
+/// It has no bytes. Contracts see in it the moment of that look.
+#[derive(Drop)]
+pub struct Look {
+    pub(crate) seat: Seat<(), View>,
+}
+
+/// Gives the readings of a counter that many threads share, in cycles.
+///
+/// A reading has to be taken during the call. If the counter is an instruction of the processor,
+/// such as `rdtsc`, put a fence before it and one after it: it must follow the load before the
+/// call, and the load after the call must follow it. The announcement of a command must be visible
+/// to all threads before the command's own `rdtsc`. Each step on a notice is sequentially
+/// consistent, which on x86-64 makes a store an exchange, but doesn't order `rdtsc`.
+pub trait SharedCounter {
+    ghost use Rattle.std.specs.Prelude.{ℕ};
+    ghost use Rattle.tk_now.specs.Views.{from_by};
+
+    // The answers that the counter may give to a read that follows a look at this moment.
+    ghost answers: { Self → ℕ → ℕ → Type 0 };
+
+    /// Returns a reading that is taken during the call, after `look` was made.
+    fn read(&self, look: &Look) -> u64
+        ensures given { answers self.now (from_by look.now.seat.me.0.role) result };
+}
+
+/// Counts the reads of all threads: each reading is the one before plus a fixed step, modulo 2^64.
+///
+/// It simulates a counter for tests. No clause says what its word holds.
+#[derive(Drop)]
+pub struct SharedTicker {
+    next: AtomicU64,
+    step: u64,
+}
+
+impl SharedTicker {
+    ghost use Rattle.std.specs.Prelude.{◌≡◌};
+
+    /// Returns a counter whose first reading is `start` and which adds `step` cycles each time.
+    ///
+    /// It never waits and allocates nothing.
+    pub fn new(start: u64, step: u64) -> SharedTicker
+        ensures { result.step ≡ step }
+    {
+        let next = AtomicU64::new(start);
+        SharedTicker { next, step }
+    }
+}
+
+impl SharedCounter for SharedTicker {
+    ghost use Rattle.std.specs.Prelude.{◌<◌, ◌^◌};
+
+    ghost answers = { λ _ _ answer. answer < 2 ^ 64 };
+
+    fn read(&self, _look: &Look) -> u64 {
+        self.next.fetch_add(self.step, Ordering::SeqCst)
+    }
+}
+
+/// Counts the nanoseconds of the host's monotonic clock since this counter was made: 1 GHz.
+///
+/// Reading 0 means that the host didn't give the time, or that none has passed. Linux always gives
+/// it.
+#[derive(Drop)]
+pub struct HostCounter<'c, C: Clock> {
+    clock: &'c C,
+    start: Instant,
+}
+
+impl<'c, C: Clock> HostCounter<'c, C> {
+    /// Returns a counter that starts at 0 at `start`, a time of `clock`.
+    ///
+    /// It never waits and allocates nothing.
+    pub fn new(clock: &'c C, start: Instant) -> HostCounter<'c, C> {
+        HostCounter { clock, start }
+    }
+}
+
+impl<'c, C: Clock> SharedCounter for HostCounter<'c, C> {
+    ghost use Rattle.std.specs.Prelude.{◌<◌, ◌^◌};
+
+    ghost answers = { λ _ _ answer. answer < 2 ^ 64 };
+
+    fn read(&self, _look: &Look) -> u64 {
+        let Ok(time) = self.start.elapsed(self.clock) else {
+            return 0;
+        };
+        let seconds = time.as_secs().wrapping_mul(1_000_000_000);
+        seconds.wrapping_add(u64::from(time.subsec_nanos()))
+    }
+}

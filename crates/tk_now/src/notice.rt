@@ -1,0 +1,88 @@
+//! The notice: a word that says whether a command is in progress.
+//!
+//! The word is twice the number of the accepted commands, plus 1 while a command is in progress.
+//! Each load and each store is one atomic step.
+//!
+//! A command, under the caller's lock:
+//!
+//! 1. It makes the word odd: the announcement. From now on no reading is listed.
+//! 2. It reads the counter.
+//! 3. Once its effect is published, it makes the word even. An accepted command counts, and a
+//!    refused one doesn't.
+//!
+//! A watcher:
+//!
+//! 4. It loads the word: the first look.
+//! 5. It reads the counter.
+//! 6. It loads the word again: the second look. If the number is the same and even, no accepted
+//!    command was in progress at any moment between the looks, and the reading is listed. It is no
+//!    later than the reading of any command that is accepted after that. If the number differs or
+//!    is odd, the answer is `Busy`.
+//!
+//! Who waits: nobody. Only `open` allocates.
+ghost use Rattle.std.specs.Prelude.{◌≡◌, IfOk, None};
+ghost use Rattle.tk_now.specs.Views.{opened_announcer, opened_watcher};
+
+use crate::announcer::Announcer;
+use crate::counter::Look;
+use crate::rule::{Hands, Words};
+use crate::watcher::Watcher;
+use std::alloc::{AllocError, Allocator, Global};
+use std::marker::Model;
+
+/// The position of the only word.
+pub(crate) const WORD: usize = 0;
+
+/// Says whether a command is in progress, and how many commands were accepted.
+#[derive(Drop)]
+pub struct Notice<A: Allocator = Global> {
+    pub(crate) words: Words<A>,
+}
+
+impl<A: Allocator> Model for Notice<A> {
+    ghost use Rattle.std.specs.Prelude.{◌≡◌};
+    ghost use Rattle.atomic_table.specs.Seated.{TableId};
+
+    ghost Value = { TableId };
+
+    ghost view = { λ a. a.words.shared.table_id };
+
+    ghost invariant = { λ a.
+        (a.words.shared.table_id.words ≡ 1) × (a.words.shared.table_id.slots ≡ 0) };
+}
+
+impl<A: Allocator> Notice<A> {
+    /// Opens a notice with no command in progress, and returns it with its announcer. `reading` is
+    /// the reading of the opening, which is command 0.
+    ///
+    /// It allocates the word. It waits for nobody.
+    ///
+    /// # Errors
+    ///
+    /// `AllocError` if the allocation fails.
+    pub fn open(alloc: A, reading: u64) -> Result<(Notice<A>, Announcer), AllocError>
+        ensures { IfOk result (λ opened. opened.1 ≡ opened_announcer opened.0 reading) }
+    {
+        let (words, seat) = Words::of_words(alloc, &[0], &reading)?;
+        let look = Look { seat };
+        Ok((Notice { words }, Announcer { look, number: 0 }))
+    }
+
+    /// Returns one more watcher, which knows the accepted commands and no reading.
+    ///
+    /// It waits for nobody and allocates nothing.
+    pub fn watcher(&self, announcer: &mut Announcer) -> Watcher
+        requires notice { announcer.old.notice ≡ self.now }
+        requires idle { announcer.old.since ≡ None }
+        ensures announcer { announcer.new ≡ announcer.old }
+        ensures watcher { result ≡ opened_watcher announcer.old }
+    {
+        let seat = self
+            .words
+            .shared
+            .split_seat::<Hands>(&mut announcer.look.seat);
+        Watcher {
+            look: Look { seat },
+        }
+    }
+}

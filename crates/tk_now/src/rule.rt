@@ -1,0 +1,72 @@
+//! What the seats of a notice know, and the rule that every step keeps.
+//!
+//! The types are for proofs: no value of them is ever made.
+
+mod steps;
+
+use atomic_table::{Table, TableRule};
+use std::alloc::Global;
+use std::collections::LinkedList;
+pub(crate) use steps::{
+    Accepts, Announces, Begins, Compares, Ends, Hands, KeepsNote, NamesReading, Withdraws,
+};
+
+/// Describes a reading of the counter.
+pub struct Taken {
+    /// The moment before it was taken.
+    pub from: u64,
+    /// The moment after it was taken.
+    pub to: u64,
+    /// The reading, in cycles.
+    pub reading: u64,
+}
+
+/// Describes a reading that a watcher took.
+pub struct Answer {
+    /// The number of the latest command that was accepted before it; the opening is number 0.
+    pub place: u64,
+    /// The reading.
+    pub taken: Taken,
+}
+
+/// Describes what a seat is doing.
+pub enum Role {
+    /// Nothing any more: the seat was joined to the announcer's.
+    Spent,
+    /// A watcher at rest, with the words that its looks have found.
+    Resting(LinkedList<u64>),
+    /// A watcher between its two looks: the words found so far, the one that the first look found,
+    /// and the moment of that look.
+    Watching(LinkedList<u64>, u64, u64),
+    /// The announcer while no command is in progress.
+    Idle,
+    /// The announcer while a command is in progress, and the moment of the announcement.
+    Announced(u64),
+    /// The announcer while no command is in progress, with a note of what a watcher knew: commands
+    /// and answers.
+    Noting(LinkedList<Taken>, LinkedList<Answer>),
+}
+
+/// Describes what a seat knows.
+pub struct View {
+    /// The readings of the accepted commands, the opening's first.
+    pub commands: LinkedList<Taken>,
+    /// The readings that watchers took, of all threads.
+    pub log: LinkedList<Answer>,
+    /// What it is doing.
+    pub role: Role,
+}
+
+/// States the rule of a notice's word.
+pub struct Law;
+
+impl TableRule<(), View, u64> for Law {
+    ghost use Rattle.tk_now.specs.Rule.{Kept, started};
+
+    ghost holds = { λ _ state. Kept state };
+
+    ghost first = { started };
+}
+
+/// The word of a notice, under its rule.
+pub(crate) type Words<A = Global> = Table<(), View, u64, Law, A>;

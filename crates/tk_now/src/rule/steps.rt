@@ -1,0 +1,98 @@
+//! The steps of a notice, and what each teaches the seat that takes it.
+use super::View;
+use atomic_table::{Join, Play, Split};
+use std::marker::{Brand, PhantomData};
+
+/// Names the reading that a step lists.
+pub trait NamesReading {
+    ghost use Rattle.std.specs.Prelude.{ℕ};
+
+    ghost reading: { ℕ };
+}
+
+impl NamesReading for Brand {
+    ghost reading = { 0 };
+}
+
+/// The announcer announces a command: the word becomes odd.
+pub struct Announces;
+
+impl Play<(), View> for Announces {
+    ghost use Rattle.tk_now.specs.Steps.{announced};
+
+    ghost then = { announced };
+}
+
+/// The command was accepted: the word becomes even, and counts it.
+pub struct Accepts<R> {
+    reading: PhantomData<R>,
+}
+
+impl<R: NamesReading> Play<(), View> for Accepts<R> {
+    ghost use Rattle.tk_now.specs.Steps.{accepted};
+
+    ghost then = { accepted R.reading };
+}
+
+/// The command was refused: the word becomes what it was before the announcement.
+pub struct Withdraws;
+
+impl Play<(), View> for Withdraws {
+    ghost use Rattle.tk_now.specs.Steps.{withdrawn};
+
+    ghost then = { withdrawn };
+}
+
+/// The first look: a watcher loads the word.
+pub struct Begins;
+
+impl Play<(), View> for Begins {
+    ghost use Rattle.tk_now.specs.Steps.{began};
+
+    ghost then = { began };
+}
+
+/// The second look: a watcher loads the word again. If it is the same and even, the reading that
+/// was taken in between is listed.
+pub struct Ends<R> {
+    reading: PhantomData<R>,
+}
+
+impl<R: NamesReading> Play<(), View> for Ends<R> {
+    ghost use Rattle.tk_now.specs.Steps.{ended};
+
+    ghost then = { ended R.reading };
+}
+
+/// The announcer gives what it knows of the commands to a new watcher.
+pub struct Hands;
+
+impl Split<View> for Hands {
+    ghost use Rattle.std.specs.Prelude.{[]};
+    ghost use Rattle.tk_now.specs.Views.{view_of};
+    ghost use Rattle.tk_now.specs.declared.rule.Role.TheVariants.{Resting};
+
+    ghost left = { λ view. view };
+
+    ghost right = { λ view. view_of view.commands [] (Resting []) };
+}
+
+/// The announcer takes in a watcher's seat, and notes what it knew.
+pub struct KeepsNote;
+
+impl Join<View> for KeepsNote {
+    ghost use Rattle.tk_now.specs.Views.{noting, spent};
+
+    ghost both = { noting };
+
+    ghost spent = { spent };
+}
+
+/// The announcer loads the word, and learns what its note has to do with the commands.
+pub struct Compares;
+
+impl Play<(), View> for Compares {
+    ghost use Rattle.tk_now.specs.Steps.{compared};
+
+    ghost then = { compared };
+}
