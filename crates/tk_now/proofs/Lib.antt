@@ -4,3 +4,4 @@ pub mod Announcing
 pub mod Watching
 pub mod Honesty
 pub mod Noting
+pub mod Life

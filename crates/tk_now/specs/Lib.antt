@@ -3,3 +3,4 @@ pub mod Moments
 pub mod Rule
 pub mod Steps
 pub mod Honest
+pub mod Life
