@@ -7,6 +7,7 @@ mod full;
 mod memory;
 mod past;
 mod refusals;
+mod replayed;
 mod runs;
 mod settings;
 mod sleep;

@@ -11,7 +11,7 @@ use tk_clock::{ClockId, Command};
 use tk_keeper::Timekeeper;
 
 /// The number of commands in the journal. Clocks are kept after commands 256 and 512.
-const COMMANDS: u64 = 700;
+pub(super) const COMMANDS: u64 = 700;
 
 /// The number of items in a list.
 const ITEMS: u64 = 301;
@@ -45,7 +45,7 @@ impl Order {
 }
 
 /// Returns the command with a number: an update, a setting, or a sleep across a kept state.
-fn command(number: u64) -> Command {
+pub(super) fn command(number: u64) -> Command {
     match number {
         100 => Command::Freq(65_536_000),
         256 | 511 => Command::Suspend,
