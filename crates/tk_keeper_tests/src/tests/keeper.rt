@@ -15,13 +15,13 @@ mod steering;
 mod times;
 mod traces;
 
-use super::assert_same;
-use std::alloc::Allocator;
+use super::{ABOVE, assert_same, numbers, opened, put, steered};
+use std::alloc::{Allocator, Global};
 use std::process::Abort;
 use std::test::Fail;
 use tk_clock::{ClockId, Command, Refusal, Snapshot, Timespec};
 use tk_keeper::Timekeeper;
-use tk_test_support::{OPENED_REAL, OPENED_TIME, nanosecond_counter};
+use tk_test_support::OPENED_REAL;
 
 /// The words of the snapshot at the opening.
 const OPENED_WORDS: [u64; 10] = [0, 0, 16_777_216, 0, 0, OPENED_REAL, 0, 0, 0, 0];
@@ -71,18 +71,6 @@ const TICKED_WORDS: [u64; 10] = [
     1,
 ];
 
-/// Returns a timekeeper of one nanosecond a cycle, opened at reading 0, with REALTIME at
-/// 1,700,000,000 s.
-fn opened<A: Allocator + Copy>(alloc: A) -> Result<Timekeeper<A>, Fail> {
-    opened_at(alloc, 0)
-}
-
-/// Returns the same timekeeper, opened at another reading.
-fn opened_at<A: Allocator + Copy>(alloc: A, reading: u64) -> Result<Timekeeper<A>, Fail> {
-    let desc = nanosecond_counter()?;
-    Ok(Timekeeper::open(alloc, desc, reading, OPENED_TIME)?)
-}
-
 fn time(sec: i64, nsec: u32) -> Timespec {
     Timespec { sec, nsec }
 }
@@ -118,6 +106,20 @@ fn answers(
         let told = applied(rt, keeper, *reading, *cmd);
         assert_eq!(rt; told, *answer, "{cmd:?} at {reading}");
     }
+}
+
+/// Opens a timekeeper, applies commands and checks the answer to each, and then reads clocks and
+/// checks the time of each.
+fn answers_and_reads(
+    rt: &impl Abort,
+    alloc: Global,
+    steps: &[(u64, Command, Result<u64, Refusal>)],
+    values: &[(ClockId, u64, Timespec)],
+) -> Result<(), Fail> {
+    let mut keeper = opened(alloc)?;
+    answers(rt, &mut keeper, steps);
+    reads(rt, &keeper.snapshot(), values);
+    Ok(())
 }
 
 /// Reads clocks, and checks the time of each.

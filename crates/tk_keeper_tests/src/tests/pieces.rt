@@ -3,18 +3,15 @@
 mod long;
 
 use self::long::LONG;
-use super::assert_same;
+use super::{ABOVE, assert_same, numbers, put, steered};
 use std::alloc::{Allocator, Global};
 use std::marker::{Send, Sync};
 use std::test::Fail;
 use std::thread::Threads;
-use tk_clock::{ClockId, Command};
+use tk_clock::ClockId;
 use tk_keeper::{Timekeeper, TraceError};
 use tk_pieces::{trace_all, trace_all_into};
-use tk_test_support::{Heap, OPENED_TIME, nanosecond_counter};
-
-/// The first reading above the mask.
-const ABOVE: u64 = 4_294_967_296;
+use tk_test_support::{Heap, next_random};
 
 /// Items that make five pieces, the last of one item.
 const MANY: usize = 262_145;
@@ -27,32 +24,13 @@ struct Lists {
     out: Vec<u64>,
 }
 
-/// A timekeeper of one nanosecond a cycle, with two settings of the frequency.
-fn steered<A: Allocator + Copy>(alloc: A) -> Result<Timekeeper<A>, Fail> {
-    let mut keeper = Timekeeper::open(alloc, nanosecond_counter()?, 0, OPENED_TIME)?;
-    keeper.apply(0, 0, Command::Freq(65_536_000))?;
-    keeper.apply(0, 1_000_000_000, Command::Freq(-32_768_000))?;
-    Ok(keeper)
-}
-
 /// So many items as of the opening, each stamp its own number.
 fn counted(alloc: Global, many: usize) -> Result<Lists, Fail> {
-    let mut lists = Lists {
+    Ok(Lists {
         fronts: vec![in alloc; 0; many]?,
-        stamps: vec![in alloc; 0; many]?,
+        stamps: numbers(alloc, many)?,
         out: vec![in alloc; 77; many]?,
-    };
-    for (place, stamp) in lists.stamps.iter_mut().enumerate() {
-        *stamp = place as u64;
-    }
-    Ok(lists)
-}
-
-/// Writes an item, where the list has that place.
-fn put(list: &mut Vec<u64>, place: usize, number: u64) {
-    if let Some(item) = list.get_mut(place) {
-        *item = number;
-    }
+    })
 }
 
 /// What `trace_all` answers, out of another allocator.
@@ -151,9 +129,7 @@ fn fronts_up_and_down_are_told_as_by_one_thread(rt: HostRuntime) -> Result<(), F
     let mut lists = counted(alloc, MANY)?;
     let mut seed: u64 = 88_172_645_463_325_252;
     for place in 0..MANY {
-        seed ^= seed.wrapping_shl(13);
-        seed ^= seed >> 7;
-        seed ^= seed.wrapping_shl(17);
+        seed = next_random(seed);
         put(&mut lists.fronts, place, seed % 3);
         put(&mut lists.stamps, place, (seed >> 8) % ABOVE);
     }

@@ -1,22 +1,14 @@
-use super::{
-    ASLEEP_WORDS, AWAKE_WORDS, TICKED_WORDS, answers, applied, assert_same, opened, reads, time,
-};
+use super::sleep::wakes;
+use super::steering::speeds_up;
+use super::{answers, applied, assert_same, opened, reads, steered, time};
 use std::test::Fail;
-use tk_clock::{ClockId, Command, Refusal};
+use tk_clock::{ClockId, Command};
 use tk_keeper::FrontError;
 
 #[test]
 fn folded_entries_are_gone_and_count_on(rt: HostRuntime) -> Result<(), Fail> {
-    let mut keeper = opened(rt.alloc())?;
+    let mut keeper = steered(rt.alloc())?;
     let at = 1_000_000_000;
-    answers(
-        &rt,
-        &mut keeper,
-        &[
-            (0, Command::Freq(65_536_000), Ok(1)),
-            (at, Command::Freq(-32_768_000), Ok(2)),
-        ],
-    );
     assert_same(&rt, &keeper.fold(1), &1);
     assert_same(&rt, &(keeper.len(), keeper.folded()), &(2, 1));
     assert_same(&rt, &keeper.entry(1), &None);
@@ -42,47 +34,16 @@ fn a_sleep_outlasts_folding(rt: HostRuntime) -> Result<(), Fail> {
     let mut keeper = opened(rt.alloc())?;
     answers(&rt, &mut keeper, &[(1_000, Command::Suspend, Ok(1))]);
     assert_same(&rt, &keeper.fold(0), &1);
-    assert_same(&rt, &keeper.snapshot().words(), &ASLEEP_WORDS);
-    answers(
-        &rt,
-        &mut keeper,
-        &[
-            (2_000, Command::Update, Err(Refusal::Asleep)),
-            (5, Command::Resume(time(5, 500_000_000)), Ok(2)),
-        ],
-    );
-    assert_same(&rt, &keeper.snapshot().words(), &AWAKE_WORDS);
-    reads(
-        &rt,
-        &keeper.snapshot(),
-        &[
-            (ClockId::Monotonic, 5, time(0, 1_000)),
-            (ClockId::Realtime, 5, time(1_700_000_005, 500_001_000)),
-            (ClockId::Boottime, 5, time(5, 500_001_000)),
-            (ClockId::Monotonic, 15, time(0, 1_010)),
-        ],
-    );
+    wakes(&rt, &mut keeper);
     Ok(())
 }
 
 #[test]
 fn a_tick_outlasts_folding(rt: HostRuntime) -> Result<(), Fail> {
     let mut keeper = opened(rt.alloc())?;
-    let at = 1_000_000_000;
     answers(&rt, &mut keeper, &[(0, Command::Tick(11_000), Ok(1))]);
     assert_same(&rt, &keeper.fold(0), &1);
-    assert_same(&rt, &keeper.snapshot().mult(), &18_454_937);
-    answers(&rt, &mut keeper, &[(at, Command::Freq(32_768_000), Ok(2))]);
-    assert_same(&rt, &keeper.snapshot().words(), &TICKED_WORDS);
-    reads(
-        &rt,
-        &keeper.snapshot(),
-        &[
-            (ClockId::Monotonic, at, time(1, 99_999_964)),
-            (ClockId::Monotonic, at + 1, time(1, 99_999_965)),
-            (ClockId::MonotonicRaw, at + 1, time(1, 1)),
-        ],
-    );
+    speeds_up(&rt, &mut keeper);
     Ok(())
 }
 

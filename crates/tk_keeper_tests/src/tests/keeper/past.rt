@@ -1,20 +1,12 @@
-use super::{OPENED_REAL, OPENED_WORDS, answers, applied, assert_same, opened, reads, time};
+use super::{OPENED_REAL, OPENED_WORDS, applied, assert_same, opened, reads, steered, time};
 use std::test::Fail;
 use tk_clock::{ClockId, Command};
 use tk_keeper::FrontError;
 
 #[test]
 fn each_front_keeps_its_own_clocks(rt: HostRuntime) -> Result<(), Fail> {
-    let mut keeper = opened(rt.alloc())?;
+    let keeper = steered(rt.alloc())?;
     let at = 1_000_000_000;
-    answers(
-        &rt,
-        &mut keeper,
-        &[
-            (0, Command::Freq(65_536_000), Ok(1)),
-            (at, Command::Freq(-32_768_000), Ok(2)),
-        ],
-    );
     assert_same(&rt, &keeper.snapshot_at(0)?.words(), &OPENED_WORDS);
     let first = keeper.snapshot_at(1)?;
     assert_same(

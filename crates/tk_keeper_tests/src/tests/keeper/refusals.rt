@@ -1,8 +1,9 @@
-use super::{answers, assert_same, opened, opened_at, reads, time};
+use super::{answers, answers_and_reads, assert_same, opened, reads, time};
 use std::test::Fail;
 use tk_clock::{ClockId, Command, Refusal};
 use tk_counter::CounterDesc;
 use tk_keeper::Timekeeper;
+use tk_test_support::{OPENED_TIME, nanosecond_counter};
 
 #[test]
 fn half_the_range_is_the_longest_way_ahead(rt: HostRuntime) -> Result<(), Fail> {
@@ -29,7 +30,8 @@ fn half_the_range_is_the_longest_way_ahead(rt: HostRuntime) -> Result<(), Fail> 
 
 #[test]
 fn readings_wrap_at_the_counters_end(rt: HostRuntime) -> Result<(), Fail> {
-    let mut keeper = opened_at(rt.alloc(), 4_294_967_290)?;
+    let desc = nanosecond_counter()?;
+    let mut keeper = Timekeeper::open(rt.alloc(), desc, 4_294_967_290, OPENED_TIME)?;
     answers(&rt, &mut keeper, &[(10, Command::Update, Ok(1))]);
     reads(
         &rt,
@@ -60,17 +62,15 @@ fn the_first_test_that_fails_is_told(rt: HostRuntime) -> Result<(), Fail> {
 
 #[test]
 fn an_earlier_reading_gets_the_last_value(rt: HostRuntime) -> Result<(), Fail> {
-    let mut keeper = opened(rt.alloc())?;
-    answers(&rt, &mut keeper, &[(100, Command::Update, Ok(1))]);
-    reads(
+    answers_and_reads(
         &rt,
-        &keeper.snapshot(),
+        rt.alloc(),
+        &[(100, Command::Update, Ok(1))],
         &[
             (ClockId::Monotonic, 99, time(0, 100)),
             (ClockId::MonotonicCoarse, 150, time(0, 100)),
         ],
-    );
-    Ok(())
+    )
 }
 
 #[test]
@@ -107,7 +107,7 @@ fn no_clock_passes_its_limit(rt: HostRuntime) -> Result<(), Fail> {
 
 #[test]
 fn only_a_settable_time_opens(rt: HostRuntime) -> Result<(), Fail> {
-    let desc = CounterDesc::new(32, 16_777_216, 24)?;
+    let desc = nanosecond_counter()?;
     for (reading, real) in [
         (4_294_967_296, time(0, 0)),
         (0, time(-1, 0)),

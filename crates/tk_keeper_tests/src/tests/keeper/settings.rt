@@ -1,13 +1,12 @@
-use super::{answers, opened, reads, time};
+use super::{answers_and_reads, time};
 use std::test::Fail;
 use tk_clock::{ClockId, Command, Refusal};
 
 #[test]
 fn realtime_is_set_no_lower_than_monotonic(rt: HostRuntime) -> Result<(), Fail> {
-    let mut keeper = opened(rt.alloc())?;
-    answers(
+    answers_and_reads(
         &rt,
-        &mut keeper,
+        rt.alloc(),
         &[
             (2_000_000_000, Command::SetTime(time(2, 0)), Ok(1)),
             (
@@ -16,37 +15,25 @@ fn realtime_is_set_no_lower_than_monotonic(rt: HostRuntime) -> Result<(), Fail> 
                 Err(Refusal::Invalid),
             ),
         ],
-    );
-    reads(
-        &rt,
-        &keeper.snapshot(),
         &[(ClockId::Realtime, 2_000_000_000, time(2, 0))],
-    );
-    Ok(())
+    )
 }
 
 #[test]
 fn a_step_counts_its_nanoseconds_upwards(rt: HostRuntime) -> Result<(), Fail> {
-    let mut keeper = opened(rt.alloc())?;
-    answers(
+    answers_and_reads(
         &rt,
-        &mut keeper,
+        rt.alloc(),
         &[(0, Command::Step(time(-1, 999_999_999)), Ok(1))],
-    );
-    reads(
-        &rt,
-        &keeper.snapshot(),
         &[(ClockId::Realtime, 0, time(1_699_999_999, 999_999_999))],
-    );
-    Ok(())
+    )
 }
 
 #[test]
 fn steps_stay_within_what_may_be_set(rt: HostRuntime) -> Result<(), Fail> {
-    let mut keeper = opened(rt.alloc())?;
-    answers(
+    answers_and_reads(
         &rt,
-        &mut keeper,
+        rt.alloc(),
         &[
             (0, Command::SetTime(time(8_277_292_035, 999_999_999)), Ok(1)),
             (
@@ -64,31 +51,20 @@ fn steps_stay_within_what_may_be_set(rt: HostRuntime) -> Result<(), Fail> {
             ),
             (0, Command::Step(time(i64::MIN, 0)), Err(Refusal::Invalid)),
         ],
-    );
-    reads(
-        &rt,
-        &keeper.snapshot(),
         &[(ClockId::Realtime, 0, time(0, 999_999_999))],
-    );
-    Ok(())
+    )
 }
 
 #[test]
 fn tai_is_set_in_whole_seconds(rt: HostRuntime) -> Result<(), Fail> {
-    let mut keeper = opened(rt.alloc())?;
-    answers(
+    answers_and_reads(
         &rt,
-        &mut keeper,
+        rt.alloc(),
         &[
             (0, Command::Tai(37), Ok(1)),
             (0, Command::Tai(100_001), Err(Refusal::Invalid)),
             (0, Command::Tai(-1), Err(Refusal::Invalid)),
         ],
-    );
-    reads(
-        &rt,
-        &keeper.snapshot(),
         &[(ClockId::Tai, 0, time(1_700_000_037, 0))],
-    );
-    Ok(())
+    )
 }

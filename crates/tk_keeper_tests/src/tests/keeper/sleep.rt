@@ -1,23 +1,25 @@
-use super::{ASLEEP_WORDS, AWAKE_WORDS, answers, assert_same, opened, reads, time};
+use super::{
+    ASLEEP_WORDS, AWAKE_WORDS, answers, answers_and_reads, assert_same, opened, reads, time,
+};
+use std::process::Abort;
 use std::test::Fail;
 use tk_clock::{ClockId, Command, Refusal};
+use tk_keeper::Timekeeper;
 
-#[test]
-fn a_suspension_moves_realtime_and_boottime(rt: HostRuntime) -> Result<(), Fail> {
-    let mut keeper = opened(rt.alloc())?;
-    answers(&rt, &mut keeper, &[(1_000, Command::Suspend, Ok(1))]);
-    assert_same(&rt, &keeper.snapshot().words(), &ASLEEP_WORDS);
+/// Resumes clocks that were suspended at reading 1,000, and checks them before and after.
+pub(super) fn wakes(rt: &impl Abort, keeper: &mut Timekeeper) {
+    assert_same(rt, &keeper.snapshot().words(), &ASLEEP_WORDS);
     answers(
-        &rt,
-        &mut keeper,
+        rt,
+        keeper,
         &[
             (2_000, Command::Update, Err(Refusal::Asleep)),
             (5, Command::Resume(time(5, 500_000_000)), Ok(2)),
         ],
     );
-    assert_same(&rt, &keeper.snapshot().words(), &AWAKE_WORDS);
+    assert_same(rt, &keeper.snapshot().words(), &AWAKE_WORDS);
     reads(
-        &rt,
+        rt,
         &keeper.snapshot(),
         &[
             (ClockId::Monotonic, 5, time(0, 1_000)),
@@ -26,15 +28,21 @@ fn a_suspension_moves_realtime_and_boottime(rt: HostRuntime) -> Result<(), Fail>
             (ClockId::Monotonic, 15, time(0, 1_010)),
         ],
     );
+}
+
+#[test]
+fn a_suspension_moves_realtime_and_boottime(rt: HostRuntime) -> Result<(), Fail> {
+    let mut keeper = opened(rt.alloc())?;
+    answers(&rt, &mut keeper, &[(1_000, Command::Suspend, Ok(1))]);
+    wakes(&rt, &mut keeper);
     Ok(())
 }
 
 #[test]
 fn only_a_sleeping_clock_resumes(rt: HostRuntime) -> Result<(), Fail> {
-    let mut keeper = opened(rt.alloc())?;
-    answers(
+    answers_and_reads(
         &rt,
-        &mut keeper,
+        rt.alloc(),
         &[
             (0, Command::Resume(time(0, 0)), Err(Refusal::Awake)),
             (0, Command::Suspend, Ok(1)),
@@ -46,13 +54,8 @@ fn only_a_sleeping_clock_resumes(rt: HostRuntime) -> Result<(), Fail> {
             (4_294_967_296, Command::Update, Err(Refusal::Asleep)),
             (0, Command::Resume(time(0, 1)), Ok(2)),
         ],
-    );
-    reads(
-        &rt,
-        &keeper.snapshot(),
         &[(ClockId::Boottime, 0, time(0, 1))],
-    );
-    Ok(())
+    )
 }
 
 #[test]

@@ -1,6 +1,8 @@
 use super::{TICKED_WORDS, answers, assert_same, opened, reads, time};
+use std::process::Abort;
 use std::test::Fail;
 use tk_clock::{ClockId, Command};
+use tk_keeper::Timekeeper;
 
 #[test]
 fn a_frequency_holds_from_its_reading_on(rt: HostRuntime) -> Result<(), Fail> {
@@ -42,24 +44,23 @@ fn a_frequency_is_held_to_500_ppm(rt: HostRuntime) -> Result<(), Fail> {
     Ok(())
 }
 
-#[test]
-fn a_tick_steers_monotonic_and_not_the_raw_clock(rt: HostRuntime) -> Result<(), Fail> {
-    let mut keeper = opened(rt.alloc())?;
+/// Sets the highest frequency at reading 10^9 on clocks whose tick is 11,000 from reading 0 on, and
+/// checks them before and after.
+pub(super) fn speeds_up(rt: &impl Abort, keeper: &mut Timekeeper) {
     let at = 1_000_000_000;
-    answers(&rt, &mut keeper, &[(0, Command::Tick(11_000), Ok(1))]);
-    assert_same(&rt, &keeper.snapshot().mult(), &18_454_937);
+    assert_same(rt, &keeper.snapshot().mult(), &18_454_937);
     reads(
-        &rt,
+        rt,
         &keeper.snapshot(),
         &[
             (ClockId::Monotonic, at, time(1, 99_999_964)),
             (ClockId::MonotonicRaw, at, time(1, 0)),
         ],
     );
-    answers(&rt, &mut keeper, &[(at, Command::Freq(32_768_000), Ok(2))]);
-    assert_same(&rt, &keeper.snapshot().words(), &TICKED_WORDS);
+    answers(rt, keeper, &[(at, Command::Freq(32_768_000), Ok(2))]);
+    assert_same(rt, &keeper.snapshot().words(), &TICKED_WORDS);
     reads(
-        &rt,
+        rt,
         &keeper.snapshot(),
         &[
             (ClockId::Monotonic, at, time(1, 99_999_964)),
@@ -67,5 +68,12 @@ fn a_tick_steers_monotonic_and_not_the_raw_clock(rt: HostRuntime) -> Result<(), 
             (ClockId::MonotonicRaw, at + 1, time(1, 1)),
         ],
     );
+}
+
+#[test]
+fn a_tick_steers_monotonic_and_not_the_raw_clock(rt: HostRuntime) -> Result<(), Fail> {
+    let mut keeper = opened(rt.alloc())?;
+    answers(&rt, &mut keeper, &[(0, Command::Tick(11_000), Ok(1))]);
+    speeds_up(&rt, &mut keeper);
     Ok(())
 }

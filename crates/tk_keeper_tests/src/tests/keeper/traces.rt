@@ -1,4 +1,4 @@
-use super::{applied, assert_same, opened, time};
+use super::{ABOVE, applied, assert_same, numbers, opened, put, steered, time};
 use std::alloc::{Allocator, Global};
 use std::process::Abort;
 use std::test::Fail;
@@ -6,31 +6,12 @@ use tk_clock::{ClockId, Command};
 use tk_keeper::{Timekeeper, TraceError};
 use tk_test_support::Heap;
 
-/// The first reading above the mask.
-const ABOVE: u64 = 4_294_967_296;
-
 /// Each item of the caller's memory before a call.
 const OLD: u64 = 77;
-
-/// Returns a timekeeper with two settings of the frequency.
-fn steered<A: Allocator + Copy>(alloc: A) -> Result<Timekeeper<A>, Fail> {
-    let mut keeper = opened(alloc)?;
-    keeper.reserve(2)?;
-    keeper.apply(0, 0, Command::Freq(65_536_000))?;
-    keeper.apply(0, 1_000_000_000, Command::Freq(-32_768_000))?;
-    Ok(keeper)
-}
 
 /// Returns a list of `many` times the same number.
 fn repeated(alloc: Global, number: u64, many: usize) -> Result<Vec<u64>, Fail> {
     Ok(vec![in alloc; number; many]?)
-}
-
-/// Writes an item, if the list has that place.
-fn put(list: &mut Vec<u64>, place: usize, number: u64) {
-    if let Some(item) = list.get_mut(place) {
-        *item = number;
-    }
 }
 
 /// Returns the last value of MONOTONIC at these stamps, or the fault.
@@ -193,10 +174,7 @@ fn a_long_trace_tells_the_place_in_the_whole_list(rt: HostRuntime) -> Result<(),
     let keeper = opened(alloc)?;
     let many = 100_000;
     let mut fronts = repeated(alloc, 0, many)?;
-    let mut stamps = repeated(alloc, 0, many)?;
-    for (place, stamp) in stamps.iter_mut().enumerate() {
-        *stamp = place as u64;
-    }
+    let mut stamps = numbers(alloc, many)?;
     let told = last(&keeper, fronts.as_slice(), stamps.as_slice());
     assert_same(&rt, &told, &Ok(Some(99_999)));
     put(&mut stamps, 9_000, ABOVE);
@@ -215,10 +193,7 @@ fn a_fault_in_any_part_of_a_new_list_is_told(rt: HostRuntime) -> Result<(), Fail
     let keeper = opened(alloc)?;
     let many = 1_000;
     let mut fronts = repeated(alloc, 0, many)?;
-    let mut stamps = repeated(alloc, 0, many)?;
-    for (place, stamp) in stamps.iter_mut().enumerate() {
-        *stamp = place as u64;
-    }
+    let mut stamps = numbers(alloc, many)?;
     let values = stamps.clone()?;
     let clock = ClockId::Monotonic;
     // in the first part, at the edges of parts, and in the last part
