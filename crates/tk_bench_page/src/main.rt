@@ -20,8 +20,7 @@ use std::process::ExitCode;
 use std::sync::Wait;
 use std::thread::Threads;
 use std::time::Clock as Hours;
-use std::{env, io};
-use tk_test_support::{Effort, TURNS, Turn, effort_of, is_asked, is_told};
+use tk_test_support::{Effort, Job, Turn, run_jobs};
 
 /// Names a job.
 #[derive(Clone, Copy)]
@@ -50,8 +49,7 @@ const JOBS: [PageJob; 7] = [
     PageJob::UpdateUnpublished,
 ];
 
-impl PageJob {
-    /// Returns the job's name, as on the command line.
+impl Job for PageJob {
     fn name(self) -> &'static str {
         match self {
             PageJob::PageRead => "page_read",
@@ -64,7 +62,6 @@ impl PageJob {
         }
     }
 
-    /// Returns the unit of the job's time.
     fn unit(self) -> &'static str {
         match self {
             PageJob::PagePublish | PageJob::LatchPublish => "ns/publication",
@@ -75,41 +72,11 @@ impl PageJob {
 }
 
 fn main(rt: HostRuntime) -> ExitCode {
-    let Ok(words) = words_of(&rt) else {
-        return ExitCode::from(2);
-    };
-    let Some(effort) = effort_of(words.as_slice()) else {
-        return ExitCode::from(2);
-    };
-    let mut status = 0;
-    for job in JOBS {
-        if is_asked(words.as_slice(), job.name()) {
-            let turn = fastest(&rt, rt.alloc(), job, effort);
-            if !is_told(&rt, job.name(), job.unit(), effort, turn) {
-                status = 1;
-            }
-        }
-    }
-    ExitCode::from(status)
-}
-
-/// Returns the words of the command line. The first is the program's own name.
-fn words_of(rt: &HostRuntime) -> io::Result<Vec<String>> {
-    Ok(env::args(rt)?.collect(rt.alloc())?)
-}
-
-/// Returns the fastest turn of a job, or `None` if a turn fails or the turns' checks differ.
-fn fastest<R: Threads + Wait + Hours + Sync>(
-    rt: &R,
-    alloc: Global,
-    job: PageJob,
-    effort: Effort,
-) -> Option<Turn> {
-    let mut best = turn_of(rt, alloc, job, effort)?;
-    for _ in 1..TURNS {
-        best = best.faster(turn_of(rt, alloc, job, effort)?)?;
-    }
-    Some(best)
+    run_jobs(
+        &rt,
+        &JOBS,
+        |job, effort| turn_of(&rt, rt.alloc(), job, effort),
+    )
 }
 
 /// Does a job once. Returns `None` if it fails.

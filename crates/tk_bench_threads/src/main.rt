@@ -21,8 +21,7 @@ use std::process::ExitCode;
 use std::sync::Wait;
 use std::thread::Threads;
 use std::time::Clock as Hours;
-use std::{env, io};
-use tk_test_support::{Effort, TURNS, Turn, effort_of, is_asked, is_told};
+use tk_test_support::{Effort, Job, Turn, run_jobs};
 
 /// Names a job.
 #[derive(Clone, Copy)]
@@ -51,8 +50,7 @@ const JOBS: [ThreadsJob; 7] = [
     ThreadsJob::Race4,
 ];
 
-impl ThreadsJob {
-    /// Returns the job's name, as on the command line.
+impl Job for ThreadsJob {
     fn name(self) -> &'static str {
         match self {
             ThreadsJob::SharedCommand1 => "shared_command_1",
@@ -65,7 +63,6 @@ impl ThreadsJob {
         }
     }
 
-    /// Returns the unit of the job's time.
     fn unit(self) -> &'static str {
         match self {
             ThreadsJob::SharedReadBeside | ThreadsJob::SharedFastReadBeside => "ns/read",
@@ -76,41 +73,11 @@ impl ThreadsJob {
 }
 
 fn main(rt: HostRuntime) -> ExitCode {
-    let Ok(words) = words_of(&rt) else {
-        return ExitCode::from(2);
-    };
-    let Some(effort) = effort_of(words.as_slice()) else {
-        return ExitCode::from(2);
-    };
-    let mut status = 0;
-    for job in JOBS {
-        if is_asked(words.as_slice(), job.name()) {
-            let turn = fastest(&rt, rt.alloc(), job, effort);
-            if !is_told(&rt, job.name(), job.unit(), effort, turn) {
-                status = 1;
-            }
-        }
-    }
-    ExitCode::from(status)
-}
-
-/// Returns the words of the command line. The first is the program's own name.
-fn words_of(rt: &HostRuntime) -> io::Result<Vec<String>> {
-    Ok(env::args(rt)?.collect(rt.alloc())?)
-}
-
-/// Returns the fastest turn of a job, or `None` if a turn fails or the turns' checks differ.
-fn fastest<R: Threads + Wait + Hours + Sync>(
-    rt: &R,
-    alloc: Global,
-    job: ThreadsJob,
-    effort: Effort,
-) -> Option<Turn> {
-    let mut best = turn_of(rt, alloc, job, effort)?;
-    for _ in 1..TURNS {
-        best = best.faster(turn_of(rt, alloc, job, effort)?)?;
-    }
-    Some(best)
+    run_jobs(
+        &rt,
+        &JOBS,
+        |job, effort| turn_of(&rt, rt.alloc(), job, effort),
+    )
 }
 
 /// Does a job once. Returns `None` if it fails.

@@ -10,9 +10,8 @@
 //! | `PageDesk`, `opened_page` | clocks with the publisher of their journal, on a page |
 //! | `STEP`, `reading_of` | clocks that are updated in equal steps |
 //! | `weight`, `weighed` | numbers computed from the words of a snapshot |
-//! | `effort_of`, `is_asked` | what a timing program's words ask for: the length of turns, the jobs |
-//! | `is_told` | prints the line of a job that was timed |
-//! | `Effort`, `TURNS` | the length of a turn, and the number of turns |
+//! | `Job`, `run_jobs` | a job of a timing program; runs the jobs that its words ask for |
+//! | `Effort` | the length of a turn |
 //! | `Turn`, `IN_MILLISECONDS` | the result of a turn |
 //!
 //! Times are those of the system's clock. Readings are in cycles of a nanosecond. Requests are
@@ -33,9 +32,9 @@ pub use copies::mixed_up;
 pub use heap::Heap;
 pub use page_desk::{PageDesk, opened_page};
 pub use random::next_random;
-pub use running::{effort_of, is_asked, is_told};
+pub use running::{Job, run_jobs};
 pub use steps::{STEP, reading_of, weighed, weight};
-pub use turn::{Effort, IN_MILLISECONDS, TURNS, Turn};
+pub use turn::{Effort, IN_MILLISECONDS, Turn};
 
 #[cfg(test)]
 mod tests;

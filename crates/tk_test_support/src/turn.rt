@@ -1,7 +1,7 @@
 use std::time::Duration;
 
 /// The number of turns of a job.
-pub const TURNS: u32 = 2;
+pub(crate) const TURNS: u32 = 2;
 
 /// The nanoseconds of a millisecond: the `count` of a turn whose time is printed in milliseconds.
 pub const IN_MILLISECONDS: u64 = 1_000_000;
