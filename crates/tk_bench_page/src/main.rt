@@ -36,10 +36,12 @@ enum PageJob {
     LatchPublish,
     /// Updates of clocks with their snapshots, which aren't published.
     UpdateUnpublished,
+    /// The same; the peers' clocks stay in memory, as these do.
+    UpdateInMemory,
 }
 
 /// All jobs, in the order in which they run.
-const JOBS: [PageJob; 7] = [
+const JOBS: [PageJob; 8] = [
     PageJob::PageRead,
     PageJob::PageReadBeside,
     PageJob::PagePublish,
@@ -47,6 +49,7 @@ const JOBS: [PageJob; 7] = [
     PageJob::LatchReadBeside,
     PageJob::LatchPublish,
     PageJob::UpdateUnpublished,
+    PageJob::UpdateInMemory,
 ];
 
 impl Job for PageJob {
@@ -59,13 +62,14 @@ impl Job for PageJob {
             PageJob::LatchReadBeside => "latch_read_beside",
             PageJob::LatchPublish => "latch_publish",
             PageJob::UpdateUnpublished => "update_unpublished",
+            PageJob::UpdateInMemory => "update_in_memory",
         }
     }
 
     fn unit(self) -> &'static str {
         match self {
             PageJob::PagePublish | PageJob::LatchPublish => "ns/publication",
-            PageJob::UpdateUnpublished => "ns/command",
+            PageJob::UpdateUnpublished | PageJob::UpdateInMemory => "ns/command",
             _ => "ns/read",
         }
     }
@@ -93,6 +97,6 @@ fn turn_of<R: Threads + Wait + Hours + Sync>(
         PageJob::LatchRead => latch::quiet(rt, alloc, effort),
         PageJob::LatchReadBeside => latch::beside(rt, alloc, effort),
         PageJob::LatchPublish => latch::publishing(rt, alloc, effort),
-        PageJob::UpdateUnpublished => unpublished::turn(rt, effort),
+        PageJob::UpdateUnpublished | PageJob::UpdateInMemory => { unpublished::turn(rt, effort) }
     }
 }
