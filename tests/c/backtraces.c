@@ -1,0 +1,159 @@
+/* SPDX-License-Identifier: MIT OR Apache-2.0 */
+/*
+ * Unwinds the stack at each instruction of the library's calls by the tables in .eh_frame, as a
+ * profiler does. It is linked to a program that makes the calls, and steps through each of them by
+ * the processor's trap flag. The handler of SIGTRAP must find the caller, with its stack pointer
+ * and its registers as they were at the call, and main above it. At the end it prints the number
+ * of instructions that were stepped.
+ *
+ *     gcc -Wl,--wrap=FUNCTION.. backtraces.c PROGRAM.c libtkcore.a
+ */
+#define _GNU_SOURCE
+
+#include <inttypes.h>
+#include <signal.h>
+#include <stdbool.h>
+#include <stdio.h>
+#include <stdlib.h>
+#include <string.h>
+#include <ucontext.h>
+#include <unistd.h>
+#include <unwind.h>
+
+enum {
+	TRAP_FLAG = 0x100,
+	KEPT = 6, /* registers that a function leaves as they were */
+	PLACES = 1 << 16, /* for the addresses of instructions, a power of two */
+};
+
+/* The linker makes a call of a function one of its wrapper, which sets the trap flag: the first
+ * trap is at the function's first instruction. */
+#define STEPPED(function)                                   \
+	__asm__(".globl __wrap_" #function "\n"             \
+		"__wrap_" #function ":\n"                   \
+		"	pushf\n"                            \
+		"	orl $0x100, (%rsp)\n"               \
+		"	popf\n"                             \
+		"	jmp __real_" #function "\n");
+
+STEPPED(tkc_version)
+STEPPED(tkc_counter_new)
+STEPPED(tkc_counter_from_hz)
+STEPPED(tkc_counter_numbers)
+STEPPED(tkc_clock_open)
+STEPPED(tkc_clock_apply)
+STEPPED(tkc_clock_snapshot)
+STEPPED(tkc_clock_words)
+STEPPED(tkc_clock_from_words)
+STEPPED(tkc_snapshot_get)
+STEPPED(tkc_snapshot_reading)
+STEPPED(tkc_snapshot_convert)
+STEPPED(tkc_snapshot_words)
+STEPPED(tkc_snapshot_from_words)
+
+int main(int argc, char **argv);
+
+/* rbx, rbp and r12 to r15, by their numbers in DWARF and in a signal's context. */
+static const int dwarf[KEPT] = { 3, 6, 12, 13, 14, 15 };
+static const int saved[KEPT] = { REG_RBX, REG_RBP, REG_R12, REG_R13, REG_R14, REG_R15 };
+
+/* The caller of the present call, if one is stepped: what an unwinder must find. */
+static struct {
+	uint64_t address, stack, kept[KEPT];
+} caller;
+static bool is_called;
+
+static uint64_t stepped, distinct, calls;
+static uint64_t places[PLACES]; /* the addresses of stepped instructions, by their hash */
+
+struct search {
+	bool found_caller, found_main;
+};
+
+static bool is_caller(struct _Unwind_Context *frame)
+{
+	for (int i = 0; i < KEPT; i++) {
+		if (_Unwind_GetGR(frame, dwarf[i]) != caller.kept[i])
+			return false;
+	}
+	return _Unwind_GetCFA(frame) == caller.stack;
+}
+
+static _Unwind_Reason_Code visit(struct _Unwind_Context *frame, void *context)
+{
+	struct search *search = context;
+	uint64_t address = _Unwind_GetIP(frame);
+	void *function;
+
+	if (address == caller.address)
+		search->found_caller = is_caller(frame);
+	if (!search->found_caller)
+		return _URC_NO_REASON;
+	function = _Unwind_FindEnclosingFunction((void *)(uintptr_t)(address - 1));
+	search->found_main = function == (void *)(uintptr_t)main;
+	return search->found_main ? _URC_END_OF_STACK : _URC_NO_REASON;
+}
+
+static void count(uint64_t address)
+{
+	uint64_t place = address % PLACES;
+
+	while (places[place] && places[place] != address)
+		place = (place + 1) % PLACES;
+	distinct += !places[place];
+	places[place] = address;
+	stepped++;
+}
+
+static void begin_call(const greg_t *registers)
+{
+	const uint64_t *stack = (const uint64_t *)(uintptr_t)registers[REG_RSP];
+
+	caller.address = *stack;
+	caller.stack = (uint64_t)(uintptr_t)(stack + 1);
+	for (int i = 0; i < KEPT; i++)
+		caller.kept[i] = (uint64_t)registers[saved[i]];
+	is_called = true;
+	calls++;
+}
+
+static void step(int number, siginfo_t *info, void *context)
+{
+	greg_t *registers = ((ucontext_t *)context)->uc_mcontext.gregs;
+	uint64_t address = (uint64_t)registers[REG_RIP];
+	struct search search = { false, false };
+
+	(void)number;
+	(void)info;
+	if (!is_called)
+		begin_call(registers);
+	if (address == caller.address && (uint64_t)registers[REG_RSP] == caller.stack) {
+		is_called = false;
+		registers[REG_EFL] &= ~TRAP_FLAG;
+		return;
+	}
+	count(address);
+	_Unwind_Backtrace(visit, &search);
+	if (!search.found_main) {
+		fprintf(stderr, "backtraces: no %s is found from %#" PRIx64 "\n",
+			search.found_caller ? "main" : "caller", address);
+		_exit(EXIT_FAILURE);
+	}
+}
+
+static void print_counts(void)
+{
+	printf("backtraces: main was found at %" PRIu64 " steps of %" PRIu64 " calls, at %" PRIu64
+	       " instructions\n", stepped, calls, distinct);
+}
+
+__attribute__((constructor)) static void begin(void)
+{
+	struct sigaction action;
+
+	memset(&action, 0, sizeof(action));
+	action.sa_sigaction = step;
+	action.sa_flags = SA_SIGINFO;
+	sigaction(SIGTRAP, &action, NULL);
+	atexit(print_counts);
+}
