@@ -3,6 +3,8 @@ use Rattle.std.specs.Prelude.{◌≡◌, ℕ, List, ◌++◌, Option, IfSome, Re
 use Rattle.std.specs.Io.KnownBytes.{Appends}
 use Rattle.clap.specs.declared.error.ErrorKind.{ErrorKind}
 use Rattle.clap.specs.declared.error.ErrorKind.TheVariants.{OutOfMemory}
+use Rattle.std.specs.declared.io.ErrorKind as io
+use Rattle.std.specs.declared.io.ErrorKind.TheVariants as kinds
 use Rattle.tk_script.specs.declared.script_error.ScriptError.{ScriptError}
 use Rattle.tk_script.specs.declared.script_error.ScriptError.TheVariants as scripts
 use Rattle.tk_race.specs.RaceError.{error_text}
@@ -68,3 +70,8 @@ ending_at errors.Memory = endings.Fault faults.Memory
 abbrev pub error_of : ErrorKind → WordsError
 error_of OutOfMemory = errors.Memory
 error_of _ = errors.Refused
+
+-- why words can't be read, by the kind of the error
+abbrev pub unread_of : io.ErrorKind → WordsError
+unread_of kinds.OutOfMemory = errors.Memory
+unread_of _ = errors.Refused

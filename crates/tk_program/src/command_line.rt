@@ -1,9 +1,10 @@
 //! Parses the words on the command line.
 ghost use Rattle.std.specs.Prelude.{◌≡◌, ◌≢◌, Some, None, [], false, map, codes, string_bytes, IfErr, IfOk, IfSome, option_map};
+ghost use Rattle.std.specs.IoError.{error_kind};
 ghost use Rattle.clap.specs.Words.{all_of, app_of, fault_of, first_of, found_of, kind_of, rows_of, rule_of, subcommand_of, subcommand_rows_of};
 ghost use Rattle.clap.specs.declared.builder.command.Command.TheViews.{out-Command};
 ghost use Rattle.tk_program.specs.CommandLine.{Asks, IsAsked, bare_words, files_rule, files_words, keep_rule, one_script_words, program_words, replay_words, task_by, task_found, trace_words, word_rule};
-ghost use Rattle.tk_program.specs.Ending.{error_of};
+ghost use Rattle.tk_program.specs.Ending.{error_of, unread_of};
 ghost use Rattle.tk_program.specs.Request.{IsAllowed, keep_of, many_by, race_by, replay_by, task_of, trace_by, workers_of};
 ghost use Rattle.tk_program.specs.declared.command_line.WordsError.TheVariants.{Memory};
 
@@ -317,6 +318,8 @@ impl From<clap::Error> for WordsError {
 /// Converts the error of words that can't be read: one of them isn't UTF-8, or an allocation
 /// failed.
 impl From<io::Error> for WordsError {
+    ghost from_gives = { λ error told. told ≡ unread_of (error_kind error) };
+
     fn from(error: io::Error) -> WordsError {
         match error.kind() {
             io::ErrorKind::OutOfMemory => WordsError::Memory,
