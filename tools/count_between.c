@@ -6,7 +6,7 @@
  *
  * The program ends with status 3 and one line if a thread reaches a mark out of turn, if it makes
  * no request between the two, or if it makes another number of them than there were in the first
- * pair of all threads. Otherwise it writes at its end how many pairs there were.
+ * pair of all threads. Otherwise it writes a line for each pair.
  * tools/check_program builds this library. It needs glibc. */
 #include <stddef.h>
 #include <stdio.h>
@@ -21,8 +21,8 @@ enum { FIRST_MARK = 77777, SECOND_MARK = 99991, OUTSIDE = -1 };
 /* The requests of this thread since its first mark, or OUTSIDE. */
 static __thread long between = OUTSIDE;
 
-/* The requests between the first pair of marks, 0 before there is one, and the pairs so far. */
-static long wanted, pairs;
+/* The requests between the first pair of marks, 0 before there is one. */
+static long wanted;
 
 static void fail(const char *why, long found)
 {
@@ -42,7 +42,7 @@ static void end_pair(long found)
     if (!__atomic_compare_exchange_n(&wanted, &before, found, 0, __ATOMIC_SEQ_CST,
                                      __ATOMIC_SEQ_CST) && before != found)
         fail("another number between two marks", found);
-    __atomic_add_fetch(&pairs, 1, __ATOMIC_SEQ_CST);
+    dprintf(STDERR_FILENO, "count_between: a pair with %ld requests\n", found);
 }
 
 static void count(size_t size)
@@ -75,9 +75,4 @@ void *realloc(void *block, size_t size)
 {
     count(size);
     return __libc_realloc(block, size);
-}
-
-__attribute__((destructor)) static void say(void)
-{
-    dprintf(STDERR_FILENO, "count_between: %ld pairs, each with %ld requests\n", pairs, wanted);
 }
