@@ -221,7 +221,7 @@ alone state r r' cmd one two near =
       sym same,
     )
 
--- an entry is a run of its own
+-- one entry alone is a run
 pub IsRun-one : (journal : Journal) (from : ℕ) → IsAccepted journal → IsRun journal from (from + 1)
 IsRun-one journal from all entry here =
     let place : from + 1 - 1 ≡ from = omega arith in

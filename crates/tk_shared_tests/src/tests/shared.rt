@@ -27,7 +27,7 @@ fn time(sec: i64, nsec: u32) -> Timespec {
     Timespec { sec, nsec }
 }
 
-/// A keeper for so many callers, with no room for commands yet.
+/// A keeper for this number of callers, with no room for commands yet.
 fn ready<C: Counter, R: Wait>(
     rt: &R,
     alloc: Global,
