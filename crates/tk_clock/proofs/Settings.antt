@@ -63,6 +63,30 @@ within_plain values cmd plain e =
       below-of (values TaiClock) (limit TaiClock) parts.1,
     )
 
+-- a rated base with the counter and the multiplier of running clocks runs at their frequency and
+-- tick, unless a clock is at its limit
+pub IsRunning-settled : (before base : ReadBase) (frequency tick : ℤ) (cmd : Command) →
+    IsRunning before frequency tick → base.counter ≡ before.counter → base.mult ≡ before.mult →
+    IsRated base → sets_real cmd ≡ false →
+    is_past_limit (λ clock. base_value base clock base.last) cmd ≡ false →
+    IsRunning base frequency tick
+IsRunning-settled before base frequency tick cmd held counter mult rated plain past =
+    let values : ClockId → ℤ = λ clock. base_value base clock base.last in
+    let low = within_plain values cmd plain past in
+    record {
+      steered = mult ∙ held.steered ∙ ap (λ k. multiplier k frequency tick) (sym counter);
+      frequency_low = held.frequency_low;
+      frequency_high = held.frequency_high;
+      tick_low = held.tick_low;
+      tick_high = held.tick_high;
+      rated = rated;
+      within = record {
+        real_low = low.0;
+        boot_low = within_boot values cmd past;
+        tai_low = low.1;
+      };
+    }
+
 -- a setting of REALTIME doesn't move the clocks that its test of limits reads
 set_past : (state : State) (now : ReadBase) (time : Timespec) (b : Bool) →
     now ≡ forwarded state.base now.last →

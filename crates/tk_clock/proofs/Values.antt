@@ -43,32 +43,27 @@ nothing-nanos second shift =
     div_below (0 * second + 0) (2 ^ shift) 1 (pow_pos shift) (omega (arith, pow_pos shift)) in
     omega arith
 
--- clocks that were just opened run
+-- the read base of newly opened clocks
+abbrev opened_base : Counter → ℕ → ℕ → ℕ → ReadBase
+opened_base counter reading mult real =
+    record {
+      counter = counter;
+      last = reading;
+      mult = mult;
+      amount = 0 * second counter + 0;
+      raw_amount = 0 * second counter + 0;
+      real_offset = pos real;
+      boot_offset = pos 0;
+      tai = pos 0;
+      asleep = false;
+    }
+
+-- newly opened clocks run
 pub IsRunning-opened : (counter : Counter) (reading mult real : ℕ) → mult ≡ counter.mult →
     real < settable_end * 10 ^ 9 →
-    IsRunning (record {
-      counter = counter;
-      last = reading;
-      mult = mult;
-      amount = 0 * second counter + 0;
-      raw_amount = 0 * second counter + 0;
-      real_offset = pos real;
-      boot_offset = pos 0;
-      tai = pos 0;
-      asleep = false;
-    }) (pos 0) usual_tick
+    IsRunning (opened_base counter reading mult real) (pos 0) usual_tick
 IsRunning-opened counter reading mult real same low =
-    let base : ReadBase = record {
-      counter = counter;
-      last = reading;
-      mult = mult;
-      amount = 0 * second counter + 0;
-      raw_amount = 0 * second counter + 0;
-      real_offset = pos real;
-      boot_offset = pos 0;
-      tai = pos 0;
-      asleep = false;
-    } in
+    let base = opened_base counter reading mult real in
     let none = nothing-nanos (second counter) counter.shift in
     record {
       steered = usual_rate counter mult same;

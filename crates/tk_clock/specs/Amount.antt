@@ -9,6 +9,10 @@ use Rattle.tk_clock.specs.declared.amount.Amount.{Amount}
 abbrev pub units_of : Counter → Amount → ℕ
 units_of counter amount = amount.sec * second counter + amount.frac
 
+-- the amount is this number of units, and its rest is below a second
+abbrev pub IsAmountOf : Counter → Amount → ℕ → Type 0
+IsAmountOf counter amount units = (units_of counter amount ≡ units) × (amount.frac < second counter)
+
 -- a number of units of 2^-shift nanoseconds, as whole seconds and the units left over
 abbrev pub amount_of : Counter → ℕ → Amount
 amount_of counter units = record { sec = units / second counter; frac = units % second counter }

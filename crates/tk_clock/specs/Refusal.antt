@@ -1,5 +1,5 @@
 -- Why a command or a read is refused: the first test that fails.
-use Rattle.std.specs.Prelude.{◌≡◌, ℕ, ◌-◌, ◌^◌, nat_le, length, ℤ, Bool, not, ◌&&◌, ◌||◌, nat_lt, int_lt, Option, Some, None, if◌then◌else◌}
+use Rattle.std.specs.Prelude.{◌≡◌, ℕ, nat_le, length, ℤ, Bool, not, ◌&&◌, ◌||◌, nat_lt, int_lt, Option, Some, None, if◌then◌else◌}
 use Rattle.tk_counter.specs.Counter.{Counter, mask, half, gap}
 use Rattle.tk_clock.specs.declared.timespec.Timespec.{Timespec}
 use Rattle.tk_clock.specs.declared.command.Entry.{Entry}

@@ -3,11 +3,12 @@
 ghost use Rattle.std.specs.Prelude.{◌≡◌, ◌*◌, ◌/◌, ◌^◌, ◌≤◌, ⊤, MatchOption, pos, ◌≤ℤ◌, ◌+ℤ◌, ◌<ℤ◌, not, int_lt, true, false};
 ghost use Rattle.tk_counter.specs.Counter.{mask, fastest};
 ghost use Rattle.tk_clock.specs.Limits.{is_past_limit, clock_end, monotonic_end, greatest_tai};
+ghost use Rattle.tk_clock.specs.Amount.{IsAmountOf};
 ghost use Rattle.tk_clock.specs.State.{base_value, forwarded};
 ghost use Rattle.tk_clock.specs.Running.{IsRated, slowest};
 
 use super::ReadBase;
-use crate::amount::NARROW_CYCLES;
+use crate::amount::{Amount, NARROW_CYCLES};
 use crate::clock_id::ClockId;
 use crate::command::Command;
 use crate::limits::{MONOTONIC_SEC_LIMIT, limit, sets_real};
@@ -25,21 +26,9 @@ impl ReadBase {
             (λ base. (base ≡ after) × IsRated base) }
     {
         let cycles = self.desc.gap(self.last, reading);
-        let Some(monotonic) = self.monotonic.grown(&self.desc, cycles, self.mult) else {
-            return None;
-        };
-        if monotonic.sec >= MONOTONIC_SEC_LIMIT {
-            return None;
-        }
-        let Some(raw) = self.raw.grown(&self.desc, cycles, self.desc.mult()) else {
-            return None;
-        };
-        Some(ReadBase {
-            last: reading,
-            monotonic,
-            raw,
-            ..*self
-        })
+        let monotonic = self.monotonic.grown(&self.desc, cycles, self.mult)?;
+        let raw = self.raw.grown(&self.desc, cycles, self.desc.mult())?;
+        self.with_amounts(reading, monotonic, raw)
     }
 
     /// Returns what `forwarded` returns, if the cycles are few and no amount has more than one
@@ -56,15 +45,29 @@ impl ReadBase {
         if cycles >= NARROW_CYCLES {
             return None;
         }
-        let Some(monotonic) = self.monotonic.grown_soon(&self.desc, cycles, self.mult) else {
-            return None;
-        };
+        let monotonic = self.monotonic.grown_soon(&self.desc, cycles, self.mult)?;
+        let raw = self.raw.grown_soon(&self.desc, cycles, self.desc.mult())?;
+        self.with_amounts(reading, monotonic, raw)
+    }
+
+    /// Returns the base at a reading, from the amounts that MONOTONIC and MONOTONIC_RAW have there.
+    /// Returns `None` if MONOTONIC is at its limit.
+    #[inline(always)]
+    fn with_amounts(&self, reading: u64, monotonic: Amount, raw: Amount) -> Option<ReadBase>
+        requires reading { reading ≤ mask self.now.counter }
+        requires steered { slowest self.now.counter ≤ self.now.mult }
+        requires rated { IsRated self.now }
+        requires monotonic { IsAmountOf self.now.counter monotonic
+            (forwarded self.now reading).amount }
+        requires raw { IsAmountOf self.now.counter raw (forwarded self.now reading).raw_amount }
+        ensures { let after = forwarded self.now reading in
+            MatchOption result
+            (monotonic_end * 10 ^ 9 ≤ after.amount / 2 ^ after.counter.shift)
+            (λ base. (base ≡ after) × IsRated base) }
+    {
         if monotonic.sec >= MONOTONIC_SEC_LIMIT {
             return None;
         }
-        let Some(raw) = self.raw.grown_soon(&self.desc, cycles, self.desc.mult()) else {
-            return None;
-        };
         Some(ReadBase {
             last: reading,
             monotonic,

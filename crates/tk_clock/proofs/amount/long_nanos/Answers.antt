@@ -2,6 +2,7 @@ use Rattle.std.proofs.Common.{◌≡◌, ◌+◌, ◌-◌, ◌*◌, ◌/◌, ◌
 use Rattle.std.proofs.Math.Nat.{mod-eq_of_lt}
 use Rattle.tk_clock.proofs.LongUnits.{long_nanos-parts, long_fits, long_beyond, shifted_low}
 use Rattle.tk_clock.proofs.amount.long_nanos.Goals as goal
+use Rattle.tk_clock.proofs.amount.long_nanos.Goals.{Else-upper-shift-ne0}
 
 pub returns-then-upper-shift-ne0-clause-told : goal.returns-then-upper-shift-ne0-clause-told
 returns-then-upper-shift-ne0-clause-told c =
@@ -15,21 +16,28 @@ returns-then-upper-shift-ne0-clause-told c =
       omega arith,
     )
 
+-- the two parts of the result, which fit a word with their sum
+parts_low : (c : Else-upper-shift-ne0) →
+    (c.halves-upper.result.0 * 2 ^ (32 - c.args.shift) < 9223372036854775808)
+    × (c.halves-upper.result.1 / 2 ^ c.args.shift ≤ c.halves-upper.result.1)
+parts_low c =
+    let upper = c.halves-upper.result.0 in
+    let shift = c.args.shift in (
+      long_fits upper shift c.requires.shift (omega (arith, c.if-upper-shift-ne0.false)),
+      shifted_low c.halves-upper.result.1 shift,
+    )
+
 pub overflow_add-result : goal.overflow_add-result
 overflow_add-result c =
-    let upper = c.halves-upper.result.0 in
-    let rest = c.halves-upper.result.1 in
-    let shift = c.args.shift in
-    let fits = long_fits upper shift c.requires.shift (omega (arith, c.if-upper-shift-ne0.false)) in
-    let low = shifted_low rest shift in
-    omega (arith, fits, low, c.halves-upper.ensures.low)
+    let low = parts_low (goal.at.overflow_add-result c).Else-upper-shift-ne0 in
+    omega (arith, low.0, low.1, c.halves-upper.ensures.low)
 
 pub returns-clause-told : goal.returns-clause-told
 returns-clause-told c =
     let upper = c.halves-upper.result.0 in
     let rest = c.halves-upper.result.1 in
     let shift = c.args.shift in
-    let fits = long_fits upper shift c.requires.shift (omega (arith, c.if-upper-shift-ne0.false)) in
+    let fits = (parts_low (goal.at.returns-clause-told c).Else-upper-shift-ne0).0 in
     let plain : upper * 2 ^ (32 - shift) % 18446744073709551616 ≡ upper * 2 ^ (32 - shift) =
     mod-eq_of_lt (omega (arith, fits)) in
     inl (
@@ -40,9 +48,5 @@ returns-clause-told c =
 
 pub returns-clause-most : goal.returns-clause-most
 returns-clause-most c =
-    let upper = c.halves-upper.result.0 in
-    let rest = c.halves-upper.result.1 in
-    let shift = c.args.shift in
-    let fits = long_fits upper shift c.requires.shift (omega (arith, c.if-upper-shift-ne0.false)) in
-    let low = shifted_low rest shift in
-    omega (arith, fits, low, c.halves-upper.ensures.low)
+    let low = parts_low (goal.at.returns-clause-most c).Else-upper-shift-ne0 in
+    omega (arith, low.0, low.1, c.halves-upper.ensures.low)

@@ -1,4 +1,4 @@
-use Rattle.std.proofs.Common.{◌≡◌, ℕ, ◌+◌, ◌-◌, ◌*◌, ◌^◌, ◌∙◌, sym, ap, arith, inl, inr}
+use Rattle.std.proofs.Common.{◌≡◌, ℕ, ◌+◌, ◌-◌, ◌*◌, ◌^◌, ◌<◌, ◌∙◌, sym, ap, arith, inl, inr}
 use Rattle.std.specs.Prelude.{pos, ◌+ℤ◌, ◌<ℤ◌, ◌≤ℤ◌}
 use Rattle.std.proofs.lemmas.Int.{ints}
 use Rattle.tk_clock.specs.Time.{nanoseconds}
@@ -11,8 +11,8 @@ use Rattle.tk_clock.proofs.Values.{now_of, real_offset_low}
 use Rattle.tk_clock.proofs.Effects.{ready}
 use Rattle.tk_clock.proofs.Settings.{stepped, step_range, step_invalid, step_none, step_state, within_boot}
 use Rattle.tk_clock.proofs.clock.Clock.step.Goals as goal
-use Rattle.tk_clock.proofs.clock.Clock.step.Goals.{then-real-monotonic-via-then-real-monotonic, then-real-monotonic-via-else-real-monotonic+then-real-settable_limit}
-use Rattle.tk_clock.specs.Limits.{settable_end}
+use Rattle.tk_clock.proofs.clock.Clock.step.Goals.{After-self-inside, After-moved, then-real-monotonic-via-then-real-monotonic, then-real-monotonic-via-else-real-monotonic+then-real-settable_limit}
+use Rattle.tk_clock.specs.Limits.{clock_end, monotonic_end, settable_end}
 
 pub returns-then-is_past_limit : goal.returns-then-is_past_limit
 returns-then-is_past_limit c =
@@ -29,8 +29,11 @@ set_to-requires-clause-boot c =
     within_boot (λ clock. base_value c.args.now clock c.args.now.last) (Step c.args.by)
     (sym c.if-is_past_limit.ensures)
 
-pub overflow_add-monotonic : goal.overflow_add-monotonic
-overflow_add-monotonic c =
+-- REALTIME before the step fits a word
+real_low : (c : After-self-inside) →
+    c.monotonic_now-monotonic.result + c.self-inside.inside.0.0.real_offset
+    < (clock_end + monotonic_end) * 10 ^ 9
+real_low c =
     let base = c.self.inside.base in
     let held = ap (λ (i : Inside). i.base.real_offset) (sym c.self-inside.view_is) in
     let low = real_offset_low base c.self-inside.inside.0.0.real_offset held
@@ -38,14 +41,14 @@ overflow_add-monotonic c =
     let now = c.monotonic_now-monotonic.ensures.low in
     omega (arith, low, now)
 
+pub overflow_add-monotonic : goal.overflow_add-monotonic
+overflow_add-monotonic c =
+    let low = real_low (goal.at.overflow_add-monotonic c).After-self-inside in
+    omega (arith, low)
+
 pub moved-requires-clause-real : goal.moved-requires-clause-real
 moved-requires-clause-real c =
-    let base = c.self.inside.base in
-    let held = ap (λ (i : Inside). i.base.real_offset) (sym c.self-inside.view_is) in
-    let low = real_offset_low base c.self-inside.inside.0.0.real_offset held
-    c.self.invariant.within.real_low in
-    let now = c.monotonic_now-monotonic.ensures.low in
-    omega (arith, low, now)
+    real_low (goal.at.moved-requires-clause-real c).After-self-inside
 
 -- REALTIME after the step, by the parts that the code adds
 real_is : (state : State) (base now : ReadBase) (by : Timespec) (monotonic offset : ℕ) →
@@ -58,14 +61,21 @@ real_is state base now by monotonic offset forwarded same held amount =
     ∙ held in
     omega (arith, ints, told, amount)
 
+moved_is : (c : After-moved) →
+    stepped c.args.now c.args.by
+    ≡ pos (c.monotonic_now-monotonic.result + c.self-inside.inside.0.0.real_offset)
+    +ℤ nanoseconds c.args.by
+moved_is c =
+    let held = ap (λ (i : Inside). i.base.real_offset) (sym c.self-inside.view_is) in
+    let base = ap (λ (s : State). s.base) c.self.view_is in
+    real_is c.args.self.now c.self.inside.base c.args.now c.args.by
+    c.monotonic_now-monotonic.result c.self-inside.inside.0.0.real_offset
+    c.requires.forwarded.told base held c.monotonic_now-monotonic.ensures.amount
+
 pub returns-in_default : goal.returns-in_default
 returns-in_default c =
     let now = c.args.now in
-    let held = ap (λ (i : Inside). i.base.real_offset) (sym c.self-inside.view_is) in
-    let base = ap (λ (s : State). s.base) c.self.view_is in
-    let real = real_is c.args.self.now c.self.inside.base now c.args.by
-    c.monotonic_now-monotonic.result c.self-inside.inside.0.0.real_offset
-    c.requires.forwarded.told base held c.monotonic_now-monotonic.ensures.amount in
+    let real = moved_is (goal.at.returns-in_default c).After-moved in
     step_invalid c.args.self.now now c.args.by c.requires.early c.requires.forwarded.told
     (sym c.if-is_past_limit.ensures)
     (elim c.in_default.ensures [
@@ -77,11 +87,7 @@ returns-in_default c =
 pub returns-then-real-monotonic : goal.returns-then-real-monotonic
 returns-then-real-monotonic c =
     let now = c.args.now in
-    let held = ap (λ (i : Inside). i.base.real_offset) (sym c.self-inside.view_is) in
-    let base = ap (λ (s : State). s.base) c.self.view_is in
-    let real = real_is c.args.self.now c.self.inside.base now c.args.by
-    c.monotonic_now-monotonic.result c.self-inside.inside.0.0.real_offset
-    c.requires.forwarded.told base held c.monotonic_now-monotonic.ensures.amount in
+    let real = moved_is (goal.at.returns-then-real-monotonic c).After-moved in
     let told = c.in-Some.ensures in
     let amount = c.monotonic_now-monotonic.ensures.amount in
     step_invalid c.args.self.now now c.args.by c.requires.early c.requires.forwarded.told
@@ -98,11 +104,7 @@ returns-then-real-monotonic c =
 pub returns : goal.returns
 returns c =
     let now = c.args.now in
-    let held = ap (λ (i : Inside). i.base.real_offset) (sym c.self-inside.view_is) in
-    let base = ap (λ (s : State). s.base) c.self.view_is in
-    let real = real_is c.args.self.now c.self.inside.base now c.args.by
-    c.monotonic_now-monotonic.result c.self-inside.inside.0.0.real_offset
-    c.requires.forwarded.told base held c.monotonic_now-monotonic.ensures.amount in
+    let real = moved_is (goal.at.returns c).After-moved in
     let told = c.in-Some.ensures in
     let amount = c.monotonic_now-monotonic.ensures.amount in
     let above : pos (now_of now) ≤ℤ stepped now c.args.by = let high = c.if-real-monotonic.false
