@@ -1,9 +1,9 @@
 -- The properties of every state of running clocks.
-use Rattle.std.specs.Prelude.{◌≡◌, ℕ, ◌*◌, ◌^◌, ◌<◌, ◌≤◌, ℤ, pos, neg_ℤ, ◌<ℤ◌, ◌≤ℤ◌}
-use Rattle.tk_counter.specs.Counter.{Counter, IsCounter, mask, fastest, second, multiplier, greatest_frequency, least_tick, greatest_tick}
+use Rattle.std.specs.Prelude.{◌≡◌, ℕ, ◌+◌, ◌*◌, ◌/◌, ◌%◌, ◌^◌, ◌<◌, ◌≤◌, ◌⊎◌, ℤ, pos, neg_ℤ, ◌<ℤ◌, ◌≤ℤ◌}
+use Rattle.tk_counter.specs.Counter.{Counter, IsCounter, gap, mask, fastest, second, multiplier, greatest_frequency, least_tick, greatest_tick}
 use Rattle.tk_clock.specs.declared.amount.Amount.{Amount}
 use Rattle.tk_clock.specs.declared.clock_id.ClockId.TheVariants.{Realtime, Boottime, Tai}
-use Rattle.tk_clock.specs.State.{ReadBase, base_value}
+use Rattle.tk_clock.specs.State.{ReadBase, base_value, forwarded}
 use Rattle.tk_clock.specs.Limits.{limit, monotonic_end, raw_end, greatest_tai}
 
 -- the numbers of a read base are in their ranges
@@ -26,6 +26,23 @@ slowest counter = multiplier counter (neg_ℤ greatest_frequency) least_tick
 -- MONOTONIC_RAW is at most MONOTONIC times the counter's own multiplier over the slowest one
 abbrev pub IsRated : ReadBase → Type 0
 IsRated base = base.raw_amount * slowest base.counter ≤ base.amount * base.counter.mult
+
+-- two seconds or more are full, once the cycles are added to the part of an amount that is below a
+-- second
+abbrev pub IsTwoSeconds : Counter → ℕ → ℕ → ℕ → Type 0
+IsTwoSeconds counter amount cycles mult =
+    2 * second counter ≤ amount % second counter + cycles * mult
+
+-- why a base takes the long way to a reading: the cycles don't fit 31 bits, MONOTONIC or
+-- MONOTONIC_RAW gains two whole seconds, or MONOTONIC would be at its limit
+abbrev pub IsFar : ReadBase → ℕ → Type 0
+IsFar base reading =
+    let cycles = gap base.counter base.last reading in
+    let after = forwarded base reading in
+    (2 ^ 31 ≤ cycles)
+    ⊎ IsTwoSeconds base.counter base.amount cycles base.mult
+    ⊎ IsTwoSeconds base.counter base.raw_amount cycles base.counter.mult
+    ⊎ (monotonic_end * 10 ^ 9 ≤ after.amount / 2 ^ after.counter.shift)
 
 -- REALTIME, BOOTTIME and TAI are below their limits at the last reading
 pub record IsWithin (base : ReadBase) : Type 0 where

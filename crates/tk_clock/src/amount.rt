@@ -1,4 +1,4 @@
-ghost use Rattle.std.specs.Prelude.{◌≡◌, ℕ, ◌+◌, ◌*◌, ◌/◌, ◌^◌, ◌<◌, ◌≤◌, ◌⊎◌, ⊤, MatchOption};
+ghost use Rattle.std.specs.Prelude.{◌≡◌, ℕ, ◌+◌, ◌*◌, ◌/◌, ◌^◌, ◌<◌, ◌≤◌, ◌⊎◌, MatchOption};
 ghost use Rattle.tk_counter.specs.Counter.{second};
 ghost use Rattle.tk_clock.specs.Limits.{clock_end, raw_end};
 
@@ -58,15 +58,15 @@ impl Amount {
         })
     }
 
-    /// Returns what `grown` returns for fewer than 2^31 cycles, if at most one further second is
-    /// full. Otherwise it returns `None`, about which the contract says nothing.
+    /// Returns what `grown` returns for fewer than 2^31 cycles. Returns `None` if `frac` and the
+    /// cycles last two seconds or longer.
     pub fn grown_soon(self, desc: &CounterDesc, cycles: u64, mult: u32) -> Option<Amount>
         requires rest { self.frac < second desc.now }
         requires few { self.sec ≤ raw_end }
         requires narrow { cycles < 2 ^ 31 }
         ensures { let units = units_of desc.now self + cycles * mult in
             MatchOption result
-            ⊤
+            (2 * second desc.now ≤ self.frac + cycles * mult)
             (λ amount. (units_of desc.now amount ≡ units) × (amount.frac < second desc.now)
             × (amount.sec < self.sec + clock_end)) }
     {

@@ -1,11 +1,11 @@
 //! Makes the read base that a command leads to. Each function returns another base and leaves its
 //! own unchanged, except for `take_forward`, which takes over what another one returned.
-ghost use Rattle.std.specs.Prelude.{◌≡◌, ◌*◌, ◌/◌, ◌^◌, ◌≤◌, ⊤, MatchOption, pos, ◌≤ℤ◌, ◌+ℤ◌, ◌<ℤ◌, not, int_lt, true, false};
+ghost use Rattle.std.specs.Prelude.{◌≡◌, ◌*◌, ◌/◌, ◌^◌, ◌≤◌, MatchOption, pos, ◌≤ℤ◌, ◌+ℤ◌, ◌<ℤ◌, not, int_lt, true, false};
 ghost use Rattle.tk_counter.specs.Counter.{mask, fastest};
 ghost use Rattle.tk_clock.specs.Limits.{is_past_limit, clock_end, monotonic_end, greatest_tai};
 ghost use Rattle.tk_clock.specs.Amount.{IsAmountOf};
 ghost use Rattle.tk_clock.specs.State.{base_value, forwarded};
-ghost use Rattle.tk_clock.specs.Running.{IsRated, slowest};
+ghost use Rattle.tk_clock.specs.Running.{IsFar, IsRated, slowest};
 
 use super::ReadBase;
 use crate::amount::{Amount, NARROW_CYCLES};
@@ -31,14 +31,14 @@ impl ReadBase {
         self.with_amounts(reading, monotonic, raw)
     }
 
-    /// Returns what `forwarded` returns, if the cycles are few and no amount has more than one
-    /// further second full. Otherwise it returns `None`, about which the contract says nothing.
+    /// Returns what `forwarded` returns, if the cycles are fewer than 2^31 and no amount gains two
+    /// whole seconds. Returns `None` otherwise, and if MONOTONIC would be at its limit.
     pub fn forwarded_soon(&self, reading: u64) -> Option<ReadBase>
         requires reading { reading ≤ mask self.now.counter }
         requires steered { slowest self.now.counter ≤ self.now.mult }
         requires rated { IsRated self.now }
         ensures { MatchOption result
-            ⊤
+            (IsFar self.now reading)
             (λ base. (base ≡ forwarded self.now reading) × IsRated base) }
     {
         let cycles = self.desc.gap(self.last, reading);
