@@ -33,6 +33,7 @@ impl ReadBase {
 
     /// Returns what `forwarded` returns, if the cycles are fewer than 2^31 and no amount gains two
     /// whole seconds. Returns `None` otherwise, and if MONOTONIC would be at its limit.
+    #[inline(always)]
     pub fn forwarded_soon(&self, reading: u64) -> Option<ReadBase>
         requires reading { reading ≤ mask self.now.counter }
         requires steered { slowest self.now.counter ≤ self.now.mult }
