@@ -1,5 +1,5 @@
 /* SPDX-License-Identifier: MIT OR Apache-2.0 */
-/* The jobs of crates/tk_bench_page in C, and the declarations that they share. */
+/* Jobs of crates/tk_bench_threads in C, and the declarations that they share. */
 #pragma once
 #include <pthread.h>
 #include <stdatomic.h>

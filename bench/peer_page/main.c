@@ -1,5 +1,6 @@
 /* SPDX-License-Identifier: MIT OR Apache-2.0 */
-/* The jobs of crates/tk_bench_page in C. turns.rs in this folder describes the words and lines. */
+/* The jobs of crates/tk_bench_threads on pages, latches and clocks alone, in C. turns.rs in this
+   folder describes the words and lines. */
 #define _GNU_SOURCE
 #include "jobs.h"
 #include <stdio.h>

@@ -1,5 +1,5 @@
-//! The jobs of `crates/tk_bench_page` as hand-written Rust with std alone: reads and publications
-//! of a page and of a latch.
+//! Jobs of `crates/tk_bench_threads` as hand-written Rust with std alone: reads and publications of
+//! a page and of a latch, and updates of clocks alone.
 //!
 //! Words are published with the weakest ordering that the language's memory model allows;
 //! Jomrezal's publications are sequentially consistent. On x86-64 a store is a plain store here,

@@ -1,4 +1,4 @@
-//! The jobs of `crates/tk_bench_threads` as hand-written Rust with std alone: commands of a shared
+//! Jobs of `crates/tk_bench_threads` as hand-written Rust with std alone: commands of a shared
 //! keeper, reads while commands are given, and a race. The clocks, the page and the latch are those
 //! of `peer_page`. `many` is not here: its peer is the same job with one worker.
 #![allow(dead_code)]

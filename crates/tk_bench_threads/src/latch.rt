@@ -79,17 +79,17 @@ fn both<R: Threads + Hours + Sync>(
     requires reader { reader.latch ≡ latch.now }
 {
     let enough = AtomicBool::new(false);
-    let told = &enough;
+    let stop = &enough;
     let (_, turn) = thread::join(
         rt,
         move || -> ()
             requires { IsSync R.row × (desk.latch ≡ latch.now) }
-        { publishes_slowly(rt, latch, &mut desk, told) },
+        { publishes_slowly(rt, latch, &mut desk, stop) },
         move || -> Option<Turn>
             requires { IsSync R.row × (reader.latch ≡ latch.now) }
         {
             let turn = timed_reads(rt, latch, &mut reader, usual, count);
-            told.store(true, Ordering::SeqCst);
+            stop.store(true, Ordering::SeqCst);
             turn
         },
     );

@@ -84,17 +84,17 @@ fn both<R: Threads + Wait + Hours + Sync>(
     requires viewer { viewer.page ≡ page.now }
 {
     let enough = AtomicBool::new(false);
-    let told = &enough;
+    let stop = &enough;
     let (_, turn) = thread::join(
         rt,
         move || -> ()
             requires { IsSync R.row × (desk.page ≡ page.now) }
-        { publishes_slowly(rt, page, &mut desk, told) },
+        { publishes_slowly(rt, page, &mut desk, stop) },
         move || -> Option<Turn>
             requires { IsSync R.row × (viewer.page ≡ page.now) }
         {
             let turn = timed_reads(rt, page, &mut viewer, count);
-            told.store(true, Ordering::SeqCst);
+            stop.store(true, Ordering::SeqCst);
             turn
         },
     );

@@ -1,5 +1,5 @@
 use Rattle.std.proofs.Common.{◌≡◌}
-use Rattle.tk_bench_page.proofs.page.publishes_slowly.Given as goal
+use Rattle.tk_bench_threads.proofs.page.publications.Given as goal
 
 abbrev pub invariant-loop : goal.invariant-loop
 invariant-loop g l = l.desk.page ≡ l.initial.desk.page

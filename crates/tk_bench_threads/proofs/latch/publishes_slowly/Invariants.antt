@@ -1,5 +1,5 @@
 use Rattle.std.proofs.Common.{◌≡◌}
-use Rattle.tk_bench_page.proofs.latch.publishes_slowly.Given as goal
+use Rattle.tk_bench_threads.proofs.latch.publishes_slowly.Given as goal
 
 abbrev pub invariant-loop : goal.invariant-loop
 invariant-loop g l = l.desk.latch ≡ l.initial.desk.latch
