@@ -3,8 +3,8 @@ use Rattle.std.specs.Prelude.{◌≡◌, List, [], ◌∷◌, Option, Some, None
 use Rattle.clap.specs.Words.{App, Row, Rule, Text, all_of, fault_of, first_of, new_app, new_rule, subcommand_of, with_rule, with_subcommand}
 use Rattle.clap.specs.Kinds.{Kinds}
 use Rattle.clap.specs.declared.builder.action.ArgAction.TheVariants.{Append, Set}
-use Rattle.tk_program.specs.declared.command_line.WordsError.{WordsError}
-use Rattle.tk_program.specs.declared.command_line.WordsError.TheVariants as errors
+use Rattle.tk_program.specs.declared.words_error.WordsError.{WordsError}
+use Rattle.tk_program.specs.declared.words_error.WordsError.TheVariants as errors
 use Rattle.tk_program.specs.declared.request.Request.{Request}
 use Rattle.tk_program.specs.Request.{Task, Replay, many_by, race_by, replay_by, task_of, trace_by}
 

@@ -12,8 +12,8 @@ use Rattle.tk_replay.specs.declared.fault.Fault.{Fault}
 use Rattle.tk_replay.specs.declared.fault.Fault.TheVariants as faults
 use Rattle.tk_replay.specs.Fault.{fault_text}
 use Rattle.tk_replay.specs.ManyError.{many_text}
-use Rattle.tk_program.specs.declared.command_line.WordsError.{WordsError}
-use Rattle.tk_program.specs.declared.command_line.WordsError.TheVariants as errors
+use Rattle.tk_program.specs.declared.words_error.WordsError.{WordsError}
+use Rattle.tk_program.specs.declared.words_error.WordsError.TheVariants as errors
 use Rattle.tk_program.specs.declared.ending.Ending.{Ending}
 use Rattle.tk_program.specs.declared.ending.Ending.TheVariants as endings
 

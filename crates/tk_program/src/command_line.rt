@@ -1,32 +1,19 @@
 //! Parses the words on the command line.
 ghost use Rattle.std.specs.Prelude.{◌≡◌, ◌≢◌, Some, None, [], false, map, codes, string_bytes, IfErr, IfOk, IfSome, option_map};
-ghost use Rattle.std.specs.IoError.{error_kind};
-ghost use Rattle.clap.specs.Words.{all_of, app_of, fault_of, first_of, found_of, kind_of, rows_of, rule_of, subcommand_of, subcommand_rows_of};
+ghost use Rattle.clap.specs.Words.{all_of, app_of, fault_of, first_of, found_of, rows_of, rule_of, subcommand_of, subcommand_rows_of};
 ghost use Rattle.clap.specs.declared.builder.command.Command.TheViews.{out-Command};
 ghost use Rattle.tk_program.specs.CommandLine.{Asks, IsAsked, bare_words, files_rule, files_words, keep_rule, one_script_words, program_words, replay_words, task_by, task_found, trace_words, word_rule};
-ghost use Rattle.tk_program.specs.Ending.{error_of, unread_of};
 ghost use Rattle.tk_program.specs.Request.{IsAllowed, keep_of, many_by, race_by, replay_by, task_of, trace_by, workers_of};
-ghost use Rattle.tk_program.specs.declared.command_line.WordsError.TheVariants.{Memory};
 
 use crate::request::Request;
-use clap::error::ErrorKind;
+use crate::words_error::WordsError;
 use clap::{Arg, ArgAction, ArgMatches, Command};
 use std::alloc::{AllocError, Global};
-use std::io;
 use tk_replay::MOST_WORKERS;
 use tk_script::{clock_word, number};
 
 /// The greatest number of entries that a full journal is folded to: half of what it lists.
 const GREATEST_KEEP: u64 = 524_288;
-
-/// Says why words ask for nothing.
-#[derive(Clone, Copy, Debug, PartialEq, Eq)]
-pub enum WordsError {
-    /// The words are not in the form that docs/TKCORE.md gives, or one of them isn't UTF-8.
-    Refused,
-    /// An allocation failed.
-    Memory,
-}
 
 /// Parses the words of a command line, the first of which is the program's name.
 ///
@@ -292,38 +279,4 @@ fn files_argument<'a>(alloc: Global) -> Arg<'a>
     Arg::new(alloc, "FILE")
         .required(true)
         .action(ArgAction::Append)
-}
-
-impl From<AllocError> for WordsError {
-    ghost from_gives = { λ _ error. error ≡ Memory };
-
-    fn from(_error: AllocError) -> WordsError {
-        WordsError::Memory
-    }
-}
-
-/// Converts the error of words that don't parse: they are unknown, they ask for help, or an
-/// allocation failed.
-impl From<clap::Error> for WordsError {
-    ghost from_gives = { λ error told. told ≡ error_of (kind_of error) };
-
-    fn from(error: clap::Error) -> WordsError {
-        match error.kind() {
-            ErrorKind::OutOfMemory => WordsError::Memory,
-            _ => WordsError::Refused,
-        }
-    }
-}
-
-/// Converts the error of words that can't be read: one of them isn't UTF-8, or an allocation
-/// failed.
-impl From<io::Error> for WordsError {
-    ghost from_gives = { λ error told. told ≡ unread_of (error_kind error) };
-
-    fn from(error: io::Error) -> WordsError {
-        match error.kind() {
-            io::ErrorKind::OutOfMemory => WordsError::Memory,
-            _ => WordsError::Refused,
-        }
-    }
 }

@@ -1,7 +1,7 @@
 ghost use Rattle.std.specs.Prelude.{◌≡◌, OnOk};
 ghost use Rattle.tk_program.specs.Ending.{IsToldIn, ending_at, ending_of, ending_of_file, status_of};
 
-use crate::command_line::WordsError;
+use crate::words_error::WordsError;
 use std::io;
 use std::io::Write;
 use tk_replay::{Fault, ManyError, RaceError};

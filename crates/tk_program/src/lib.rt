@@ -29,8 +29,9 @@ mod request;
 mod running;
 mod scripts;
 mod tracing;
+mod words_error;
 
-pub use command_line::{WordsError, asked};
+pub use command_line::asked;
 pub use ending::Ending;
 pub use folder::Folder;
 pub use openings::same_opening;
@@ -38,3 +39,4 @@ pub use race_lines::race_text;
 pub use reports_text::many_text;
 pub use request::Request;
 pub use running::{run, run_and_tell};
+pub use words_error::WordsError;

@@ -5,10 +5,11 @@ ghost use Rattle.tk_program.specs.Request.{IsAllowed, task_of};
 ghost use Rattle.tk_program.specs.Running.{Ends, IsRun};
 ghost use Rattle.tk_program.specs.declared.ending.Ending.{Ending};
 
-use crate::command_line::{WordsError, asked};
+use crate::command_line::asked;
 use crate::ending::Ending;
 use crate::folder::Folder;
 use crate::request::Request;
+use crate::words_error::WordsError;
 use crate::{many, racing, tracing};
 use std::alloc::Global;
 use std::env;

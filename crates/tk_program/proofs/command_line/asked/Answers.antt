@@ -2,8 +2,8 @@ use Rattle.std.proofs.Common.{◌≡◌, ◌≢◌, List, [], ◌∷◌, refl, m
 use Rattle.std.specs.Prelude.{Option, None, Err}
 use Rattle.clap.specs.Kinds.{Kinds}
 use Rattle.clap.specs.Words.{Row, Text, fault_of, subcommand_of}
-use Rattle.tk_program.specs.declared.command_line.WordsError.{WordsError}
-use Rattle.tk_program.specs.declared.command_line.WordsError.TheVariants as errors
+use Rattle.tk_program.specs.declared.words_error.WordsError.{WordsError}
+use Rattle.tk_program.specs.declared.words_error.WordsError.TheVariants as errors
 use Rattle.tk_program.specs.CommandLine.{IsAsked, asked_by, program_words, task_if}
 use Rattle.tk_program.proofs.command_line.asked.Goals as goal
 
