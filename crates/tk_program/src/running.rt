@@ -78,10 +78,10 @@ fn answer<E: Threads + Wait + Sync, D: Folder, R: Source, W: Sink>(
 }
 
 /// Runs the program: does what the process's words ask for, as `run` does, writes the ending's line
-/// of error to `told`, and returns the exit code.
+/// of error to `errors`, and returns the exit code.
 ///
 /// If the line can't be written, it is left out; the exit code stays the same.
-pub fn run_and_tell<E, R, W, T>(rt: &E, reader: &mut R, writer: &mut W, told: &mut T) -> ExitCode
+pub fn run_and_tell<E, R, W, T>(rt: &E, reader: &mut R, writer: &mut W, errors: &mut T) -> ExitCode
 where
     E: Env + AllocGlobal + Folder + Threads + Wait + Sync,
     R: Source,
@@ -94,26 +94,22 @@ where
         rt.now reader.old reader.new writer.old writer.new words ending
         × (exit_status result ≡ status_of ending) }
 {
-    let ending = run_by_words_of(rt, reader, writer);
-    let _ = ending.tell(told);
-    ExitCode::from(ending.status())
+    match words_of(rt) {
+        Ok(words) => {
+            let ending = run(rt.alloc(), rt, words.as_slice(), rt, reader, writer);
+            exit_code(ending, errors)
+        }
+        Err(error) => exit_code(Ending::from(error), errors),
+    }
 }
 
-/// Does what the process's words ask for, and returns how it ended.
-fn run_by_words_of<E, R, W>(rt: &E, reader: &mut R, writer: &mut W) -> Ending
-where
-    E: Env + AllocGlobal + Folder + Threads + Wait + Sync,
-    R: Source,
-    W: Sink,
-    ensures { (words : Option (List (List ℕ))) × IsRun R.Read.remaining R.Source.read_gives
-        W.Write.contents W.Sink.write_gives W.Sink.flush_gives
-        E.Folder.open_gives E.File.Read.remaining E.File.Source.read_gives
-        rt.now reader.old reader.new writer.old writer.new words result }
+/// Writes the line of error of an ending, and returns its exit code. A line that can't be written
+/// is left out.
+fn exit_code<T: Write>(ending: Ending, errors: &mut T) -> ExitCode
+    ensures { exit_status result ≡ status_of ending }
 {
-    match words_of(rt) {
-        Ok(words) => run(rt.alloc(), rt, words.as_slice(), rt, reader, writer),
-        Err(error) => Ending::from(error),
-    }
+    let _ = ending.tell(errors);
+    ExitCode::from(ending.status())
 }
 
 /// Returns the process's words.

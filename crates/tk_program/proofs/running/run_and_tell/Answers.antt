@@ -5,7 +5,7 @@ use Rattle.tk_program.specs.declared.words_error.WordsError.{WordsError}
 use Rattle.tk_program.specs.declared.words_error.WordsError.TheVariants as errors
 use Rattle.tk_program.specs.declared.ending.Ending.TheVariants as endings
 use Rattle.tk_program.specs.Ending.{ending_at}
-use Rattle.tk_program.proofs.running.run_by_words_of.Goals as goal
+use Rattle.tk_program.proofs.running.run_and_tell.Goals as goal
 
 -- words that can't be taken are refused, or memory was
 ended : {Untouched : Type 0} (error : WordsError) → Untouched →
@@ -15,7 +15,17 @@ ended errors.Refused untouched = inr (refl, untouched)
 ended errors.Memory untouched = inl (refl, untouched)
 
 pub returns-in-Ok : goal.returns-in-Ok
-returns-in-Ok g c = (Some (map string_bytes c.as_slice.result.now), c.run.ensures)
+returns-in-Ok g c = (
+  Some (map string_bytes c.as_slice.result.now),
+  c.run-ending.result,
+  c.run-ending.ensures,
+  c.exit_code.ensures,
+)
 
 pub returns-in-Err : goal.returns-in-Err
-returns-in-Err g c = (None, rw c.from.ensures (ended c.in-Err.error (refl, refl)))
+returns-in-Err g c = (
+  None,
+  c.from.result,
+  rw c.from.ensures (ended c.in-Err.error (refl, refl)),
+  c.exit_code-in-Err.ensures,
+)
