@@ -30,20 +30,20 @@ status_of (endings.Race error) = 1
 
 -- the line of an ending, for a writer whose bytes are known: none if all was done or if the output
 -- has the faults, and otherwise one; the text of a script's fault is not stated here
-abbrev pub IsToldIn : {W : Type 0} → (W → Option (List ℕ)) → W → W → Ending → Type 0
-IsToldIn contents old new endings.Done = new ≡ old
-IsToldIn contents old new endings.Faulty = new ≡ old
-IsToldIn contents old new (endings.Many error) =
+abbrev pub IsErrorLine : {W : Type 0} → (W → Option (List ℕ)) → W → W → Ending → Type 0
+IsErrorLine contents old new endings.Done = new ≡ old
+IsErrorLine contents old new endings.Faulty = new ≡ old
+IsErrorLine contents old new (endings.Many error) =
     Appends (contents old) (contents new) (codes "tkcore: " ++ many_text error ++ codes "\n")
-IsToldIn contents old new endings.Words =
+IsErrorLine contents old new endings.Words =
     Appends (contents old) (contents new) (codes "tkcore: " ++ codes "words refused" ++ codes "\n")
-IsToldIn contents old new (endings.Fault fault) =
+IsErrorLine contents old new (endings.Fault fault) =
     IfSome (fault_text fault)
     (λ text. Appends (contents old) (contents new) (codes "tkcore: " ++ text ++ codes "\n"))
-IsToldIn contents old new (endings.File index error) = Unit {0}
-IsToldIn contents old new endings.Openings =
+IsErrorLine contents old new (endings.File index error) = Unit {0}
+IsErrorLine contents old new endings.Openings =
     Appends (contents old) (contents new) (codes "tkcore: " ++ codes "openings differ" ++ codes "\n")
-IsToldIn contents old new (endings.Race error) =
+IsErrorLine contents old new (endings.Race error) =
     Appends (contents old) (contents new) (codes "tkcore: " ++ error_text error ++ codes "\n")
 
 -- the ending that an outcome is

@@ -77,8 +77,8 @@ module _ {W : Type 0} (contents : W → Option (List ℕ))
     (write_gives : W → List ℕ → Option ℕ → W → Type 0) (flush_gives : W → Bool → W → Type 0)
     (writer writer' : W) where
   -- the lines of a race were written; or an allocation failed, and nothing is written
-  abbrev pub EndsTold : Journal → List (List RaceReply) → Ending → Type 0
-  EndsTold journal replies ending =
+  abbrev pub EndsWritten : Journal → List (List RaceReply) → Ending → Type 0
+  EndsWritten journal replies ending =
       ((ending ≡ endings.Fault faults.Memory) × (writer' ≡ writer))
       ⊎ EndsWriting contents write_gives flush_gives writer writer'
       (race_lines (accepted_count journal) replies) endings.Done ending
@@ -94,7 +94,7 @@ module _ {W : Type 0} (contents : W → Option (List ℕ))
       ⊎ ((journal : Journal) × (replies : List (List RaceReply))
       × (race_error count first.desc first.reading first.real ≡ None)
       × IsRaced first.desc first.real parts journal replies
-      × EndsTold journal replies ending)
+      × EndsWritten journal replies ending)
 
   -- scripts were raced, an actor for each; or they don't all open their clocks as the first one,
   -- and nothing is written

@@ -3,7 +3,7 @@ use Rattle.std.specs.Prelude.{ℕ, ◌≤◌, List, Option, Some, None, map, nat
 use Rattle.tk_clock.specs.declared.clock_id.ClockId.{ClockId}
 use Rattle.tk_script.specs.Number.{number_of}
 use Rattle.tk_script.specs.Word.{clock_of}
-use Rattle.tk_replay.specs.Folding.{greatest_keep, rule_of}
+use Rattle.tk_replay.specs.Folding.{most_kept, rule_of}
 use Rattle.tk_replay.specs.Many.{most_workers}
 use Rattle.tk_replay.specs.Report.{IsReportBy}
 use Rattle.tk_program.specs.declared.request.Request.{Request}
@@ -30,7 +30,7 @@ between least most (Some n) = if nat_le least n && nat_le n most then Some n els
 
 -- how many entries a text says to keep: a number as in scripts, from 1 to the greatest
 abbrev pub keep_of : List ℕ → Option ℕ
-keep_of text = between 1 greatest_keep (number_of text)
+keep_of text = between 1 most_kept (number_of text)
 
 -- how many threads a text says: a number as in scripts, from 1 to the most
 abbrev pub workers_of : List ℕ → Option ℕ
@@ -60,7 +60,7 @@ race_by _ _ = None
 -- a folded journal keeps an entry at least, and half of what it lists at most
 abbrev pub IsKeep : Option ℕ → Type 0
 IsKeep None = Unit {0}
-IsKeep (Some keep) = (1 ≤ keep) × (keep ≤ greatest_keep)
+IsKeep (Some keep) = (1 ≤ keep) × (keep ≤ most_kept)
 
 -- the numbers of a request are within their bounds
 abbrev pub IsAllowed : Request → Type 0

@@ -9,11 +9,8 @@ use crate::request::Request;
 use crate::words_error::WordsError;
 use clap::{Arg, ArgAction, ArgMatches, Command};
 use std::alloc::{AllocError, Global};
-use tk_replay::MOST_WORKERS;
+use tk_replay::{KEEP_LIMIT, WORKERS_LIMIT};
 use tk_script::{clock_word, number};
-
-/// The greatest number of entries that a full journal is folded to: half of what it lists.
-const GREATEST_KEEP: u64 = 524_288;
 
 /// Parses the words of a command line, the first of which is the program's name.
 ///
@@ -116,7 +113,7 @@ fn replay_asked<'a>(keep: Option<&str>) -> Option<Request<'a>>
 fn keep_in(text: &str) -> Option<u64>
     ensures { result ≡ keep_of text.now }
 {
-    number(text.as_bytes()).filter(|keep| (1..=GREATEST_KEEP).contains(keep))
+    number(text.as_bytes()).filter(|keep| (1..=KEEP_LIMIT).contains(keep))
 }
 
 /// Makes the trace that three texts ask for, if all are there.
@@ -169,7 +166,7 @@ fn many_asked<'a>(
 fn workers_in(text: &str) -> Option<u64>
     ensures { result ≡ workers_of text.now }
 {
-    number(text.as_bytes()).filter(|workers| (1..=MOST_WORKERS as u64).contains(workers))
+    number(text.as_bytes()).filter(|workers| (1..=WORKERS_LIMIT as u64).contains(workers))
 }
 
 /// Makes the race that the texts of STEP and of FILE.. ask for, if they are there.

@@ -1,5 +1,5 @@
 ghost use Rattle.std.specs.Prelude.{◌≡◌, OnOk};
-ghost use Rattle.tk_program.specs.Ending.{IsToldIn, ending_at, ending_of, ending_of_file, status_of};
+ghost use Rattle.tk_program.specs.Ending.{IsErrorLine, ending_at, ending_of, ending_of_file, status_of};
 
 use crate::words_error::WordsError;
 use std::io;
@@ -56,7 +56,7 @@ impl Ending {
     ///
     /// Returns the error of the writer; a part of the line may have been written.
     pub fn tell<W: Write>(self, out: &mut W) -> io::Result<()>
-        ensures { OnOk result (IsToldIn W.Write.contents out.old out.new self) }
+        ensures { OnOk result (IsErrorLine W.Write.contents out.old out.new self) }
     {
         match self {
             Ending::Done | Ending::Faulty => Ok(()),

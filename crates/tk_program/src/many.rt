@@ -34,13 +34,17 @@ pub(crate) fn answer<E: Threads + Wait + Sync, D: Folder, W: Sink>(
         Err(fault) => return Ending::Fault(fault),
     };
     match replay_all(alloc, rt, scripts.as_slice(), workers as usize, &NoGate) {
-        Ok(outcomes) => tell(alloc, writer, outcomes.as_slice()),
+        Ok(outcomes) => write_reports(alloc, writer, outcomes.as_slice()),
         Err(error) => Ending::Many(error),
     }
 }
 
 /// Writes reports and faults. It ends as `Faulty` if a script has a fault.
-fn tell<W: Sink>(alloc: Global, writer: &mut W, outcomes: &[Result<Vec<u8>, ScriptError>]) -> Ending
+fn write_reports<W: Sink>(
+    alloc: Global,
+    writer: &mut W,
+    outcomes: &[Result<Vec<u8>, ScriptError>],
+) -> Ending
     ensures { EndsTelling W.Write.contents W.Sink.write_gives W.Sink.flush_gives
         writer.old writer.new outcomes.now result }
 {

@@ -3,7 +3,7 @@ ghost use Rattle.std.specs.Prelude.{◌≡◌, ◌↔◌, length, map, IfOk, IsT
 ghost use Rattle.std.specs.List.{All};
 ghost use Rattle.tk_clock.specs.Journal.{accepted_count};
 ghost use Rattle.tk_program.specs.Openings.{AreSameOpenings};
-ghost use Rattle.tk_program.specs.Race.{EndsParts, EndsRace, EndsScripts, EndsTold, IsOpenable, action_of, part_of};
+ghost use Rattle.tk_program.specs.Race.{EndsParts, EndsRace, EndsScripts, EndsWritten, IsOpenable, action_of, part_of};
 
 use crate::ending::Ending;
 use crate::folder::Folder;
@@ -99,7 +99,7 @@ fn race_as<E: Threads + Wait + Sync, W: Sink>(
         actors,
         &NoGate,
     ) {
-        Ok(report) => tell(alloc, writer, &report),
+        Ok(report) => write_race(alloc, writer, &report),
         Err(error) => Ending::Race(error),
     }
 }
@@ -112,8 +112,8 @@ fn open_alike(first: &Script, others: &[Script]) -> bool
 }
 
 /// Writes the lines of a race.
-fn tell<W: Sink>(alloc: Global, writer: &mut W, report: &RaceReport) -> Ending
-    ensures { EndsTold W.Write.contents W.Sink.write_gives W.Sink.flush_gives
+fn write_race<W: Sink>(alloc: Global, writer: &mut W, report: &RaceReport) -> Ending
+    ensures { EndsWritten W.Write.contents W.Sink.write_gives W.Sink.flush_gives
         writer.old writer.new
         report.now.keeper.journal (map (λ r. r.items) report.now.replies.items) result }
 {

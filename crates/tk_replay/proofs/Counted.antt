@@ -42,8 +42,8 @@ rule-counted None journal entry whole =
 rule-counted (Some keep) journal entry whole = refl
 
 -- a record leaves a journal that still lists every command
-opening_if : (journal : Journal) (entry : Entry) (told : Option Refusal) →
-    (reply_if journal entry told).journal.opening.count ≡ journal.opening.count
+opening_if : (journal : Journal) (entry : Entry) (known : Option Refusal) →
+    (reply_if journal entry known).journal.opening.count ≡ journal.opening.count
 opening_if journal entry None = refl
 opening_if journal entry (Some refusal) = refl
 
@@ -56,11 +56,11 @@ opening_after rule journal (Look reading clock) = refl
 line-counted : (keep : Option ℕ) (journal : Journal) (row : Row) (line : List ℕ) →
     journal.opening.count ≡ 0 → IsLine (counting_rule_of keep) journal row line →
     IsLine (rule_of keep) journal row line
-line-counted keep journal (Act reading cmd) line whole told =
-    told
+line-counted keep journal (Act reading cmd) line whole known =
+    known
     ∙ ap (λ r. reply_line reading (reply_if journal (event reading cmd) r))
     (rule-counted keep journal (event reading cmd) whole)
-line-counted keep journal (Look reading clock) line whole told = told
+line-counted keep journal (Look reading clock) line whole known = known
 
 after-counted : (keep : Option ℕ) (journal : Journal) (row : Row) → journal.opening.count ≡ 0 →
     after (counting_rule_of keep) journal row ≡ after (rule_of keep) journal row
@@ -73,13 +73,13 @@ lines-counted : (keep : Option ℕ) (journal : Journal) (rows : List Row) (text 
     journal.opening.count ≡ 0 → IsLines (counting_rule_of keep) journal rows text →
     IsLines (rule_of keep) journal rows text
 lines-counted keep journal [] text whole lines = lines
-lines-counted keep journal (row ∷ rows) text whole (line, rest, told, later, parts) =
+lines-counted keep journal (row ∷ rows) text whole (line, rest, known, later, parts) =
     let next = after (counting_rule_of keep) journal row in
     let still : next.opening.count ≡ 0 =
     opening_after (counting_rule_of keep) journal row ∙ whole in (
       line,
       rest,
-      line-counted keep journal row line whole told,
+      line-counted keep journal row line whole known,
       subst (λ (j : Journal). IsLines (rule_of keep) j rows rest)
           (after-counted keep journal row whole)
           (lines-counted keep next rows rest still later),
@@ -89,8 +89,8 @@ lines-counted keep journal (row ∷ rows) text whole (line, rest, told, later, p
 -- a report by the number of accepted commands is a report by the journal
 pub IsReportOf-counted : (keep : Option ℕ) (parse : Parse) (text : List ℕ) →
     IsReportOf (counting_rule_of keep) parse text → IsReportOf (rule_of keep) parse text
-IsReportOf-counted keep parse text (lines, told, parts) = (
+IsReportOf-counted keep parse text (lines, known, parts) = (
   lines,
-  lines-counted keep (opened parse.counter parse.reading parse.real) parse.rows lines refl told,
+  lines-counted keep (opened parse.counter parse.reading parse.real) parse.rows lines refl known,
   parts,
 )

@@ -14,7 +14,7 @@ use Rattle.tk_keeper.specs.Keeper.{Keeper}
 use Rattle.tk_keeper.specs.Past.{IsFolded, at_front}
 use Rattle.tk_keeper.proofs.Running.{IsAnswer, reply-answer}
 use Rattle.tk_clock.specs.Folding.{IsAlike}
-use Rattle.tk_replay.specs.Folding.{IsReplied, counted_refusal, greatest_keep}
+use Rattle.tk_replay.specs.Folding.{IsReplied, counted_refusal, most_kept}
 use Rattle.tk_replay.specs.Report.{reply_by}
 use Rattle.tk_clock.proofs.Alike.{clock_refusal-alike}
 use Rattle.tk_clock.proofs.Refusals.{first_refusal-room}
@@ -37,13 +37,13 @@ IsAlike-folded before after folded = record {
   count = folded.all;
 }
 
--- a journal that was folded to at most `greatest_keep` entries is not full
+-- a journal that was folded to at most `most_kept` entries is not full
 pub has_room : (before after : Journal) (folded keep : ℕ) →
     folded ≡ max before.opening.count (accepted_count before - keep) →
-    after.opening.count ≡ folded → IsAlike after before → keep ≤ greatest_keep →
+    after.opening.count ≡ folded → IsAlike after before → keep ≤ most_kept →
     accepted_count before < counted_most →
     is_full after ≡ false
-has_room before after folded keep told same alike small few =
+has_room before after folded keep known same alike small few =
     let listed : length after.entries < listed_most = omega (arith, alike.count) in
     let counted : accepted_count after < counted_most = omega (arith, alike.count) in
     grind (arith, common_steps)
@@ -66,11 +66,11 @@ replied whole kept after entry result alike room answered enough =
       journal = after.journal;
     } =
     sym (not_full kept.journal entry room) ∙ reply-answer kept after entry result answered enough in
-    let told = clock_refusal-alike kept.journal whole alike.state entry in
+    let known = clock_refusal-alike kept.journal whole alike.state entry in
     let P : Option Refusal → Type 0 = λ r.
     ((reply_if whole entry r).answer ≡ result)
     × IsAlike after.journal (reply_if whole entry r).journal in
-    subst P told (
+    subst P known (
       sym (answer-alike kept.journal whole alike entry (clock_refusal kept.journal entry))
           ∙ ap (λ (r : Reply). r.answer) same,
       subst (λ (r : Reply).

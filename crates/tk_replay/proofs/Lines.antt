@@ -47,7 +47,7 @@ Rows = Result (List Row) ScriptError
 -- fault of the rows to come is the fault of all rows
 pub record IsBegun (rule : Rule) (start : Start) (all : Rows) (journal : Journal) (to_come : Rows)
     (text : List ℕ) : Type 0 where
-  pub told : (rows : List Row) (rest : List ℕ) → to_come ≡ Ok rows →
+  pub gives : (rows : List Row) (rest : List ℕ) → to_come ≡ Ok rows →
       IsLines rule journal rows rest →
       IsReportOfRows rule start all (text ++ rest)
   pub fails : (fault : ScriptError) → to_come ≡ Err fault → all ≡ Err fault
@@ -60,10 +60,10 @@ IsBegun-next : (rule : Rule) (start : Start) (all : Rows) (journal : Journal) (r
     IsLine rule journal row line →
     IsBegun rule start all (after rule journal row) later (text ++ line)
 IsBegun-next rule start all journal row to_come later text line begun step isLine = record {
-  told = λ rows rest e lines.
+  gives = λ rows rest e lines.
       let R : List ℕ → Type 0 = λ whole. IsReportOfRows rule start all whole in
       subst R (sym (append_assoc text line rest))
-      (begun.told (row ∷ rows) (line ++ rest) (step ∙ ap (row_and row) e) (
+      (begun.gives (row ∷ rows) (line ++ rest) (step ∙ ap (row_and row) e) (
         line,
         rest,
         isLine,
@@ -80,7 +80,7 @@ IsBegun-end : (rule : Rule) (start : Start) (all : Rows) (journal : Journal) (to
     IsReportOfRows rule start all text
 IsBegun-end rule start all journal to_come text begun none =
     let R : List ℕ → Type 0 = λ whole. IsReportOfRows rule start all whole in
-    subst R (append-nil text) (begun.told [] [] none refl)
+    subst R (append-nil text) (begun.gives [] [] none refl)
 
 -- the same for a kept journal that is alike to one which lists every command
 pub record IsBegunBy (keep : Option ℕ) (start : Start) (all : Rows) (kept : Journal)
@@ -97,7 +97,7 @@ IsBegunBy-start keep start all = record {
   whole = opened start.desc start.reading start.real;
   alike = IsAlike-self (opened start.desc start.reading start.real);
   begun = record {
-    told = λ rows rest e lines. (_, ap (opened_with start) e, (rest, lines, refl));
+    gives = λ rows rest e lines. (_, ap (opened_with start) e, (rest, lines, refl));
     fails = λ fault e. e;
   };
 }
@@ -127,7 +127,7 @@ IsBegunBy-end keep start all kept to_come text begun none =
 
 -- if `to` has every fault of `from`, it also allows every error that `from` allows
 pub Fails-from : (from to : Rows) (fault : ScriptError) →
-    ((told : ScriptError) → from ≡ Err told → to ≡ Err told) →
+    ((error : ScriptError) → from ≡ Err error → to ≡ Err error) →
     Fails fault from → Fails fault to
 Fails-from from to errors.Memory step fails = tt
 Fails-from from to errors.TooLarge step fails = step errors.TooLarge fails
@@ -164,14 +164,14 @@ pub report-opened : {A : Type 0} (keep : Option ℕ) (bytes : List ℕ) (start :
     (λ fault. Fails fault all) →
     MatchResult result (λ text. IsReportBy (rule_of keep) bytes (text_of text))
     (λ fault. Fails fault (parse_of bytes))
-report-opened keep bytes start all text_of (Ok text) opens (parse, told, report) =
-    (parse, opens ∙ told, IsReportOf-counted keep parse (text_of text) report)
+report-opened keep bytes start all text_of (Ok text) opens (parse, known, report) =
+    (parse, opens ∙ known, IsReportOf-counted keep parse (text_of text) report)
 report-opened keep bytes start all text_of (Err fault) opens fails =
     fails-opened bytes start all fault opens fails
 
 -- a record is at most one command
-counted : (journal : Journal) (entry : Entry) (told : Option Refusal) →
-    accepted_count (reply_if journal entry told).journal ≤ accepted_count journal + 1
+counted : (journal : Journal) (entry : Entry) (refusal : Option Refusal) →
+    accepted_count (reply_if journal entry refusal).journal ≤ accepted_count journal + 1
 counted journal entry None = omega (arith, length_push journal.entries entry)
 counted journal entry (Some refusal) = omega arith
 

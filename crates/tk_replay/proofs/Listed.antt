@@ -11,16 +11,16 @@ use Rattle.tk_clock.specs.Refusal.{is_full}
 use Rattle.tk_keeper.specs.Keeper.{Keeper}
 use Rattle.tk_keeper.proofs.Running.{IsAnswer}
 use Rattle.tk_clock.specs.Folding.{IsAlike}
-use Rattle.tk_replay.specs.Folding.{greatest_keep, listed_after, listed_then}
+use Rattle.tk_replay.specs.Folding.{most_kept, listed_after, listed_then}
 
 -- an accepted command adds one entry
 pub listed-answered : (before after : Keeper) (entry : Entry) (answer : Result ℕ Refusal) →
     IsAnswer before entry answer after →
     length after.journal.entries ≡ listed_after (length before.journal.entries) answer
-listed-answered before after entry (Ok number) told =
-    ap (λ (j : Journal). length j.entries) told.1 ∙ length_push before.journal.entries entry
-listed-answered before after entry (Err refusal) told =
-    ap (λ (k : Keeper). length k.journal.entries) told.1
+listed-answered before after entry (Ok number) known =
+    ap (λ (j : Journal). length j.entries) known.1 ∙ length_push before.journal.entries entry
+listed-answered before after entry (Err refusal) known =
+    ap (λ (k : Keeper). length k.journal.entries) known.1
 
 full_lists : (journal : Journal) → is_full journal ≡ true → accepted_count journal < counted_most →
     listed_most ≤ length journal.entries
@@ -29,10 +29,10 @@ full_lists journal full few = grind (arith, common_steps)
 -- a fold of a full journal keeps `keep` entries
 pub listed_then-folded : (before after : Journal) (folded keep : ℕ) →
     folded ≡ max before.opening.count (accepted_count before - keep) →
-    after.opening.count ≡ folded → IsAlike after before → keep ≤ greatest_keep →
+    after.opening.count ≡ folded → IsAlike after before → keep ≤ most_kept →
     accepted_count before < counted_most → is_full before ≡ true →
     length after.entries ≡ listed_then keep before
-listed_then-folded before after folded keep told same alike small few full =
+listed_then-folded before after folded keep known same alike small few full =
     let many : listed_most ≤ length before.entries = full_lists before full few in
     let kept : length after.entries ≡ keep = omega (arith, alike.count) in
     kept ∙ sym (ap (λ (b : Bool). if b then keep else length before.entries) full)

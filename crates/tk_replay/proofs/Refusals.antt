@@ -22,13 +22,13 @@ use Rattle.tk_replay.proofs.Alike.{passes_clock, read_fault-alike}
 passed : (test : Bool) (refusal : Refusal) (later : Option Refusal) →
     (if test then Some refusal else later) ≡ None →
     (test ≡ false) × (later ≡ None)
-passed true refusal later told = cc
-passed false refusal later told = (refl, told)
+passed true refusal later found = cc
+passed false refusal later found = (refl, found)
 
 both_passed : (first later : Option Refusal) → first_of first later ≡ None →
     (first ≡ None) × (later ≡ None)
-both_passed None later told = (refl, told)
-both_passed (Some refusal) later told = cc
+both_passed None later found = (refl, found)
+both_passed (Some refusal) later found = cc
 
 neither : (a b : Bool) → (a || b) ≡ false → (a ≡ false) × (b ≡ false)
 neither true b none = cc
@@ -58,20 +58,20 @@ read_fault-accepted journal entry accepted =
     let not_past : past ≡ false = below_limits _ _ (passed _ _ _ tests.1).0 in
     neither_test above past not_above not_past
 
-told_after : (keep : Option ℕ) (journal kept : Journal) (entry : Entry) (number : ℕ)
-    (told : Option Refusal) →
-    counting_rule_of keep journal entry ≡ told → (reply_if journal entry told).answer ≡ Ok number →
-    IsAlike kept (reply_if journal entry told).journal →
+answered_after : (keep : Option ℕ) (journal kept : Journal) (entry : Entry) (number : ℕ)
+    (found : Option Refusal) →
+    counting_rule_of keep journal entry ≡ found → (reply_if journal entry found).answer ≡ Ok number →
+    IsAlike kept (reply_if journal entry found).journal →
     read_fault kept Monotonic entry.reading ≡ None
-told_after keep journal kept entry number None accepted answered alike =
+answered_after keep journal kept entry number None accepted answered alike =
     read_fault-alike kept (followed_by journal entry) alike Monotonic entry.reading
     ∙ read_fault-accepted journal entry (passes_clock keep journal entry accepted)
-told_after keep journal kept entry number (Some refusal) refused answered alike = cc answered
+answered_after keep journal kept entry number (Some refusal) refused answered alike = cc answered
 
 -- the journal that is kept therefore gives the time for the line of an accepted command
 pub read_fault-replied : (keep : Option ℕ) (journal kept : Journal) (entry : Entry) (number : ℕ) →
     IsReplied (reply_by (counting_rule_of keep) journal entry) (Ok number) kept →
     read_fault kept Monotonic entry.reading ≡ None
 read_fault-replied keep journal kept entry number replied =
-    told_after keep journal kept entry number (counting_rule_of keep journal entry) refl replied.0
+    answered_after keep journal kept entry number (counting_rule_of keep journal entry) refl replied.0
     replied.1

@@ -61,31 +61,31 @@ below_end (negsuc less) nsec low start = absurd (omega (arith, ints))
 not_past : (above below : Bool) →
     (if above then Some Invalid else if not below then Some Range else None) ≡ None →
     below ≡ true
-not_past true below told = cc
-not_past false true told = refl
-not_past false false told = cc
+not_past true below known = cc
+not_past false true known = refl
+not_past false false known = cc
 
 -- the time of a read that is not refused can be written
 pub IsWritable-read : (journal : Journal) (clock : ClockId) (reading : ℕ) (time : Timespec) →
     read_fault journal clock reading ≡ None → IsTimeOf (clock_value journal clock reading) time →
     IsWritable time
-IsWritable-read journal clock reading time free told =
+IsWritable-read journal clock reading time free known =
     let value = clock_value journal clock reading in
     let low : int_lt value (limit clock) ≡ true = not_past _ _ free in
     let below = below-of value (limit clock) low in
     let most = limit_most clock in
-    let end = below_end time.sec time.nsec (omega (arith, ints, told.0, below, most)) told.2 in
-    (end.0, end.1, told.1)
+    let end = below_end time.sec time.nsec (omega (arith, ints, known.0, below, most)) known.2 in
+    (end.0, end.1, known.1)
 
 -- this time is the clock's time at the reading
 pub IsTimeAt-read : (journal : Journal) (clock : ClockId) (reading : ℕ) (time : Timespec) →
     IsTimeOf (clock_value journal clock reading) time → IsTimeAt journal clock reading time
-IsTimeAt-read journal clock reading time told =
-    IsTimeAt-nanoseconds journal clock reading time told.0 told.1 told.2
+IsTimeAt-read journal clock reading time known =
+    IsTimeAt-nanoseconds journal clock reading time known.0 known.1 known.2
 
 -- a read without a fault gives a time
 pub IsOk-read : (journal : Journal) (clock : ClockId) (reading : ℕ)
     (result : Result Timespec ReadError) →
     IsRead journal clock reading result → read_fault journal clock reading ≡ None → IsOk result
-IsOk-read journal clock reading (Ok time) told free = refl
-IsOk-read journal clock reading (Err error) told free = absurd (cc (sym told ∙ free))
+IsOk-read journal clock reading (Ok time) known free = refl
+IsOk-read journal clock reading (Err error) known free = absurd (cc (sym known ∙ free))

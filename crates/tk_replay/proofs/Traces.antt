@@ -18,8 +18,8 @@ use Rattle.tk_replay.specs.Trace.{AreReadToEnd, IsItemsFault, IsItemsText, IsTra
 -- a script that has a journal has no fault
 parsed : (read : Result Parse ScriptError) (journal : Journal) → journal_of read ≡ Ok journal →
     IsOk read
-parsed (Ok parse) journal told = refl
-parsed (Err error) journal told = cc
+parsed (Ok parse) journal known = refl
+parsed (Err error) journal known = cc
 
 -- an allocation failed, or the bytes have this fault
 abbrev pub MayFault : ClockId → List ℕ → List ℕ → Fault → Type 0
@@ -30,19 +30,19 @@ MayFault clock script stamps fault =
 pub MayFault-stamps : (clock : ClockId) (script stamps : List ℕ) (journal : Journal)
     (error : ScriptError) → journal_of (parse_of script) ≡ Ok journal →
     Fails error (stamps_of stamps) → MayFault clock script stamps (fault_of_stamps error)
-MayFault-stamps clock script stamps journal errors.Memory told fails = inl refl
-MayFault-stamps clock script stamps journal errors.TooLarge told fails =
-    inr (parsed (parse_of script) journal told, fails, λ e. cc e)
-MayFault-stamps clock script stamps journal errors.Empty told fails =
-    inr (parsed (parse_of script) journal told, fails, λ e. cc e)
-MayFault-stamps clock script stamps journal (errors.Opening row) told fails =
-    inr (parsed (parse_of script) journal told, fails, λ e. cc e)
-MayFault-stamps clock script stamps journal (errors.Word row) told fails =
-    inr (parsed (parse_of script) journal told, fails, λ e. cc e)
-MayFault-stamps clock script stamps journal (errors.Fields row) told fails =
-    inr (parsed (parse_of script) journal told, fails, λ e. cc e)
-MayFault-stamps clock script stamps journal (errors.Number row) told fails =
-    inr (parsed (parse_of script) journal told, fails, λ e. cc e)
+MayFault-stamps clock script stamps journal errors.Memory known fails = inl refl
+MayFault-stamps clock script stamps journal errors.TooLarge known fails =
+    inr (parsed (parse_of script) journal known, fails, λ e. cc e)
+MayFault-stamps clock script stamps journal errors.Empty known fails =
+    inr (parsed (parse_of script) journal known, fails, λ e. cc e)
+MayFault-stamps clock script stamps journal (errors.Opening row) known fails =
+    inr (parsed (parse_of script) journal known, fails, λ e. cc e)
+MayFault-stamps clock script stamps journal (errors.Word row) known fails =
+    inr (parsed (parse_of script) journal known, fails, λ e. cc e)
+MayFault-stamps clock script stamps journal (errors.Fields row) known fails =
+    inr (parsed (parse_of script) journal known, fails, λ e. cc e)
+MayFault-stamps clock script stamps journal (errors.Number row) known fails =
+    inr (parsed (parse_of script) journal known, fails, λ e. cc e)
 
 -- the result for the items is the result for the bytes that contain them
 pub trace-converted : {A : Type 0} (clock : ClockId) (script stamps : List ℕ) (journal : Journal)
@@ -53,13 +53,13 @@ pub trace-converted : {A : Type 0} (clock : ClockId) (script stamps : List ℕ) 
     × IsItemsFault clock journal items error)) →
     MatchResult result (λ text. IsTrace clock script stamps (text_of text))
     (MayFault clock script stamps)
-trace-converted clock script stamps journal items text_of (Ok text) told given came =
-    (journal, items, told, given, came)
-trace-converted clock script stamps journal items text_of (Err fault) told given (inl none) =
+trace-converted clock script stamps journal items text_of (Ok text) known given came =
+    (journal, items, known, given, came)
+trace-converted clock script stamps journal items text_of (Err fault) known given (inl none) =
     inl none
-trace-converted clock script stamps journal items text_of (Err fault) told given (inr came) =
+trace-converted clock script stamps journal items text_of (Err fault) known given (inr came) =
     let P : Fault → Type 0 = λ f. IsTraceFault clock script stamps f in
-    inr (subst P (sym came.1) (journal, items, told, given, came.2))
+    inr (subst P (sym came.1) (journal, items, known, given, came.2))
 
 -- a fault of the bytes that were read stopped the trace before it wrote anything
 pub stopped-before : (clock : ClockId) (unread left stamps_unread stamps_left : Option (List ℕ))
@@ -78,20 +78,20 @@ stopped-before clock u l su sl read write same out script stamps faults.Memory o
 stopped-before clock u l su sl read write same out script stamps (faults.Script error)
     one two (inl none) kept = absurd (cc none)
 stopped-before clock u l su sl read write same out script stamps (faults.Script error)
-    one two (inr told) kept = ((script, stamps, one, two, told), kept)
+    one two (inr known) kept = ((script, stamps, one, two, known), kept)
 stopped-before clock u l su sl read write same out script stamps (faults.Stamps error)
     one two (inl none) kept = absurd (cc none)
 stopped-before clock u l su sl read write same out script stamps (faults.Stamps error)
-    one two (inr told) kept = ((script, stamps, one, two, told), kept)
+    one two (inr known) kept = ((script, stamps, one, two, known), kept)
 stopped-before clock u l su sl read write same out script stamps (faults.Trace error)
     one two (inl none) kept = absurd (cc none)
 stopped-before clock u l su sl read write same out script stamps (faults.Trace error)
-    one two (inr told) kept = ((script, stamps, one, two, told), kept)
+    one two (inr known) kept = ((script, stamps, one, two, known), kept)
 stopped-before clock u l su sl read write same out script stamps faults.Read
     one two (inl none) kept = absurd (cc none)
 stopped-before clock u l su sl read write same out script stamps faults.Read
-    one two (inr told) kept = absurd told
+    one two (inr known) kept = absurd known
 stopped-before clock u l su sl read write same out script stamps (faults.Write written)
     one two (inl none) kept = absurd (cc none)
 stopped-before clock u l su sl read write same out script stamps (faults.Write written)
-    one two (inr told) kept = absurd told
+    one two (inr known) kept = absurd known

@@ -53,14 +53,14 @@ stamps = items_of ((0, 1000000000) ∷ (1, 1000000000) ∷ (2, 1000000001) ∷ [
 abbrev values : List ℕ
 values = 1000000000 ∷ 1000499963 ∷ 1000499964 ∷ []
 
-abbrev Told : ℕ → Type 0
-Told k = item_of steered Monotonic stamps.fronts stamps.stamps k ≡ Ok (pos (get_or values k 0))
+abbrev HasValue : ℕ → Type 0
+HasValue k = item_of steered Monotonic stamps.fronts stamps.stamps k ≡ Ok (pos (get_or values k 0))
 
-told : IsItemsText Monotonic steered stamps (codes "1000000000\n1000499963\n1000499964\n")
+all_items : IsItemsText Monotonic steered stamps (codes "1000000000\n1000499963\n1000499964\n")
 unfolding digits
-told =
-    let first = below_more Told 0 (below_none Told) refl in
-    (values, (refl, below_more Told 2 (below_more Told 1 first refl) refl), refl)
+all_items =
+    let first = below_more HasValue 0 (below_none HasValue) refl in
+    (values, (refl, below_more HasValue 2 (below_more HasValue 1 first refl) refl), refl)
 
 -- the text of no stamps is empty
 nothing : IsItemsText Monotonic steered (items_of []) []

@@ -17,25 +17,18 @@ fault_text (faults.Trace error) = trace_text error
 fault_text faults.Memory = Some (codes "out of memory")
 fault_text (faults.Write written) = Some (codes "cannot write")
 
--- the fault that an error of a script becomes; an allocation failure is a separate fault
-abbrev pub fault_of : ScriptError → Fault
-fault_of errors.Memory = faults.Memory
-fault_of errors.TooLarge = faults.Script errors.TooLarge
-fault_of errors.Empty = faults.Script errors.Empty
-fault_of (errors.Opening row) = faults.Script (errors.Opening row)
-fault_of (errors.Word row) = faults.Script (errors.Word row)
-fault_of (errors.Fields row) = faults.Script (errors.Fields row)
-fault_of (errors.Number row) = faults.Script (errors.Number row)
+-- the fault with this error of a text; an allocation failure is a separate fault
+abbrev pub fault_with : (ScriptError → Fault) → ScriptError → Fault
+fault_with of_text errors.Memory = faults.Memory
+fault_with of_text error = of_text error
 
--- the fault that an error of a stamp file becomes; an allocation failure is a separate fault
+-- the fault that an error of a script becomes
+abbrev pub fault_of : ScriptError → Fault
+fault_of error = fault_with faults.Script error
+
+-- the fault that an error of a stamp file becomes
 abbrev pub fault_of_stamps : ScriptError → Fault
-fault_of_stamps errors.Memory = faults.Memory
-fault_of_stamps errors.TooLarge = faults.Stamps errors.TooLarge
-fault_of_stamps errors.Empty = faults.Stamps errors.Empty
-fault_of_stamps (errors.Opening row) = faults.Stamps (errors.Opening row)
-fault_of_stamps (errors.Word row) = faults.Stamps (errors.Word row)
-fault_of_stamps (errors.Fields row) = faults.Stamps (errors.Fields row)
-fault_of_stamps (errors.Number row) = faults.Stamps (errors.Number row)
+fault_of_stamps error = fault_with faults.Stamps error
 
 -- the fault that an error of an item becomes; an allocation failure is a separate fault
 abbrev pub fault_of_trace : TraceError → Fault

@@ -1,5 +1,5 @@
 -- The report by a folded journal, compared with the report by a journal that lists every command.
-use Rattle.std.specs.Prelude.{◌≡◌, ℕ, ◌+◌, length, nat_le, Option, Some, None, Result, Ok, Err, if◌then◌else◌}
+use Rattle.std.specs.Prelude.{◌≡◌, ℕ, ◌+◌, ◌/◌, length, nat_le, Option, Some, None, Result, Ok, Err, if◌then◌else◌}
 use Rattle.tk_clock.specs.declared.refusal.Refusal.{Refusal}
 use Rattle.tk_clock.specs.declared.refusal.Refusal.TheVariants.{Full, Memory}
 use Rattle.tk_clock.specs.Folding.{IsAlike}
@@ -34,8 +34,8 @@ IsReplied reply (Err Memory) journal = Unit {0}
 IsReplied reply answer journal = (reply.answer ≡ answer) × IsAlike journal reply.journal
 
 -- the greatest number of entries that a folded journal keeps: half of the most that a journal lists
-abbrev pub greatest_keep : ℕ
-greatest_keep = 524288
+abbrev pub most_kept : ℕ
+most_kept = listed_most / 2
 
 -- the number of listed entries when a command is applied: a full journal is first folded to its
 -- last `keep` entries

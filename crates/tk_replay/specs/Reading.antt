@@ -1,22 +1,23 @@
 -- Reading an input to its end or to a limit, and the reasons why reading stops earlier.
-use Rattle.std.specs.Prelude.{◌≡◌, ℕ, ◌+◌, ◌≤◌, ◌^◌, List, length, Option, None, ◌⊎◌}
+use Rattle.std.specs.Prelude.{◌≡◌, ℕ, ◌+◌, ◌≤◌, List, length, Option, None, ◌⊎◌}
 use Rattle.std.specs.Io.KnownBytes.{Consumes, IsAtEnd}
+use Rattle.tk_script.specs.Records.{most_bytes}
 use Rattle.tk_replay.specs.declared.fault.Fault.{Fault}
 use Rattle.tk_replay.specs.declared.fault.Fault.TheVariants as faults
 
 -- the most bytes that are read from an input: one more than the largest script or stamp file
-abbrev pub reading_limit : ℕ
-reading_limit = 2 ^ 24 + 1
+abbrev pub most_read : ℕ
+most_read = most_bytes + 1
 
--- at most `reading_limit` bytes were read
+-- at most `most_read` bytes were read
 abbrev pub IsReadWithin : Option (List ℕ) → Option (List ℕ) → Type 0
-IsReadWithin old new = (bytes : List ℕ) × Consumes old new bytes × (length bytes ≤ reading_limit)
+IsReadWithin old new = (bytes : List ℕ) × Consumes old new bytes × (length bytes ≤ most_read)
 
--- exactly these bytes were read: all bytes of the input, or `reading_limit` of them
+-- exactly these bytes were read: all bytes of the input, or `most_read` of them
 abbrev pub IsReadToEnd : Option (List ℕ) → Option (List ℕ) → List ℕ → Type 0
 IsReadToEnd old new bytes =
-    Consumes old new bytes × (length bytes ≤ reading_limit)
-    × ((length bytes ≡ reading_limit) ⊎ IsAtEnd new)
+    Consumes old new bytes × (length bytes ≤ most_read)
+    × ((length bytes ≡ most_read) ⊎ IsAtEnd new)
 
 -- the last read failed, by the relation `read_gives` between each read and its result, and left the
 -- source in this state

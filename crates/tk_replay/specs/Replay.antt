@@ -47,12 +47,12 @@ CameTo IsText IsFault read contents write_gives flush_gives old new (Err fault) 
     IsStopped IsText IsFault read (WriteFailed write_gives flush_gives new) (new ≡ old)
     (IsWrittenUpTo (contents old) (contents new)) fault
 
--- the text that belongs to all bytes that were read from one input, by the relation `IsTold`
+-- the text that belongs to all bytes that were read from one input, by the relation `IsTextOf`
 -- between bytes and their text
 abbrev pub IsTextOfAll :
     (List ℕ → List ℕ → Type 0) → Option (List ℕ) → Option (List ℕ) → List ℕ → Type 0
-IsTextOfAll IsTold unread left text =
-    (bytes : List ℕ) × IsReadToEnd unread left bytes × IsTold bytes text
+IsTextOfAll IsTextOf unread left text =
+    (bytes : List ℕ) × IsReadToEnd unread left bytes × IsTextOf bytes text
 
 -- the fault of a script, in all bytes that were read from it; an allocation failure is none
 abbrev pub IsScriptFault : Option (List ℕ) → Option (List ℕ) → Fault → Type 0
@@ -65,13 +65,13 @@ IsScriptFault unread left (faults.Trace error) = ⊥
 IsScriptFault unread left faults.Memory = ⊥
 IsScriptFault unread left (faults.Write written) = ⊥
 
--- the result of a replay, by the relation `IsTold` between the bytes of a script and their report:
+-- the result of a replay, by the relation `IsTextOf` between the bytes of a script and their report:
 -- `unread` and `left` are the bytes that the reader had before and has after, and `read` states
 -- that its last read failed
 pub record IsReplayed
-    {W : Type 0} (IsTold : List ℕ → List ℕ → Type 0) (unread left : Option (List ℕ)) (read : Type 0)
+    {W : Type 0} (IsTextOf : List ℕ → List ℕ → Type 0) (unread left : Option (List ℕ)) (read : Type 0)
     (contents : W → Option (List ℕ)) (write_gives : W → List ℕ → Option ℕ → W → Type 0)
     (flush_gives : W → Bool → W → Type 0) (old new : W) (result : Result Unit Fault) : Type 0 where
   pub within : IsReadWithin unread left
-  pub came_to : CameTo (IsTextOfAll IsTold unread left) (IsScriptFault unread left) read
+  pub came_to : CameTo (IsTextOfAll IsTextOf unread left) (IsScriptFault unread left) read
       contents write_gives flush_gives old new result

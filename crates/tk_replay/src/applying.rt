@@ -5,7 +5,7 @@ ghost use Rattle.tk_clock.specs.Folding.{IsAlike};
 ghost use Rattle.tk_clock.specs.Journal.{accepted_count};
 ghost use Rattle.tk_clock.specs.Limits.{counted_most};
 ghost use Rattle.tk_clock.specs.Refusal.{clock_refusal};
-ghost use Rattle.tk_replay.specs.Folding.{IsReplied, counted_refusal, counting_rule_of, greatest_keep, listed_after, listed_then};
+ghost use Rattle.tk_replay.specs.Folding.{IsReplied, counted_refusal, counting_rule_of, most_kept, listed_after, listed_then};
 ghost use Rattle.tk_replay.specs.Report.{event, reply_by};
 
 use std::alloc::Allocator;
@@ -17,6 +17,9 @@ pub(crate) const CALLER: u32 = 0;
 
 /// The most commands that a journal lists.
 const LISTED_LIMIT: usize = 1_048_576;
+
+/// The greatest number of entries that a full journal is folded to: half of what it lists.
+pub const KEEP_LIMIT: u64 = LISTED_LIMIT as u64 / 2;
 
 /// The number of commands after which a report folds its own journal, which no line shows: small,
 /// so that the journal takes little memory.
@@ -33,7 +36,7 @@ pub(crate) fn apply<A: Allocator + Copy>(
     cmd: Command,
 ) -> Result<u64, Refusal>
     requires count { accepted_count keeper.old.journal < counted_most }
-    requires keep { ForSome keep (λ n. n ≤ greatest_keep) }
+    requires keep { ForSome keep (λ n. n ≤ most_kept) }
     ensures replied { IsReplied
         (reply_by (counting_rule_of keep) keeper.old.journal (event reading cmd))
         result keeper.new.journal }
@@ -83,7 +86,7 @@ fn apply_folding<A: Allocator + Copy>(
     cmd: Command,
 ) -> Result<u64, Refusal>
     requires count { accepted_count keeper.old.journal < counted_most }
-    requires keep { keep ≤ greatest_keep }
+    requires keep { keep ≤ most_kept }
     ensures replied { IsReplied (reply_by clock_refusal keeper.old.journal (event reading cmd))
         result keeper.new.journal }
     ensures listed { length keeper.new.journal.entries

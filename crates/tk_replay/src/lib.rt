@@ -9,12 +9,13 @@
 //! | `replay` | reads a script to its end and writes its report |
 //! | `replay_bounded` | does the same with `report_bounded` |
 //! | `replay_with` | does either, by an optional number of entries to keep |
+//! | `KEEP_LIMIT` | is the greatest number of entries to keep |
 //! | `trace` | reads a script and a stamp file, and writes a clock's value at each stamp |
 //! | `keeper_of`, `keeper_after` | return the clocks after all accepted commands of a script |
 //! | `convert` | makes the lines of stamps from a keeper's clocks |
 //! | `trace_all`, `trace_all_into` | convert lists of stamps on several threads; from `tk_pieces` |
 //! | `replay_all` | makes the reports of many scripts on several threads |
-//! | `MOST_WORKERS` | is the greatest number of workers |
+//! | `WORKERS_LIMIT` | is the greatest number of workers |
 //! | `ManyError` | says why `replay_all` made no reports |
 //! | `Gate`, `NoGate` | are called before and after each piece of `replay_all` and `race`; from `tk_race` |
 //! | `race`, `RaceReport`, `RaceError` | actors in threads on one keeper; from `tk_race` |
@@ -40,10 +41,11 @@ mod source;
 mod tracing;
 mod worklist;
 
+pub use applying::KEEP_LIMIT;
 pub use converting::convert;
 pub use fault::Fault;
 pub use journaling::{keeper_after, keeper_of};
-pub use many::{MOST_WORKERS, replay_all};
+pub use many::{WORKERS_LIMIT, replay_all};
 pub use many_error::ManyError;
 pub use replaying::{replay, replay_bounded, replay_with};
 pub use reporting::{report, report_bounded, report_rows};

@@ -14,7 +14,7 @@ use tk_race::Gate;
 use tk_script::ScriptError;
 
 /// The greatest number of workers.
-pub const MOST_WORKERS: usize = 64;
+pub const WORKERS_LIMIT: usize = 64;
 
 /// Makes the report of each script, as `report` does, on at most `workers` threads, and returns the
 /// results in the scripts' order.
@@ -41,7 +41,7 @@ pub fn replay_all<G: Gate + Sync, R: Threads + Wait + Sync>(
     ensures each { IfOk result (λ outcomes. AreOutcomes scripts.now outcomes.items) }
     ensures count { (result ≡ Err ManyError.Count) ↔ IsCountRefused workers }
 {
-    if workers == 0 || workers > MOST_WORKERS {
+    if workers == 0 || workers > WORKERS_LIMIT {
         return Err(ManyError::Count);
     }
     replay_shared::<Brand, G, R>(alloc, rt, scripts, workers, gate)

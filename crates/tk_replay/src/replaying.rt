@@ -1,6 +1,6 @@
 ghost use Rattle.std.specs.Prelude.{◌≤◌};
 ghost use Rattle.std.specs.Option.{ForSome};
-ghost use Rattle.tk_replay.specs.Folding.{greatest_keep, rule_of};
+ghost use Rattle.tk_replay.specs.Folding.{most_kept, rule_of};
 ghost use Rattle.tk_replay.specs.Reading.{ReadFailed};
 ghost use Rattle.tk_replay.specs.Report.{IsReport, IsReportBy, IsReportUnlimited};
 ghost use Rattle.tk_replay.specs.Replay.{IsReplayed};
@@ -49,7 +49,7 @@ pub fn replay_bounded<R: Source, W: Sink>(
     writer: &mut W,
     keep: u64,
 ) -> Result<(), Fault>
-    requires { (1 ≤ keep) × (keep ≤ greatest_keep) }
+    requires { (1 ≤ keep) × (keep ≤ most_kept) }
     ensures { IsReplayed IsReportUnlimited
         (R.Read.remaining reader.old) (R.Read.remaining reader.new)
         (ReadFailed R.Source.read_gives reader.new)
@@ -72,7 +72,7 @@ pub fn replay_with<R: Source, W: Sink>(
     writer: &mut W,
     keep: Option<u64>,
 ) -> Result<(), Fault>
-    requires { ForSome keep (λ n. n ≤ greatest_keep) }
+    requires { ForSome keep (λ n. n ≤ most_kept) }
     ensures { IsReplayed (IsReportBy (rule_of keep))
         (R.Read.remaining reader.old) (R.Read.remaining reader.new)
         (ReadFailed R.Source.read_gives reader.new)

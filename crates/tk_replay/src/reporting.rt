@@ -7,7 +7,7 @@ ghost use Rattle.tk_keeper.specs.Read.{read_fault};
 ghost use Rattle.tk_script.specs.Coming.{IsReady, coming};
 ghost use Rattle.tk_script.specs.Grammar.{Fails, parse_of};
 ghost use Rattle.tk_clock.specs.Folding.{IsAlike};
-ghost use Rattle.tk_replay.specs.Folding.{counting_rule_of, greatest_keep, rule_of};
+ghost use Rattle.tk_replay.specs.Folding.{counting_rule_of, most_kept, rule_of};
 ghost use Rattle.tk_replay.specs.Report.{IsLine, IsLookLine, IsReport, IsReportBy, IsReportOfRows, IsReportUnlimited, after, event, reply_by, reply_line};
 
 use crate::applying::apply;
@@ -44,7 +44,7 @@ pub fn report(alloc: Global, script: &[u8]) -> Result<Vec<u8>, ScriptError>
 ///
 /// Returns the same errors as `report`.
 pub fn report_bounded(alloc: Global, script: &[u8], keep: u64) -> Result<Vec<u8>, ScriptError>
-    requires { (1 ≤ keep) × (keep ≤ greatest_keep) }
+    requires { (1 ≤ keep) × (keep ≤ most_kept) }
     ensures { MatchResult result
         (λ text. IsReportUnlimited script.now text.items)
         (λ error. Fails error (parse_of script.now)) }
@@ -59,7 +59,7 @@ pub(crate) fn report_by(
     script: &[u8],
     keep: Option<u64>,
 ) -> Result<Vec<u8>, ScriptError>
-    requires { ForSome keep (λ n. n ≤ greatest_keep) }
+    requires { ForSome keep (λ n. n ≤ most_kept) }
     ensures { MatchResult result
         (λ text. IsReportBy (rule_of keep) script.now text.items)
         (λ error. Fails error (parse_of script.now)) }
@@ -85,7 +85,7 @@ pub fn report_rows<A: Allocator + Copy>(
 ) -> Result<Vec<u8, A>, ScriptError>
     requires opens { opening_refusal start.desc start.reading start.real ≡ None }
     requires ready { IsReady rows.old }
-    requires keep { ForSome keep (λ n. n ≤ greatest_keep) }
+    requires keep { ForSome keep (λ n. n ≤ most_kept) }
     ensures { MatchResult result
         (λ text. IsReportOfRows (counting_rule_of keep) start (coming rows.old) text.items)
         (λ error. Fails error (coming rows.old)) }
@@ -109,7 +109,7 @@ fn add_line<A: Allocator + Copy>(
     row: Row,
 ) -> Result<(), ScriptError>
     requires count { accepted_count keeper.old.journal < counted_most }
-    requires keep { ForSome keep (λ n. n ≤ greatest_keep) }
+    requires keep { ForSome keep (λ n. n ≤ most_kept) }
     ensures line { OnOk result ((line : List ℕ) × IsLine (counting_rule_of keep) keeper.old.journal row line
         × (text.new.items ≡ text.old.items ++ line)) }
     ensures after { OnOk result
@@ -132,7 +132,7 @@ fn add_reply<A: Allocator + Copy>(
     cmd: Command,
 ) -> Result<(), ScriptError>
     requires count { accepted_count keeper.old.journal < counted_most }
-    requires keep { ForSome keep (λ n. n ≤ greatest_keep) }
+    requires keep { ForSome keep (λ n. n ≤ most_kept) }
     ensures line { OnOk result (text.new.items ≡ text.old.items ++ reply_line reading
         (reply_by (counting_rule_of keep) keeper.old.journal (event reading cmd))) }
     ensures after { OnOk result (IsAlike keeper.new.journal

@@ -1,10 +1,11 @@
 ghost use Rattle.std.specs.Prelude.{◌≡◌, ℕ, ◌+◌, ◌≤◌, ◌<◌, Option, take, drop, length, IfOk, IfErr, IfSome, OnOk, MatchOption, vec_len};
 ghost use Rattle.std.specs.Io.KnownBytes.{Consumes, IsAtEnd, Keeps};
-ghost use Rattle.tk_replay.specs.Reading.{IsReadToEnd, IsReadWithin, ReadFailed, StopsReading, reading_limit};
+ghost use Rattle.tk_replay.specs.Reading.{IsReadToEnd, IsReadWithin, ReadFailed, StopsReading, most_read};
 
 use crate::fault::Fault;
 use std::alloc::{AllocError, Global};
 use std::io::Read;
+use tk_script::SIZE_LIMIT;
 
 /// A source of a script or a stamp file: any reader.
 ///
@@ -39,7 +40,7 @@ impl<R: Read> Source for R {
 }
 
 /// The most bytes that are ever read: one more than the largest script.
-const MOST: usize = 16_777_217;
+const READING_LIMIT: usize = SIZE_LIMIT + 1;
 
 /// The smallest growth of the buffer, in bytes.
 const LEAST_ROOM: usize = 65_536;
@@ -65,7 +66,7 @@ pub fn read_to_end<S: Source>(alloc: Global, source: &mut S) -> Result<Vec<u8>, 
 {
     let mut bytes = Vec::new(alloc);
     let mut filled = 0;
-    'reads: while filled < MOST {
+    'reads: while filled < READING_LIMIT {
         make_room(&mut bytes, filled)?;
         match read_at(source, bytes.as_mut_slice(), filled) {
             Some(0) => break 'reads,
@@ -77,21 +78,21 @@ pub fn read_to_end<S: Source>(alloc: Global, source: &mut S) -> Result<Vec<u8>, 
     Ok(bytes)
 }
 
-/// Grows a full buffer by a quarter, within the two bounds above, and up to `MOST`. The filled part
+/// Grows a full buffer by a quarter, within the two bounds above, and up to `READING_LIMIT`. The filled part
 /// stays.
 fn make_room(room: &mut Vec<u8>, filled: usize) -> Result<(), AllocError>
     requires within { filled ≤ vec_len room.old }
-    requires below { filled < reading_limit }
-    requires most { vec_len room.old ≤ reading_limit }
+    requires below { filled < most_read }
+    requires most { vec_len room.old ≤ most_read }
     ensures free { OnOk result (filled < vec_len room.new) }
-    ensures most { OnOk result (vec_len room.new ≤ reading_limit) }
+    ensures most { OnOk result (vec_len room.new ≤ most_read) }
     ensures kept { OnOk result (take filled room.new.items ≡ take filled room.old.items) }
 {
     if filled < room.len() {
         return Ok(());
     }
     let more = (filled / 4).clamp(LEAST_ROOM, GREATEST_ROOM);
-    room.resize((filled + more).min(MOST), 0)
+    room.resize((filled + more).min(READING_LIMIT), 0)
 }
 
 /// Reads once into the buffer from the index `at` on.

@@ -1,5 +1,5 @@
 -- The rows that a row reader has still to read, from one record to the next.
-use Rattle.std.proofs.Common.{◌≡◌, ◌∙◌, ◌≤◌, ◌+◌, ◌^◌, ℕ, zero, suc, List, [], ◌∷◌, length, Option, Some, None, IsSome, Bool, true, false, Result, Ok, Err, refl, sym, ap, arith, cond, ◌++◌, append_assoc}
+use Rattle.std.proofs.Common.{◌≡◌, ◌∙◌, ◌≤◌, ◌+◌, ℕ, zero, suc, List, [], ◌∷◌, length, Option, Some, None, IsSome, Bool, true, false, Result, Ok, Err, refl, sym, ap, arith, cond, ◌++◌, append_assoc}
 use Rattle.csv.specs.Machine.{Read, next_record}
 use Rattle.csv.specs.Reading.{default_config, is_bom, records_from, records_next, strip_bom}
 use Rattle.csv.specs.declared.parser.Config.{Config}
@@ -10,7 +10,7 @@ use Rattle.tk_script.specs.Field.{◌>>=◌}
 use Rattle.tk_script.specs.Grammar.{Fails, Parse, parse_records}
 use Rattle.tk_script.specs.Opening.{start_of}
 use Rattle.tk_script.specs.Cursor.{IsCursor, left_in}
-use Rattle.tk_script.specs.Records.{each, records_of}
+use Rattle.tk_script.specs.Records.{each, records_of, most_bytes}
 use Rattle.tk_script.specs.Rows.{row_of, rows_of}
 use Rattle.tk_script.specs.declared.opening.Start.{Start}
 use Rattle.tk_script.specs.declared.row.Row.{Row}
@@ -20,8 +20,8 @@ use Rattle.tk_script.specs.declared.script_error.ScriptError.TheVariants as erro
 
 -- rows, followed by the rows of a later reading, or the fault of that reading
 abbrev pub rows_and : List Row → Result (List Row) ScriptError → Result (List Row) ScriptError
-rows_and front (Ok later) = Ok (front ++ later)
-rows_and front (Err fault) = Err fault
+rows_and before (Ok later) = Ok (before ++ later)
+rows_and before (Err fault) = Err fault
 
 -- there are at most as many records as steps
 records_from-few : (cfg : Config) (n : ℕ) (s : State) (xs : List ℕ) →
@@ -82,7 +82,7 @@ records_left-left reader left e = rw e refl
 pub ready-open : (reader : RowReader) (bytes : List ℕ) (first : List (List ℕ))
     (left : List (List (List ℕ)))
     → IsCursor reader.records → left_in reader.records ≡ Some left → reader.row ≡ 2
-    → records_of bytes ≡ first ∷ left → length bytes ≤ 2 ^ 24 → IsReady reader
+    → records_of bytes ≡ first ∷ left → length bytes ≤ most_bytes → IsReady reader
 ready-open reader bytes first left reading e two split small =
     let few : length (records_of bytes) ≤ length bytes + 1 = records_of-few bytes in
     let one : length (records_of bytes) ≡ suc (length left) = ap length split in
@@ -95,17 +95,17 @@ pub parse-open : (reader : RowReader) (start : Start) (records left : List (List
     start_of first ≡ Ok start
     → parse_records records ≡ opened_with start (coming reader)
 unfolding parse_records
-parse-open reader start records left first e two split told =
-    rw (split, told, coming-left reader left e, two) (by (rows_of 2 left))
+parse-open reader start records left first e two split given =
+    rw (split, given, coming-left reader left e, two) (by (rows_of 2 left))
   where
     by : (rows : Result (List Row) ScriptError)
-        → (rows >>= λ told.
+        → (rows >>= λ given.
         Ok (record {
           counter = start.desc;
           reading = start.reading;
           real = start.real;
           rows =
-              told;
+              given;
         })) ≡ opened_with start rows
     by (Ok rows) = refl
     by (Err fault) = refl
@@ -123,8 +123,8 @@ pub coming-fault : (reader : RowReader) (left later : List (List (List ℕ))) (f
     → left_in reader.records ≡ Some left → left ≡ first ∷ later → row_of reader.row first ≡ Err fault
     → coming reader ≡ Err fault
 unfolding each
-coming-fault reader left later first fault e split told = coming-left reader left e
-    ∙ rw (split, told) refl
+coming-fault reader left later first fault e split given = coming-left reader left e
+    ∙ rw (split, given) refl
 
 -- the next record gives a row
 pub coming-row : (old new : RowReader) (left later : List (List (List ℕ))) (first : List (List ℕ))
@@ -133,12 +133,12 @@ pub coming-row : (old new : RowReader) (left later : List (List (List ℕ))) (fi
     → left_in new.records ≡ Some later → new.row ≡ old.row + 1 →
     coming old ≡ row_and row (coming new)
 unfolding each
-coming-row old new left later first row e split told rest next =
+coming-row old new left later first row e split given rest next =
     coming-left old left e
-    ∙ rw (split, told, coming-left new later rest, next) (by (rows_of (old.row + 1) later))
+    ∙ rw (split, given, coming-left new later rest, next) (by (rows_of (old.row + 1) later))
   where
     by : (rows : Result (List Row) ScriptError) →
-        (rows >>= λ told. Ok (row ∷ told)) ≡ row_and row rows
+        (rows >>= λ given. Ok (row ∷ given)) ≡ row_and row rows
     by (Ok rows) = refl
     by (Err fault) = refl
 
@@ -157,30 +157,30 @@ ready-row old new later ready one reading rest next =
     record { reading = reading; left = rw rest refl; count = omega (arith, ready.count, one, next) }
 
 -- appending a row that was read to the earlier rows leaves the result of the whole the same
-pub opened-row : (whole : Result Parse ScriptError) (start : Start) (front front' : List Row)
+pub opened-row : (whole : Result Parse ScriptError) (start : Start) (before before' : List Row)
     (row : Row) (old new : RowReader)
-    → whole ≡ opened_with start (rows_and front (coming old)) →
+    → whole ≡ opened_with start (rows_and before (coming old)) →
     coming old ≡ row_and row (coming new)
-    → front' ≡ front ++ row ∷ [] → whole ≡ opened_with start (rows_and front' (coming new))
-opened-row whole start front front' row old new told step e = told ∙ rw (step, e) (by (coming new))
+    → before' ≡ before ++ row ∷ [] → whole ≡ opened_with start (rows_and before' (coming new))
+opened-row whole start before before' row old new given step e = given ∙ rw (step, e) (by (coming new))
   where
     by : (rows : Result (List Row) ScriptError)
-        → opened_with start (rows_and front (row_and row rows))
-        ≡ opened_with start (rows_and (front ++ row ∷ []) rows)
+        → opened_with start (rows_and before (row_and row rows))
+        ≡ opened_with start (rows_and (before ++ row ∷ []) rows)
     by (Ok rows) =
         ap (λ (all : List Row). opened_with start (Ok all))
-        (sym (append_assoc front (row ∷ []) rows))
+        (sym (append_assoc before (row ∷ []) rows))
     by (Err fault) = refl
 
 -- a fault of the rows to come is the fault of the whole script
-pub opened-fault : (whole : Result Parse ScriptError) (start : Start) (front : List Row)
+pub opened-fault : (whole : Result Parse ScriptError) (start : Start) (before : List Row)
     (reader : RowReader) (fault : ScriptError)
-    → whole ≡ opened_with start (rows_and front (coming reader)) → Fails fault (coming reader) →
+    → whole ≡ opened_with start (rows_and before (coming reader)) → Fails fault (coming reader) →
     Fails fault whole
-opened-fault whole start front reader errors.Memory told fails = tt
-opened-fault whole start front reader errors.TooLarge told fails = told ∙ rw fails refl
-opened-fault whole start front reader errors.Empty told fails = told ∙ rw fails refl
-opened-fault whole start front reader (errors.Opening row) told fails = told ∙ rw fails refl
-opened-fault whole start front reader (errors.Word row) told fails = told ∙ rw fails refl
-opened-fault whole start front reader (errors.Fields row) told fails = told ∙ rw fails refl
-opened-fault whole start front reader (errors.Number row) told fails = told ∙ rw fails refl
+opened-fault whole start before reader errors.Memory given fails = tt
+opened-fault whole start before reader errors.TooLarge given fails = given ∙ rw fails refl
+opened-fault whole start before reader errors.Empty given fails = given ∙ rw fails refl
+opened-fault whole start before reader (errors.Opening row) given fails = given ∙ rw fails refl
+opened-fault whole start before reader (errors.Word row) given fails = given ∙ rw fails refl
+opened-fault whole start before reader (errors.Fields row) given fails = given ∙ rw fails refl
+opened-fault whole start before reader (errors.Number row) given fails = given ∙ rw fails refl

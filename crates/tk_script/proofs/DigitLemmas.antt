@@ -9,7 +9,7 @@ decimal-marked n low =
     let marked = 10 ^ 9 + n in
     let last : marked % 10000 ≡ n % 10000 = omega arith in
     let middle : marked / 10000 % 10000 ≡ n / 10000 % 10000 = omega arith in
-    let front : marked / 10000 / 10000 ≡ 10 + n / 100000000 = omega arith in
+    let high : marked / 10000 / 10000 ≡ 10 + n / 100000000 = omega arith in
     let mark : (10 + n / 100000000) / 10 ≡ 1 = omega arith in
     let first : (10 + n / 100000000) % 10 ≡ n / 100000000 = omega arith in
     rw (
@@ -17,7 +17,7 @@ decimal-marked n low =
       decimal_four (marked / 10000) (omega arith) (omega arith),
       last,
       middle,
-      front,
+      high,
       decimal_two (10 + n / 100000000) (omega arith) (omega arith),
       mark,
       first,
@@ -26,19 +26,19 @@ decimal-marked n low =
 -- if such a number is in bytes, its first digit is within them
 pub marked-within : (bytes rest : List ℕ) (start n : ℕ) → n < 10 ^ 9 →
     drop start bytes ≡ decimal (10 ^ 9 + n) ++ rest → start < length bytes
-marked-within bytes rest start n low told =
+marked-within bytes rest start n low written =
     let marked : drop start bytes ≡ 49 ∷ nine_digits n ++ rest =
-    told ∙ ap (λ (digits : List ℕ). digits ++ rest) (decimal-marked n low) in
+    written ∙ ap (λ (digits : List ℕ). digits ++ rest) (decimal-marked n low) in
     omega (arith, ap length marked, length-drop start bytes)
 
 -- if another byte replaces the first digit, the nine digits after it stay
 pub marked-replaced : (bytes rest : List ℕ) (start n byte : ℕ) → n < 10 ^ 9 →
     drop start bytes ≡ decimal (10 ^ 9 + n) ++ rest →
     drop start (set bytes start byte) ≡ byte ∷ nine_digits n ++ rest
-marked-replaced bytes rest start n byte low told =
-    let within = marked-within bytes rest start n low told in
+marked-replaced bytes rest start n byte low written =
+    let within = marked-within bytes rest start n low written in
     let marked : drop start bytes ≡ 49 ∷ nine_digits n ++ rest =
-    told ∙ ap (λ (digits : List ℕ). digits ++ rest) (decimal-marked n low) in
+    written ∙ ap (λ (digits : List ℕ). digits ++ rest) (decimal-marked n low) in
     let parts : drop start bytes ≡ get_or bytes start 0 ∷ drop (start + 1) bytes =
     rw add-one (drop-cons bytes start 0 within) in
     let later : drop (start + 1) bytes ≡ nine_digits n ++ rest =

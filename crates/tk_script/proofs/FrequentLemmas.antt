@@ -11,7 +11,7 @@ use Rattle.memchr.specs.Find.{is_byte, is_byte2}
 use Rattle.tk_clock.specs.declared.clock_id.ClockId.{ClockId}
 use Rattle.tk_clock.specs.declared.command.Command.TheVariants.{Update}
 use Rattle.tk_script.specs.Number.{number_of}
-use Rattle.tk_script.specs.Plain.{EndsLine, FrontTells, Lacks, cut_at_commas, cut_behind}
+use Rattle.tk_script.specs.Plain.{EndsLine, FirstLineGives, Lacks, cut_at_commas, cut_after}
 use Rattle.tk_script.specs.Rows.{look_of, plain_of, row_of}
 use Rattle.tk_script.specs.Stamps.{stamp_of}
 use Rattle.tk_script.specs.Word.{clock_of}
@@ -64,14 +64,14 @@ update-row n reading digits e = rw e refl
 
 update-cut : (digits : List ℕ) → Lacks (is_byte 44) digits →
     cut_at_commas (codes "update," ++ digits) ≡ codes "update" ∷ digits ∷ []
-unfolding cut_behind
+unfolding cut_after
 update-cut digits whole = ap (λ (fs : List (List ℕ)). codes "update" ∷ fs)
     (cut-whole [] digits whole)
 
-pub front-update : (text rest end digits : List ℕ) (reading : ℕ)
+pub first-update : (text rest end digits : List ℕ) (reading : ℕ)
     → text ≡ codes "update," ++ (digits ++ end) → number_of digits ≡ Some reading →
-    EndsLine end rest → FrontTells row_of text (Act reading Update) rest
-front-update text rest end digits reading split number ends = (
+    EndsLine end rest → FirstLineGives row_of text (Act reading Update) rest
+first-update text rest end digits reading split number ends = (
   codes "update," ++ digits,
   (omega arith, number-lacks 10 digits reading refl number, (end, split, ends)),
   λ n. ap (row_of n) (update-cut digits (number-lacks 44 digits reading refl number))
@@ -87,18 +87,18 @@ look-row n reading digits word clock e f = rw (e, f) refl
 
 look-cut : (digits word : List ℕ) → Lacks (is_byte 44) digits → Lacks (is_byte 44) word →
     cut_at_commas (codes "get," ++ (digits ++ 44 ∷ word)) ≡ codes "get" ∷ digits ∷ word ∷ []
-unfolding cut_behind
+unfolding cut_after
 look-cut digits word whole whole' =
     ap (λ (fs : List (List ℕ)). codes "get" ∷ fs)
     (cut-first [] digits word whole
     ∙ ap (λ (fs : List (List ℕ)). digits ∷ fs) (cut-whole [] word whole'))
 
-pub front-look : (text rest end digits word : List ℕ) (reading : ℕ) (clock : ClockId)
+pub first-look : (text rest end digits word : List ℕ) (reading : ℕ) (clock : ClockId)
     → text ≡ codes "get," ++ (digits ++ (codes "," ++ (word ++ end))) →
     number_of digits ≡ Some reading → clock_of word ≡ Some clock →
     Lacks (is_byte2 44 10) word → EndsLine end rest →
-    FrontTells row_of text (Look reading clock) rest
-front-look text rest end digits word reading clock split number told whole ends =
+    FirstLineGives row_of text (Look reading clock) rest
+first-look text rest end digits word reading clock split number named whole ends =
     let lacks = lacks-either 44 10 word whole in
     let feeds : Lacks (is_byte 10) (digits ++ 44 ∷ word) =
     list_any-append (is_byte 10) digits (44 ∷ word)
@@ -116,7 +116,7 @@ front-look text rest end digits word reading clock split number told whole ends 
       ),
       λ n. ap (row_of n)
           (look-cut digits word (number-lacks 44 digits reading refl number) lacks.0)
-          ∙ look-row n reading digits word clock number told,
+          ∙ look-row n reading digits word clock number named,
     )
 
 -- the item in a record of a stamp file
@@ -126,11 +126,11 @@ stamp-row : (n front stamp : ℕ) (digits more : List ℕ) →
 unfolding stamp_of field_at
 stamp-row n front stamp digits more e f = rw (e, f) refl
 
-pub front-stamp : (text rest end digits more : List ℕ) (front stamp : ℕ)
+pub first-stamp : (text rest end digits more : List ℕ) (front stamp : ℕ)
     → text ≡ digits ++ (codes "," ++ (more ++ end)) →
     number_of digits ≡ Some front → number_of more ≡ Some stamp → EndsLine end rest →
-    FrontTells stamp_of text (front, stamp) rest
-front-stamp text rest end digits more front stamp split number number' ends =
+    FirstLineGives stamp_of text (front, stamp) rest
+first-stamp text rest end digits more front stamp split number number' ends =
     let feeds : Lacks (is_byte 10) (digits ++ 44 ∷ more) =
     list_any-append (is_byte 10) digits (44 ∷ more)
     ∙ rw (number-lacks 10 digits front refl number, number-lacks 10 more stamp refl number') refl in

@@ -1,8 +1,8 @@
 -- The result for a whole script, from the results for its parts.
-use Rattle.std.proofs.Common.{◌≡◌, ◌<◌, ◌≤◌, ◌^◌, ℕ, List, [], ◌∷◌, length, nat_lt, Result, Err, true, false, refl, arith}
+use Rattle.std.proofs.Common.{◌≡◌, ◌<◌, ◌≤◌, ℕ, List, [], ◌∷◌, length, nat_lt, Result, Err, true, false, refl, arith}
 use Rattle.std.proofs.lemmas.Grind.{common_steps}
 use Rattle.tk_script.specs.Opening.{start_of}
-use Rattle.tk_script.specs.Records.{records_of}
+use Rattle.tk_script.specs.Records.{records_of, most_bytes}
 use Rattle.tk_script.specs.Grammar.{parse_of, parse_records, Fails}
 use Rattle.tk_script.specs.declared.script_error.ScriptError.{ScriptError}
 use Rattle.tk_script.specs.declared.script_error.ScriptError.TheVariants as errors
@@ -19,16 +19,16 @@ fails-from (errors.Fields row) read h = h
 fails-from (errors.Number row) read h = h
 
 -- a script with too many bytes
-pub parse-large : (bytes : List ℕ) → 2 ^ 24 < length bytes → parse_of bytes ≡ Err errors.TooLarge
+pub parse-large : (bytes : List ℕ) → most_bytes < length bytes → parse_of bytes ≡ Err errors.TooLarge
 unfolding parse_of
-parse-large bytes h = let big : nat_lt (2 ^ 24) (length bytes) ≡ true = grind (arith, common_steps)
+parse-large bytes h = let big : nat_lt most_bytes (length bytes) ≡ true = grind (arith, common_steps)
     in rw big refl
 
 -- a script with at most 16,777,216 bytes
-pub parse-small : (bytes : List ℕ) → length bytes ≤ 2 ^ 24 →
+pub parse-small : (bytes : List ℕ) → length bytes ≤ most_bytes →
     parse_of bytes ≡ parse_records (records_of bytes)
 unfolding parse_of
-parse-small bytes h = let small : nat_lt (2 ^ 24) (length bytes) ≡ false =
+parse-small bytes h = let small : nat_lt most_bytes (length bytes) ≡ false =
     grind (arith, common_steps) in rw small refl
 
 -- a script without a record

@@ -1,9 +1,9 @@
--- The front of a list that grew twice.
+-- The beginning of a list that grew twice.
 use Rattle.std.proofs.Common.{◌≡◌, ◌∙◌, ℕ, List, ◌++◌, length, take, drop, sym, ap}
 use Rattle.std.proofs.Math.Seq.{take-append_seam}
 use Rattle.std.proofs.lemmas.List.{append_assoc, take-append-drop}
 
--- the front from before the first growth is still the front after the second one
+-- the beginning from before the first growth is still there after the second one
 pub take-before : (old mid new more : List ℕ) → mid ≡ old ++ more → take (length mid) new ≡ mid →
     take (length old) new ≡ old
 take-before old mid new more e h =

@@ -1,4 +1,4 @@
--- The number at the front of a text.
+-- The number at the beginning of a text.
 use Rattle.std.proofs.Common.{◌≡◌, ◌∙◌, ◌++◌, ◌<◌, ◌≤◌, ◌^◌, ◌-◌, ℕ, List, length, take, drop, true, false, Some, refl, sym, ap, arith}
 use Rattle.std.specs.Prelude.{◌==◌, nat_le}
 use Rattle.std.specs.Char.{is_ascii_digit}
@@ -19,18 +19,18 @@ number-digits digits value some all same small =
     rw (long, all, fits, same) refl
 
 -- the digits among the first bytes of a text
-pub number-front : (text : List ℕ) (most k value : ℕ) → k ≤ length (take most text) →
+pub number-leading : (text : List ℕ) (most k value : ℕ) → k ≤ length (take most text) →
     (k ≡ 0 → ⊥) → value ≡ digits_value 10 (take k (take most text)) →
     list_all is_ascii_digit (take k (take most text)) ≡ true → value < 2 ^ 64
     → (digits : List ℕ) × (text ≡ digits ++ take (length text - k) (drop k text))
     × (number_of digits ≡ Some value)
-number-front text most k value inside some same all small =
-    let front : take k text ≡ take k (take most text) =
+number-leading text most k value inside some same all small =
+    let head : take k text ≡ take k (take most text) =
     ap (take k) (sym (take-append-drop most text))
     ∙ take-append-le k (take most text) (drop most text) inside in
     let digits = take k (take most text) in
     let long : 0 < length digits = omega (arith, length-take k (take most text)) in (
       digits,
-      rw (range-to_end k text, ← front) (sym (take-append-drop k text)),
+      rw (range-to_end k text, ← head) (sym (take-append-drop k text)),
       number-digits digits value long all same small,
     )

@@ -12,7 +12,7 @@ use Rattle.csv.specs.Reading.{default_config, strip_bom}
 use Rattle.csv.specs.declared.parser.State.TheVariants as st
 use Rattle.csv.specs.Records.{field_at}
 use Rattle.memchr.specs.Find.{IsFirstByte, is_byte, is_byte2}
-use Rattle.tk_script.specs.Plain.{IsFront, IsPlain, Lacks, cut_at_commas, cut_behind}
+use Rattle.tk_script.specs.Plain.{IsFirstLine, IsPlain, Lacks, cut_at_commas, cut_after}
 
 -- the record of a line, and the text that is left after it
 abbrev pub record_of_line : List ℕ → List ℕ → Read
@@ -30,12 +30,12 @@ not-true false wrong = refl
 pub lacks-more : (a b : ℕ) (text : List ℕ) (i : ℕ) → i < length text
     → Lacks (is_byte2 a b) (take i text) → (slice_index text i ≡ a → ⊥) →
     (slice_index text i ≡ b → ⊥) → Lacks (is_byte2 a b) (take (i + 1) text)
-lacks-more a b text i inside front other other' =
+lacks-more a b text i inside head other other' =
     let byte = slice_index text i in
     let first : (byte == a) ≡ false = not-true (byte == a) (λ same. other (eqb-true byte a same)) in
     let second : (byte == b) ≡ false =
     not-true (byte == b) (λ same. other' (eqb-true byte b same)) in
-    list_any_more (is_byte2 a b) text i 0 inside ∙ rw (front, first, second) refl
+    list_any_more (is_byte2 a b) text i 0 inside ∙ rw (head, first, second) refl
 
 -- the first byte of a plain text, and the others
 plain-byte : (c : ℕ) (rest : List ℕ) → IsPlain (c ∷ rest) →
@@ -60,11 +60,11 @@ pub lacks-take : (test : ℕ → Bool) (xs : List ℕ) (n : ℕ) → n ≤ lengt
     ((k : ℕ) → k < n → test (slice_index xs k) ≡ true → ⊥) → Lacks test (take n xs)
 lacks-take test xs zero h none = refl
 lacks-take test xs (suc n) h none =
-    let front : Lacks test (take n xs) = lacks-take test xs n (omega arith)
+    let head : Lacks test (take n xs) = lacks-take test xs n (omega arith)
     (λ k less. none k (omega arith)) in
     let last = not-true (test (slice_index xs n)) (none n (omega arith)) in
     let one : suc n ≡ n + 1 = omega arith in
-    rw one (list_any_more test xs n 0 (omega arith) ∙ rw (front, last) refl)
+    rw one (list_any_more test xs n 0 (omega arith) ∙ rw (head, last) refl)
 
 -- at the start of a field, a plain text is read as within the field
 start-field : (fields : List (List ℕ)) (field text : List ℕ) → IsPlain text
@@ -81,8 +81,8 @@ rest-of-line : (fields : List (List ℕ)) (field line end rest : List ℕ)
     → ((fs : List (List ℕ)) (f : List ℕ) → next_record default_config st.InField fs f end
     ≡ Some (fs ++ f ∷ [], st.StartRecord, rest))
     → next_record default_config st.InField fields field (line ++ end)
-    ≡ Some (fields ++ cut_behind field line, st.StartRecord, rest)
-unfolding next_record cut_behind
+    ≡ Some (fields ++ cut_after field line, st.StartRecord, rest)
+unfolding next_record cut_after
 rest-of-line fields field [] end rest plain whole ends = ends fields field
 rest-of-line fields field (c ∷ line) end rest plain whole ends =
     let marks = plain-byte c (line ++ end) plain in
@@ -93,7 +93,7 @@ rest-of-line fields field (c ∷ line) end rest plain whole ends =
           start-field (fields ++ field ∷ []) [] (line ++ end) marks.1
           ∙ rest-of-line (fields ++ field ∷ []) [] line end rest marks.1 feed.1 ends
           ∙ ap (λ (fs : List (List ℕ)). Some (fs, st.StartRecord, rest))
-          (append_assoc fields (field ∷ []) (cut_behind [] line)))
+          (append_assoc fields (field ∷ []) (cut_after [] line)))
       | inr other ↦
           rw (other, marks.0.1, feed.0)
           (rest-of-line fields (field ++ c ∷ []) line end rest marks.1 feed.1 ends)
@@ -111,7 +111,7 @@ ends-text : (fs : List (List ℕ)) (f : List ℕ)
 unfolding next_record
 ends-text fs f = refl
 
--- the line at the front of a plain text is its first record
+-- the first line of a plain text is its first record
 at-start : (line end rest : List ℕ) → 0 < length line → IsPlain (line ++ end) →
     Lacks (is_byte 10) line
     → ((fs : List (List ℕ)) (f : List ℕ) → next_record default_config st.InField fs f end
@@ -125,15 +125,15 @@ at-start (c ∷ line) end rest some plain whole ends =
     ∙ start-field [] [] (c ∷ line ++ end) plain
     ∙ rest-of-line [] [] (c ∷ line) end rest plain whole ends
 
-pub front-record : (text line rest : List ℕ) → IsPlain text → IsFront text line rest
+pub first-record : (text line rest : List ℕ) → IsPlain text → IsFirstLine text line rest
     → (next_record default_config st.StartRecord [] [] text ≡ Some (record_of_line line rest))
     × IsPlain rest
-front-record text line rest plain (some, whole, (end, split, inl feed)) =
+first-record text line rest plain (some, whole, (end, split, inl feed)) =
     let all : text ≡ line ++ 10 ∷ rest = split ∙ ap (λ (e : List ℕ). line ++ e) feed in
     let plain' : IsPlain (line ++ 10 ∷ rest) = rw all at plain in
     let tail = (lacks-parts (is_byte2 34 13) line (10 ∷ rest) plain').1 in
     (rw all (at-start line (10 ∷ rest) rest some plain' whole (ends-feed rest)), tail)
-front-record text line rest plain (some, whole, (end, split, inr (last, none))) =
+first-record text line rest plain (some, whole, (end, split, inr (last, none))) =
     let all : text ≡ line ++ [] = split ∙ ap (λ (e : List ℕ). line ++ e) last in
     let plain' : IsPlain (line ++ []) = rw all at plain in
     (rw (all, none) (at-start line [] [] some plain' whole ends-text), rw none refl)
@@ -147,8 +147,8 @@ empty-line rest = refl
 
 -- a line without commas is a single field
 pub cut-whole : (field line : List ℕ) → Lacks (is_byte 44) line →
-    cut_behind field line ≡ (field ++ line) ∷ []
-unfolding cut_behind
+    cut_after field line ≡ (field ++ line) ∷ []
+unfolding cut_after
 cut-whole field [] whole = rw (append-nil field) refl
 cut-whole field (c ∷ line) whole =
     let parts = whole-byte 44 c line whole in
@@ -157,8 +157,8 @@ cut-whole field (c ∷ line) whole =
 
 -- the first comma ends the first field
 pub cut-first : (field line rest : List ℕ) → Lacks (is_byte 44) line →
-    cut_behind field (line ++ 44 ∷ rest) ≡ (field ++ line) ∷ cut_at_commas rest
-unfolding cut_behind
+    cut_after field (line ++ 44 ∷ rest) ≡ (field ++ line) ∷ cut_at_commas rest
+unfolding cut_after
 cut-first field [] rest whole = rw (append-nil field) refl
 cut-first field (c ∷ line) rest whole =
     let parts = whole-byte 44 c line whole in
@@ -167,8 +167,8 @@ cut-first field (c ∷ line) rest whole =
 
 -- the number of fields does not depend on the bytes that were read before
 pub cut-length : (field other line : List ℕ) →
-    length (cut_behind field line) ≡ length (cut_behind other line)
-unfolding cut_behind
+    length (cut_after field line) ≡ length (cut_after other line)
+unfolding cut_after
 cut-length field other [] = refl
 cut-length field other (c ∷ line) = elim (cases_Bool (c == 44)) [
   | inl comma ↦ rw comma refl
@@ -215,20 +215,20 @@ found-none test text none =
     (λ k less passes. none k (omega arith) less passes))
 
 -- the fields after the first comma
-pub field-next : (line front rest : List ℕ) (left : ℕ) → line ≡ front ++ 44 ∷ rest →
-    Lacks (is_byte 44) front → 0 < left →
+pub field-next : (line head rest : List ℕ) (left : ℕ) → line ≡ head ++ 44 ∷ rest →
+    Lacks (is_byte 44) head → 0 < left →
     field_at (cut_at_commas line) left ≡ field_at (cut_at_commas rest) (left - 1)
 unfolding field_at
-field-next line front rest zero split whole some = absurd (omega arith)
-field-next line front rest (suc n) split whole some =
+field-next line head rest zero split whole some = absurd (omega arith)
+field-next line head rest (suc n) split whole some =
     let less : suc n - 1 ≡ n = omega arith in
-    rw (less, split, cut-first [] front rest whole) refl
+    rw (less, split, cut-first [] head rest whole) refl
 
 -- the field before the first comma
-pub field-first : (line front rest : List ℕ) → line ≡ front ++ 44 ∷ rest →
-    Lacks (is_byte 44) front → field_at (cut_at_commas line) 0 ≡ Some front
+pub field-first : (line head rest : List ℕ) → line ≡ head ++ 44 ∷ rest →
+    Lacks (is_byte 44) head → field_at (cut_at_commas line) 0 ≡ Some head
 unfolding field_at
-field-first line front rest split whole = rw (split, cut-first [] front rest whole) refl
+field-first line head rest split whole = rw (split, cut-first [] head rest whole) refl
 
 -- the one field of a line without commas
 pub field-only : (line : List ℕ) → Lacks (is_byte 44) line →
@@ -244,15 +244,15 @@ field-past line (suc n) whole some = rw (cut-whole [] line whole) refl
 
 -- a comma ends a field, and no other byte does
 pub cut-comma : (line : List ℕ) (i : ℕ) → i < length line → slice_index line i ≡ 44
-    → length (cut_behind [] (drop i line)) ≡ 1 + length (cut_behind [] (drop (i + 1) line))
-unfolding cut_behind
+    → length (cut_after [] (drop i line)) ≡ 1 + length (cut_after [] (drop (i + 1) line))
+unfolding cut_after
 cut-comma line i inside comma =
     let rest : drop i line ≡ 44 ∷ drop (i + 1) line = byte-first line i 44 inside comma in
     rw rest (omega arith)
 
 pub cut-other : (line : List ℕ) (i : ℕ) → i < length line → (slice_index line i ≡ 44 → ⊥)
-    → length (cut_behind [] (drop i line)) ≡ length (cut_behind [] (drop (i + 1) line))
-unfolding cut_behind
+    → length (cut_after [] (drop i line)) ≡ length (cut_after [] (drop (i + 1) line))
+unfolding cut_after
 cut-other line i inside other =
     let byte = slice_index line i in
     let rest : drop i line ≡ byte ∷ drop (i + 1) line = byte-first line i byte inside refl in
@@ -261,8 +261,8 @@ cut-other line i inside other =
     rw (rest, no_comma) (cut-length (byte ∷ []) [] (drop (i + 1) line))
 
 pub cut-end : (line : List ℕ) (i : ℕ) → length line ≤ i →
-    length (cut_behind [] (drop i line)) ≡ 1
-unfolding cut_behind
+    length (cut_after [] (drop i line)) ≡ 1
+unfolding cut_after
 cut-end line i past = rw (drop_all i line past) refl
 
 -- one more empty line
@@ -312,9 +312,9 @@ first-ended text rest end same plain other first =
     let feed : slice_index rest end ≡ 10 = eqb-true (slice_index rest end) 10 first.1 in
     let some : 0 < end = not-first rest end feed (other (omega arith)) in
     let long : 0 < length (take end rest) = omega (arith, length-take end rest) in
-    let front = front-record rest (take end rest) (drop (end + 1) rest) plain
+    let head = first-record rest (take end rest) (drop (end + 1) rest) plain
     (long, found.2, (10 ∷ drop (end + 1) rest, found.1, inl refl)) in
-    rw (range-to_end (end + 1) rest) (sym same ∙ front.0, front.1)
+    rw (range-to_end (end + 1) rest) (sym same ∙ head.0, head.1)
   where
     not-first : (rest : List ℕ) (end : ℕ) → slice_index rest end ≡ 10 →
         (slice_index rest 0 ≡ 10 → ⊥) → 0 < end
@@ -328,5 +328,5 @@ pub first-last : (text rest : List ℕ)
     → IsPlain rest → 0 < length rest → IsFirstByte (is_byte 10) rest None
     → next_record default_config st.StartRecord [] [] text ≡ Some (record_of_line rest [])
 first-last text rest same plain some none =
-    sym same ∙ (front-record rest rest [] plain
+    sym same ∙ (first-record rest rest [] plain
     (some, found-none (is_byte 10) rest none, ([], sym (append-nil rest), inr (refl, refl)))).0

@@ -1,11 +1,11 @@
 -- The items of a stamp file, read one after the other.
-use Rattle.std.proofs.Common.{◌≡◌, ◌<◌, ◌≤◌, ◌∙◌, ◌+◌, ◌++◌, ◌^◌, ℕ, List, [], ◌∷◌, length, map, nat_lt, Ok, Err, true, false, inl, inr, refl, sym, ap, arith}
+use Rattle.std.proofs.Common.{◌≡◌, ◌<◌, ◌≤◌, ◌∙◌, ◌+◌, ◌++◌, ℕ, List, [], ◌∷◌, length, map, nat_lt, Ok, Err, true, false, inl, inr, refl, sym, ap, arith}
 use Rattle.std.proofs.lemmas.Grind.{common_steps}
 use Rattle.std.proofs.lemmas.List.{map_push, length_push}
 use Rattle.tk_script.specs.Cursor.{NextFails}
 use Rattle.tk_script.specs.Grammar.{Fails}
-use Rattle.tk_script.specs.Records.{each, records_of}
-use Rattle.tk_script.specs.Stamps.{Items, items_of, stamp_of, stamps_of, told}
+use Rattle.tk_script.specs.Records.{each, records_of, most_bytes}
+use Rattle.tk_script.specs.Stamps.{Items, items_of, stamp_of, stamps_of, items_in}
 use Rattle.tk_script.specs.declared.script_error.ScriptError.{ScriptError}
 use Rattle.tk_script.specs.declared.script_error.ScriptError.TheVariants as errors
 use Rattle.tk_script.proofs.EachLemmas.{Goes, goes-fault}
@@ -32,34 +32,34 @@ items-more pairs fronts stamps fronts' stamps' p e f g =
     rw (more, more') refl
 
 -- all records were read
-pub told-all : (records : List (List (List ℕ))) (pairs : List (ℕ × ℕ)) (items : Items)
-    → each stamp_of 1 records ≡ Ok pairs → items_of pairs ≡ items → told 1 records ≡ Ok items
-told-all records pairs items e f = rw e (ap Ok f)
+pub items-all : (records : List (List (List ℕ))) (pairs : List (ℕ × ℕ)) (items : Items)
+    → each stamp_of 1 records ≡ Ok pairs → items_of pairs ≡ items → items_in 1 records ≡ Ok items
+items-all records pairs items e f = rw e (ap Ok f)
 
 -- a faulty record ends the reading
-pub told-fault : (records : List (List (List ℕ))) (fault : ScriptError)
-    → each stamp_of 1 records ≡ Err fault → told 1 records ≡ Err fault
-told-fault records fault e = rw e refl
+pub items-fault : (records : List (List (List ℕ))) (fault : ScriptError)
+    → each stamp_of 1 records ≡ Err fault → items_in 1 records ≡ Err fault
+items-fault records fault e = rw e refl
 
 -- a record that cannot be parsed ends the reading, and so does an allocation failure
-pub told-fails : (records left : List (List (List ℕ))) (front : List (ℕ × ℕ)) (n : ℕ)
+pub items-fails : (records left : List (List (List ℕ))) (before : List (ℕ × ℕ)) (n : ℕ)
     (fault : ScriptError)
-    → Goes stamp_of (each stamp_of 1 records) front n left → NextFails (stamp_of n) left fault →
-    Fails fault (told 1 records)
-told-fails records left front n fault goes (inl memory) = rw memory tt
-told-fails records left front n fault goes (inr (first, later, split, e)) =
-    fails-from fault (told 1 records) (told-fault records fault
-    (goes-fault stamp_of (each stamp_of 1 records) front n left first later fault goes split e))
+    → Goes stamp_of (each stamp_of 1 records) before n left → NextFails (stamp_of n) left fault →
+    Fails fault (items_in 1 records)
+items-fails records left before n fault goes (inl memory) = rw memory tt
+items-fails records left before n fault goes (inr (first, later, split, e)) =
+    fails-from fault (items_in 1 records) (items-fault records fault
+    (goes-fault stamp_of (each stamp_of 1 records) before n left first later fault goes split e))
 
 -- a file with too many bytes
-pub stamps-large : (bytes : List ℕ) → 2 ^ 24 < length bytes → stamps_of bytes ≡ Err errors.TooLarge
+pub stamps-large : (bytes : List ℕ) → most_bytes < length bytes → stamps_of bytes ≡ Err errors.TooLarge
 unfolding stamps_of
-stamps-large bytes h = let big : nat_lt (2 ^ 24) (length bytes) ≡ true = grind (arith, common_steps)
+stamps-large bytes h = let big : nat_lt most_bytes (length bytes) ≡ true = grind (arith, common_steps)
     in rw big refl
 
 -- a file with at most 16,777,216 bytes
-pub stamps-small : (bytes : List ℕ) → length bytes ≤ 2 ^ 24 →
-    stamps_of bytes ≡ told 1 (records_of bytes)
+pub stamps-small : (bytes : List ℕ) → length bytes ≤ most_bytes →
+    stamps_of bytes ≡ items_in 1 (records_of bytes)
 unfolding stamps_of
-stamps-small bytes h = let small : nat_lt (2 ^ 24) (length bytes) ≡ false =
+stamps-small bytes h = let small : nat_lt most_bytes (length bytes) ≡ false =
     grind (arith, common_steps) in rw small refl

@@ -26,26 +26,26 @@ abbrev pub fields_of : Records → List (List ℕ)
 fields_of (Quoted quoted) = csv.fields_of quoted.fields
 fields_of (Plain lines) = cut_at_commas lines.line.now
 
--- a step took the next record, which `tell` parses to `told` whatever the record's number, and left
+-- a step took the next record, which `parse` parses to `value` whatever the record's number, and left
 -- the other records
-abbrev pub TakesTold : {A : Type 0} → (ℕ → List (List ℕ) → Result A ScriptError) → A → Records →
+abbrev pub TakesGiving : {A : Type 0} → (ℕ → List (List ℕ) → Result A ScriptError) → A → Records →
     Records → Type 0
-TakesTold tell told old new = IsCursor new
+TakesGiving parse value old new = IsCursor new
     × ((records : List (List (List ℕ))) → left_in old ≡ Some records
     → (fields : List (List ℕ)) × Takes true fields records (left_in new)
-    × ((n : ℕ) → tell n fields ≡ Ok told))
+    × ((n : ℕ) → parse n fields ≡ Ok value))
 
--- a step took the first of these records, which `tell` parses to this value, and left the others;
+-- a step took the first of these records, which `parse` parses to this value, and left the others;
 -- `None` means that there was no record
-abbrev pub NextTold : {A : Type 0} → (List (List ℕ) → Result A ScriptError) →
+abbrev pub NextGives : {A : Type 0} → (List (List ℕ) → Result A ScriptError) →
     List (List (List ℕ)) → Option A → Option (List (List (List ℕ))) → Type 0
-NextTold tell records None left = records ≡ []
-NextTold tell records (Some told) left = (fields : List (List ℕ)) × (rest : List (List (List ℕ)))
-    × (records ≡ fields ∷ rest) × (left ≡ Some rest) × (tell fields ≡ Ok told)
+NextGives parse records None left = records ≡ []
+NextGives parse records (Some value) left = (fields : List (List ℕ)) × (rest : List (List (List ℕ)))
+    × (records ≡ fields ∷ rest) × (left ≡ Some rest) × (parse fields ≡ Ok value)
 
 -- the error is an allocation failure, or the fault of the first of these records
 abbrev pub NextFails : {A : Type 0} → (List (List ℕ) → Result A ScriptError) →
     List (List (List ℕ)) → ScriptError → Type 0
-NextFails tell records error = (error ≡ errors.Memory)
+NextFails parse records error = (error ≡ errors.Memory)
     ⊎ ((fields : List (List ℕ)) × (rest : List (List (List ℕ))) × (records ≡ fields ∷ rest)
-    × (tell fields ≡ Err error))
+    × (parse fields ≡ Err error))

@@ -1,11 +1,11 @@
 -- The meaning of a script: its records, parsed from the first to the last, or the first fault.
-use Rattle.std.specs.Prelude.{◌≡◌, ℕ, ◌^◌, List, [], ◌∷◌, length, Result, Ok, Err, nat_lt, if◌then◌else◌}
+use Rattle.std.specs.Prelude.{◌≡◌, ℕ, List, [], ◌∷◌, length, Result, Ok, Err, nat_lt, if◌then◌else◌}
 use Rattle.tk_counter.specs.Counter.{Counter}
 use Rattle.tk_clock.specs.declared.timespec.Timespec.{Timespec}
 use Rattle.tk_script.specs.Field.{◌>>=◌}
 use Rattle.tk_script.specs.Opening.{start_of}
 use Rattle.tk_script.specs.Rows.{rows_of}
-use Rattle.tk_script.specs.Records.{records_of}
+use Rattle.tk_script.specs.Records.{records_of, most_bytes}
 use Rattle.tk_script.specs.declared.row.Row.{Row}
 use Rattle.tk_script.specs.declared.script_error.ScriptError.{ScriptError}
 use Rattle.tk_script.specs.declared.script_error.ScriptError.TheVariants as errors
@@ -26,10 +26,10 @@ parse_records (first ∷ later) =
     start_of first >>= λ start. (rows_of 2 later >>= λ rows.
     Ok (record { counter = start.desc; reading = start.reading; real = start.real; rows = rows }))
 
--- the content of a script with these bytes; a script has at most 16,777,216 bytes
+-- the content of a script with these bytes
 unfoldable pub parse_of : List ℕ → Result Parse ScriptError
 parse_of bytes =
-    if nat_lt (2 ^ 24) (length bytes) then Err errors.TooLarge else parse_records (records_of bytes)
+    if nat_lt most_bytes (length bytes) then Err errors.TooLarge else parse_records (records_of bytes)
 
 -- the error is the fault of the reading; an allocation failure may replace any result
 abbrev pub Fails : {Y : Type 0} → ScriptError → Result Y ScriptError → Type 0

@@ -22,7 +22,7 @@ number_of field = number_up_to (2 ^ 64 - 1) field
 abbrev pub number32_of : List ℕ → Option ℕ
 number32_of field = number_up_to (2 ^ 32 - 1) field
 
--- the signed number of 64 bits that a field spells, with one `-` in front if it is negative
+-- the signed number of 64 bits that a field spells, with one leading `-` if it is negative
 abbrev pub signed_of : List ℕ → Option ℤ
 signed_of field =
     if slice_index field 0 == 45

@@ -13,27 +13,27 @@ abbrev pub IsPlain : List ℕ → Type 0
 IsPlain text = Lacks (is_byte2 34 13) text
 
 -- the fields that are left, when these bytes of the current field were read
-unfoldable pub cut_behind : List ℕ → List ℕ → List (List ℕ)
-cut_behind field [] = field ∷ []
-cut_behind field (byte ∷ rest) =
-    if byte == 44 then field ∷ cut_behind [] rest else cut_behind (field ++ byte ∷ []) rest
+unfoldable pub cut_after : List ℕ → List ℕ → List (List ℕ)
+cut_after field [] = field ∷ []
+cut_after field (byte ∷ rest) =
+    if byte == 44 then field ∷ cut_after [] rest else cut_after (field ++ byte ∷ []) rest
 
 -- a line, cut at its commas
 abbrev pub cut_at_commas : List ℕ → List (List ℕ)
-cut_at_commas line = cut_behind [] line
+cut_at_commas line = cut_after [] line
 
 -- a line ends at `end`, by a line feed or with the text, and the bytes `rest` follow
 abbrev pub EndsLine : List ℕ → List ℕ → Type 0
 EndsLine end rest = (end ≡ 10 ∷ rest) ⊎ ((end ≡ []) × (rest ≡ []))
 
--- `line` is the line at the front of a text and is not empty, and the bytes `rest` follow it
-abbrev pub IsFront : List ℕ → List ℕ → List ℕ → Type 0
-IsFront text line rest = (0 < length line) × Lacks (is_byte 10) line
+-- `line` is the first line of a text and is not empty, and the bytes `rest` follow it
+abbrev pub IsFirstLine : List ℕ → List ℕ → List ℕ → Type 0
+IsFirstLine text line rest = (0 < length line) × Lacks (is_byte 10) line
     × ((end : List ℕ) × (text ≡ line ++ end) × EndsLine end rest)
 
--- the line at the front of a text is a record which `tell` parses to this value, whatever the
+-- the first line of a text is a record which `parse` parses to this value, whatever the
 -- record's number
-abbrev pub FrontTells : {A : Type 0} → (ℕ → List (List ℕ) → Result A ScriptError) → List ℕ → A →
+abbrev pub FirstLineGives : {A : Type 0} → (ℕ → List (List ℕ) → Result A ScriptError) → List ℕ → A →
     List ℕ → Type 0
-FrontTells tell text told rest = (line : List ℕ) × IsFront text line rest
-    × ((n : ℕ) → tell n (cut_at_commas line) ≡ Ok told)
+FirstLineGives parse text value rest = (line : List ℕ) × IsFirstLine text line rest
+    × ((n : ℕ) → parse n (cut_at_commas line) ≡ Ok value)

@@ -45,16 +45,16 @@ look_of row fields =
 
 -- the row of a command without an operand
 abbrev pub plain : Command → Result ℕ ScriptError → Result Row ScriptError
-plain command told = told >>= λ reading. Ok (Act reading command)
+plain command read = read >>= λ reading. Ok (Act reading command)
 
 -- the row of a command with an operand
 abbrev pub with_operand : {A : Type 0} → (A → Command) → Result (ℕ × A) ScriptError →
     Result Row ScriptError
-with_operand command told = told >>= λ p. Ok (Act p.0 (command p.1))
+with_operand command read = read >>= λ p. Ok (Act p.0 (command p.1))
 
 -- the row of a read of a clock
 abbrev pub look : Result (ℕ × ClockId) ScriptError → Result Row ScriptError
-look told = told >>= λ p. Ok (Look p.0 p.1)
+look read = read >>= λ p. Ok (Look p.0 p.1)
 
 -- the command or the read in the record `row`, or its fault
 unfoldable pub row_of : ℕ → List (List ℕ) → Result Row ScriptError

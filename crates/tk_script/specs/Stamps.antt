@@ -1,7 +1,7 @@
 -- The meaning of a stamp file: each record has a front and a stamp.
-use Rattle.std.specs.Prelude.{ℕ, ◌^◌, List, length, map, Result, Ok, Err, ◌==◌, nat_lt, if◌then◌else◌}
+use Rattle.std.specs.Prelude.{ℕ, List, length, map, Result, Ok, Err, ◌==◌, nat_lt, if◌then◌else◌}
 use Rattle.tk_script.specs.Field.{◌>>=◌, number_at}
-use Rattle.tk_script.specs.Records.{each, records_of}
+use Rattle.tk_script.specs.Records.{each, records_of, most_bytes}
 use Rattle.tk_script.specs.declared.script_error.ScriptError.{ScriptError}
 use Rattle.tk_script.specs.declared.script_error.ScriptError.TheVariants as errors
 use Rattle.tk_script.specs.declared.stamps.Stamps.{Stamps}
@@ -28,15 +28,14 @@ items_of pairs =
     record { fronts = map (λ (p : ℕ × ℕ). p.0) pairs; stamps = map (λ (p : ℕ × ℕ). p.1) pairs }
 
 -- the items of these records, of which the first is the record `row`, or their first fault
-abbrev pub told : ℕ → List (List (List ℕ)) → Result Items ScriptError
-told row records = each stamp_of row records >>= λ pairs. Ok (items_of pairs)
+abbrev pub items_in : ℕ → List (List (List ℕ)) → Result Items ScriptError
+items_in row records = each stamp_of row records >>= λ pairs. Ok (items_of pairs)
 
--- the content of a stamp file with these bytes, of which there are at most 16,777,216; a file
--- without a record has no items
+-- the content of a stamp file with these bytes; a file without a record has no items
 unfoldable pub stamps_of : List ℕ → Result Items ScriptError
 stamps_of bytes =
-    if nat_lt (2 ^ 24) (length bytes) then Err errors.TooLarge
-    else told 1 (records_of bytes)
+    if nat_lt most_bytes (length bytes) then Err errors.TooLarge
+    else items_in 1 (records_of bytes)
 
 -- the items that a `Stamps` contains
 abbrev pub items : Stamps → Items

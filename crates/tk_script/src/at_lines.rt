@@ -124,7 +124,7 @@ fn line_at_with<A: Allocator>(
     line.add_to(out)
 }
 
-/// Puts a clock and its time in front of a line.
+/// Puts a clock and its time at the beginning of a line.
 #[inline(always)]
 fn put_at(line: &mut Line, clock: ClockId, time: Timespec)
     requires writable { IsWritable time }

@@ -5,6 +5,7 @@
 //! | `Script`, `Row` | hold a parsed script: the opening of the clocks, then commands and reads |
 //! | `RowReader`, `Start` | read a script one row at a time |
 //! | `Stamps` | holds a parsed stamp file: readings of the counter, each with its front |
+//! | `SIZE_LIMIT` | is the greatest size of a script or of a stamp file, in bytes |
 //! | `ScriptError` | says what the first fault of a script or of a stamp file is |
 //! | `number`, `clock_word` | parse one field |
 //! | `line_open`, `line_ok`, `line_no`, `line_at` | append one line of a report |
@@ -39,6 +40,7 @@ pub use lines::{line_no, line_ok, line_open};
 pub use names::clock_word;
 pub use numbers::number;
 pub use opening::Start;
+pub use records::SIZE_LIMIT;
 pub use row::Row;
 pub use row_reader::RowReader;
 pub use script::Script;

@@ -42,7 +42,7 @@ impl Line {
         }
     }
 
-    /// Puts a text in front.
+    /// Puts a text at the beginning of the line.
     #[inline(always)]
     pub fn put(&mut self, text: &[u8])
         requires { HasRoom (length text.now) self.old }
@@ -54,7 +54,7 @@ impl Line {
         self.start = start;
     }
 
-    /// Puts a number in front, in decimal.
+    /// Puts a number at the beginning, in decimal.
     #[inline(always)]
     pub fn put_number(&mut self, n: u64)
         requires { HasRoom 20 self.old }
@@ -64,7 +64,7 @@ impl Line {
         self.start = write_digits(n, &mut self.bytes, self.start);
     }
 
-    /// Puts seconds, a dot and nanoseconds in front.
+    /// Puts seconds, a dot and nanoseconds at the beginning.
     #[inline(always)]
     pub fn put_time(&mut self, time: Timespec)
         requires writable { IsWritable time }
@@ -76,7 +76,7 @@ impl Line {
         self.put_number(time.sec as u64);
     }
 
-    /// Puts a dot and nine digits in front: the last nine digits of a number of ten, whose first
+    /// Puts a dot and nine digits at the beginning: the last nine digits of a number of ten, whose first
     /// digit the dot overwrites.
     #[inline(always)]
     fn put_fraction(&mut self, nsec: u32)

@@ -65,7 +65,7 @@ fn short_number(field: &[u8]) -> Option<u64>
 
 /// Parses the digits at the beginning of a text, and returns the number and the rest. `None` means
 /// that there is no digit. Only the first nineteen digits are taken.
-pub(crate) fn number_in_front(text: &[u8]) -> Option<(u64, &[u8])>
+pub(crate) fn leading_number(text: &[u8]) -> Option<(u64, &[u8])>
     ensures { IfSome result (λ found. (digits : List ℕ) × (text.now ≡ digits ++ found.1.now)
         × (number_of digits ≡ Some found.0)) }
 {

@@ -4,13 +4,13 @@ ghost use Rattle.csv.specs.Machine.{next_record};
 ghost use Rattle.csv.specs.Reading.{default_config, strip_bom};
 ghost use Rattle.csv.specs.Records.{field_at};
 ghost use Rattle.csv.specs.declared.parser.State.TheVariants.{StartRecord};
-ghost use Rattle.tk_script.specs.Plain.{EndsLine, FrontTells, IsPlain, cut_at_commas};
+ghost use Rattle.tk_script.specs.Plain.{EndsLine, FirstLineGives, IsPlain, cut_at_commas};
 ghost use Rattle.tk_script.specs.Reading.{Takes};
 ghost use Rattle.tk_script.specs.Records.{records_after};
 ghost use Rattle.tk_script.specs.Rows.{row_of};
 ghost use Rattle.tk_script.specs.Stamps.{stamp_of};
 
-use crate::frequent::{row_in_front, stamp_in_front};
+use crate::frequent::{leading_row, leading_stamp};
 use crate::row::Row;
 use memchr::{memchr, memchr2};
 
@@ -65,10 +65,10 @@ impl<'a> Lines<'a> {
     /// Takes the row of the next line, if it has a frequent form and no fault.
     pub(crate) fn take_row(&mut self) -> Option<Row>
         ensures some { IfSome result
-            (λ row. FrontTells row_of self.old.rest.now row self.new.rest.now) }
+            (λ row. FirstLineGives row_of self.old.rest.now row self.new.rest.now) }
         ensures none { IfNone result (self.new ≡ self.old) }
     {
-        let (row, rest) = row_in_front(self.rest)?;
+        let (row, rest) = leading_row(self.rest)?;
         self.rest = rest;
         Some(row)
     }
@@ -76,10 +76,10 @@ impl<'a> Lines<'a> {
     /// Takes the item of the next line of a stamp file, if it has no fault.
     pub(crate) fn take_stamp(&mut self) -> Option<(u64, u64)>
         ensures some { IfSome result
-            (λ item. FrontTells stamp_of self.old.rest.now item self.new.rest.now) }
+            (λ item. FirstLineGives stamp_of self.old.rest.now item self.new.rest.now) }
         ensures none { IfNone result (self.new ≡ self.old) }
     {
-        let (item, rest) = stamp_in_front(self.rest)?;
+        let (item, rest) = leading_stamp(self.rest)?;
         self.rest = rest;
         Some(item)
     }
@@ -105,7 +105,7 @@ pub(crate) fn first_line(text: &[u8]) -> Option<(&[u8], &[u8])>
         ≡ Some (cut_at_commas found.0.now, StartRecord, found.1.now)) }
     ensures plain { IfSome result (λ found. IsPlain found.1.now) }
 {
-    let text = behind_empty_lines(text);
+    let text = after_empty_lines(text);
     if text.is_empty() {
         return None;
     }
@@ -116,7 +116,7 @@ pub(crate) fn first_line(text: &[u8]) -> Option<(&[u8], &[u8])>
 }
 
 /// Returns the text after the empty lines at its beginning.
-fn behind_empty_lines(text: &[u8]) -> &[u8]
+fn after_empty_lines(text: &[u8]) -> &[u8]
     requires { IsPlain text.now }
     ensures same { next_record default_config StartRecord [] [] result.now
         ≡ next_record default_config StartRecord [] [] text.now }
@@ -132,7 +132,7 @@ fn behind_empty_lines(text: &[u8]) -> &[u8]
 }
 
 /// Returns what follows the end of a line: a line feed, or the end of the text.
-pub(crate) fn behind_line(text: &[u8]) -> Option<&[u8]>
+pub(crate) fn after_line(text: &[u8]) -> Option<&[u8]>
     ensures { IfSome result (λ rest. EndsLine text.now rest.now) }
 {
     if text.is_empty() {

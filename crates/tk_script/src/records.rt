@@ -2,7 +2,7 @@ ghost use Rattle.std.specs.Prelude.{◌≡◌, ℕ, List, Some, true, length, op
 ghost use Rattle.csv.specs.Reading.{error_kind};
 ghost use Rattle.csv.specs.Records as csv_records;
 ghost use Rattle.csv.specs.Records.{field_at};
-ghost use Rattle.tk_script.specs.Cursor.{IsCursor, TakesTold, fields_of, left_in};
+ghost use Rattle.tk_script.specs.Cursor.{IsCursor, TakesGiving, fields_of, left_in};
 ghost use Rattle.tk_script.specs.Reading.{IsReading, IsWantOfMemory, Takes, left_of};
 ghost use Rattle.tk_script.specs.Records.{records_of};
 ghost use Rattle.tk_script.specs.Rows.{row_of};
@@ -15,7 +15,7 @@ use csv::{ByteRecord, Error, Reader, ReaderBuilder};
 use std::alloc::Global;
 
 /// The greatest size of a script or of a stamp file, in bytes.
-pub(crate) const SIZE_LIMIT: usize = 16_777_216;
+pub const SIZE_LIMIT: usize = 16_777_216;
 
 /// The records of a text, one at a time, and the one that was read last. Both variants read the
 /// records that csv's rules find in the text.
@@ -87,7 +87,7 @@ impl<'a> Records<'a> {
     /// Takes the row of the next record, if it has a frequent form and no fault.
     pub(crate) fn take_row(&mut self) -> Option<Row>
         requires { IsCursor self.old }
-        ensures some { IfSome result (λ row. TakesTold row_of row self.old self.new) }
+        ensures some { IfSome result (λ row. TakesGiving row_of row self.old self.new) }
         ensures none { IfNone result (self.new ≡ self.old) }
     {
         match self {
@@ -99,7 +99,7 @@ impl<'a> Records<'a> {
     /// Takes the item of the next record of a stamp file, if the text is plain and it has no fault.
     pub(crate) fn take_stamp(&mut self) -> Option<(u64, u64)>
         requires { IsCursor self.old }
-        ensures some { IfSome result (λ item. TakesTold stamp_of item self.old self.new) }
+        ensures some { IfSome result (λ item. TakesGiving stamp_of item self.old self.new) }
         ensures none { IfNone result (self.new ≡ self.old) }
     {
         match self {

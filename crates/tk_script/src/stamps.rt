@@ -1,5 +1,5 @@
 ghost use Rattle.std.specs.Prelude.{◌≡◌, ℕ, List, IfOk, IfErr, OnOk, IsSome, MatchResult, Some, length, ◌++◌, ◌∷◌, []};
-ghost use Rattle.tk_script.specs.Cursor.{IsCursor, NextFails, NextTold, fields_of, left_in};
+ghost use Rattle.tk_script.specs.Cursor.{IsCursor, NextFails, NextGives, fields_of, left_in};
 ghost use Rattle.tk_script.specs.Grammar.{Gives};
 ghost use Rattle.tk_script.specs.Stamps as spec;
 
@@ -54,7 +54,7 @@ impl Stamps {
 fn read_stamps(alloc: Global, records: &mut Records<'_>) -> Result<Stamps, ScriptError>
     requires { IsCursor records.old }
     ensures gives { (rs : List (List (List ℕ))) → left_in records.old ≡ Some rs
-        → Gives spec.items result (spec.told 1 rs) }
+        → Gives spec.items result (spec.items_in 1 rs) }
     ensures paired { IfOk result (λ s. length s.fronts.items ≡ length s.stamps.items) }
 {
     let mut stamps = Stamps {
@@ -76,7 +76,7 @@ fn next_stamp(row: u64, records: &mut Records<'_>) -> Result<Option<(u64, u64)>,
     ensures reading { IfOk result (λ found. IsSome found → IsCursor records.new) }
     ensures takes { (rs : List (List (List ℕ))) → left_in records.old ≡ Some rs
         → MatchResult result
-        (λ found. NextTold (spec.stamp_of row) rs found (left_in records.new))
+        (λ found. NextGives (spec.stamp_of row) rs found (left_in records.new))
         (λ error. NextFails (spec.stamp_of row) rs error) }
 {
     if let Some(item) = records.take_stamp() {

@@ -7,10 +7,10 @@ pub returns-in_err-items : goal.returns-in_err-items
 returns-in_err-items g c =
     let exit = err_from_is_err_and c.from_residual-in_err-items.result
     c.from_residual-in_err-items.ensures.1 in
-    let told = c.in_err-items.ensures.gives in
-    rw (exit.1, exit.2, told.1)
+    let refused = c.in_err-items.ensures.gives in
+    rw (exit.1, exit.2, refused.1)
     (MayFault-stamps c.args.clock c.args.script.now c.args.stamps.now
-    c.in_ok-keeper.keeper.journal told.0 c.in_ok-keeper.ensures told.2)
+    c.in_ok-keeper.keeper.journal refused.0 c.in_ok-keeper.ensures refused.2)
 
 pub returns : goal.returns
 returns g c =

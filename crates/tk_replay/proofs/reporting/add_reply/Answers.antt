@@ -23,12 +23,12 @@ returns-in-Ok-clause-line g c =
     (event c.args.reading c.args.cmd) in
     let number = c.in-Ok.number in
     let time = c.unwrap-time.result in
-    let told : IsTimeAt (c.apply.new.keeper.journal) Monotonic c.args.reading time =
+    let timed : IsTimeAt (c.apply.new.keeper.journal) Monotonic c.args.reading time =
     IsTimeAt-read c.apply.new.keeper.journal Monotonic c.args.reading time
     (rw c.unwrap-time.ensures at c.get.ensures).1 in
     let line : reply_line c.args.reading reply ≡ ok_line number time =
     reply_line-accepted reply c.apply.new.keeper.journal c.args.reading number time
-    c.in-Ok.ensures.replied told in
+    c.in-Ok.ensures.replied timed in
     let R : List ℕ →
     Type 0 = λ text. OnOk c.line_ok.result (c.line_ok.new.out.items
     ≡ c.args.text.now.items ++ text) in
@@ -36,6 +36,6 @@ returns-in-Ok-clause-line g c =
 
 pub line_ok-requires : goal.line_ok-requires
 line_ok-requires g c =
-    let told = rw c.unwrap-time.ensures at c.get.ensures in
-    IsWritable-read c.apply.new.keeper.journal Monotonic c.args.reading c.unwrap-time.result told.0
-    told.1
+    let timed = rw c.unwrap-time.ensures at c.get.ensures in
+    IsWritable-read c.apply.new.keeper.journal Monotonic c.args.reading c.unwrap-time.result timed.0
+    timed.1

@@ -1,16 +1,16 @@
 use Rattle.std.proofs.Common.{◌≤◌, ◌-◌, take, vec_len}
 use Rattle.std.specs.Io.KnownBytes.{Consumes}
-use Rattle.tk_replay.specs.Reading.{reading_limit}
+use Rattle.tk_replay.specs.Reading.{most_read}
 use Rattle.tk_replay.proofs.source.read_to_end.Given as goal
 
 -- the first `filled` bytes of the buffer are those that were read
 abbrev pub invariant-reads : goal.invariant-reads
 invariant-reads g l = record {
   within : l.filled ≤ vec_len l.bytes;
-  most : vec_len l.bytes ≤ reading_limit;
+  most : vec_len l.bytes ≤ most_read;
   read : Consumes (g.S.Read.remaining l.fn.source) (g.S.Read.remaining l.source)
       (take l.filled l.bytes.items);
 }
 
 abbrev pub decreases-reads : goal.decreases-reads
-decreases-reads g l = reading_limit - l.filled
+decreases-reads g l = most_read - l.filled

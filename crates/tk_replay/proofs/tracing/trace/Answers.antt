@@ -29,13 +29,13 @@ returns-in-Ok g c =
     (g.R.Read.remaining c.read_to_end.new.source) script = search rules in
     let later : IsReadToEnd (g.S.Read.remaining c.args.stamps.now)
     (g.S.Read.remaining c.read_to_end-2.new.source) stamps = search rules in
-    let told : IsTrace c.args.clock script stamps c.as_slice-3.result.now =
+    let whole : IsTrace c.args.clock script stamps c.as_slice-3.result.now =
     rw c.as_slice-3.ensures.value c.in_ok-text.ensures in
     record {
       script_within = c.in_ok-script.ensures.within;
       stamps_within = c.in_ok-stamps.ensures.within;
       came_to = (
-        (c.as_slice-3.result.now, (script, stamps, first, later, told), c.in-Ok.ensures.ok),
+        (c.as_slice-3.result.now, (script, stamps, first, later, whole), c.in-Ok.ensures.ok),
         c.in-Ok.ensures.flushed,
       );
     }
@@ -48,13 +48,13 @@ returns g c =
     (g.R.Read.remaining c.read_to_end.new.source) script = search rules in
     let later : IsReadToEnd (g.S.Read.remaining c.args.stamps.now)
     (g.S.Read.remaining c.read_to_end-2.new.source) stamps = search rules in
-    let told : IsTrace c.args.clock script stamps c.as_slice-3.result.now =
+    let whole : IsTrace c.args.clock script stamps c.as_slice-3.result.now =
     rw c.as_slice-3.ensures.value c.in_ok-text.ensures in
     record {
       script_within = c.in_ok-script.ensures.within;
       stamps_within = c.in_ok-stamps.ensures.within;
       came_to = (
-        (c.as_slice-3.result.now, (script, stamps, first, later, told), c.in-Err.ensures.err),
+        (c.as_slice-3.result.now, (script, stamps, first, later, whole), c.in-Err.ensures.err),
         c.in-Err.ensures.failed,
       );
     }

@@ -1,5 +1,5 @@
 use Rattle.tk_script.proofs.PlainLemmas.{lacks-more}
-use Rattle.tk_script.proofs.frequent.field_in_front.Goals as goal
+use Rattle.tk_script.proofs.frequent.leading_field.Goals as goal
 
 pub loop-i-preserved : goal.loop-i-preserved
 loop-i-preserved c =

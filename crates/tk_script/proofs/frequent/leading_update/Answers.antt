@@ -1,11 +1,11 @@
 use Rattle.std.proofs.Common.{◌∙◌, ◌++◌, ℕ, List, ap, codes}
-use Rattle.tk_script.proofs.FrequentLemmas.{front-update}
-use Rattle.tk_script.proofs.frequent.update_in_front.Goals as goal
+use Rattle.tk_script.proofs.FrequentLemmas.{first-update}
+use Rattle.tk_script.proofs.frequent.leading_update.Goals as goal
 
 pub returns : goal.returns
 returns c =
     let number = c.in_ok-reading.ensures in
-    front-update c.args.text.now c.in_ok-rest.rest.now c.in_ok-reading.end.now number.0
+    first-update c.args.text.now c.in_ok-rest.rest.now c.in_ok-reading.end.now number.0
     c.in_ok-reading.reading
-    (c.in_ok-behind.ensures ∙ ap (λ (t : List ℕ). codes "update," ++ t) number.1) number.2
+    (c.in_ok-skip.ensures ∙ ap (λ (t : List ℕ). codes "update," ++ t) number.1) number.2
     c.in_ok-rest.ensures

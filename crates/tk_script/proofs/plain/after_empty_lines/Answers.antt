@@ -1,6 +1,6 @@
 use Rattle.std.proofs.Common.{◌∙◌}
 use Rattle.tk_script.proofs.PlainLemmas.{empty-more}
-use Rattle.tk_script.proofs.plain.behind_empty_lines.Goals as goal
+use Rattle.tk_script.proofs.plain.after_empty_lines.Goals as goal
 
 pub loop-i-preserved : goal.loop-i-preserved
 loop-i-preserved c =

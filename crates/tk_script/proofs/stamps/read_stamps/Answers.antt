@@ -5,7 +5,7 @@ use Rattle.tk_script.specs.Records.{each}
 use Rattle.tk_script.specs.Stamps.{items, stamp_of}
 use Rattle.tk_script.specs.declared.script_error.ScriptError.{ScriptError}
 use Rattle.tk_script.proofs.EachLemmas.{goes-more, goes-end}
-use Rattle.tk_script.proofs.StampLemmas.{paired-more, items-more, told-all, told-fails}
+use Rattle.tk_script.proofs.StampLemmas.{paired-more, items-more, items-all, items-fails}
 use Rattle.tk_script.proofs.stamps.read_stamps.Goals as goal
 
 pub returns-in_default-clause-gives : goal.returns-in_default-clause-gives
@@ -13,7 +13,7 @@ returns-in_default-clause-gives c = λ rs e.
     let inv = c.loop-row.invariant.2 rs e in
     let none = rw c.in_default.is at (c.in_ok-front.ensures.takes inv.0 inv.2) in
     let whole = goes-end stamp_of (each stamp_of 1 rs) inv.1 c.loop-row.row inv.0 inv.4 none in
-    told-all rs inv.1 (items c.loop-row.stamps) whole inv.3
+    items-all rs inv.1 (items c.loop-row.stamps) whole inv.3
 
 pub returns-in_err-front-clause-gives : goal.returns-in_err-front-clause-gives
 returns-in_err-front-clause-gives c = λ rs e.
@@ -21,7 +21,7 @@ returns-in_err-front-clause-gives c = λ rs e.
     let fails = c.in_err-front.ensures.takes inv.0 inv.2 in
     let exit = err_from_is_err_and c.from_residual.result
     c.from_residual.ensures.1 in
-    rw exit.1 (told-fails rs inv.0 inv.1 c.loop-row.row exit.0 inv.4
+    rw exit.1 (items-fails rs inv.0 inv.1 c.loop-row.row exit.0 inv.4
     (subst (λ (fault : ScriptError). NextFails (stamp_of c.loop-row.row) inv.0 fault) (sym exit.2)
     fails))
 

@@ -10,8 +10,8 @@ joined : (sec nsec seconds day second : ℕ) (date bytes time : List ℕ) → Is
     → time ≡ time_part second nsec → seconds ≡ sec → day ≡ seconds / 86400 →
     second ≡ seconds % 86400
     → IsUtcText sec nsec (bytes ++ time)
-joined sec nsec seconds day second date bytes time told same part n e f =
-    (told.0, told.1 ∙ ap pos (rw n at e), rw (same, told.2, part, f, n) refl)
+joined sec nsec seconds day second date bytes time dated same part n e f =
+    (dated.0, dated.1 ∙ ap pos (rw n at e), rw (same, dated.2, part, f, n) refl)
 
 pub returns-clause-ok : goal.returns-clause-ok
 returns-clause-ok g c =
@@ -26,6 +26,6 @@ returns-clause-ok g c =
 
 pub line_at_with-requires-clause-short : goal.line_at_with-requires-clause-short
 line_at_with-requires-clause-short g c =
-    let told = c.in_ok-date.ensures.ok in
-    let short = length-date_text told.0 told.0.year refl in
-    omega (arith, short, ap length told.2, ap length c.as_bytes.ensures.value)
+    let dated = c.in_ok-date.ensures.ok in
+    let short = length-date_text dated.0 dated.0.year refl in
+    omega (arith, short, ap length dated.2, ap length c.as_bytes.ensures.value)

@@ -1,4 +1,4 @@
-use Rattle.std.proofs.Common.{◌≡◌, ◌+◌, ◌≤◌, length, drop, decimal, arith, ap, length-append, length-drop}
+use Rattle.std.proofs.Common.{length, drop, decimal, arith, ap, length-append, length-drop}
 use Rattle.std.proofs.lemmas.Fmt.{length-decimal-le}
 use Rattle.tk_script.proofs.line.Line.put_number.Goals as goal
 

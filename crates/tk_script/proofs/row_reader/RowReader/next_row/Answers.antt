@@ -12,13 +12,13 @@ returns-in-Some c =
     let old = c.args.self.now in
     let left = left-known old c.requires in
     let took = c.in-Some.ensures.some in
-    let told = took.1 left.0 left.1 in
-    let takes = told.1 in
+    let next = took.1 left.0 left.1 in
+    let takes = next.1 in
     let new : RowReader = record { records = c.take_row.new.self; row = old.row + 1 } in
-    let one = left-row old new left.0 takes.0 told.0 left.1 takes.1 takes.2 in (
+    let one = left-row old new left.0 takes.0 next.0 left.1 takes.1 takes.2 in (
       ready-row old new takes.0 c.requires one took.0 takes.2 refl,
       one,
-      coming-row old new left.0 takes.0 told.0 c.in-Some.row left.1 takes.1 (told.2 old.row) takes.2
+      coming-row old new left.0 takes.0 next.0 c.in-Some.row left.1 takes.1 (next.2 old.row) takes.2
           refl,
     )
 
