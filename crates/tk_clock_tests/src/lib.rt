@@ -1,5 +1,5 @@
 //! Tests `tk_counter`, `tk_clock` and `tk_lanes` through their public calls alone. It is a separate
-//! crate, so that the gate proves the code under test once.
+//! crate, so that CI proves the code under test once.
 #![tactic(auto)]
 
 #[cfg(test)]

@@ -1,4 +1,4 @@
-//! The tests of `tk_program`, by its public calls alone: a crate of their own, so that the gate proves
+//! The tests of `tk_program`, by its public calls alone: a crate of their own, so that CI proves
 //! what they test once.
 #![tactic(auto)]
 

@@ -9,7 +9,7 @@ pub const IN_MILLISECONDS: u64 = 1_000_000;
 /// Names the length of a turn.
 #[derive(Clone, Copy)]
 pub enum Effort {
-    /// Long enough for the gate to compare the check.
+    /// Long enough for CI to compare the check.
     Short,
     /// Long enough to be timed.
     Full,

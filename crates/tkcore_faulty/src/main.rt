@@ -1,5 +1,5 @@
 //! Runs the program on a script with a fault: status 1, and no report. The line of error goes to
-//! standard output here, so that the gate compares it.
+//! standard output here, so that CI compares it.
 #![tactic(auto)]
 
 use std::process::ExitCode;

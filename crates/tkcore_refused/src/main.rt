@@ -1,5 +1,5 @@
 //! Runs the program on refused words, with a good script on standard input: status 2, and no
-//! report. The line of error goes to standard output here, so that the gate compares it.
+//! report. The line of error goes to standard output here, so that CI compares it.
 #![tactic(auto)]
 
 use std::process::ExitCode;
