@@ -3,7 +3,7 @@ use Rattle.std.specs.Prelude.{◌≡◌, ℕ, ◌+◌, ◌*◌, ◌%◌, ◌<◌
 use mathlib.Core.List.{IsPrefix}
 use Rattle.tk_now.specs.declared.rule.Taken.{Taken}
 use Rattle.tk_now.specs.declared.rule.Answer.{Answer}
-use Rattle.tk_now.specs.Views.{Watched, taken}
+use Rattle.tk_now.specs.Views.{Announcing, Watched, taken}
 
 -- each of these commands had its reading by this moment
 abbrev pub AreBefore : ℕ → List Taken → Type 0
@@ -69,3 +69,14 @@ pub record IsBusy (old new : Watched) (first last : ℕ) : Type 0 where
   pub found : new.found ≡ old.found ++ first ∷ last ∷ []
   pub from : 2 * length old.commands ≤ first + 2
   pub busy : first ≡ last → first % 2 ≡ 1
+
+-- a watcher was given all that is known: it knows the announcer's commands, of which it knew the
+-- first, and the answers of all watchers, of which it knew the first. Its looks are counted anew
+pub record IsTold (announcer : Announcing) (old new : Watched) : Type 0 where
+  pub notice : new.notice ≡ old.notice
+  pub commands : new.commands ≡ announcer.commands
+  pub begins : IsPrefix old.commands announcer.commands
+  pub log : IsPrefix old.log new.log
+  pub found : new.found ≡ []
+  pub order : AreInOrder announcer.commands
+  pub life : AreInLife announcer.commands new.log

@@ -7,7 +7,7 @@ use Rattle.tk_now.specs.declared.rule.Answer.{Answer}
 use Rattle.tk_now.specs.declared.rule.View.{View}
 use Rattle.tk_now.specs.Moments.{AreBefore, AreAnswered, AreInOrder, AreInLife, IsAcceptedAt}
 use Rattle.tk_now.specs.Rule.{Counts}
-use Rattle.tk_now.specs.Views.{noted_commands, noted_log, taken, found_by, first_by, from_by, IsResting, IsWatching, IsIdle, IsAnnounced}
+use Rattle.tk_now.specs.Views.{noted_commands, noted_log, taken, found_by, first_by, from_by, IsResting, IsWatching, IsIdle, IsNoting, IsAnnounced}
 
 abbrev pub Move : Type 0
 Move = Step (Unit {0})
@@ -80,3 +80,10 @@ abbrev pub compared : Move → Seated → ℕ → Seated → Type 0
 compared move old found new = (new.0.commands ≡ old.0.commands) × IsIdle new.0
     × IsPrefix (noted_commands old.0.role) old.0.commands × AreInOrder old.0.commands
     × AreInLife old.0.commands (noted_log old.0.role)
+
+-- the same, and the note has all commands and all answers after that
+abbrev pub recounted : Move → Seated → ℕ → Seated → Type 0
+recounted move old found new = (new.0.commands ≡ old.0.commands) × IsNoting new.0
+    × IsPrefix (noted_commands old.0.role) old.0.commands
+    × IsPrefix (noted_log old.0.role) (noted_log new.0.role) × AreInOrder old.0.commands
+    × AreInLife old.0.commands (noted_log new.0.role)

@@ -3,6 +3,7 @@ use Rattle.std.specs.Prelude.{◌≡◌, ℕ, List, [], ◌∷◌, Option, Some,
 use Rattle.atomic_table.specs.Seated.{TableId}
 use Rattle.tk_now.specs.declared.rule.Taken.{Taken}
 use Rattle.tk_now.specs.declared.rule.Answer.{Answer}
+use Rattle.tk_now.specs.declared.counter.Look.{Look}
 use Rattle.tk_now.specs.declared.rule.View.{View}
 use Rattle.tk_now.specs.declared.rule.Role.{Role}
 use Rattle.tk_now.specs.declared.rule.Role.TheVariants.{Spent, Resting, Watching, Idle, Announced, Noting}
@@ -29,6 +30,10 @@ abbrev pub from_by : Role → ℕ
 from_by (Watching found first from) = from
 from_by (Announced from) = from
 from_by _ = 0
+
+-- the moment of a look
+abbrev pub moment_of : Look → ℕ
+moment_of look = from_by look.seat.me.0.role
 
 -- the moment of the announcement, if a command is in progress
 abbrev pub since_by : Role → Option ℕ

@@ -1,13 +1,16 @@
 ghost use Rattle.std.specs.Prelude.{◌≡◌, ◌+◌, ◌*◌, ◌<◌, ◌^◌, length, None, Some};
 ghost use Rattle.tk_now.specs.Moments.{IsAcceptedAt};
-ghost use Rattle.tk_now.specs.Views.{IsAnnounced, IsIdle, from_by};
+ghost use Rattle.tk_now.specs.Views.{IsAnnounced, IsIdle, from_by, moment_of};
 
 use crate::counter::{Look, SharedCounter};
 use crate::notice::{Notice, WORD};
-use crate::rule::{Accepts, Announces, Compares, KeepsNote, NamesReading, Withdraws};
+use crate::rule::{
+    Accepts, Announces, Compares, Hands, KeepsNote, NamesReading, Recounts, Returns, Withdraws,
+};
 use crate::watcher::Watcher;
 use std::alloc::Allocator;
 use std::marker::{Brand, Model};
+use std::mem;
 
 /// Announces commands in a notice. Each notice has one announcer.
 ///
@@ -41,7 +44,7 @@ impl Model for Announcer {
 impl Announcer {
     ghost use Rattle.std.specs.Prelude.{IsSome};
     ghost use mathlib.Core.List.{IsPrefix};
-    ghost use Rattle.tk_now.specs.Moments.{AreInLife, AreInOrder, IsReadAt};
+    ghost use Rattle.tk_now.specs.Moments.{AreInLife, AreInOrder, IsReadAt, IsTold};
 
     /// Announces a command, before the command takes its reading.
     ///
@@ -59,6 +62,18 @@ impl Announcer {
             .words
             .shared
             .store::<Announces>(&mut self.look.seat, WORD, odd);
+    }
+
+    /// Returns the announcement of the command in progress, which the command's read of its counter
+    /// follows.
+    ///
+    /// It never waits and allocates nothing.
+    #[inline]
+    pub fn look(&self) -> &Look
+        requires announced { IsSome self.now.since }
+        ensures { self.now.since ≡ Some (moment_of result.now) }
+    {
+        &self.look
     }
 
     /// Reads the counter for the announced command.
@@ -85,6 +100,26 @@ impl Announcer {
         // 3. It counts.
         self.number += 1;
         accept_reading::<Brand, A>(notice, &mut self.look, 2 * self.number, reading);
+    }
+
+    /// Gives a watcher all that is known: the readings of all accepted commands, and of all
+    /// watchers.
+    ///
+    /// It waits for nobody and allocates nothing.
+    pub fn tell<A: Allocator>(&mut self, notice: &Notice<A>, watcher: &mut Watcher)
+        requires notice { self.old.notice ≡ notice.now }
+        requires watcher { watcher.old.notice ≡ notice.now }
+        requires idle { self.old.since ≡ None }
+        ensures same { self.new ≡ self.old }
+        ensures told { IsTold self.old watcher.old watcher.new }
+    {
+        let shared = &notice.words.shared;
+        let seat = &mut self.look.seat;
+        let vacant = shared.split_seat::<Hands>(seat);
+        let former = mem::replace(&mut watcher.look.seat, vacant);
+        shared.join_seat::<KeepsNote>(seat, former);
+        shared.load::<Recounts>(seat, WORD);
+        watcher.look.seat = shared.split_seat::<Returns>(seat);
     }
 
     /// Takes in a watcher, which is used up. The commands that it knew are the first of this

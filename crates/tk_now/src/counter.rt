@@ -1,5 +1,8 @@
-use crate::rule::View;
+ghost use Rattle.std.specs.Prelude.{◌≡◌, IfOk};
+
+use crate::rule::{View, Words};
 use atomic_table::Seat;
+use std::alloc::{AllocError, Allocator};
 use std::sync::atomic::{AtomicU64, Ordering};
 use std::time::{Clock, Instant};
 
@@ -11,6 +14,25 @@ pub struct Look {
     pub(crate) seat: Seat<(), View>,
 }
 
+impl Look {
+    ghost use Rattle.tk_now.specs.Views.{moment_of};
+
+    /// Returns a look for a read that comes before there is a notice, such as an opening's. Its
+    /// moment is 0.
+    ///
+    /// It allocates a word, which it frees again. It waits for nobody.
+    ///
+    /// # Errors
+    ///
+    /// `AllocError` if the allocation fails.
+    pub fn first<A: Allocator>(alloc: A) -> Result<Look, AllocError>
+        ensures { IfOk result (λ look. moment_of look ≡ 0) }
+    {
+        let (_, seat) = Words::of_words(alloc, &[0], &0)?;
+        Ok(Look { seat })
+    }
+}
+
 /// Gives the readings of a counter that many threads share, in cycles.
 ///
 /// A reading has to be taken during the call. If the counter is an instruction of the processor,
@@ -20,14 +42,14 @@ pub struct Look {
 /// consistent, which on x86-64 makes a store an exchange, but doesn't order `rdtsc`.
 pub trait SharedCounter {
     ghost use Rattle.std.specs.Prelude.{ℕ};
-    ghost use Rattle.tk_now.specs.Views.{from_by};
+    ghost use Rattle.tk_now.specs.Views.{moment_of};
 
     // The answers that the counter may give to a read that follows a look at this moment.
     ghost answers: { Self → ℕ → ℕ → Type 0 };
 
     /// Returns a reading that is taken during the call, after `look` was made.
     fn read(&self, look: &Look) -> u64
-        ensures given { answers self.now (from_by look.now.seat.me.0.role) result };
+        ensures given { answers self.now (moment_of look.now) result };
 }
 
 /// Counts the reads of all threads: each reading is the one before plus a fixed step, modulo 2^64.

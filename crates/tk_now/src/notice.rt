@@ -19,7 +19,7 @@
 //!    later than the reading of any command that is accepted after that. If the number differs or
 //!    is odd, the answer is `Busy`.
 //!
-//! Who waits: nobody. Only `open` allocates.
+//! Who waits: nobody. Only `open` and `Look::first` allocate.
 ghost use Rattle.std.specs.Prelude.{◌≡◌, IfOk, None};
 ghost use Rattle.tk_now.specs.Views.{opened_announcer, opened_watcher};
 

@@ -8,7 +8,8 @@ use atomic_table::{Table, TableRule};
 use std::alloc::Global;
 use std::collections::LinkedList;
 pub(crate) use steps::{
-    Accepts, Announces, Begins, Compares, Ends, Hands, KeepsNote, NamesReading, Withdraws,
+    Accepts, Announces, Begins, Compares, Ends, Hands, KeepsNote, NamesReading, Recounts, Returns,
+    Withdraws,
 };
 
 /// Describes a reading of the counter.

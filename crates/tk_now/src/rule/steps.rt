@@ -96,3 +96,26 @@ impl Play<(), View> for Compares {
 
     ghost then = { compared };
 }
+
+/// The announcer loads the word, compares its note with the commands and answers, and then notes
+/// all of them.
+pub struct Recounts;
+
+impl Play<(), View> for Recounts {
+    ghost use Rattle.tk_now.specs.Steps.{recounted};
+
+    ghost then = { recounted };
+}
+
+/// The announcer gives its note to a watcher.
+pub struct Returns;
+
+impl Split<View> for Returns {
+    ghost use Rattle.std.specs.Prelude.{[]};
+    ghost use Rattle.tk_now.specs.Views.{noted_log, view_of};
+    ghost use Rattle.tk_now.specs.declared.rule.Role.TheVariants.{Idle, Resting};
+
+    ghost left = { λ view. view_of view.commands view.log Idle };
+
+    ghost right = { λ view. view_of view.commands (noted_log view.role) (Resting []) };
+}
