@@ -49,7 +49,7 @@ fn worked<L: Named + Send + Sync, R: Threads + Wait + Hours + Sync>(
     work: Work,
     commands: u64,
 ) -> Option<Turn>
-    requires named { IsNamed prepared L.page L.latch L.name L.parts L.callers }
+    requires named { IsNamed prepared L.page L.latch L.notice L.name L.parts L.callers }
 {
     let (keeper, mut callers) = SharedKeeper::<L, Ticker>::open(alloc, prepared).ok()?;
     let mut caller = callers.pop()?;

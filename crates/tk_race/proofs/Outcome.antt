@@ -4,6 +4,7 @@ use Rattle.std.proofs.lemmas.List.Sums.{sum_by-cons}
 use Rattle.tk_clock.specs.Journal.{Journal}
 use Rattle.tk_clock.specs.Legal.{IsWhole}
 use Rattle.tk_page.specs.History.{Begins}
+use Rattle.atomic_table.specs.Seated.{TableId}
 use Rattle.tk_latch.specs.Latch.{LatchId}
 use Rattle.tk_shared.specs.Callers.{Known, made_by, newcomer, newcomers}
 use Rattle.tk_shared.specs.Closing.{IsApart, AreDifferent, IsClosed, IsCounted, IsPartOf, accepted_by}
@@ -15,50 +16,50 @@ use Rattle.tk_race.specs.Replies.{IsActed, done_in}
 use Rattle.tk_race.proofs.Answering.{begins_trans}
 
 -- the newcomers with the numbers k, k + 1 and so on
-newcomers_from : LatchId → Journal → ℕ → ℕ → List Known
-newcomers_from latch start k zero = []
-newcomers_from latch start k (suc n) =
-    newcomer latch start k ∷ newcomers_from latch start (k + 1) n
+newcomers_from : LatchId → TableId → Journal → ℕ → ℕ → List Known
+newcomers_from latch notice start k zero = []
+newcomers_from latch notice start k (suc n) =
+    newcomer latch notice start k ∷ newcomers_from latch notice start (k + 1) n
 
-from_push : (latch : LatchId) (start : Journal) (k n : ℕ) →
-    newcomers_from latch start k (suc n)
-    ≡ newcomers_from latch start k n ++ newcomer latch start (k + n) ∷ []
+from_push : (latch : LatchId) (notice : TableId) (start : Journal) (k n : ℕ) →
+    newcomers_from latch notice start k (suc n)
+    ≡ newcomers_from latch notice start k n ++ newcomer latch notice start (k + n) ∷ []
 unfolding newcomers_from
-from_push latch start k zero = ap (λ (j : ℕ). newcomer latch start j ∷ []) (omega arith)
-from_push latch start k (suc n) =
-    ap (λ l. newcomer latch start k ∷ l) (from_push latch start (k + 1) n)
-    ∙ ap (λ (j : ℕ). newcomer latch start k
-    ∷ (newcomers_from latch start (k + 1) n ++ newcomer latch start j ∷ [])) (omega arith)
+from_push latch notice start k zero = ap (λ (j : ℕ). newcomer latch notice start j ∷ []) (omega arith)
+from_push latch notice start k (suc n) =
+    ap (λ l. newcomer latch notice start k ∷ l) (from_push latch notice start (k + 1) n)
+    ∙ ap (λ (j : ℕ). newcomer latch notice start k
+    ∷ (newcomers_from latch notice start (k + 1) n ++ newcomer latch notice start j ∷ [])) (omega arith)
 
-from_all : (latch : LatchId) (start : Journal) (n : ℕ) →
-    newcomers latch start n ≡ newcomers_from latch start 0 n
+from_all : (latch : LatchId) (notice : TableId) (start : Journal) (n : ℕ) →
+    newcomers latch notice start n ≡ newcomers_from latch notice start 0 n
 unfolding newcomers_from
-from_all latch start zero = refl
-from_all latch start (suc n) =
-    ap (λ l. l ++ newcomer latch start n ∷ []) (from_all latch start n)
-    ∙ sym (from_push latch start 0 n
-    ∙ ap (λ (j : ℕ). newcomers_from latch start 0 n ++ newcomer latch start j ∷ []) (omega arith))
+from_all latch notice start zero = refl
+from_all latch notice start (suc n) =
+    ap (λ l. l ++ newcomer latch notice start n ∷ []) (from_all latch notice start n)
+    ∙ sym (from_push latch notice start 0 n
+    ∙ ap (λ (j : ℕ). newcomers_from latch notice start 0 n ++ newcomer latch notice start j ∷ []) (omega arith))
 
-pub length-newcomers : (latch : LatchId) (start : Journal) (n : ℕ) →
-    length (newcomers latch start n) ≡ n
-length-newcomers latch start zero = refl
-length-newcomers latch start (suc n) =
-    let rest = length-newcomers latch start n in
-    let more = length-append (newcomers latch start n) (newcomer latch start n ∷ []) in
+pub length-newcomers : (latch : LatchId) (notice : TableId) (start : Journal) (n : ℕ) →
+    length (newcomers latch notice start n) ≡ n
+length-newcomers latch notice start zero = refl
+length-newcomers latch notice start (suc n) =
+    let rest = length-newcomers latch notice start n in
+    let more = length-append (newcomers latch notice start n) (newcomer latch notice start n ∷ []) in
     omega (arith, rest, more)
 
-module _ (latch : LatchId) (start : Journal) where
+module _ (latch : LatchId) (notice : TableId) (start : Journal) where
   -- these actors were the newcomers with the numbers k, k + 1 and so on, and have done their
   -- actions
   abbrev HaveRaced : ℕ → List (List Action) → List Actor → Type 0
   HaveRaced k [] [] = Unit {0}
   HaveRaced k (actions ∷ others) (actor ∷ actors) =
-      HasActed (newcomer latch start k) actor.caller actions actor.replies
+      HasActed (newcomer latch notice start k) actor.caller actions actor.replies
       × HaveRaced (k + 1) others actors
   HaveRaced k _ _ = ⊥
 
   raced_from : (k n : ℕ) (actions : List (List Action)) (olds news : List Actor) →
-      map (λ a. a.caller) olds ≡ newcomers_from latch start k n → HaveActed actions olds news →
+      map (λ a. a.caller) olds ≡ newcomers_from latch notice start k n → HaveActed actions olds news →
       HaveRaced k actions news
   unfolding newcomers_from
   raced_from k n [] [] [] is have = tt
@@ -68,16 +69,16 @@ module _ (latch : LatchId) (start : Journal) where
   raced_from k n (a ∷ acts) (old ∷ olds) [] is have = absurd have
   raced_from k zero (a ∷ acts) (old ∷ olds) (new ∷ news) is have = absurd (cc is)
   raced_from k (suc n) (a ∷ acts) (old ∷ olds) (new ∷ news) is have =
-      let first : old.caller ≡ newcomer latch start k = cc is in (
+      let first : old.caller ≡ newcomer latch notice start k = cc is in (
         subst (λ (c : Known). HasActed c new.caller a new.replies) first have.0,
         raced_from (k + 1) n acts olds news (cc is) have.1,
       )
 
   all_raced : (n : ℕ) (actions : List (List Action)) (olds news : List Actor) →
-      map (λ a. a.caller) olds ≡ newcomers latch start n → HaveActed actions olds news →
+      map (λ a. a.caller) olds ≡ newcomers latch notice start n → HaveActed actions olds news →
       HaveRaced 0 actions news
   all_raced n actions olds news is have =
-      raced_from 0 n actions olds news (is ∙ from_all latch start n) have
+      raced_from 0 n actions olds news (is ∙ from_all latch notice start n) have
 
   -- the callers' numbers stay different
   apart_from : (id k : ℕ) → id < k → (actions : List (List Action)) (news : List Actor) →
@@ -103,14 +104,14 @@ module _ (latch : LatchId) (start : Journal) where
       )
 
   pub all_different : (n : ℕ) (actions : List (List Action)) (olds news : List Actor) →
-      map (λ a. a.caller) olds ≡ newcomers latch start n → HaveActed actions olds news →
+      map (λ a. a.caller) olds ≡ newcomers latch notice start n → HaveActed actions olds news →
       AreDifferent (map (λ a. a.caller) news)
   all_different n actions olds news is have =
       different_from 0 actions news (all_raced n actions olds news is have)
 
   -- an actor's part in the history
   part : (history : Journal) (k : ℕ) (actions : List Action) (new : Actor) → IsWhole history →
-      HasActed (newcomer latch start k) new.caller actions new.replies →
+      HasActed (newcomer latch notice start k) new.caller actions new.replies →
       IsPartOf history new.caller → IsCounted history new.caller →
       IsActed history k actions new.replies
   part history k actions new whole acted is own =
@@ -165,7 +166,7 @@ module _ (latch : LatchId) (start : Journal) where
 
   pub outcome : (journal : Journal) (n : ℕ) (actions : List (List Action)) (olds news : List Actor)
       (callers : List Known) (replies : List (List RaceReply)) → 0 < length actions →
-      map (λ a. a.caller) olds ≡ newcomers latch start n → HaveActed actions olds news →
+      map (λ a. a.caller) olds ≡ newcomers latch notice start n → HaveActed actions olds news →
       callers ≡ map (λ a. a.caller) news → replies ≡ map (λ a. a.replies) news →
       IsClosed journal callers → IsOutcome start actions journal replies
   outcome journal n actions olds news callers replies some is have known told closed =

@@ -100,7 +100,7 @@ fn raced<L: Named + Send + Sync, G: Gate + Sync, R: Threads + Wait + Sync>(
     actions: &[Vec<Action>],
     gate: &G,
 ) -> Result<RaceReport, RaceError>
-    requires named { IsNamed prepared L.page L.latch L.name L.parts L.callers }
+    requires named { IsNamed prepared L.page L.latch L.notice L.name L.parts L.callers }
     requires callers { prepared.callers ≡ length actions.now }
     requires some { 0 < length actions.now }
     requires room { min (sum_by (λ a. orders_in a.items) actions.now) listed_most

@@ -7,9 +7,10 @@ use Rattle.tk_clock.specs.Journal.{Journal}
 use Rattle.tk_page.specs.History.{Begins}
 use Rattle.tk_latch.specs.Latch.{LatchId}
 use Rattle.tk_shared.specs.Callers.{Known, made_by}
-use Rattle.tk_shared.specs.Closing.{accepted_by, AreDifferent, IsPartOf, IsClosed}
+use Rattle.tk_now.specs.Views.{Announcing}
+use Rattle.tk_shared.specs.Closing.{accepted_by, AreDifferent, HasWatched, IsPartOf, IsClosed}
 use Rattle.tk_shared.specs.History.{AreSnapshots}
-use Rattle.tk_shared.specs.Locked.{Held, IsHeld}
+use Rattle.tk_shared.specs.Locked.{Held, IsAtRest, IsHeld}
 use Rattle.tk_shared.proofs.Counts.{all_counted}
 use Rattle.tk_shared.proofs.Kept.{kept_count}
 use Rattle.tk_shared.proofs.Snapshots.{snapshots_prefix}
@@ -25,18 +26,23 @@ part_of history publications caller are begins learnt own = record {
   own = own;
 }
 
-pub closed : (page : TableId) (latch : LatchId) (held : Held) (callers : List Known) →
-    IsHeld page latch held → AreDifferent callers →
-    All (IsPartOf held.shown.journal) callers → held.total ≡ accepted_by callers →
-    IsClosed held.kept callers
-closed page latch held callers is different parts total =
+pub closed : (page : TableId) (latch : LatchId) (notice : TableId) (held : Held)
+    (announcer : Announcing) (callers : List Known) → IsHeld page latch held →
+    IsAtRest notice held.shown.journal announcer → AreDifferent callers →
+    All (IsPartOf held.shown.journal) callers → All (HasWatched announcer.commands) callers →
+    held.total ≡ accepted_by callers → IsClosed held.kept callers
+closed page latch notice held announcer callers is rest different parts watched total =
     let history = held.shown.journal in
     let all : length history.entries ≡ accepted_by callers = sym is.counted ∙ total in
     record {
       history = history;
       whole = is.whole;
       kept = is.kept;
+      commands = announcer.commands;
+      readings = rest.readings;
+      order = rest.order;
       parts = parts;
+      watched = watched;
       own = all_counted history callers different parts all;
       counted = kept_count history held.kept is.whole is.kept ∙ all;
     }

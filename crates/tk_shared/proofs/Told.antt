@@ -1,5 +1,5 @@
 -- What a command tells its caller.
-use Rattle.std.proofs.Common.{◌≡◌, ℕ, ◌+◌, ◌%◌, ◌^◌, [], ◌∷◌, length, refl, ◌∙◌, ap, arith, bit_and, sym}
+use Rattle.std.proofs.Common.{◌≡◌, ℕ, ◌+◌, ◌%◌, ◌^◌, List, [], ◌∷◌, length, refl, ◌∙◌, ap, arith, bit_and, subst, sym}
 use Rattle.std.specs.Prelude.{None}
 use Rattle.std.proofs.lemmas.List.{length_push}
 use Rattle.std.proofs.lemmas.Nat.{and_le_r, and_mask}
@@ -14,7 +14,11 @@ use Rattle.tk_clock.proofs.Monotone.{agrees, never_falls}
 use Rattle.tk_page.specs.History.{Begins}
 use Rattle.tk_latch.specs.Latch.{LatchId, told_reader}
 use Rattle.tk_shared.specs.Callers.{Known, IsAccepted, IsRefused, IsRefusalAfter, entry_of}
-use Rattle.tk_shared.specs.Locked.{Held, IsHeld}
+use Rattle.tk_now.specs.declared.rule.Taken.{Taken}
+use Rattle.tk_now.specs.Life.{AreReadings}
+use Rattle.tk_now.specs.Moments.{AreInLife, AreInOrder, IsTold}
+use Rattle.tk_now.specs.Views.{Announcing, Watched}
+use Rattle.tk_shared.specs.Locked.{Held, IsAtRest, IsHeld}
 use Rattle.tk_shared.proofs.Held.{with_entry, held_accepted}
 use Rattle.tk_shared.proofs.Kept.{kept_count, kept_monotonic}
 use Rattle.tk_shared.proofs.Prefixes.{prefix_trans, prefix_length}
@@ -46,11 +50,12 @@ module _ (page : TableId) (latch : LatchId) (held : Held) (is : IsHeld page latc
     reason = reason refusal told;
     counted = refl;
     learnt = refl;
+    watched = refl;
   }
 
   -- what the caller knows, where its command was accepted
-  abbrev pub told : Known
-  told =
+  abbrev pub told : Watched → Known
+  told watched =
       let now = with_entry held (entry_of old reading cmd) in
       record {
         id = old.id;
@@ -58,13 +63,16 @@ module _ (page : TableId) (latch : LatchId) (held : Held) (is : IsHeld page latc
         reads = old.reads;
         seen = now.shown.journal;
         learnt = told_reader now.latched;
+        watched = watched;
       }
 
   pub accepted : (number : ℕ) → IsPrefix old.learnt.publications held.latched.publications →
       first_refusal held.kept (entry_of old reading cmd) ≡ None →
       number ≡ accepted_count (followed_by held.kept (entry_of old reading cmd)) →
-      IsAccepted old told cmd number
-  accepted number learnt none counted =
+      (notice : TableId) (announcer : Announcing) (watched : Watched) →
+      IsAtRest notice (followed_by held.shown.journal (entry_of old reading cmd)) announcer →
+      IsTold announcer old.watched watched → IsAccepted old (told watched) cmd number
+  accepted number learnt none counted notice announcer watched rest known =
       let history = held.shown.journal in
       let entry = entry_of old reading cmd in
       let now = held_accepted page latch held entry is none in
@@ -95,4 +103,9 @@ module _ (page : TableId) (latch : LatchId) (held : Held) (is : IsHeld page latc
             omega (arith, all, latest, many, longer);
         learnt = prefix_trans _ _ _ learnt (next ∷ [], refl);
         snapshots = now.snapshots;
+        readings = subst (AreReadings (followed_by history entry)) (sym known.commands) rest.readings;
+        order = subst AreInOrder (sym known.commands) known.order;
+        life = subst (λ (l : List Taken). AreInLife l watched.log) (sym known.commands) known.life;
+        commands = subst (IsPrefix old.watched.commands) (sym known.commands) known.begins;
+        log = known.log;
       }

@@ -14,17 +14,23 @@ use Rattle.tk_clock.specs.Monotonic.{monotonic}
 use Rattle.tk_clock.specs.Refusal.{clock_refusal}
 use Rattle.tk_clock.specs.Snapshot.{snapshot_of}
 use Rattle.tk_page.specs.History.{Begins}
+use Rattle.atomic_table.specs.Seated.{TableId}
+use Rattle.tk_now.specs.Life.{AreReadings}
+use Rattle.tk_now.specs.Moments.{AreInLife, AreInOrder}
+use Rattle.tk_now.specs.Views.{Watched, opened_announcer, opened_watcher}
 use Rattle.tk_latch.specs.Latch.{LatchId, Learnt, mark_of, opened_reader}
 use Rattle.tk_shared.specs.History.{AreSnapshots}
 
 -- a caller: its number, how many of its commands were accepted, how many times it has read the
--- page, the history as far as it has seen it, and what it has learnt from the latch
+-- page, the history as far as it has seen it, what it has learnt from the latch, and the readings
+-- that it knows of from the notice
 pub record Known : Type 0 where
   pub id : ℕ
   pub accepted : ℕ
   pub reads : ℕ
   pub seen : Journal
   pub learnt : Learnt
+  pub watched : Watched
 
 -- how many of these entries a caller made
 abbrev pub made_by : ℕ → List Entry → ℕ
@@ -60,6 +66,12 @@ pub record IsAccepted (old new : Known) (cmd : Command) (answer : ℕ) : Type 0 
   pub mark : mark_of new.learnt.publications ≡ answer
   pub learnt : IsPrefix old.learnt.publications new.learnt.publications
   pub snapshots : AreSnapshots new.seen new.learnt.publications
+  -- it knows the readings of all commands, in order; those that it knew are the first of them
+  pub readings : AreReadings new.seen new.watched.commands
+  pub order : AreInOrder new.watched.commands
+  pub life : AreInLife new.watched.commands new.watched.log
+  pub commands : IsPrefix old.watched.commands new.watched.commands
+  pub log : IsPrefix old.watched.log new.watched.log
 
 -- why an entry is refused after a whole history: Full where that has more entries than a journal
 -- lists or counts, Memory only where nothing else is wrong
@@ -77,19 +89,21 @@ pub record IsRefused (old new : Known) (cmd : Command) (refusal : Refusal) : Typ
   pub reason : IsRefusalAfter new.seen (entry_of old reading cmd) refusal
   pub counted : new.accepted ≡ old.accepted
   pub learnt : new.learnt ≡ old.learnt
+  pub watched : new.watched ≡ old.watched
 
 -- a caller of a keeper that was just opened
-abbrev pub newcomer : LatchId → Journal → ℕ → Known
-newcomer latch opened id = record {
+abbrev pub newcomer : LatchId → TableId → Journal → ℕ → Known
+newcomer latch notice opened id = record {
   id = id;
   accepted = 0;
   reads = 0;
   seen = opened;
   learnt = opened_reader latch (snapshot_of opened);
+  watched = opened_watcher (opened_announcer notice opened.opening.reading);
 }
 
 -- so many of them, with the numbers 0, 1, and so on
-abbrev pub newcomers : LatchId → Journal → ℕ → List Known
-newcomers latch opened zero = []
-newcomers latch opened (suc count) =
-    newcomers latch opened count ++ newcomer latch opened count ∷ []
+abbrev pub newcomers : LatchId → TableId → Journal → ℕ → List Known
+newcomers latch notice opened zero = []
+newcomers latch notice opened (suc count) =
+    newcomers latch notice opened count ++ newcomer latch notice opened count ∷ []

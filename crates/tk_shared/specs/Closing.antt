@@ -3,6 +3,10 @@ use Rattle.std.specs.Prelude.{◌≡◌, ◌≢◌, ℕ, ◌≤◌, List, [], �
 use Rattle.tk_clock.specs.Journal.{Journal, accepted_count}
 use Rattle.tk_clock.specs.Legal.{IsWhole}
 use Rattle.tk_page.specs.History.{Begins}
+use Rattle.tk_now.specs.declared.rule.Taken.{Taken}
+use Rattle.tk_now.specs.Life.{AreReadings}
+use Rattle.tk_now.specs.Moments.{AreInLife, AreInOrder}
+use mathlib.Core.List.{IsPrefix}
 use Rattle.tk_shared.specs.Callers.{Known, made_by}
 use Rattle.tk_shared.specs.History.{IsKeptOf, AreSnapshots}
 
@@ -28,6 +32,12 @@ pub record IsPartOf (history : Journal) (caller : Known) : Type 0 where
   pub learnt : AreSnapshots history caller.learnt.publications
   pub own : caller.accepted ≤ made_by caller.id caller.seen.entries
 
+-- what a caller knows from the notice: the readings of the first of these commands, and readings
+-- each of which is in its life among all of them
+pub record HasWatched (commands : List Taken) (caller : Known) : Type 0 where
+  pub begins : IsPrefix caller.watched.commands commands
+  pub life : AreInLife commands caller.watched.log
+
 -- just as many entries are a caller's as were accepted
 abbrev pub IsCounted : Journal → Known → Type 0
 IsCounted history caller = made_by caller.id history.entries ≡ caller.accepted
@@ -37,6 +47,10 @@ pub record IsClosed (journal : Journal) (callers : List Known) : Type 0 where
   pub history : Journal
   pub whole : IsWhole history
   pub kept : IsKeptOf history journal
+  pub commands : List Taken
+  pub readings : AreReadings history commands
+  pub order : AreInOrder commands
   pub parts : All (IsPartOf history) callers
+  pub watched : All (HasWatched commands) callers
   pub own : All (IsCounted history) callers
   pub counted : accepted_count journal ≡ accepted_by callers

@@ -1,11 +1,14 @@
 -- What is true whenever the lock is free.
-use Rattle.std.specs.Prelude.{◌≡◌, ℕ, ◌+◌, length}
+use Rattle.std.specs.Prelude.{◌≡◌, ℕ, ◌+◌, length, None}
 use Rattle.atomic_table.specs.Seated.{TableId}
 use Rattle.tk_counter.specs.Counter.{mask as greatest_reading}
 use Rattle.tk_clock.specs.Journal.{Journal}
 use Rattle.tk_clock.specs.Legal.{IsWhole}
 use Rattle.tk_page.specs.History.{History}
 use Rattle.tk_latch.specs.Latch.{LatchId, Published}
+use Rattle.tk_now.specs.Life.{AreReadings}
+use Rattle.tk_now.specs.Moments.{AreInOrder}
+use Rattle.tk_now.specs.Views.{Announcing}
 use Rattle.tk_shared.specs.History.{IsKeptOf, AreSnapshots}
 
 -- the value behind the lock, as contracts see it: the history, which is every command that was
@@ -36,3 +39,12 @@ pub record IsHeld (named_page : TableId) (named_latch : LatchId) (held : Held) :
   pub latest : length held.latched.publications ≡ length held.shown.journal.entries + 1
   pub masked : held.mask ≡ greatest_reading held.shown.journal.opening.counter
   pub counted : held.total ≡ length held.shown.journal.entries
+
+-- no command is in progress, and the readings that the notice lists of commands are those of the
+-- history, in order
+pub record IsAtRest (named_notice : TableId) (history : Journal) (announcer : Announcing)
+    : Type 0 where
+  pub notice : announcer.notice ≡ named_notice
+  pub idle : announcer.since ≡ None
+  pub readings : AreReadings history announcer.commands
+  pub order : AreInOrder announcer.commands

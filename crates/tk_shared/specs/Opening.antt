@@ -8,27 +8,29 @@ use Rattle.tk_clock.specs.Legal.{IsWhole}
 use Rattle.tk_clock.specs.Limits.{is_settable}
 use Rattle.tk_clock.specs.Snapshot.{snapshot_of}
 use Rattle.tk_page.specs.History.{History, Sight}
+use Rattle.tk_now.specs.Views.{Announcing, opened_announcer}
 use Rattle.tk_latch.specs.Latch.{LatchId, Published, Learnt, opened_writer, opened_reader}
 use Rattle.tk_shared.specs.declared.fault.OpenError.{OpenError}
 use Rattle.tk_shared.specs.declared.fault.OpenError.TheVariants.{Count, Invalid, Memory}
 
--- what is ready to be opened: the page, the latch, the ledger's name, the number of callers, the
+-- what is ready to be opened: the page, the latch, the notice, the ledger's name, the number of callers, the
 -- journal without entries, and how many commands it has room for
 pub record Start : Type 0 where
   pub page : TableId
   pub latch : LatchId
+  pub notice : TableId
   pub ledger : ℕ
   pub callers : ℕ
   pub journal : Journal
   pub spare : ℕ
 
 -- a type's names are those of what was prepared; each caller has one part of the ledger
-abbrev pub IsNamed : Start → TableId → LatchId → ℕ → ℕ → ℕ → Type 0
-IsNamed start page latch ledger parts callers =
-    (start.page ≡ page) × (start.latch ≡ latch) × (start.ledger ≡ ledger)
-    × (start.callers ≡ parts) × (start.callers ≡ callers)
+abbrev pub IsNamed : Start → TableId → LatchId → TableId → ℕ → ℕ → ℕ → Type 0
+IsNamed start page latch notice ledger parts callers =
+    (start.page ≡ page) × (start.latch ≡ latch) × (start.notice ≡ notice)
+    × (start.ledger ≡ ledger) × (start.callers ≡ parts) × (start.callers ≡ callers)
 
--- the name of no page, and of no latch
+-- the name of no page and of no notice, and of no latch
 abbrev pub no_page : TableId
 no_page =
     record { words = 0; slots = 0; views_name = 0; atom = 0; block = 0; offset = 0; slot_names = [] }
@@ -60,14 +62,16 @@ pub record IsOpened (counter : Counter) (real : Timespec) (journal : Journal) : 
   pub opened : journal ≡ opened counter reading real
   pub whole : IsWhole journal
 
--- a page and a latch that show the journal without entries, and a reader for each caller
+-- a page and a latch that show the journal without entries, a reader for each caller, and the
+-- announcer of a notice that was opened at the journal's reading
 pub record IsReady (start : Start) (publisher : History) (viewer : Sight)
-    (writer : Published) (readers : List Learnt) : Type 0 where
+    (writer : Published) (readers : List Learnt) (announcer : Announcing) : Type 0 where
   pub published : publisher ≡ record { page = start.page; journal = start.journal }
   pub seen : viewer ≡ record { page = start.page; reads = 0; journal = start.journal }
   pub latched : writer ≡ opened_writer start.latch (snapshot_of start.journal)
   pub learnt : readers
       ≡ replicate start.callers (opened_reader start.latch (snapshot_of start.journal))
+  pub announced : announcer ≡ opened_announcer start.notice start.journal.opening.reading
   pub counter : start.latch.counter ≡ start.journal.opening.counter
   pub whole : IsWhole start.journal
   pub empty : start.journal.entries ≡ []

@@ -15,18 +15,23 @@ pub record IsReading {C : Type 0} (answers : C → ℕ → Type 0) (counter : C)
   pub given : answers counter answer
   pub kept : reading ≡ answer % 2 ^ described.bits
 
--- the last entry of the history was made at a reading of a counter
-pub record EndsAtReading {C : Type 0} (answers : C → ℕ → Type 0) (history : Journal) : Type 0 where
+-- the last entry of the history was made at a reading of a counter that followed an announcement,
+-- at this moment
+pub record EndsAtReading {C : Type 0} (answers : C → ℕ → ℕ → Type 0) (history : Journal)
+    : Type 0 where
   pub counter : C
+  pub from : ℕ
   pub before : Journal
   pub entry : Entry
   pub last : history ≡ followed_by before entry
-  pub read : IsReading answers counter history.opening.counter entry.reading
+  pub read : IsReading (λ c. answers c from) counter history.opening.counter entry.reading
 
--- a command of a caller was refused at a reading of a counter, after this history
-pub record IsRefusedAtReading {C : Type 0} (answers : C → ℕ → Type 0) (caller : Known)
+-- a command of a caller was refused at a reading of a counter that followed an announcement, at
+-- this moment, after this history
+pub record IsRefusedAtReading {C : Type 0} (answers : C → ℕ → ℕ → Type 0) (caller : Known)
     (history : Journal) (cmd : Command) (refusal : Refusal) : Type 0 where
   pub counter : C
+  pub from : ℕ
   pub reading : ℕ
-  pub read : IsReading answers counter history.opening.counter reading
+  pub read : IsReading (λ c. answers c from) counter history.opening.counter reading
   pub reason : IsRefusalAfter history (entry_of caller reading cmd) refusal

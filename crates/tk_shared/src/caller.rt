@@ -5,6 +5,7 @@ use crate::named::Named;
 use std::marker::Model;
 use std::sync::ledger::Share;
 use tk_latch::LatchReader;
+use tk_now::Watcher;
 use tk_page::Viewer;
 
 /// Gives commands to a shared keeper and reads its clocks.
@@ -15,6 +16,7 @@ use tk_page::Viewer;
 pub struct Caller<L: Named> {
     pub(crate) viewer: Viewer,
     pub(crate) reader: LatchReader,
+    pub(crate) watcher: Watcher,
     /// Its part of the ledger, which counts its accepted commands.
     pub(crate) share: Share<L>,
     pub(crate) id: u32,
@@ -33,11 +35,13 @@ impl<L: Named> Model for Caller<L> {
       reads = c.viewer.reads;
       seen = c.viewer.journal;
       learnt = c.reader;
+      watched = c.watcher;
     } };
 
     ghost invariant = { λ c.
         (c.viewer.page ≡ L.page) × (c.reader.latch ≡ L.latch) × (c.share.parts ≡ 1)
-        × (c.share.amount ≡ c.accepted) × (c.accepted ≤ made_by c.id c.viewer.journal.entries) };
+        × (c.share.amount ≡ c.accepted) × (c.accepted ≤ made_by c.id c.viewer.journal.entries)
+        × (c.watcher.notice ≡ L.notice) };
 }
 
 impl<L: Named> Caller<L> {

@@ -1,6 +1,6 @@
 //! Closing a shared keeper, once all callers are back.
-ghost use Rattle.std.specs.Prelude.{◌≡◌, ◌+◌, ◌<◌, ◌≤◌, All, MatchResult, length, vec_len};
-ghost use Rattle.tk_shared.specs.Closing.{AreDifferent, IsClosed, IsPartOf, accepted_by};
+ghost use Rattle.std.specs.Prelude.{◌≡◌, ◌+◌, ◌<◌, ◌≤◌, All, MatchResult, None, length, vec_len};
+ghost use Rattle.tk_shared.specs.Closing.{AreDifferent, HasWatched, IsClosed, IsPartOf, accepted_by};
 ghost use Rattle.tk_shared.specs.History.{AreSnapshots};
 
 use crate::caller::Caller;
@@ -12,6 +12,7 @@ use std::sync::Wait;
 use std::sync::ledger::Share;
 use tk_keeper::Timekeeper;
 use tk_latch::{Latch, LatchWriter};
+use tk_now::{Announcer, Notice};
 use tk_page::{Page, Publisher};
 
 /// Contains what a closed keeper leaves.
@@ -59,6 +60,7 @@ impl<L: Named, C: Counter> SharedKeeper<L, C> {
         let SharedKeeper {
             page,
             latch,
+            notice,
             locked,
             callers: _,
         } = self;
@@ -66,6 +68,7 @@ impl<L: Named, C: Counter> SharedKeeper<L, C> {
             keeper,
             mut publisher,
             mut writer,
+            mut announcer,
             counter,
             mask: _,
             mut book,
@@ -77,6 +80,8 @@ impl<L: Named, C: Counter> SharedKeeper<L, C> {
             &mut publisher,
             &latch,
             &mut writer,
+            &notice,
+            &mut announcer,
             &mut all,
             callers,
         );
@@ -92,20 +97,27 @@ fn take_all<L: Named, R: Wait>(
     publisher: &mut Publisher,
     latch: &Latch,
     writer: &mut LatchWriter,
+    notice: &Notice,
+    announcer: &mut Announcer,
     all: &mut Share<L>,
     callers: Vec<Caller<L>>,
 )
     requires page { (page.now ≡ L.page) × (publisher.old.page ≡ L.page) }
     requires latch { (latch.now ≡ L.latch) × (writer.old.latch ≡ L.latch) }
+    requires notice { (notice.now ≡ L.notice) × (announcer.old.notice ≡ L.notice) }
+    requires idle { announcer.old.since ≡ None }
     requires snapshots { AreSnapshots publisher.old.journal writer.old.publications }
     requires within { all.old.parts ≤ L.parts }
     ensures parts { all.new.parts ≡ all.old.parts + length callers.items }
     ensures within { all.new.parts ≤ L.parts }
     ensures amount { all.new.amount ≡ all.old.amount + accepted_by callers.items }
     ensures seen { All (IsPartOf publisher.old.journal) callers.items }
+    ensures watched { All (HasWatched announcer.old.commands) callers.items }
 {
     for caller in callers {
-        take_in(rt, page, publisher, latch, writer, all, caller);
+        take_in(
+            rt, page, publisher, latch, writer, notice, announcer, all, caller,
+        );
     }
 }
 
@@ -116,25 +128,33 @@ fn take_in<L: Named, R: Wait>(
     publisher: &mut Publisher,
     latch: &Latch,
     writer: &mut LatchWriter,
+    notice: &Notice,
+    announcer: &mut Announcer,
     all: &mut Share<L>,
     caller: Caller<L>,
 )
     requires page { (page.now ≡ L.page) × (publisher.old.page ≡ L.page) }
     requires latch { (latch.now ≡ L.latch) × (writer.old.latch ≡ L.latch) }
+    requires notice { (notice.now ≡ L.notice) × (announcer.old.notice ≡ L.notice) }
+    requires idle { announcer.old.since ≡ None }
     requires snapshots { AreSnapshots publisher.old.journal writer.old.publications }
-    ensures same { (publisher.new ≡ publisher.old) × (writer.new ≡ writer.old) }
+    ensures same { (publisher.new ≡ publisher.old) × (writer.new ≡ writer.old)
+        × (announcer.new ≡ announcer.old) }
     ensures parts { (all.new.parts ≡ all.old.parts + 1) × (all.new.parts ≤ L.parts) }
     ensures amount { all.new.amount ≡ all.old.amount + caller.accepted }
     ensures seen { IsPartOf publisher.old.journal caller }
+    ensures watched { HasWatched announcer.old.commands caller }
 {
     let Caller {
         mut viewer,
         mut reader,
+        watcher,
         share,
         id: _,
         accepted: _,
     } = caller;
     page.tell(rt, publisher, &mut viewer);
     latch.tell(writer, &mut reader);
+    announcer.take_in(notice, watcher);
     all.merge(share);
 }

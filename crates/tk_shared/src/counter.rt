@@ -1,16 +1,27 @@
+use tk_now::Look;
+
 /// Gives the readings of a keeper, in cycles.
 ///
 /// The keeper reads it once when it is opened and once in each command, under the lock. Bits above
 /// those of the keeper's counter are dropped.
 pub trait Counter: Send + Drop {
     ghost use Rattle.std.specs.Prelude.{ℕ};
+    ghost use Rattle.tk_now.specs.Views.{moment_of};
 
     // The answers that the counter may give next.
     ghost answers: { Self → ℕ → Type 0 };
 
-    /// Returns the next reading. In a command the lock is held while this runs.
+    // The answers that it may give to a read that follows an announcement at this moment.
+    ghost answers_after: { Self → ℕ → ℕ → Type 0 };
+
+    /// Returns the next reading, for an opening.
     fn read(&mut self) -> u64
         ensures given { answers self.old result };
+
+    /// Returns the next reading, which is taken after `look`, the announcement of a command. The
+    /// lock is held while this runs.
+    fn read_after(&mut self, look: &Look) -> u64
+        ensures given { answers_after self.old (moment_of look.now) result };
 }
 
 /// Counts in even steps: each reading is the one before plus a fixed step, modulo 2^64.
@@ -39,6 +50,8 @@ impl Counter for Ticker {
 
     ghost answers = { λ ticker answer. answer ≡ ticker.next };
 
+    ghost answers_after = { λ ticker _ answer. answer ≡ ticker.next };
+
     fn read(&mut self) -> u64
         ensures answer { result ≡ self.old.next }
         ensures next { self.new.next ≡ (self.old.next + self.old.step) % 2 ^ 64 }
@@ -47,5 +60,13 @@ impl Counter for Ticker {
         let now = self.next;
         self.next = now.wrapping_add(self.step);
         now
+    }
+
+    fn read_after(&mut self, _look: &Look) -> u64
+        ensures answer { result ≡ self.old.next }
+        ensures next { self.new.next ≡ (self.old.next + self.old.step) % 2 ^ 64 }
+        ensures step { self.new.step ≡ self.old.step }
+    {
+        self.read()
     }
 }

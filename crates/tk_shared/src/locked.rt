@@ -18,6 +18,7 @@ use std::sync::ledger::{Book, Share};
 use tk_clock::{Command, Entry, Refusal, Snapshot};
 use tk_keeper::Timekeeper;
 use tk_latch::{Latch, LatchWriter};
+use tk_now::{Announcer, Notice};
 use tk_page::{Page, Publisher};
 
 /// Holds what the lock protects.
@@ -30,6 +31,8 @@ pub struct Locked<L: Named, C: Counter> {
     pub(crate) publisher: Publisher,
     /// Publishes each accepted command on the latch, which is outside the lock too.
     pub(crate) writer: LatchWriter,
+    /// Announces each command in the notice, which is outside the lock too.
+    pub(crate) announcer: Announcer,
     pub(crate) counter: C,
     /// The greatest reading of the counter.
     pub(crate) mask: u64,
@@ -41,7 +44,7 @@ pub struct Locked<L: Named, C: Counter> {
 
 impl<L: Named, C: Counter> Model for Locked<L, C> {
     ghost use Rattle.std.specs.Prelude.{◌≡◌};
-    ghost use Rattle.tk_shared.specs.Locked.{Guarded, IsHeld};
+    ghost use Rattle.tk_shared.specs.Locked.{Guarded, IsAtRest, IsHeld};
 
     ghost Value = { Guarded };
 
@@ -55,12 +58,14 @@ impl<L: Named, C: Counter> Model for Locked<L, C> {
           mask = c.mask;
           total = c.book.total;
         })
-        × (c.rest.parts ≡ 0) × (c.rest.amount ≡ 0) };
+        × (c.rest.parts ≡ 0) × (c.rest.amount ≡ 0)
+        × IsAtRest L.notice c.publisher.journal c.announcer };
 }
 
 impl<L: Named, C: Counter> Locked<L, C> {
     /// Does a caller's command at the counter's reading, and publishes it on the page and then on
-    /// the latch. No call between these two waits.
+    /// the latch. No call between these two waits. The command is announced in the notice from
+    /// before its reading until after both publications.
     ///
     /// It reads the counter once, and waits for readers of the page. A refused command publishes
     /// nothing.
@@ -69,36 +74,44 @@ impl<L: Named, C: Counter> Locked<L, C> {
         rt: &R,
         page: &Page,
         latch: &Latch,
+        notice: &Notice,
         caller: &mut Caller<L>,
         cmd: Command,
     ) -> Result<u64, Refusal>
         requires page { page.now ≡ L.page }
         requires latch { latch.now ≡ L.latch }
+        requires notice { notice.now ≡ L.notice }
         ensures answer { MatchResult result
             (λ number. IsAccepted caller.old caller.new cmd number)
             (λ refusal. IsRefused caller.old caller.new cmd refusal × (self.new ≡ self.old)) }
         ensures reading { MatchResult result
-            (λ _. EndsAtReading C.answers caller.new.seen)
-            (λ refusal. IsRefusedAtReading C.answers caller.old caller.new.seen cmd refusal) }
+            (λ _. EndsAtReading C.answers_after caller.new.seen)
+            (λ refusal. IsRefusedAtReading C.answers_after caller.old caller.new.seen cmd refusal) }
         ensures seen { caller.new.seen ≡ self.new.history }
         ensures folded { self.new.journal.opening ≡ self.old.journal.opening }
         ensures same { IsSameCaller caller.old caller.new }
     {
         page.tell(rt, &mut self.publisher, &mut caller.viewer);
-        let reading = self.counter.read() & self.mask;
+        self.announcer.announce(notice);
+        let reading = self.counter.read_after(self.announcer.look()) & self.mask;
         let who = caller.id;
         let number = match self.keeper.apply(who, reading, cmd) {
             Ok(number) => number,
-            Err(refusal) => return Err(refusal),
+            Err(refusal) => {
+                self.announcer.withdraw(notice);
+                return Err(refusal);
+            }
         };
         latch.tell(&mut self.writer, &mut caller.reader);
         let entry = Entry { who, reading, cmd };
         let snapshot = self.keeper.snapshot();
         self.publisher.publish(rt, page, entry, snapshot);
         show_on_latch(latch, &mut self.writer, snapshot);
+        self.announcer.accept(notice, reading);
         // This call may wait, so it comes after both publications.
         page.tell(rt, &mut self.publisher, &mut caller.viewer);
         latch.tell(&mut self.writer, &mut caller.reader);
+        self.announcer.tell(notice, &mut caller.watcher);
         self.book.add(&mut caller.share, 1);
         caller.accepted += 1;
         Ok(number)

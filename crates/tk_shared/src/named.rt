@@ -1,7 +1,7 @@
 use std::marker::Brand;
 use std::sync::ledger::Ledger;
 
-/// Names one keeper: its page, its latch, and the ledger of its accepted commands.
+/// Names one keeper: its page, its latch, its notice, and the ledger of its accepted commands.
 ///
 /// Each part of the keeper, inside the lock or outside, is compared with these names alone. So the
 /// parts are known to belong together. The trait has no function, and no value of it is made.
@@ -16,6 +16,9 @@ pub trait Named: Ledger {
     /// The identity of the latch.
     ghost latch: { LatchId };
 
+    /// The identity of the notice.
+    ghost notice: { TableId };
+
     /// The number of callers, each with one part of the ledger.
     ghost callers: { ℕ };
 }
@@ -26,6 +29,8 @@ impl Named for Brand {
     ghost page = { no_page };
 
     ghost latch = { no_latch };
+
+    ghost notice = { no_page };
 
     ghost callers = { 0 };
 }

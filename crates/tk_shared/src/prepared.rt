@@ -15,12 +15,13 @@ use tk_clock::{Clock, Timespec};
 use tk_counter::CounterDesc;
 use tk_keeper::Timekeeper;
 use tk_latch::{Latch, LatchReader, LatchWriter};
+use tk_now::{Announcer, Notice};
 use tk_page::{Page, Publisher, Viewer};
 
 /// The greatest number of callers of a keeper.
 const CALLERS_LIMIT: usize = 64;
 
-/// Contains a keeper whose clocks were just opened, with its page and its latch.
+/// Contains a keeper whose clocks were just opened, with its page, its latch and its notice.
 #[derive(Drop)]
 pub(crate) struct Parts {
     pub(crate) page: Page,
@@ -30,6 +31,8 @@ pub(crate) struct Parts {
     pub(crate) writer: LatchWriter,
     /// One for each caller.
     pub(crate) readers: Vec<LatchReader>,
+    pub(crate) notice: Notice,
+    pub(crate) announcer: Announcer,
     pub(crate) keeper: Timekeeper,
 }
 
@@ -56,6 +59,7 @@ impl<C: Counter> Model for Prepared<C> {
     ghost view = { λ p. record {
       page = p.parts.page;
       latch = p.parts.latch;
+      notice = p.parts.notice;
       ledger = p.blank.name;
       callers = length p.parts.readers.items;
       journal = p.parts.keeper.journal;
@@ -66,11 +70,13 @@ impl<C: Counter> Model for Prepared<C> {
         IsReady (record {
           page = p.parts.page;
           latch = p.parts.latch;
+          notice = p.parts.notice;
           ledger = p.blank.name;
           callers = length p.parts.readers.items;
           journal = p.parts.keeper.journal;
           spare = p.parts.keeper.spare;
         }) p.parts.publisher p.parts.viewer p.parts.writer p.parts.readers.items
+        p.parts.announcer
         × (p.mask ≡ greatest_reading p.parts.keeper.journal.opening.counter)
         × (p.blank.parts ≡ length p.parts.readers.items) };
 }
@@ -137,8 +143,8 @@ pub fn prepare<C: Counter, R: Wait>(
     })
 }
 
-/// Makes a page and a latch for a keeper whose clocks were just opened, and reserves room for
-/// `room` commands.
+/// Makes a page, a latch and a notice for a keeper whose clocks were just opened, and reserves room
+/// for `room` commands.
 fn assemble<R: Wait>(
     alloc: Global,
     rt: &R,
@@ -154,11 +160,12 @@ fn assemble<R: Wait>(
         × IsReady (record {
           page = parts.page;
           latch = parts.latch;
+          notice = parts.notice;
           ledger = 0;
           callers = callers;
           journal = keeper.journal;
           spare = parts.keeper.spare;
-        }) parts.publisher parts.viewer parts.writer parts.readers.items) }
+        }) parts.publisher parts.viewer parts.writer parts.readers.items parts.announcer) }
 {
     let mut keeper = keeper;
     if keeper.reserve(room).is_err() {
@@ -171,6 +178,7 @@ fn assemble<R: Wait>(
     let Ok((latch, writer, readers)) = Latch::open(alloc, snapshot, callers) else {
         return Err(AllocError);
     };
+    let (notice, announcer) = Notice::open(alloc, snapshot.last())?;
     Ok(Parts {
         page,
         publisher,
@@ -178,6 +186,8 @@ fn assemble<R: Wait>(
         latch,
         writer,
         readers,
+        notice,
+        announcer,
         keeper,
     })
 }

@@ -1,10 +1,11 @@
-//! The lock, the page and the latch, and the calls on them.
+//! The lock, the page, the latch and the notice, and the calls on them.
 ghost use Rattle.std.specs.Prelude.{◌≡◌, ◌+◌, ◌≤◌, length, replicate, IfOk, MatchResult};
 ghost use mathlib.Core.List.{IsPrefix};
 ghost use Rattle.tk_clock.specs.Snapshot.{snapshot_of};
 ghost use Rattle.tk_keeper.specs.Keeper.{ReadsAs};
 ghost use Rattle.tk_page.specs.History.{Begins};
 ghost use Rattle.tk_latch.specs.Latch.{IsRead, IsMoved, opened_reader};
+ghost use Rattle.tk_now.specs.Views.{opened_announcer};
 ghost use Rattle.tk_shared.specs.Callers.{IsAccepted, IsRefused, IsSameCaller, newcomers};
 ghost use Rattle.tk_shared.specs.History.{IsFold};
 ghost use Rattle.tk_shared.specs.Opening.{IsNamed, most_callers};
@@ -22,6 +23,7 @@ use std::sync::ledger::Share;
 use std::sync::{Mutex, Wait};
 use tk_clock::{Command, Refusal, Snapshot};
 use tk_latch::{Latch, LatchReader, Moved};
+use tk_now::{Announcer, Notice};
 use tk_page::{Page, Viewer};
 
 /// Shares a timekeeper among callers in many threads.
@@ -31,6 +33,7 @@ use tk_page::{Page, Viewer};
 pub struct SharedKeeper<L: Named, C: Counter> {
     pub(crate) page: Page,
     pub(crate) latch: Latch,
+    pub(crate) notice: Notice,
     pub(crate) locked: Mutex<Locked<L, C>>,
     pub(crate) callers: usize,
 }
@@ -44,7 +47,7 @@ impl<L: Named, C: Counter> Model for SharedKeeper<L, C> {
 
     ghost invariant = { λ k.
         (k.page ≡ L.page) × (k.latch ≡ L.latch) × (k.callers ≡ L.callers)
-        × (L.callers ≡ L.parts) };
+        × (L.callers ≡ L.parts) × (k.notice ≡ L.notice) };
 }
 
 impl<L: Named, C: Counter> SharedKeeper<L, C> {
@@ -60,10 +63,10 @@ impl<L: Named, C: Counter> SharedKeeper<L, C> {
         alloc: Global,
         prepared: Prepared<C>,
     ) -> Result<(SharedKeeper<L, C>, Vec<Caller<L>>), OpenFault<C>>
-        requires named { IsNamed prepared L.page L.latch L.name L.parts L.callers }
+        requires named { IsNamed prepared L.page L.latch L.notice L.name L.parts L.callers }
         ensures { MatchResult result
             (λ opened. (opened.0 ≡ prepared.callers)
-            × (opened.1.items ≡ newcomers prepared.latch prepared.journal prepared.callers))
+            × (opened.1.items ≡ newcomers prepared.latch prepared.notice prepared.journal prepared.callers))
             (λ fault. fault.error ≡ OpenError.Memory) }
     {
         let Prepared {
@@ -79,11 +82,21 @@ impl<L: Named, C: Counter> SharedKeeper<L, C> {
             latch,
             writer,
             readers,
+            notice,
+            mut announcer,
             keeper,
         } = parts;
         let callers = readers.len();
         let (book, mut rest) = blank.open::<L>();
-        let Ok(made) = make_callers(alloc, &page, viewer, readers, &mut rest) else {
+        let Ok(made) = make_callers(
+            alloc,
+            &page,
+            viewer,
+            readers,
+            &notice,
+            &mut announcer,
+            &mut rest,
+        ) else {
             return Err(OpenFault {
                 error: OpenError::Memory,
                 counter,
@@ -93,6 +106,7 @@ impl<L: Named, C: Counter> SharedKeeper<L, C> {
             keeper,
             publisher,
             writer,
+            announcer,
             counter,
             mask,
             book,
@@ -101,6 +115,7 @@ impl<L: Named, C: Counter> SharedKeeper<L, C> {
         let shared = SharedKeeper {
             page,
             latch,
+            notice,
             locked: Mutex::new(locked),
             callers,
         };
@@ -129,13 +144,13 @@ impl<L: Named, C: Counter> SharedKeeper<L, C> {
             (λ number. IsAccepted caller.old caller.new cmd number)
             (λ refusal. IsRefused caller.old caller.new cmd refusal) }
         ensures reading { MatchResult result
-            (λ _. EndsAtReading C.answers caller.new.seen)
-            (λ refusal. IsRefusedAtReading C.answers caller.old caller.new.seen cmd refusal) }
+            (λ _. EndsAtReading C.answers_after caller.new.seen)
+            (λ refusal. IsRefusedAtReading C.answers_after caller.old caller.new.seen cmd refusal) }
         ensures same { IsSameCaller caller.old caller.new }
     {
         self.locked
             .lock(rt)
-            .command(rt, &self.page, &self.latch, caller, cmd)
+            .command(rt, &self.page, &self.latch, &self.notice, caller, cmd)
     }
 
     /// Returns the snapshot of the history so far, at least as far as this caller has seen it.
@@ -149,7 +164,8 @@ impl<L: Named, C: Counter> SharedKeeper<L, C> {
         ensures clocks { ReadsAs caller.new.seen result.base }
         ensures same { (caller.new.id ≡ caller.old.id)
             × (caller.new.accepted ≡ caller.old.accepted)
-            × (caller.new.learnt ≡ caller.old.learnt) }
+            × (caller.new.learnt ≡ caller.old.learnt)
+            × (caller.new.watched ≡ caller.old.watched) }
     {
         caller.viewer.read(rt, &self.page)
     }
@@ -172,7 +188,8 @@ impl<L: Named, C: Counter> SharedKeeper<L, C> {
         ensures same { (caller.new.id ≡ caller.old.id)
             × (caller.new.accepted ≡ caller.old.accepted)
             × (caller.new.reads ≡ caller.old.reads)
-            × (caller.new.seen ≡ caller.old.seen) }
+            × (caller.new.seen ≡ caller.old.seen)
+            × (caller.new.watched ≡ caller.old.watched) }
     {
         caller.reader.try_read(&self.latch)
     }
@@ -195,6 +212,8 @@ fn make_callers<L: Named>(
     page: &Page,
     viewer: Viewer,
     readers: Vec<LatchReader>,
+    notice: &Notice,
+    announcer: &mut Announcer,
     shares: &mut Share<L>,
 ) -> Result<Vec<Caller<L>>, AllocError>
     requires page { (viewer.page ≡ page.now) × (viewer.page ≡ L.page) }
@@ -202,9 +221,13 @@ fn make_callers<L: Named>(
     requires readers { readers.items
         ≡ replicate (length readers.items) (opened_reader L.latch (snapshot_of viewer.journal)) }
     requires few { length readers.items ≤ most_callers }
+    requires notice { notice.now ≡ L.notice }
+    requires announcer { announcer.old
+        ≡ opened_announcer L.notice viewer.journal.opening.reading }
     requires shares { (shares.old.parts ≡ length readers.items) × (shares.old.amount ≡ 0) }
     ensures callers { IfOk result (λ callers.
-        callers.items ≡ newcomers L.latch viewer.journal (length readers.items)) }
+        callers.items ≡ newcomers L.latch L.notice viewer.journal (length readers.items)) }
+    ensures announcer { announcer.new ≡ announcer.old }
     ensures shares { IfOk result (λ _. (shares.new.parts ≡ 0) × (shares.new.amount ≡ 0)) }
 {
     let mut viewer = viewer;
@@ -216,6 +239,7 @@ fn make_callers<L: Named>(
         callers.push_reserved(Caller {
             viewer: mine,
             reader,
+            watcher: notice.watcher(announcer),
             share: shares.split_off(1, 0),
             id,
             accepted: 0,

@@ -60,7 +60,7 @@ type Two<L, C> = (SharedKeeper<L, C>, Caller<L>, Caller<L>);
 
 /// Opens what was prepared, for the callers 0 and 1.
 fn open_two<L: Named, C: Counter>(alloc: Global, prepared: Prepared<C>) -> Result<Two<L, C>, Fail>
-    requires named { IsNamed prepared L.page L.latch L.name L.parts L.callers }
+    requires named { IsNamed prepared L.page L.latch L.notice L.name L.parts L.callers }
     requires two { prepared.callers ≡ 2 }
     ensures { IfOk result (λ opened. (opened.1.id ≡ 0) × (opened.2.id ≡ 1)) }
 {
@@ -74,9 +74,9 @@ fn opened<L: Named, C: Counter>(
     alloc: Global,
     prepared: Prepared<C>,
 ) -> Result<(SharedKeeper<L, C>, Vec<Caller<L>>), Fail>
-    requires named { IsNamed prepared L.page L.latch L.name L.parts L.callers }
+    requires named { IsNamed prepared L.page L.latch L.notice L.name L.parts L.callers }
     ensures { IfOk result (λ opened. opened.1.items ≡
-        newcomers prepared.latch prepared.journal prepared.callers) }
+        newcomers prepared.latch prepared.notice prepared.journal prepared.callers) }
 {
     match SharedKeeper::<L, C>::open(alloc, prepared) {
         Ok(opened) => Ok(opened),

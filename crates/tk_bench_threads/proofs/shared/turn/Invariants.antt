@@ -5,6 +5,7 @@ abbrev pub ghosts-worked-L-Named : goal.ghosts-worked-L-Named
 ghosts-worked-L-Named g a = record {
   page = a.prepared.page;
   latch = a.prepared.latch;
+  notice = a.prepared.notice;
   callers = a.prepared.callers;
 }
 

@@ -5,6 +5,7 @@ abbrev pub ghosts-raced-L-Named : goal.ghosts-raced-L-Named
 ghosts-raced-L-Named g a = record {
   page = a.prepared.page;
   latch = a.prepared.latch;
+  notice = a.prepared.notice;
   callers = a.prepared.callers;
 }
 

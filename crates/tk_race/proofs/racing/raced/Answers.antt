@@ -13,9 +13,9 @@ use Rattle.tk_race.proofs.racing.raced.Goals as goal
 pub ready-requires : goal.ready-requires
 ready-requires g c =
     let start = c.args.prepared in
-    let known : c.in-Ok.callers.items ≡ newcomers start.latch start.journal start.callers =
+    let known : c.in-Ok.callers.items ≡ newcomers start.latch start.notice start.journal start.callers =
     search rules in
-    let many = ap length known ∙ length-newcomers start.latch start.journal start.callers in
+    let many = ap length known ∙ length-newcomers start.latch start.notice start.journal start.callers in
     record { callers = search rules }
 
 pub part-requires-clause-room : goal.part-requires-clause-room
@@ -28,10 +28,10 @@ part-requires-clause-room g c =
 pub close-requires-clause-different : goal.close-requires-clause-different
 close-requires-clause-different g c κs within =
     let start = c.args.prepared in
-    let known : c.in-Ok.callers.items ≡ newcomers start.latch start.journal start.callers =
+    let known : c.in-Ok.callers.items ≡ newcomers start.latch start.notice start.journal start.callers =
     search rules in
     subst AreDifferent (sym c.part.ensures.callers)
-    (all_different start.latch start.journal start.callers _ c.in_ok-actors.actors.items
+    (all_different start.latch start.notice start.journal start.callers _ c.in_ok-actors.actors.items
     c.in_ok-acted.acted.items (c.in_ok-actors.ensures.callers ∙ known) c.in_ok-acted.ensures)
 
 pub unreachable-requires : goal.unreachable-requires
@@ -50,11 +50,11 @@ unreachable-requires g c =
 pub returns : goal.returns
 returns g c =
     let start = c.args.prepared in
-    let known : c.in-Ok.callers.items ≡ newcomers start.latch start.journal start.callers =
+    let known : c.in-Ok.callers.items ≡ newcomers start.latch start.notice start.journal start.callers =
     search rules in
     let some = c.requires.some in
     let each = length-map c.args.actions.now (λ (a : Vec Action). a.items) in
-    outcome start.latch start.journal c.in-Ok-close.closed.keeper.journal start.callers _
+    outcome start.latch start.notice start.journal c.in-Ok-close.closed.keeper.journal start.callers _
     c.in_ok-actors.actors.items c.in_ok-acted.acted.items c.part.new.callers.items _
     (omega (arith, some, each)) (c.in_ok-actors.ensures.callers ∙ known) c.in_ok-acted.ensures
     c.part.ensures.callers c.part.ensures.replies c.in-Ok-close.ensures.1

@@ -22,7 +22,7 @@ fn fills<L: Named, R: Wait + Abort>(
     alloc: Global,
     prepared: Prepared<Ticker>,
 ) -> Result<(), Fail>
-    requires named { IsNamed prepared L.page L.latch L.name L.parts L.callers }
+    requires named { IsNamed prepared L.page L.latch L.notice L.name L.parts L.callers }
 {
     let (keeper, mut callers) = opened::<L, Ticker>(alloc, prepared)?;
     fills_with(rt, &keeper, callers.as_mut_slice())
@@ -61,7 +61,7 @@ fn keeps<L: Named, R: Wait + Abort>(
     alloc: Global,
     prepared: Prepared<Ticker>,
 ) -> Result<(), Fail>
-    requires named { IsNamed prepared L.page L.latch L.name L.parts L.callers }
+    requires named { IsNamed prepared L.page L.latch L.notice L.name L.parts L.callers }
 {
     let (keeper, mut callers) = opened::<L, Ticker>(alloc, prepared)?;
     keeps_of_five(rt, &keeper, callers.as_mut_slice())
@@ -95,7 +95,7 @@ fn folds<L: Named, R: Wait + Abort>(
     alloc: Global,
     prepared: Prepared<Ticker>,
 ) -> Result<(), Fail>
-    requires named { IsNamed prepared L.page L.latch L.name L.parts L.callers }
+    requires named { IsNamed prepared L.page L.latch L.notice L.name L.parts L.callers }
     requires two { prepared.callers ≡ 2 }
 {
     let (keeper, mut one, mut two) = open_two::<L, Ticker>(alloc, prepared)?;

@@ -11,6 +11,7 @@ use std::sync::atomic::{AtomicU64, Ordering};
 use std::test::Fail;
 use std::thread::{self, Threads, join};
 use tk_clock::{Command, Refusal};
+use tk_now::Look;
 use tk_shared::{Caller, Counter, Named, Prepared, SharedKeeper};
 
 /// How often a thread looks for the other before it gives up.
@@ -21,7 +22,6 @@ const TURNS: u32 = 50_000_000;
 struct Waits<'a> {
     inside: &'a AtomicU64,
     answered: &'a AtomicU64,
-    opened: bool,
 }
 
 impl Counter for Waits<'_> {
@@ -29,11 +29,13 @@ impl Counter for Waits<'_> {
 
     ghost answers = { λ _ answer. answer ≤ 2 };
 
+    ghost answers_after = { λ _ _ answer. answer ≤ 2 };
+
     fn read(&mut self) -> u64 {
-        if !self.opened {
-            self.opened = true;
-            return 0;
-        }
+        0
+    }
+
+    fn read_after(&mut self, _look: &Look) -> u64 {
         self.inside.store(1, Ordering::SeqCst);
         if is_set(self.answered) { 1 } else { 2 }
     }
@@ -86,7 +88,6 @@ fn reads_are_answered_while_a_command_holds_the_lock(rt: HostRuntime) -> Result<
     let counter = Waits {
         inside: &inside,
         answered: &answered,
-        opened: false,
     };
     let prepared = ready(&rt, rt.alloc(), counter, 2)?;
     beside::<Brand, _>(&rt, rt.alloc(), prepared, &inside, &answered)
@@ -99,7 +100,7 @@ fn beside<'a, L: Named + Send + Sync, R: Threads + Wait + Abort + Sync>(
     inside: &AtomicU64,
     answered: &AtomicU64,
 ) -> Result<(), Fail>
-    requires named { IsNamed prepared L.page L.latch L.name L.parts L.callers }
+    requires named { IsNamed prepared L.page L.latch L.notice L.name L.parts L.callers }
     requires two { prepared.callers ≡ 2 }
 {
     let (keeper, mut one, mut two) = open_two::<L, Waits<'a>>(alloc, prepared)?;

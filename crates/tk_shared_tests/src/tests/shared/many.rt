@@ -157,7 +157,7 @@ fn four<L: Named + Send + Sync, R: Threads + Wait + Abort + Sync>(
     alloc: Global,
     prepared: Prepared<Ticker>,
 ) -> Result<(), Fail>
-    requires named { IsNamed prepared L.page L.latch L.name L.parts L.callers }
+    requires named { IsNamed prepared L.page L.latch L.notice L.name L.parts L.callers }
     requires four { prepared.callers ≡ 4 }
 {
     let (keeper, zero, one, two, three) = open_four::<L>(alloc, prepared)?;
@@ -207,7 +207,7 @@ type Four<L> = (
 );
 
 fn open_four<L: Named>(alloc: Global, prepared: Prepared<Ticker>) -> Result<Four<L>, Fail>
-    requires named { IsNamed prepared L.page L.latch L.name L.parts L.callers }
+    requires named { IsNamed prepared L.page L.latch L.notice L.name L.parts L.callers }
     requires four { prepared.callers ≡ 4 }
     ensures lower { IfOk result (λ four. (four.1.id ≡ 0) × (four.2.id ≡ 1)) }
     ensures upper { IfOk result (λ four. (four.3.id ≡ 2) × (four.4.id ≡ 3)) }

@@ -39,7 +39,7 @@ fn opened<L: Named, R: Wait + Abort>(
     alloc: Global,
     prepared: Prepared<Ticker>,
 ) -> Result<(), Fail>
-    requires named { IsNamed prepared L.page L.latch L.name L.parts L.callers }
+    requires named { IsNamed prepared L.page L.latch L.notice L.name L.parts L.callers }
     requires two { prepared.callers ≡ 2 }
 {
     let (keeper, callers) = match SharedKeeper::<L, Ticker>::open(alloc, prepared) {

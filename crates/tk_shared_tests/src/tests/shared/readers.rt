@@ -88,7 +88,7 @@ fn beside<L: Named + Send + Sync, R: Threads + Wait + Abort + Sync>(
     alloc: Global,
     prepared: Prepared<Ticker>,
 ) -> Result<(), Fail>
-    requires named { IsNamed prepared L.page L.latch L.name L.parts L.callers }
+    requires named { IsNamed prepared L.page L.latch L.notice L.name L.parts L.callers }
     requires two { prepared.callers ≡ 2 }
 {
     let (keeper, mut one, mut two) = open_two::<L, Ticker>(alloc, prepared)?;

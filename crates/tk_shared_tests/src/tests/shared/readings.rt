@@ -9,6 +9,7 @@ use std::sync::Wait;
 use std::test::Fail;
 use tk_clock::{ClockId, Command, Refusal};
 use tk_counter::CounterDesc;
+use tk_now::Look;
 use tk_shared::{Caller, Counter, Named, Prepared, SharedKeeper, Ticker};
 
 /// Answers one reading, and then others.
@@ -24,8 +25,14 @@ impl Counter for Answers {
 
     ghost answers = { λ counter answer. answer ≡ unwrap_or counter.first counter.others };
 
+    ghost answers_after = { λ counter _ answer. answer ≡ unwrap_or counter.first counter.others };
+
     fn read(&mut self) -> u64 {
         self.first.take().unwrap_or(self.others)
+    }
+
+    fn read_after(&mut self, _look: &Look) -> u64 {
+        self.read()
     }
 }
 
@@ -38,7 +45,7 @@ fn updated<L: Named, C: Counter, R: Wait + Abort>(
     last: u64,
     nanos: u32,
 ) -> Result<(), Fail>
-    requires named { IsNamed prepared L.page L.latch L.name L.parts L.callers }
+    requires named { IsNamed prepared L.page L.latch L.notice L.name L.parts L.callers }
 {
     let (keeper, mut callers) = opened::<L, C>(alloc, prepared)?;
     updated_by(rt, &keeper, callers.as_mut_slice(), answer, last, nanos)

@@ -29,7 +29,7 @@ fn reads<L: Named, R: Wait + Abort>(
     alloc: Global,
     prepared: Prepared<Ticker>,
 ) -> Result<(), Fail>
-    requires named { IsNamed prepared L.page L.latch L.name L.parts L.callers }
+    requires named { IsNamed prepared L.page L.latch L.notice L.name L.parts L.callers }
     requires two { prepared.callers ≡ 2 }
 {
     let (keeper, mut one, mut two) = open_two::<L, Ticker>(alloc, prepared)?;
@@ -128,7 +128,7 @@ fn fast_reads<L: Named, R: Wait + Abort>(
     alloc: Global,
     prepared: Prepared<Ticker>,
 ) -> Result<(), Fail>
-    requires named { IsNamed prepared L.page L.latch L.name L.parts L.callers }
+    requires named { IsNamed prepared L.page L.latch L.notice L.name L.parts L.callers }
     requires two { prepared.callers ≡ 2 }
 {
     let (keeper, mut one, mut two) = open_two::<L, Ticker>(alloc, prepared)?;

@@ -1,13 +1,17 @@
-use Rattle.std.proofs.Common.{ℕ, ◌+◌, ◌++◌, ◌∷◌, [], sym, ap, ◌∙◌, subst, refl, bit_and}
+use Rattle.std.proofs.Common.{ℕ, ◌+◌, ◌++◌, ◌∷◌, [], sym, ap, ◌∙◌, subst, refl, bit_and, List}
 use Rattle.tk_clock.specs.declared.command.Entry.{Entry}
 use Rattle.tk_clock.specs.Journal.{Journal, followed_by, accepted_count}
 use Rattle.tk_clock.specs.Snapshot.{Snapshot, snapshot_of}
 use Rattle.tk_page.specs.History.{History, Sight}
 use Rattle.tk_latch.specs.Latch.{Learnt, Published, told_reader}
 use Rattle.tk_shared.specs.Callers.{Known, IsAccepted, IsRefused}
-use Rattle.tk_shared.specs.Locked.{Guarded, Held, IsHeld}
+use Rattle.tk_now.specs.declared.rule.Taken.{Taken}
+use Rattle.tk_now.specs.Moments.{IsAcceptedAt}
+use Rattle.tk_now.specs.Views.{Announcing, moment_of}
+use Rattle.tk_shared.specs.Locked.{Guarded, Held, IsAtRest, IsHeld}
 use Rattle.tk_shared.specs.Readings.{EndsAtReading, IsRefusedAtReading}
 use Rattle.tk_keeper.specs.Keeper.{Keeper}
+use Rattle.tk_shared.proofs.Announced.{accepted_at_rest, refused_at_rest}
 use Rattle.tk_shared.proofs.Held.{held_accepted}
 use Rattle.tk_shared.proofs.Kept.{kept_snapshot}
 use Rattle.tk_shared.proofs.Told.{refused, accepted, reason, low_bits}
@@ -23,6 +27,7 @@ returns-in-Err-clause-answer g c =
       reads = caller.viewer.reads;
       seen = caller.viewer.journal;
       learnt = caller.reader;
+      watched = caller.watcher;
     } in
     let held : Held = record {
       kept = c.self.inside.keeper.journal;
@@ -31,7 +36,7 @@ returns-in-Err-clause-answer g c =
       mask = c.self.inside.mask;
       total = c.self.inside.book.total;
     } in
-    let told = refused g.L.Named.page g.L.Named.latch held is old c.read.result c.args.cmd
+    let told = refused g.L.Named.page g.L.Named.latch held is old c.read_after.result c.args.cmd
     c.tell.ensures.begins c.in-Err.refusal c.in-Err.ensures.answer.0 in
     let new : Journal × ℕ → Known = λ p. record old { reads = p.1; seen = p.0 } in
     let sight : Sight → Journal × ℕ = λ s. (s.journal, s.reads) in
@@ -55,6 +60,7 @@ returns-in-Err-clause-reading g c =
       reads = caller.viewer.reads;
       seen = caller.viewer.journal;
       learnt = caller.reader;
+      watched = caller.watcher;
     } in
     let held : Held = record {
       kept = c.self.inside.keeper.journal;
@@ -63,30 +69,31 @@ returns-in-Err-clause-reading g c =
       mask = c.self.inside.mask;
       total = c.self.inside.book.total;
     } in
-    let answer = c.read.result in
+    let answer = c.read_after.result in
     let told = reason g.L.Named.page g.L.Named.latch held is old answer c.args.cmd
     c.tell.ensures.begins c.in-Err.refusal c.in-Err.ensures.answer.0 in
     let low = low_bits g.L.Named.page g.L.Named.latch held is old answer c.args.cmd
     c.tell.ensures.begins in
     let seen = ap (λ (s : Sight). s.journal) c.tell.ensures.viewer in
-    let found : IsRefusedAtReading g.C.Counter.answers old held.shown.journal c.args.cmd
+    let found : IsRefusedAtReading g.C.Counter.answers_after old held.shown.journal c.args.cmd
     c.in-Err.refusal =
     record {
       counter = c.self.inside.counter;
+      from = moment_of c.look.result.now;
       reading = bit_and answer held.mask;
-      read = record { answer = answer; given = c.read.ensures.given; kept = low };
+      read = record { answer = answer; given = c.read_after.ensures.given; kept = low };
       reason = told;
     } in
     subst
     (λ (p : Known × Journal).
-    IsRefusedAtReading g.C.Counter.answers p.0 p.1 c.args.cmd c.in-Err.refusal)
+    IsRefusedAtReading g.C.Counter.answers_after p.0 p.1 c.args.cmd c.in-Err.refusal)
     (λ i. (c.caller.view_is i, sym seen i)) found
 
 pub publish-requires-clause-snapshot : goal.publish-requires-clause-snapshot
 publish-requires-clause-snapshot g c =
     let entry : Entry = record {
       who = c.caller.inside.id;
-      reading = bit_and c.read.result c.self.inside.mask;
+      reading = bit_and c.read_after.result c.self.inside.mask;
       cmd = c.args.cmd;
     } in
     let now = held_accepted g.L.Named.page g.L.Named.latch _ entry c.self.invariant.0
@@ -96,15 +103,43 @@ publish-requires-clause-snapshot g c =
     ∙ kept_snapshot _ _ now.whole now.kept
     ∙ ap (λ (h : History). snapshot_of (followed_by h.journal entry)) (sym c.tell.ensures.publisher)
 
+pub invariant_of-self : goal.invariant_of-self
+invariant_of-self g c =
+    let held : Journal × History → Held = λ t. record {
+      kept = t.0;
+      shown = t.1;
+      latched = c.self.inside.writer;
+      mask = c.self.inside.mask;
+      total = c.self.inside.book.total;
+    } in
+    let kept = ap (λ (k : Keeper). k.journal) c.in-Err.ensures.answer.1 in (
+      subst (λ (t : Journal × History). IsHeld g.L.Named.page g.L.Named.latch (held t))
+          (λ i. (sym kept i, sym c.tell.ensures.publisher i)) c.self.invariant.0,
+      c.self.invariant.1,
+      c.self.invariant.2,
+      subst (λ (h : History). IsAtRest g.L.Named.notice h.journal c.withdraw.new.self)
+          (sym c.tell.ensures.publisher)
+          (refused_at_rest g.L.Named.notice c.self.inside.publisher.journal c.self.inside.announcer
+          c.announce.new.self c.withdraw.new.self c.self.invariant.3 c.announce.ensures.same.0
+          c.announce.ensures.same.1 c.withdraw.ensures),
+    )
+
 pub invariant_of-self-2 : goal.invariant_of-self-2
 invariant_of-self-2 g c =
     let entry : Entry = record {
       who = c.caller.inside.id;
-      reading = bit_and c.read.result c.self.inside.mask;
+      reading = bit_and c.read_after.result c.self.inside.mask;
       cmd = c.args.cmd;
     } in
     let now = held_accepted g.L.Named.page g.L.Named.latch _ entry c.self.invariant.0
     c.in-Ok.ensures.answer.0 in
+    let rest = accepted_at_rest g.L.Named.notice c.self.inside.publisher.journal
+    c.self.inside.announcer c.accept.new.self entry c.announce.new.self.since entry.reading
+    c.self.invariant.3 (c.accept.ensures.notice ∙ c.announce.ensures.same.0) c.accept.ensures.idle
+    refl
+    (subst (λ (l : List Taken). IsAcceptedAt c.announce.new.self.since l entry.reading
+    c.accept.new.self.commands) c.announce.ensures.same.1 c.accept.ensures.accepted)
+    c.tell-5.ensures.told.order in
     let longer : History → History = λ h. record h { journal = followed_by h.journal entry } in
     let shown = c.tell-3.ensures.publisher ∙ c.publish.ensures ∙ ap longer c.tell.ensures.publisher in
     let snapshot = c.snapshot-snapshot.ensures.value ∙ ap snapshot_of c.in-Ok.ensures.answer.1
@@ -124,6 +159,9 @@ invariant_of-self-2 g c =
           now,
       c.self.invariant.1,
       c.self.invariant.2,
+      subst (λ (t : Journal × Announcing). IsAtRest g.L.Named.notice t.0 t.1)
+          (λ i. (ap (λ (h : History). h.journal) (sym shown) i, sym c.tell-5.ensures.same i))
+          rest,
     )
 
 pub returns-clause-answer : goal.returns-clause-answer
@@ -136,10 +174,11 @@ returns-clause-answer g c =
       reads = caller.viewer.reads;
       seen = caller.viewer.journal;
       learnt = caller.reader;
+      watched = caller.watcher;
     } in
     let entry : Entry = record {
       who = caller.id;
-      reading = bit_and c.read.result c.self.inside.mask;
+      reading = bit_and c.read_after.result c.self.inside.mask;
       cmd = c.args.cmd;
     } in
     let held : Held = record {
@@ -151,9 +190,17 @@ returns-clause-answer g c =
     } in
     let answer = c.in-Ok.ensures.answer in
     let now = held_accepted g.L.Named.page g.L.Named.latch held entry is answer.0 in
-    let told = accepted g.L.Named.page g.L.Named.latch held is old c.read.result c.args.cmd
+    let rest = accepted_at_rest g.L.Named.notice c.self.inside.publisher.journal
+    c.self.inside.announcer c.accept.new.self entry c.announce.new.self.since entry.reading
+    c.self.invariant.3 (c.accept.ensures.notice ∙ c.announce.ensures.same.0) c.accept.ensures.idle
+    refl
+    (subst (λ (l : List Taken). IsAcceptedAt c.announce.new.self.since l entry.reading
+    c.accept.new.self.commands) c.announce.ensures.same.1 c.accept.ensures.accepted)
+    c.tell-5.ensures.told.order in
+    let told = accepted g.L.Named.page g.L.Named.latch held is old c.read_after.result c.args.cmd
     c.tell.ensures.begins c.in-Ok.number c.tell-2.ensures.extends answer.0
-    (answer.2 ∙ ap accepted_count answer.1) in
+    (answer.2 ∙ ap accepted_count answer.1) g.L.Named.notice c.accept.new.self c.tell-5.new.watcher
+    rest c.tell-5.ensures.told in
     let longer : History → History = λ h. record h { journal = followed_by h.journal entry } in
     let seen = ap (λ (s : Sight). s.journal) c.tell-3.ensures.viewer
     ∙ ap (λ (h : History). h.journal) (c.publish.ensures ∙ ap longer c.tell.ensures.publisher) in
@@ -172,6 +219,7 @@ returns-clause-answer g c =
       reads = p.0;
       seen = p.1;
       learnt = p.2;
+      watched = c.tell-5.new.watcher;
     } in
     subst
     (λ (k : Known).
@@ -190,6 +238,7 @@ returns-clause-reading g c =
       reads = caller.viewer.reads;
       seen = caller.viewer.journal;
       learnt = caller.reader;
+      watched = caller.watcher;
     } in
     let held : Held = record {
       kept = c.self.inside.keeper.journal;
@@ -198,7 +247,7 @@ returns-clause-reading g c =
       mask = c.self.inside.mask;
       total = c.self.inside.book.total;
     } in
-    let answer = c.read.result in
+    let answer = c.read_after.result in
     let entry : Entry = record {
       who = caller.id;
       reading = bit_and answer held.mask;
@@ -209,12 +258,13 @@ returns-clause-reading g c =
     let longer : History → History = λ h. record h { journal = followed_by h.journal entry } in
     let seen = ap (λ (s : Sight). s.journal) c.tell-3.ensures.viewer
     ∙ ap (λ (h : History). h.journal) (c.publish.ensures ∙ ap longer c.tell.ensures.publisher) in
-    let found : EndsAtReading g.C.Counter.answers (followed_by held.shown.journal entry) =
+    let found : EndsAtReading g.C.Counter.answers_after (followed_by held.shown.journal entry) =
     record {
       counter = c.self.inside.counter;
+      from = moment_of c.look.result.now;
       before = held.shown.journal;
       entry = entry;
       last = refl;
-      read = record { answer = answer; given = c.read.ensures.given; kept = low };
+      read = record { answer = answer; given = c.read_after.ensures.given; kept = low };
     } in
-    subst (EndsAtReading g.C.Counter.answers) (sym seen) found
+    subst (EndsAtReading g.C.Counter.answers_after) (sym seen) found

@@ -25,6 +25,7 @@ invariant_of-self g c =
           (held_folded g.L.Named.page g.L.Named.latch held more c.self.invariant.0 few),
       c.self.invariant.1,
       c.self.invariant.2,
+      c.self.invariant.3,
     )
 
 pub returns-clause-fold : goal.returns-clause-fold

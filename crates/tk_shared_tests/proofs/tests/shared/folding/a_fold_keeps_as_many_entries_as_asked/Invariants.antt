@@ -5,6 +5,7 @@ abbrev pub ghosts-keeps-L-Named : goal.ghosts-keeps-L-Named
 ghosts-keeps-L-Named g a = record {
   page = a.prepared.page;
   latch = a.prepared.latch;
+  notice = a.prepared.notice;
   callers = a.prepared.callers;
 }
 

@@ -5,6 +5,7 @@ abbrev pub ghosts-fills-L-Named : goal.ghosts-fills-L-Named
 ghosts-fills-L-Named g a = record {
   page = a.prepared.page;
   latch = a.prepared.latch;
+  notice = a.prepared.notice;
   callers = a.prepared.callers;
 }
 

@@ -5,6 +5,7 @@ abbrev pub ghosts-folds-L-Named : goal.ghosts-folds-L-Named
 ghosts-folds-L-Named g a = record {
   page = a.prepared.page;
   latch = a.prepared.latch;
+  notice = a.prepared.notice;
   callers = a.prepared.callers;
 }
 

@@ -5,6 +5,7 @@ abbrev pub ghosts-four-L-Named : goal.ghosts-four-L-Named
 ghosts-four-L-Named g a = record {
   page = a.prepared.page;
   latch = a.prepared.latch;
+  notice = a.prepared.notice;
   callers = a.prepared.callers;
 }
 

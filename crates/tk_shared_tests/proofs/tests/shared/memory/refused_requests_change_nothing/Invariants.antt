@@ -5,6 +5,7 @@ abbrev pub ghosts-opened-L-Named : goal.ghosts-opened-L-Named
 ghosts-opened-L-Named g a = record {
   page = a.prepared.page;
   latch = a.prepared.latch;
+  notice = a.prepared.notice;
   callers = a.prepared.callers;
 }
 

@@ -5,6 +5,7 @@ abbrev pub ghosts-beside-L-Named : goal.ghosts-beside-L-Named
 ghosts-beside-L-Named g a = record {
   page = a.prepared.page;
   latch = a.prepared.latch;
+  notice = a.prepared.notice;
   callers = a.prepared.callers;
 }
 

@@ -5,6 +5,7 @@ abbrev pub ghosts-updated-L-Named : goal.ghosts-updated-L-Named
 ghosts-updated-L-Named g a = record {
   page = a.prepared.page;
   latch = a.prepared.latch;
+  notice = a.prepared.notice;
   callers = a.prepared.callers;
 }
 

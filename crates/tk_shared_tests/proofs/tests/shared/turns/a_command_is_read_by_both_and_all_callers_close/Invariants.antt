@@ -5,6 +5,7 @@ abbrev pub ghosts-reads-L-Named : goal.ghosts-reads-L-Named
 ghosts-reads-L-Named g a = record {
   page = a.prepared.page;
   latch = a.prepared.latch;
+  notice = a.prepared.notice;
   callers = a.prepared.callers;
 }
 

@@ -5,6 +5,7 @@ abbrev pub ghosts-fast_reads-L-Named : goal.ghosts-fast_reads-L-Named
 ghosts-fast_reads-L-Named g a = record {
   page = a.prepared.page;
   latch = a.prepared.latch;
+  notice = a.prepared.notice;
   callers = a.prepared.callers;
 }
 
