@@ -7,3 +7,4 @@ pub mod Announced
 pub mod Told
 pub mod Counts
 pub mod Ends
+pub mod Times

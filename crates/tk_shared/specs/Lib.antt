@@ -4,3 +4,4 @@ pub mod Readings
 pub mod Locked
 pub mod Closing
 pub mod Opening
+pub mod Now

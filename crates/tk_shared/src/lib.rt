@@ -7,7 +7,9 @@
 //! | `Caller` | gives commands and reads the clocks |
 //! | `Closed`, `Missing` | the result of closing, and what a failed closing returns |
 //! | `OpenError`, `OpenFault` | why a keeper can't be opened, and the counter |
+//! | `NowFault`, `Late` | why there is no time now |
 //! | `Counter`, `Ticker` | gives readings; one that counts in even steps |
+//! | `SharedReader` | gives the readings of a counter that many threads read |
 //! | `Named` | a type's names for one keeper, which show that its parts belong together |
 //! | `Locked` | the value that the lock protects, whose invariant all proofs use |
 //!
@@ -21,8 +23,11 @@ mod counter;
 mod fault;
 mod locked;
 mod named;
+mod now;
+mod now_fault;
 mod prepared;
 mod shared_keeper;
+mod shared_reader;
 
 pub use caller::Caller;
 pub use closing::{Closed, Missing};
@@ -30,5 +35,7 @@ pub use counter::{Counter, Ticker};
 pub use fault::{OpenError, OpenFault};
 pub use locked::Locked;
 pub use named::Named;
+pub use now_fault::{Late, NowFault};
 pub use prepared::{Prepared, prepare};
 pub use shared_keeper::SharedKeeper;
+pub use shared_reader::SharedReader;

@@ -1,0 +1,169 @@
+//! The time now.
+ghost use Rattle.std.specs.Prelude.{◌≡◌, MatchResult};
+ghost use mathlib.Core.List.{IsPrefix};
+ghost use Rattle.tk_page.specs.History.{Begins};
+ghost use Rattle.tk_shared.specs.Now.{IsNow, IsNowBy, IsNoTime, IsNoTimeBy, IsSeenBy, KnowsMore};
+
+use crate::caller::Caller;
+use crate::counter::Counter;
+use crate::named::Named;
+use crate::now_fault::{Late, NowFault};
+use crate::shared_keeper::SharedKeeper;
+use std::sync::Wait;
+use tk_clock::{ClockId, ReadError, Timespec};
+use tk_latch::{Latch, LatchReader};
+use tk_now::{Notice, SharedCounter, Watcher};
+use tk_page::{Page, Viewer};
+
+impl<L: Named, C: Counter> SharedKeeper<L, C> {
+    /// Returns a clock's time now, at a reading of `counter` that this call takes (`ktime_get`).
+    ///
+    /// It allocates nothing. It reads the page, and then the counter between two looks at the
+    /// notice. It tries again while a command comes between, and waits for whoever holds the words
+    /// of the page. The keeper's commands have to read the same counter, as with `SharedReader`.
+    ///
+    /// # Errors
+    ///
+    /// `ReadError::Range` if the clock is at its limit or beyond it.
+    #[inline]
+    pub fn now<R: Wait, S: SharedCounter>(
+        &self,
+        rt: &R,
+        caller: &mut Caller<L>,
+        counter: &S,
+        clock: ClockId,
+    ) -> Result<Timespec, ReadError>
+        ensures extends { Begins caller.old.seen caller.new.seen }
+        ensures watched { KnowsMore caller.old caller.new }
+        ensures answer { IsSeenBy S.answers counter.now clock caller.new.seen caller.old.watched
+            caller.new.watched result }
+        ensures same { (caller.new.id ≡ caller.old.id)
+            × (caller.new.accepted ≡ caller.old.accepted)
+            × (caller.new.learnt ≡ caller.old.learnt) }
+    {
+        let (viewer, watcher) = (&mut caller.viewer, &mut caller.watcher);
+        time_seen(
+            rt,
+            &self.page,
+            viewer,
+            &self.notice,
+            watcher,
+            counter,
+            clock,
+        )
+    }
+
+    /// Returns a clock's time now without waiting, at a reading of `counter` that this call takes
+    /// (`ktime_get_mono_fast_ns`).
+    ///
+    /// It waits for nobody and allocates nothing. It reads the latch, and then the counter between
+    /// two looks at the notice. It compares the two numbers of commands, so that none came between
+    /// the snapshot and the reading. The keeper's commands have to read the same counter, as with
+    /// `SharedReader`.
+    ///
+    /// # Errors
+    ///
+    /// The first of these that applies:
+    ///
+    /// - `Moved` if a publication was begun or made while the latch was read.
+    /// - `Busy` if a command was in progress while the counter was read.
+    /// - `Late` if a command was accepted after the latch was read and before the counter was.
+    /// - `Refused` if the clock refuses the reading: `ReadError::Range`.
+    ///
+    /// After each of the first three, call it again.
+    #[inline]
+    pub fn now_fast<S: SharedCounter>(
+        &self,
+        caller: &mut Caller<L>,
+        counter: &S,
+        clock: ClockId,
+    ) -> Result<Timespec, NowFault>
+        ensures extends { KnowsMore caller.old caller.new }
+        ensures answer { MatchResult result
+            (λ time. IsNow S.answers counter.now clock caller.old caller.new time)
+            (λ fault. IsNoTime S.answers counter.now clock caller.old caller.new fault) }
+        ensures same { (caller.new.id ≡ caller.old.id)
+            × (caller.new.accepted ≡ caller.old.accepted)
+            × (caller.new.reads ≡ caller.old.reads)
+            × (caller.new.seen ≡ caller.old.seen) }
+    {
+        let (reader, watcher) = (&mut caller.reader, &mut caller.watcher);
+        time_by(&self.latch, reader, &self.notice, watcher, counter, clock)
+    }
+}
+
+/// Returns a clock's time by the page, at a reading whose place is the last entry that the viewer has
+/// seen then. It tries until no command comes between.
+#[inline]
+fn time_seen<R: Wait, S: SharedCounter>(
+    rt: &R,
+    page: &Page,
+    viewer: &mut Viewer,
+    notice: &Notice,
+    watcher: &mut Watcher,
+    counter: &S,
+    clock: ClockId,
+) -> Result<Timespec, ReadError>
+    requires page { viewer.old.page ≡ page.now }
+    requires notice { watcher.old.notice ≡ notice.now }
+    ensures page { viewer.new.page ≡ viewer.old.page }
+    ensures notice { watcher.new.notice ≡ watcher.old.notice }
+    ensures begins { Begins viewer.old.journal viewer.new.journal }
+    ensures watched { IsPrefix watcher.old.commands watcher.new.commands
+        × IsPrefix watcher.old.log watcher.new.log }
+    ensures answer { IsSeenBy S.answers counter.now clock viewer.new.journal watcher.old watcher.new
+        result }
+{
+    for _ in rt.forever() {
+        let snapshot = viewer.read(rt, page);
+        let Ok(timed) = watcher.time(notice, counter) else {
+            continue;
+        };
+        if viewer.front() == timed.place {
+            return snapshot.get(clock, timed.reading & snapshot.desc().mask());
+        }
+    }
+    unreachable!()
+}
+
+/// Returns a clock's time by the latch's latest publication, at a reading whose place is that.
+#[inline(always)]
+fn time_by<S: SharedCounter>(
+    latch: &Latch,
+    reader: &mut LatchReader,
+    notice: &Notice,
+    watcher: &mut Watcher,
+    counter: &S,
+    clock: ClockId,
+) -> Result<Timespec, NowFault>
+    requires latch { reader.old.latch ≡ latch.now }
+    requires notice { watcher.old.notice ≡ notice.now }
+    ensures latch { reader.new.latch ≡ reader.old.latch }
+    ensures notice { watcher.new.notice ≡ watcher.old.notice }
+    ensures learnt { IsPrefix reader.old.publications reader.new.publications }
+    ensures watched { IsPrefix watcher.old.commands watcher.new.commands
+        × IsPrefix watcher.old.log watcher.new.log }
+    ensures answer { MatchResult result
+        (λ time. IsNowBy S.answers counter.now reader.old reader.new watcher.old watcher.new clock
+        time)
+        (λ fault. IsNoTimeBy S.answers counter.now reader.old reader.new watcher.old watcher.new
+        clock fault) }
+{
+    let snapshot = match reader.try_read(latch) {
+        Ok(snapshot) => snapshot,
+        Err(moved) => return Err(NowFault::Moved(moved)),
+    };
+    let timed = match watcher.time(notice, counter) {
+        Ok(timed) => timed,
+        Err(busy) => return Err(NowFault::Busy(busy)),
+    };
+    let (front, place) = (snapshot.front(), timed.place);
+    if front != place {
+        return Err(NowFault::Late(Late { front, place }));
+    }
+    let reading = timed.reading & snapshot.desc().mask();
+    match snapshot.get(clock, reading) {
+        Ok(time) => Ok(time),
+        Err(refusal) => Err(NowFault::Refused(refusal)),
+    }
+}
