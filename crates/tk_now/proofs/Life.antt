@@ -12,13 +12,13 @@ below : (d : ℕ) (n : ℕ) → 0 < d → n ≤ (d - 1) / 2 → n < d
 below d n some low = omega arith
 
 -- there is an item at each place of a list
-there : {A : Type 0} (xs : List A) (i : ℕ) → i < length xs → (x : A) × (slice_get xs i ≡ Some x)
+pub there : {A : Type 0} (xs : List A) (i : ℕ) → i < length xs → (x : A) × (slice_get xs i ≡ Some x)
 there [] i l = absurd (omega arith)
 there (x ∷ xs) zero l = (x, refl)
 there (x ∷ xs) (suc i) l = there xs i (omega arith)
 
 -- the gap between readings of two true counts
-true_gap : (counter : Counter) (c d r s : ℕ) → r ≡ c % 2 ^ counter.bits →
+pub true_gap : (counter : Counter) (c d r s : ℕ) → r ≡ c % 2 ^ counter.bits →
     s ≡ d % 2 ^ counter.bits → c ≤ d → d - c ≤ half counter → gap counter r s ≡ d - c
 true_gap counter c d r s from to le near =
     let m = 2 ^ counter.bits in
@@ -38,6 +38,7 @@ in_life_by false history place reading is near = inr (inr (inr (near is)))
 pub in_life : AnswersAreInLife
 in_life history at command answer commands log readings ordered alive honest near falls i a at_a within =
     let counter = history.opening.counter in
+    let r = a.taken.reading % 2 ^ counter.bits in
     let count = readings.count in
     let t = there commands a.place (omega arith) in
     let u = there commands (a.place + 1) (omega arith) in
@@ -48,12 +49,12 @@ in_life history at command answer commands log readings ordered alive honest nea
     let to = sym (readings.each (a.place + 1) u.0 u.1)
     ∙ (honest.commands_read (a.place + 1) u.0 u.1).read in
     let mid = (honest.answers_read i a at_a).read in
-    let lived = in_life_by (is_asleep_at history a.place) history a.place a.taken.reading refl
+    let lived = in_life_by (is_asleep_at history a.place) history a.place r refl
     (λ awake.
     let most = near a.place within awake in
     let short = true_gap counter (command a.place) (answer i) (reading_at history a.place)
-    a.taken.reading from mid low (omega arith) in
+    r from mid low (omega arith) in
     let long = true_gap counter (command a.place) (command (a.place + 1))
     (reading_at history a.place) (reading_at history (a.place + 1)) from to (omega arith) most in
     omega (arith, short, long, low, high)) in
-    (lived, λ reading. falls a.place a.taken.reading reading within lived)
+    (lived, λ reading. falls a.place r reading within lived)

@@ -11,15 +11,20 @@ pub record IsTrueCount (at : ℕ → ℕ) (bits : ℕ) (t : Taken) (count : ℕ)
   pub from : at t.from ≤ count
   pub to : count ≤ at t.to
 
+-- with its reading modulo 2^bits
+abbrev pub masked : ℕ → Taken → Taken
+masked bits t = record t { reading = t.reading % 2 ^ bits }
+
 -- `at` is the true count at each moment, which never falls; `command` and `answer` are the true
--- counts of the readings of commands and of watchers, by their positions
+-- counts of the readings of commands and of watchers, by their positions. A watcher's reading may
+-- have bits above the counter's
 pub record IsHonest (at command answer : ℕ → ℕ) (bits : ℕ) (commands : List Taken)
     (log : List Answer) : Type 0 where
   pub grows : (m n : ℕ) → m ≤ n → at m ≤ at n
   pub commands_read : (place : ℕ) (t : Taken) → slice_get commands place ≡ Some t →
       IsTrueCount at bits t (command place)
   pub answers_read : (i : ℕ) (a : Answer) → slice_get log i ≡ Some a →
-      IsTrueCount at bits a.taken (answer i)
+      IsTrueCount at bits (masked bits a.taken) (answer i)
 
 -- with an honest counter, the true counts of commands never fall; that of an answer is at least
 -- that of each command up to its own and at most that of each later one; and an answer whose

@@ -1,5 +1,5 @@
 -- The life of a listed reading, over true counts.
-use Rattle.std.specs.Prelude.{◌≡◌, ℕ, ◌+◌, ◌-◌, ◌<◌, ◌≤◌, List, false, length, Some, slice_get}
+use Rattle.std.specs.Prelude.{◌≡◌, ℕ, ◌+◌, ◌-◌, ◌%◌, ◌^◌, ◌<◌, ◌≤◌, List, false, length, Some, slice_get}
 use Rattle.tk_counter.specs.Counter.{half}
 use Rattle.tk_clock.specs.Journal.{Journal, prefix, reading_at, is_asleep_at}
 use Rattle.tk_clock.specs.Life.{IsInLife, NeverFalls}
@@ -30,6 +30,7 @@ AnswersAreInLife = (history : Journal) (at command answer : ℕ → ℕ) (comman
     IsHonest at command answer history.opening.counter.bits commands log → AreNear history command →
     NeverFalls history → (i : ℕ) (a : Answer) → slice_get log i ≡ Some a →
     a.place < length history.entries →
-    IsInLife history a.place a.taken.reading
+    let m = 2 ^ history.opening.counter.bits in
+    IsInLife history a.place (a.taken.reading % m)
     × ((reading : ℕ) →
-    monotonic (prefix a.place history) a.taken.reading ≤ monotonic history reading)
+    monotonic (prefix a.place history) (a.taken.reading % m) ≤ monotonic history reading)

@@ -5,3 +5,4 @@ pub mod Locked
 pub mod Closing
 pub mod Opening
 pub mod Now
+pub mod NeverBack

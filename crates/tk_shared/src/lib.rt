@@ -7,6 +7,7 @@
 //! | `Caller` | gives commands and reads the clocks |
 //! | `Closed`, `Missing` | the result of closing, and what a failed closing returns |
 //! | `OpenError`, `OpenFault` | why a keeper can't be opened, and the counter |
+//! | `now_never_falls` | a law: with an honest counter MONOTONIC never falls |
 //! | `NowFault`, `Late` | why there is no time now |
 //! | `Counter`, `Ticker` | gives readings; one that counts in even steps |
 //! | `SharedReader` | gives the readings of a counter that many threads read |
@@ -23,6 +24,7 @@ mod counter;
 mod fault;
 mod locked;
 mod named;
+mod never_back;
 mod now;
 mod now_fault;
 mod prepared;
@@ -35,6 +37,7 @@ pub use counter::{Counter, Ticker};
 pub use fault::{OpenError, OpenFault};
 pub use locked::Locked;
 pub use named::Named;
+pub use never_back::now_never_falls;
 pub use now_fault::{Late, NowFault};
 pub use prepared::{Prepared, prepare};
 pub use shared_keeper::SharedKeeper;

@@ -21,6 +21,8 @@ impl<L: Named, C: Counter> SharedKeeper<L, C> {
     /// It allocates nothing. It reads the page, and then the counter between two looks at the
     /// notice. It tries again while a command comes between, and waits for whoever holds the words
     /// of the page. The keeper's commands have to read the same counter, as with `SharedReader`.
+    /// Then MONOTONIC never falls, neither for one caller nor between callers
+    /// (`now_never_falls`).
     ///
     /// # Errors
     ///
@@ -59,7 +61,7 @@ impl<L: Named, C: Counter> SharedKeeper<L, C> {
     /// It waits for nobody and allocates nothing. It reads the latch, and then the counter between
     /// two looks at the notice. It compares the two numbers of commands, so that none came between
     /// the snapshot and the reading. The keeper's commands have to read the same counter, as with
-    /// `SharedReader`.
+    /// `SharedReader`. Then MONOTONIC never falls (`now_never_falls`).
     ///
     /// # Errors
     ///
