@@ -11,6 +11,7 @@
 #![tactic(auto)]
 
 mod front_error;
+mod ring;
 mod timekeeper;
 mod trace_error;
 

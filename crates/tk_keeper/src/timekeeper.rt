@@ -7,6 +7,7 @@ mod replaying;
 mod running;
 mod tracing;
 
+use crate::ring::Ring;
 use std::alloc::{Allocator, Global};
 use std::marker::Model;
 use tk_clock::{Clock, ClockId, Entry, ReadError, Refusal, Snapshot, Timespec};
@@ -34,16 +35,16 @@ pub struct Timekeeper<A: Allocator = Global> {
     /// The number of commands accepted before the opening: those that were folded.
     folded: u64,
     /// The commands accepted since the opening.
-    entries: Vec<Entry, A>,
+    entries: Ring<Entry, A>,
     /// The clocks after each entry whose number is a multiple of 256. From these the states of past
     /// fronts are made.
-    kept: Vec<Clock, A>,
+    kept: Ring<Clock, A>,
     /// The clocks after the last accepted command.
     clock: Clock,
 }
 
 impl<A: Allocator> Model for Timekeeper<A> {
-    ghost use Rattle.std.specs.Prelude.{◌+◌, ◌-◌, length, vec_capacity};
+    ghost use Rattle.std.specs.Prelude.{◌+◌, ◌-◌, length};
     ghost use Rattle.tk_clock.specs.Folding.{journal_from};
     ghost use Rattle.tk_keeper.specs.Keeper.{Keeper, IsKept, HasKept, room_for};
 
@@ -51,8 +52,8 @@ impl<A: Allocator> Model for Timekeeper<A> {
 
     ghost view = { λ a. record {
       journal = journal_from a.folded a.start a.entries.items;
-      spare = room_for (vec_capacity a.entries - length a.entries.items)
-          (vec_capacity a.kept - length a.kept.items) (a.folded + length a.entries.items);
+      spare = room_for (a.entries.capacity - length a.entries.items)
+          (a.kept.capacity - length a.kept.items) (a.folded + length a.entries.items);
     } };
 
     ghost invariant = { λ a.
@@ -93,8 +94,8 @@ impl<A: Allocator + Copy> Timekeeper<A> {
         Ok(Timekeeper {
             start: clock,
             folded: 0,
-            entries: Vec::new(alloc),
-            kept: Vec::new(alloc),
+            entries: Ring::new(alloc),
+            kept: Ring::new(alloc),
             clock,
         })
     }
@@ -118,9 +119,7 @@ impl<A: Allocator + Copy> Timekeeper<A> {
         if number <= self.folded {
             return None;
         }
-        self.entries
-            .get((number - self.folded - 1) as usize)
-            .copied()
+        self.entries.get((number - self.folded - 1) as usize)
     }
 
     /// Returns how many more commands can be accepted without an allocation. It doesn't take the
@@ -128,8 +127,8 @@ impl<A: Allocator + Copy> Timekeeper<A> {
     pub fn spare(&self) -> usize
         ensures { result ≡ self.now.spare }
     {
-        let places = self.entries.capacity() - self.entries.len();
-        let kept = self.kept.capacity() - self.kept.len();
+        let places = self.entries.spare();
+        let kept = self.kept.spare();
         let until_kept = KEPT_EVERY - 1 - self.len() % KEPT_EVERY;
         places.min(kept.saturating_mul(KEPT_EVERY).saturating_add(until_kept))
     }

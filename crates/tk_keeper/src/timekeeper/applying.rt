@@ -104,10 +104,10 @@ impl<A: Allocator + Copy> Timekeeper<A> {
         ensures spare { IfOk result (λ _. self.new.spare + 1 ≡ self.old.spare) }
     {
         self.clock.apply(entry.reading, entry.cmd)?;
-        self.entries.push_reserved(entry);
+        self.entries.push(entry);
         let number = self.folded + self.entries.len() as u64;
         if number % KEPT_EVERY as u64 == 0 {
-            self.kept.push_reserved(self.clock);
+            self.kept.push(self.clock);
         }
         Ok(number)
     }
@@ -128,7 +128,8 @@ impl<A: Allocator + Copy> Timekeeper<A> {
     {
         let places = extra.min(LISTED_LIMIT - self.entries.len());
         let kept = (self.len() % KEPT_EVERY + places) / KEPT_EVERY;
-        if self.entries.reserve(places).is_err() || self.kept.reserve(kept).is_err() {
+        let failed = self.entries.reserve(places).is_err() || self.kept.reserve(kept).is_err();
+        if failed && self.spare() < places {
             return Err(Refusal::Memory);
         }
         Ok(())

@@ -1,5 +1,5 @@
 //! Folds the oldest entries into the opening.
-ghost use Rattle.std.specs.Prelude.{◌≡◌, ◌-◌, ◌≤◌, length, drop, max, vec_capacity};
+ghost use Rattle.std.specs.Prelude.{◌≡◌, ◌-◌, ◌≤◌, length, max};
 ghost use Rattle.tk_clock.specs.Journal.{accepted_count};
 ghost use Rattle.tk_clock.specs.Legal.{IsLegal};
 ghost use Rattle.tk_keeper.specs.Past.{IsFolded};
@@ -13,8 +13,8 @@ impl<A: Allocator + Copy> Timekeeper<A> {
     /// Returns the number of commands folded so far.
     ///
     /// Entry numbers don't change, nor does any value at a front from the returned number on.
-    /// Earlier fronts have no snapshot any more. The call allocates nothing. It moves each entry
-    /// that stays once, so fold many at a time.
+    /// Earlier fronts have no snapshot any more. The call allocates nothing and moves no entry. It
+    /// takes the same time for any number of entries: at most 255 of them are applied again.
     pub fn fold(&mut self, keep: u64) -> u64
         ensures answer { let before = self.old.journal in
             result ≡ max before.opening.count (accepted_count before - keep) }
@@ -39,23 +39,9 @@ impl<A: Allocator + Copy> Timekeeper<A> {
         let start = self.clock_at(places);
         let folded = self.folded as usize;
         let kept = (folded + places) / KEPT_EVERY - folded / KEPT_EVERY;
-        discard(&mut self.entries, places);
-        discard(&mut self.kept, kept);
+        self.entries.discard(places);
+        self.kept.discard(kept);
         self.start = start;
         self.folded += places as u64;
     }
-}
-
-/// Removes the first `places` items, and moves the others down.
-fn discard<T: Copy, A: Allocator>(items: &mut Vec<T, A>, places: usize)
-    requires { places ≤ length items.old.items }
-    ensures items { items.new.items ≡ drop places items.old.items }
-    ensures capacity { vec_capacity items.new ≡ vec_capacity items.old }
-{
-    if places == 0 {
-        return;
-    }
-    let left = items.len() - places;
-    items.copy_within(places.., 0);
-    items.truncate(left);
 }

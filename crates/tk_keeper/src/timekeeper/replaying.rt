@@ -36,7 +36,7 @@ impl<A: Allocator + Copy> Timekeeper<A> {
         ensures inside { result ≤ place }
     {
         let end = self.run_end(&clock.snapshot(0), from, place);
-        let entry = self.entries[end - 1];
+        let entry = *self.entries.row(end - 1);
         clock.apply(entry.reading, entry.cmd).unwrap();
         end
     }
@@ -55,8 +55,8 @@ impl<A: Allocator + Copy> Timekeeper<A> {
         let (desc, last) = (now.desc(), now.last());
         let half = desc.half();
         'run: for next in from + 1..place {
-            let entry = &self.entries[next - 1];
-            let later = &self.entries[next];
+            let entry = self.entries.row(next - 1);
+            let later = self.entries.row(next);
             if !is_update(entry.cmd) || desc.gap(last, later.reading) > half {
                 return next;
             }

@@ -14,7 +14,7 @@ pub unwrap-requires : goal.unwrap-requires
 unwrap-requires g c =
     let keeper = c.self.inside in
     let journal : Journal = journal_from keeper.folded keeper.start keeper.entries.items in
-    let entry : Entry = c.index-entry.result.now in
+    let entry : Entry = c.row-entry.result.now in
     let end = c.run_end-end.result in
     let clock = c.args.clock.now in
     let listed = ap (λ (k : Keeper). length k.journal.entries) c.self.view_is in
@@ -26,7 +26,7 @@ unwrap-requires g c =
       c.requires.listed,
       c.run_end-end.ensures.further,
       c.run_end-end.ensures.inside,
-    )) c.index-entry.ensures in
+    )) c.row-entry.ensures in
     let led = subst (λ (k : Keeper). IsRun k.journal c.args.from end) (sym c.self.view_is)
     c.run_end-end.ensures.run entry here in
     let state = subst (λ (k : Keeper). clock ≡ state_of (prefix c.args.from k.journal))
@@ -39,7 +39,7 @@ pub returns-clause-state : goal.returns-clause-state
 returns-clause-state g c =
     let keeper = c.self.inside in
     let journal : Journal = journal_from keeper.folded keeper.start keeper.entries.items in
-    let entry : Entry = c.index-entry.result.now in
+    let entry : Entry = c.row-entry.result.now in
     let end = c.run_end-end.result in
     let clock = c.args.clock.now in
     let listed = ap (λ (k : Keeper). length k.journal.entries) c.self.view_is in
@@ -51,7 +51,7 @@ returns-clause-state g c =
       c.requires.listed,
       c.run_end-end.ensures.further,
       c.run_end-end.ensures.inside,
-    )) c.index-entry.ensures in
+    )) c.row-entry.ensures in
     let led = subst (λ (k : Keeper). IsRun k.journal c.args.from end) (sym c.self.view_is)
     c.run_end-end.ensures.run entry here in
     let state = subst (λ (k : Keeper). clock ≡ state_of (prefix c.args.from k.journal))

@@ -44,10 +44,10 @@ invariant_of-self-then-number-eq0 g c =
     let even = ap (λ n. n % 256) number ∙ c.if-number-eq0.true in
     let more = HasKept-more journal entry keeper.start keeper.kept.items c.self.invariant.1 even
     in (
-      rw c.push_reserved.ensures.items kept,
+      rw c.push.ensures.items kept,
       rw (
-        c.push_reserved.ensures.items,
-        c.push_reserved-then-number-eq0.ensures.items,
+        c.push.ensures.items,
+        c.push-then-number-eq0.ensures.items,
         running,
       ) more,
     )
@@ -70,7 +70,7 @@ invariant_of-self-else-number-eq0 g c =
     omega (arith, length_push keeper.entries.items entry) in
     let more = HasKept-same journal entry keeper.start keeper.kept.items c.self.invariant.1
     (λ even. c.if-number-eq0.false (sym (ap (λ n. n % 256) number) ∙ even)) in
-    rw c.push_reserved.ensures.items (kept, more)
+    rw c.push.ensures.items (kept, more)
 
 pub returns-then-number-eq0-clause-answer : goal.returns-then-number-eq0-clause-answer
 returns-then-number-eq0-clause-answer g c =
@@ -86,9 +86,9 @@ returns-then-number-eq0-clause-answer g c =
     omega (arith, length_push keeper.entries.items entry) in (
       subst (λ (k : Keeper). first_refusal k.journal entry ≡ None) c.self.view_is accepted,
       ap (λ (es : List Entry). journal_from keeper.folded keeper.start es)
-          c.push_reserved.ensures.items
+          c.push.ensures.items
           ∙ ap (λ (k : Keeper). followed_by k.journal entry) c.self.view_is,
-      sym (ap (λ (es : List Entry). keeper.folded + length es) c.push_reserved.ensures.items
+      sym (ap (λ (es : List Entry). keeper.folded + length es) c.push.ensures.items
           ∙ number),
     )
 
@@ -106,8 +106,8 @@ returns-else-number-eq0-clause-answer g c =
     omega (arith, length_push keeper.entries.items entry) in (
       subst (λ (k : Keeper). first_refusal k.journal entry ≡ None) c.self.view_is accepted,
       ap (λ (es : List Entry). journal_from keeper.folded keeper.start es)
-          c.push_reserved.ensures.items
+          c.push.ensures.items
           ∙ ap (λ (k : Keeper). followed_by k.journal entry) c.self.view_is,
-      sym (ap (λ (es : List Entry). keeper.folded + length es) c.push_reserved.ensures.items
+      sym (ap (λ (es : List Entry). keeper.folded + length es) c.push.ensures.items
           ∙ number),
     )

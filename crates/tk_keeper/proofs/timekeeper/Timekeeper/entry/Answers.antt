@@ -11,7 +11,7 @@ returns g c =
     let place = c.args.number - keeper.folded - 1 in
     let later : nat_lt keeper.folded c.args.number ≡ true =
     lt-ltb keeper.folded c.args.number c.if-number-self.false in
-    let found : c.copied.result ≡ slice_get keeper.entries.items place =
+    let found : c.get.result ≡ slice_get keeper.entries.items place =
     grind (arith, common_steps, gets) in
     rw (← c.self.view_is)
     (found ∙ ap (λ (b : Bool). if b then slice_get keeper.entries.items place

@@ -16,9 +16,9 @@ invariant_of-self g c =
     let start : c.clock_at-start.result ≡ state_of (prefix n journal) =
     c.clock_at-start.ensures
     ∙ ap (λ (k : Keeper). state_of (prefix n k.journal)) (sym c.self.view_is) in
-    let same : journal_from (keeper.folded + n) c.clock_at-start.result c.discard.new.items.items
+    let same : journal_from (keeper.folded + n) c.clock_at-start.result c.discard.new.self.items
     ≡ folded_by n journal =
-    ap (λ (s : State). journal_from (keeper.folded + n) s c.discard.new.items.items) start
+    ap (λ (s : State). journal_from (keeper.folded + n) s c.discard.new.self.items) start
     ∙ ap (λ (es : List Entry). journal_from (keeper.folded + n) (state_of (prefix n journal)) es)
     c.discard.ensures.items in
     let inside : n ≤ length journal.entries =

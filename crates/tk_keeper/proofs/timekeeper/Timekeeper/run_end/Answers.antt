@@ -20,8 +20,8 @@ pub run-preserved : goal.run-preserved
 run-preserved g c =
     let keeper = c.self.inside in
     let journal : Journal = journal_from keeper.folded keeper.start keeper.entries.items in
-    let entry : Entry = c.index-entry.result.now in
-    let later : Entry = c.index-later.result.now in
+    let entry : Entry = c.row-entry.result.now in
+    let later : Entry = c.row-later.result.now in
     let from = c.args.from in
     let next = c.run.next in
     let held = subst (λ (k : Keeper). IsRun k.journal from next) (sym c.self.view_is)
@@ -39,8 +39,8 @@ run-preserved g c =
     ≤ half journal.opening.counter = omega (arith, cycles, most, c.if-gap-half.false) in
     subst (λ (k : Keeper). IsRun k.journal from (next + 1)) c.self.view_is
     (IsRun-more journal from next entry later c.self.invariant.0.legal.accepted held
-    (omega (arith, listed, c.requires.listed, c.run-test.true)) c.index-entry.ensures
-    (c.is_update.ensures.0 c.if-not-is_update.false) c.index-later.ensures near)
+    (omega (arith, listed, c.requires.listed, c.run-test.true)) c.row-entry.ensures
+    (c.is_update.ensures.0 c.if-not-is_update.false) c.row-later.ensures near)
 
 pub returns-clause-run : goal.returns-clause-run
 returns-clause-run g c =

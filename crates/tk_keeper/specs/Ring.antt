@@ -1,0 +1,7 @@
+-- What a ring holds.
+use Rattle.std.specs.Prelude.{ℕ, List}
+
+-- its items in order, and how many it can hold without an allocation
+pub record Listed (X : Type 0) : Type 0 where
+  pub items : List X
+  pub capacity : ℕ
