@@ -1,4 +1,4 @@
--- A line that is drawn from a snapshot has its clock's values.
+-- A segment that is drawn from a snapshot has its clock's values.
 use Rattle.std.proofs.Common.{◌≡◌, ℕ, ◌+◌, ◌-◌, ◌*◌, ◌/◌, ◌%◌, ◌^◌, ◌<◌, ◌≤◌, Bool, true, false, bit_and, Ok, refl, sym, ap, ap₂, ◌∙◌, arith}
 use Rattle.std.specs.Prelude.{ℤ, pos, ◌+ℤ◌, int_lt, nat_lt, ◌||◌, if◌then◌else◌, unsigned_abs}
 use Rattle.std.proofs.lemmas.Bool.{le-ltb, lt-ltb}
@@ -14,27 +14,27 @@ use Rattle.tk_clock.specs.State.{ReadBase, base_value}
 use Rattle.tk_clock.specs.Limits.{limit}
 use Rattle.tk_clock.specs.Read.{read_of}
 use Rattle.tk_clock.proofs.Offsets.{cycles_since-self}
-use Rattle.tk_lanes.specs.declared.line.Line.{Line}
+use Rattle.tk_lanes.specs.declared.segment.Segment.{Segment}
 use Rattle.tk_clock.specs.Origin.{is_coarse, units_at_last, running_mult, mult_of, offset_of}
 use Rattle.tk_clock.proofs.Origin.{same_units, counted, value_is}
-use Rattle.tk_lanes.specs.Line.{line_cycles, line_nanos, nanos_after, IsNear}
+use Rattle.tk_lanes.specs.Segment.{segment_cycles, segment_nanos, nanos_after, IsNear}
 
--- a line with a clock's numbers: seconds at the last reading, the span in cycles, and the
+-- a segment with a clock's numbers: seconds at the last reading, the span in cycles, and the
 -- nanoseconds to the clock's limit
-pub record IsDrawn (base : ReadBase) (clock : ClockId) (line : Line) (sec room : ℕ) : Type 0 where
+pub record IsDrawn (base : ReadBase) (clock : ClockId) (segment : Segment) (sec room : ℕ) : Type 0 where
   pub counter : IsCounter base.counter
-  pub last : line.last ≡ base.last
+  pub last : segment.last ≡ base.last
   pub last_low : base.last < 2 ^ 64
-  pub mult : line.mult ≡ mult_of base clock
-  pub shift : line.shift ≡ base.counter.shift
-  pub units : units_at_last base clock ≡ sec * second base.counter + line.frac
-  pub start : pos line.base ≡ pos (sec * 10 ^ 9) +ℤ offset_of base clock
-  pub masked : line.mask ≡ mask base.counter
-  pub halved : line.half ≡ half base.counter
-  pub fits : line.span * line.mult + line.frac < 2 ^ 64
-  pub in_range : line.span * line.mult + line.frac < room * 2 ^ line.shift
-  pub ends : pos (line.base + room) ≡ limit clock
-  pub limit_low : line.base + room < 2 ^ 64
+  pub mult : segment.mult ≡ mult_of base clock
+  pub shift : segment.shift ≡ base.counter.shift
+  pub units : units_at_last base clock ≡ sec * second base.counter + segment.frac
+  pub start : pos segment.base ≡ pos (sec * 10 ^ 9) +ℤ offset_of base clock
+  pub masked : segment.mask ≡ mask base.counter
+  pub halved : segment.half ≡ half base.counter
+  pub fits : segment.span * segment.mult + segment.frac < 2 ^ 64
+  pub in_range : segment.span * segment.mult + segment.frac < room * 2 ^ segment.shift
+  pub ends : pos (segment.base + room) ≡ limit clock
+  pub limit_low : segment.base + room < 2 ^ 64
 
 -- the difference of two words
 abbrev gap_word : ℕ → ℕ → ℕ
@@ -67,49 +67,49 @@ split_amount sec units shift =
     let e : sec * (10 ^ 9 * 2 ^ shift) + units ≡ 2 ^ shift * (sec * 10 ^ 9) + units = omega arith in
     ap (λ n. n / 2 ^ shift) e ∙ mul-add-div (pow_pos shift) (sec * 10 ^ 9) units
 
-module _ (base : ReadBase) (clock : ClockId) (line : Line) (sec room : ℕ)
-    (drawn : IsDrawn base clock line sec room)
-    (stamp : ℕ) (near : IsNear line stamp) where
+module _ (base : ReadBase) (clock : ClockId) (segment : Segment) (sec room : ℕ)
+    (drawn : IsDrawn base clock segment sec room)
+    (stamp : ℕ) (near : IsNear segment stamp) where
   abbrev cycles : ℕ
-  cycles = line_cycles line stamp
+  cycles = segment_cycles segment stamp
 
-  cycles_of : line_cycles line stamp ≡ cycles_since base.counter false base.last stamp
-  unfolding line_cycles
+  cycles_of : segment_cycles segment stamp ≡ cycles_since base.counter false base.last stamp
+  unfolding segment_cycles
   cycles_of =
-      ap (λ l. ahead line.mask line.half (gap_word stamp l)) drawn.last
-      ∙ cycles_are base.counter base.last line.mask line.half stamp drawn.counter drawn.last_low
+      ap (λ l. ahead segment.mask segment.half (gap_word stamp l)) drawn.last
+      ∙ cycles_are base.counter base.last segment.mask segment.half stamp drawn.counter drawn.last_low
       drawn.masked drawn.halved
 
   abbrev units : ℕ
-  units = cycles * line.mult + line.frac
+  units = cycles * segment.mult + segment.frac
 
-  grown : cycles * line.mult ≤ line.span * line.mult
-  grown = mul-le-mul_right line.mult near.near
+  grown : cycles * segment.mult ≤ segment.span * segment.mult
+  grown = mul-le-mul_right segment.mult near.near
 
   abbrev nanos : ℕ
-  nanos = units / 2 ^ line.shift
+  nanos = units / 2 ^ segment.shift
 
   nanos_low : nanos < room
-  nanos_low = div_below units (2 ^ line.shift) room (pow_pos line.shift)
+  nanos_low = div_below units (2 ^ segment.shift) room (pow_pos segment.shift)
       (omega (arith, grown, drawn.in_range))
 
-  line_is : line_nanos line stamp ≡ nanos + line.base
+  segment_is : segment_nanos segment stamp ≡ nanos + segment.base
   unfolding nanos_after
-  line_is =
-      let a : (cycles * line.mult) % 2 ^ 64 ≡ cycles * line.mult =
+  segment_is =
+      let a : (cycles * segment.mult) % 2 ^ 64 ≡ cycles * segment.mult =
       mod-eq_of_lt (omega (arith, grown, drawn.fits)) in
-      let b : (cycles * line.mult + line.frac) % 2 ^ 64 ≡ units =
+      let b : (cycles * segment.mult + segment.frac) % 2 ^ 64 ≡ units =
       mod-eq_of_lt (omega (arith, grown, drawn.fits)) in
-      let d : (nanos + line.base) % 2 ^ 64 ≡ nanos + line.base =
+      let d : (nanos + segment.base) % 2 ^ 64 ≡ nanos + segment.base =
       mod-eq_of_lt (omega (arith, nanos_low, drawn.limit_low)) in
-      ap (λ n. ((n + line.frac) % 2 ^ 64 / 2 ^ line.shift + line.base) % 2 ^ 64) a
-      ∙ ap (λ n. (n / 2 ^ line.shift + line.base) % 2 ^ 64) b
+      ap (λ n. ((n + segment.frac) % 2 ^ 64 / 2 ^ segment.shift + segment.base) % 2 ^ 64) a
+      ∙ ap (λ n. (n / 2 ^ segment.shift + segment.base) % 2 ^ 64) b
       ∙ d
 
   counted_is : counted base clock stamp ≡ sec * 10 ^ 9 + nanos
   counted_is =
       let at = if is_coarse clock then base.last else stamp in
-      let same : cycles * line.mult
+      let same : cycles * segment.mult
       ≡ cycles_since base.counter base.asleep base.last at * running_mult base clock =
       ap₂ (λ a b. a * b) cycles_of drawn.mult
       ∙ same_units base.asleep (is_coarse clock) base.counter base.last stamp
@@ -121,21 +121,21 @@ module _ (base : ReadBase) (clock : ClockId) (line : Line) (sec room : ℕ)
       ap (λ n. n / 2 ^ base.counter.shift) e ∙ split_amount sec units base.counter.shift
       ∙ ap (λ k. sec * 10 ^ 9 + units / 2 ^ k) (sym drawn.shift)
 
-  value : base_value base clock stamp ≡ pos (nanos + line.base)
+  value : base_value base clock stamp ≡ pos (nanos + segment.base)
   value =
       value_is base clock stamp
       ∙ ap (λ n. pos n +ℤ offset_of base clock) counted_is
-      ∙ together (sec * 10 ^ 9) nanos line.base (offset_of base clock) drawn.start
+      ∙ together (sec * 10 ^ 9) nanos segment.base (offset_of base clock) drawn.start
     where
       together : (a n b : ℕ) (o : ℤ) → pos b ≡ pos a +ℤ o → pos (a + n) +ℤ o ≡ pos (n + b)
       together a n b o e = omega (arith, ints)
 
-  -- a read of the clock gives the line's value
-  pub drawn_reads : read_of base clock stamp ≡ Ok (line_nanos line stamp)
+  -- a read of the clock gives the segment's value
+  pub drawn_reads : read_of base clock stamp ≡ Ok (segment_nanos segment stamp)
   unfolding read_of
   drawn_reads =
       let within : nat_lt (mask base.counter) stamp ≡ false =
       le-ltb _ _ (omega (arith, near.read, drawn.masked)) in
       let ranged : int_lt (base_value base clock stamp) (limit clock) ≡ true =
       ap₂ int_lt value (sym drawn.ends) ∙ lt-ltb _ _ (omega (arith, nanos_low)) in
-      rw (within, ranged) (ap Ok (ap unsigned_abs value ∙ sym line_is))
+      rw (within, ranged) (ap Ok (ap unsigned_abs value ∙ sym segment_is))

@@ -7,8 +7,8 @@ use Rattle.std.proofs.lemmas.Bool.{le-ltb, lt-ltb, cases_lt}
 use Rattle.std.proofs.lemmas.List.{length-map}
 use Rattle.std.proofs.Math.Nat.{mod-eq_of_lt, add-mul-mod_self_left}
 use lib.Lanes.{top}
-use Rattle.tk_lanes.specs.declared.line.Line.{Line}
-use Rattle.tk_lanes.specs.Line.{line_cycles, line_nanos, nanos_after, IsNear, IsEachNear}
+use Rattle.tk_lanes.specs.declared.segment.Segment.{Segment}
+use Rattle.tk_lanes.specs.Segment.{segment_cycles, segment_nanos, nanos_after, IsNear, IsEachNear}
 
 itself : (v : List ℕ) → v ≡ map (λ x. x) v
 itself [] = refl
@@ -56,70 +56,70 @@ wrap_mul a b = (a * b) % 18446744073709551616
 abbrev shr : ℕ → ℕ → ℕ
 shr a b = a / 2 ^ b
 
-abbrev gaps : Line → List ℕ → List ℕ
-gaps line v = zip2 bit_and (zip2 wrap_sub v (replicate 8 line.last)) (replicate 8 line.mask)
+abbrev gaps : Segment → List ℕ → List ℕ
+gaps segment v = zip2 bit_and (zip2 wrap_sub v (replicate 8 segment.last)) (replicate 8 segment.mask)
 
-abbrev cycles : Line → List ℕ → List ℕ
-cycles line v =
+abbrev cycles : Segment → List ℕ → List ℕ
+cycles segment v =
     sel_l (map (top 63) (zip2 (λ a b. cond (ltb a b) 18446744073709551615 0)
-    (replicate 8 line.half) (gaps line v))) (replicate 8 0) (gaps line v)
+    (replicate 8 segment.half) (gaps segment v))) (replicate 8 0) (gaps segment v)
 
-abbrev reaches : Line → List ℕ → ℕ → List ℕ
-reaches line v bias = zip2 wrap_add (cycles line v) (replicate 8 bias)
+abbrev reaches : Segment → List ℕ → ℕ → List ℕ
+reaches segment v bias = zip2 wrap_add (cycles segment v) (replicate 8 bias)
 
-abbrev nanos : Line → List ℕ → ℕ → ℕ → List ℕ
-nanos line counts mult shift =
+abbrev nanos : Segment → List ℕ → ℕ → ℕ → List ℕ
+nanos segment counts mult shift =
     zip2 wrap_add (zip2 shr
-    (zip2 wrap_add (zip2 wrap_mul counts (replicate 8 mult)) (replicate 8 line.frac))
+    (zip2 wrap_add (zip2 wrap_mul counts (replicate 8 mult)) (replicate 8 segment.frac))
     (replicate 8 shift))
-    (replicate 8 line.base)
+    (replicate 8 segment.base)
 
 splat : (v : List ℕ) → length v ≡ 8 → (y : ℕ) → replicate 8 y ≡ map (λ _. y) v
 splat v long y = splat_is_map v 8 y long
 
-gap_of : Line → ℕ → ℕ
-gap_of line x = bit_and (wrap_sub x line.last) line.mask
+gap_of : Segment → ℕ → ℕ
+gap_of segment x = bit_and (wrap_sub x segment.last) segment.mask
 
-gaps-map : (line : Line) (v : List ℕ) → length v ≡ 8 → gaps line v ≡ map (gap_of line) v
+gaps-map : (segment : Segment) (v : List ℕ) → length v ≡ 8 → gaps segment v ≡ map (gap_of segment) v
 unfolding gap_of
-gaps-map line v long =
-    zip2_of_maps bit_and (λ x. wrap_sub x line.last) (λ _. line.mask) v
-    (zip2_of_maps wrap_sub (λ x. x) (λ _. line.last) v (itself v) (splat v long line.last))
-    (splat v long line.mask)
+gaps-map segment v long =
+    zip2_of_maps bit_and (λ x. wrap_sub x segment.last) (λ _. segment.mask) v
+    (zip2_of_maps wrap_sub (λ x. x) (λ _. segment.last) v (itself v) (splat v long segment.last))
+    (splat v long segment.mask)
 
-pub cycles-map : (line : Line) (v : List ℕ) → length v ≡ 8 →
-    cycles line v ≡ map (line_cycles line) v
-unfolding gap_of line_cycles
-cycles-map line v long =
-    selected (λ x. ltb line.half (gap_of line x)) (λ _. 0) (gap_of line) v
-    (tops_compared w64 ltb (replicate 8 line.half) (gaps line v)
-    ∙ zip2_of_maps ltb (λ _. line.half) (gap_of line) v (splat v long line.half)
-    (gaps-map line v long))
+pub cycles-map : (segment : Segment) (v : List ℕ) → length v ≡ 8 →
+    cycles segment v ≡ map (segment_cycles segment) v
+unfolding gap_of segment_cycles
+cycles-map segment v long =
+    selected (λ x. ltb segment.half (gap_of segment x)) (λ _. 0) (gap_of segment) v
+    (tops_compared w64 ltb (replicate 8 segment.half) (gaps segment v)
+    ∙ zip2_of_maps ltb (λ _. segment.half) (gap_of segment) v (splat v long segment.half)
+    (gaps-map segment v long))
     (splat v long 0)
-    (gaps-map line v long)
+    (gaps-map segment v long)
 
--- each lane holds the line's value after its number of cycles
-pub nanos-map : (line : Line) (counts : List ℕ) → length counts ≡ 8 → (mult shift : ℕ) →
-    mult ≡ line.mult → shift ≡ line.shift →
-    nanos line counts mult shift ≡ map (nanos_after line) counts
+-- each lane holds the segment's value after its number of cycles
+pub nanos-map : (segment : Segment) (counts : List ℕ) → length counts ≡ 8 → (mult shift : ℕ) →
+    mult ≡ segment.mult → shift ≡ segment.shift →
+    nanos segment counts mult shift ≡ map (nanos_after segment) counts
 unfolding nanos_after
-nanos-map line counts long mult shift p q =
-    ap₂ (nanos line counts) p q ∙
-    zip2_of_maps wrap_add _ (λ _. line.base) counts
-    (zip2_of_maps shr _ (λ _. line.shift) counts
-    (zip2_of_maps wrap_add _ (λ _. line.frac) counts
-    (zip2_of_maps wrap_mul (λ x. x) (λ _. line.mult) counts (itself counts)
-    (splat counts long line.mult))
-    (splat counts long line.frac))
-    (splat counts long line.shift))
-    (splat counts long line.base)
+nanos-map segment counts long mult shift p q =
+    ap₂ (nanos segment counts) p q ∙
+    zip2_of_maps wrap_add _ (λ _. segment.base) counts
+    (zip2_of_maps shr _ (λ _. segment.shift) counts
+    (zip2_of_maps wrap_add _ (λ _. segment.frac) counts
+    (zip2_of_maps wrap_mul (λ x. x) (λ _. segment.mult) counts (itself counts)
+    (splat counts long segment.mult))
+    (splat counts long segment.frac))
+    (splat counts long segment.shift))
+    (splat counts long segment.base)
 
 -- if a gap is within the span, the stamp is not behind
-near_gap : (line : Line) → line.span ≤ line.half → (x : ℕ) → gap_of line x ≤ line.span →
-    gap_of line x ≡ line_cycles line x
-unfolding gap_of line_cycles
-near_gap line leads x low =
-    let ahead : ltb line.half (gap_of line x) ≡ false = le-ltb _ _ (omega (arith, low, leads)) in
+near_gap : (segment : Segment) → segment.span ≤ segment.half → (x : ℕ) → gap_of segment x ≤ segment.span →
+    gap_of segment x ≡ segment_cycles segment x
+unfolding gap_of segment_cycles
+near_gap segment leads x low =
+    let ahead : ltb segment.half (gap_of segment x) ≡ false = le-ltb _ _ (omega (arith, low, leads)) in
     rw ahead refl
 
 -- two functions that agree at each stamp give the same list of lanes
@@ -129,66 +129,66 @@ same_maps f g P same [] all = refl
 same_maps f g P same (x ∷ xs) all =
     ap₂ (λ y ys. y ∷ ys) (same x all.0) (same_maps f g P same xs all.1)
 
-pub cycles-long : (line : Line) (v : List ℕ) → length v ≡ 8 → length (cycles line v) ≡ 8
-cycles-long line v long = ap length (cycles-map line v long) ∙ length-map v (line_cycles line)
+pub cycles-long : (segment : Segment) (v : List ℕ) → length v ≡ 8 → length (cycles segment v) ≡ 8
+cycles-long segment v long = ap length (cycles-map segment v long) ∙ length-map v (segment_cycles segment)
     ∙ long
 
--- the line's values after the cycles of each stamp are its values at each stamp
-pub nanos_at_each : (line : Line) (v counts : List ℕ) → counts ≡ map (line_cycles line) v →
-    map (nanos_after line) counts ≡ map (line_nanos line) v
-nanos_at_each line v counts e = ap (map (nanos_after line)) e ∙ fused v
+-- the segment's values after the cycles of each stamp are its values at each stamp
+pub nanos_at_each : (segment : Segment) (v counts : List ℕ) → counts ≡ map (segment_cycles segment) v →
+    map (nanos_after segment) counts ≡ map (segment_nanos segment) v
+nanos_at_each segment v counts e = ap (map (nanos_after segment)) e ∙ fused v
   where
     fused : (v : List ℕ) →
-        map (nanos_after line) (map (line_cycles line) v) ≡ map (line_nanos line) v
+        map (nanos_after segment) (map (segment_cycles segment) v) ≡ map (segment_nanos segment) v
     fused [] = refl
-    fused (x ∷ xs) = ap (λ r. line_nanos line x ∷ r) (fused xs)
+    fused (x ∷ xs) = ap (λ r. segment_nanos segment x ∷ r) (fused xs)
 
-abbrev word_of : Line → ℕ → ℕ
-word_of line x = wrap_sub x line.last
+abbrev word_of : Segment → ℕ → ℕ
+word_of segment x = wrap_sub x segment.last
 
-abbrev words : Line → List ℕ → List ℕ
-words line v = zip2 wrap_sub v (replicate 8 line.last)
+abbrev words : Segment → List ℕ → List ℕ
+words segment v = zip2 wrap_sub v (replicate 8 segment.last)
 
-words-map : (line : Line) (v : List ℕ) → length v ≡ 8 → words line v ≡ map (word_of line) v
-words-map line v long =
-    zip2_of_maps wrap_sub (λ x. x) (λ _. line.last) v (itself v) (splat v long line.last)
+words-map : (segment : Segment) (v : List ℕ) → length v ≡ 8 → words segment v ≡ map (word_of segment) v
+words-map segment v long =
+    zip2_of_maps wrap_sub (λ x. x) (λ _. segment.last) v (itself v) (splat v long segment.last)
 
-pub words-long : (line : Line) (v : List ℕ) → length v ≡ 8 → length (words line v) ≡ 8
-words-long line v long = ap length (words-map line v long) ∙ length-map v (word_of line) ∙ long
+pub words-long : (segment : Segment) (v : List ℕ) → length v ≡ 8 → length (words segment v) ≡ 8
+words-long segment v long = ap length (words-map segment v long) ∙ length-map v (word_of segment) ∙ long
 
--- a stamp that is no farther ahead of the last reading than `line.ahead`
-module _ (line : Line) (leads : line.span ≤ line.half) (near : line.ahead ≤ line.span)
-    (read : line.last + line.ahead ≤ line.mask) (masked : line.mask < 18446744073709551616)
-    (whole : (gap : ℕ) → gap ≤ line.mask → bit_and gap line.mask ≡ gap) where
-  word_is : (x : ℕ) → x < 18446744073709551616 → word_of line x ≤ line.ahead →
-      word_of line x + line.last ≡ x
+-- a stamp that is no farther ahead of the last reading than `segment.ahead`
+module _ (segment : Segment) (leads : segment.span ≤ segment.half) (near : segment.ahead ≤ segment.span)
+    (read : segment.last + segment.ahead ≤ segment.mask) (masked : segment.mask < 18446744073709551616)
+    (whole : (gap : ℕ) → gap ≤ segment.mask → bit_and gap segment.mask ≡ gap) where
+  word_is : (x : ℕ) → x < 18446744073709551616 → word_of segment x ≤ segment.ahead →
+      word_of segment x + segment.last ≡ x
   word_is x fits low =
-      elim (cases_lt x line.last) [
+      elim (cases_lt x segment.last) [
         | inl below ↦
-            let e : word_of line x ≡ x + (18446744073709551616 - line.last) =
+            let e : word_of segment x ≡ x + (18446744073709551616 - segment.last) =
             mod-eq_of_lt (omega (arith, below, read, masked)) in
             omega (arith, e, below, low, read, masked)
         | inr above ↦
-            let e : x + (18446744073709551616 - line.last)
-            ≡ (x - line.last) + 18446744073709551616 * 1 = omega (arith, above, read, masked) in
-            let w : word_of line x ≡ x - line.last =
+            let e : x + (18446744073709551616 - segment.last)
+            ≡ (x - segment.last) + 18446744073709551616 * 1 = omega (arith, above, read, masked) in
+            let w : word_of segment x ≡ x - segment.last =
             ap (λ n. n % 18446744073709551616) e
-            ∙ add-mul-mod_self_left (x - line.last) 18446744073709551616 1
+            ∙ add-mul-mod_self_left (x - segment.last) 18446744073709551616 1
             ∙ mod-eq_of_lt (omega (arith, fits)) in
             omega (arith, w, above)
       ]
 
   abbrev IsAhead : ℕ → Type 0
-  IsAhead x = (word_of line x ≡ line_cycles line x) × IsNear line x
+  IsAhead x = (word_of segment x ≡ segment_cycles segment x) × IsNear segment x
 
-  is_ahead : (x : ℕ) → x < 18446744073709551616 → word_of line x ≤ line.ahead → IsAhead x
+  is_ahead : (x : ℕ) → x < 18446744073709551616 → word_of segment x ≤ segment.ahead → IsAhead x
   unfolding gap_of
   is_ahead x fits low =
       let at = word_is x fits low in
-      let gap : gap_of line x ≡ word_of line x =
-      whole (word_of line x) (omega (arith, low, read)) in
-      let cycles : word_of line x ≡ line_cycles line x =
-      sym gap ∙ near_gap line leads x (omega (arith, gap, low, near)) in (
+      let gap : gap_of segment x ≡ word_of segment x =
+      whole (word_of segment x) (omega (arith, low, read)) in
+      let cycles : word_of segment x ≡ segment_cycles segment x =
+      sym gap ∙ near_gap segment leads x (omega (arith, gap, low, near)) in (
         cycles,
         record {
           near = omega (arith, cycles, low, near);
@@ -197,27 +197,27 @@ module _ (line : Line) (leads : line.span ≤ line.half) (near : line.ahead ≤ 
       )
 
   each_ahead : (v : List ℕ) → length v ≡ 8 → Each1 (λ x. x < 18446744073709551616) v →
-      fold_l bit_or 0 (words line v) ≤ line.ahead → Each1 IsAhead v
+      fold_l bit_or 0 (words segment v) ≤ segment.ahead → Each1 IsAhead v
   each_ahead v long fits low =
-      let ors : fold_l bit_or 0 (map (word_of line) v) ≤ line.ahead =
-      subst (λ l. fold_l bit_or 0 l ≤ line.ahead) (words-map line v long) low in
+      let ors : fold_l bit_or 0 (map (word_of segment) v) ≤ segment.ahead =
+      subst (λ l. fold_l bit_or 0 l ≤ segment.ahead) (words-map segment v long) low in
       both _ _ IsAhead is_ahead v fits
-      (each_of_map (word_of line) (λ y. y ≤ line.ahead) (λ x. word_of line x ≤ line.ahead)
+      (each_of_map (word_of segment) (λ y. y ≤ segment.ahead) (λ x. word_of segment x ≤ segment.ahead)
       (λ x p. p) v
-      (most_is_or 0 _ line.ahead ors).1)
+      (most_is_or 0 _ segment.ahead ors).1)
 
   pub words-are_cycles : (v : List ℕ) → length v ≡ 8 →
       Each1 (λ x. x < 18446744073709551616) v →
-      fold_l bit_or 0 (words line v) ≤ line.ahead → words line v ≡ map (line_cycles line) v
+      fold_l bit_or 0 (words segment v) ≤ segment.ahead → words segment v ≡ map (segment_cycles segment) v
   words-are_cycles v long fits low =
-      words-map line v long
-      ∙ same_maps (word_of line) (line_cycles line) IsAhead (λ x p. p.0) v
+      words-map segment v long
+      ∙ same_maps (word_of segment) (segment_cycles segment) IsAhead (λ x p. p.0) v
       (each_ahead v long fits low)
 
   pub near_by_words : (v : List ℕ) → length v ≡ 8 → Each1 (λ x. x < 18446744073709551616) v →
-      fold_l bit_or 0 (words line v) ≤ line.ahead → IsEachNear line v
+      fold_l bit_or 0 (words segment v) ≤ segment.ahead → IsEachNear segment v
   near_by_words v long fits low =
-      Each1-weaker IsAhead (IsNear line) (λ x p. p.1) v (each_ahead v long fits low)
+      Each1-weaker IsAhead (IsNear segment) (λ x p. p.1) v (each_ahead v long fits low)
 
 -- a sum with this bias has no top bit, so the cycles are within the span
 within_span : (cycles span bias : ℕ) → cycles < 9223372036854775808 →
@@ -227,33 +227,33 @@ within_span cycles span bias few e low =
     let plain : wrap_add cycles bias ≡ cycles + bias = mod-eq_of_lt (omega arith) in
     omega (arith, plain)
 
-cycles_low : (line : Line) (x : ℕ) → line_cycles line x ≤ line.half
-unfolding line_cycles gap_of
-cycles_low line x =
-    let g = gap_of line x in
-    elim (cases_lt line.half g) [
+cycles_low : (segment : Segment) (x : ℕ) → segment_cycles segment x ≤ segment.half
+unfolding segment_cycles gap_of
+cycles_low segment x =
+    let g = gap_of segment x in
+    elim (cases_lt segment.half g) [
       | inl behind ↦ let t = lt-ltb _ _ behind in rw t (omega arith)
       | inr forward ↦ let t = le-ltb _ _ forward in rw t forward
     ]
 
-pub near_by_reaches : (line : Line) (v : List ℕ) (bias : ℕ) → length v ≡ 8 →
-    line.half < 9223372036854775808 →
-    bias + line.span + 1 ≡ 9223372036854775808 → fold_l bit_or 0 v ≤ line.mask →
-    fold_l bit_or 0 (reaches line v bias) < 9223372036854775808 → IsEachNear line v
-near_by_reaches line v bias long halved e read low =
-    let reach : ℕ → ℕ = λ x. wrap_add (line_cycles line x) bias in
-    let mapped : reaches line v bias ≡ map reach v =
-    zip2_of_maps wrap_add (line_cycles line) (λ _. bias) v (cycles-map line v long)
+pub near_by_reaches : (segment : Segment) (v : List ℕ) (bias : ℕ) → length v ≡ 8 →
+    segment.half < 9223372036854775808 →
+    bias + segment.span + 1 ≡ 9223372036854775808 → fold_l bit_or 0 v ≤ segment.mask →
+    fold_l bit_or 0 (reaches segment v bias) < 9223372036854775808 → IsEachNear segment v
+near_by_reaches segment v bias long halved e read low =
+    let reach : ℕ → ℕ = λ x. wrap_add (segment_cycles segment x) bias in
+    let mapped : reaches segment v bias ≡ map reach v =
+    zip2_of_maps wrap_add (segment_cycles segment) (λ _. bias) v (cycles-map segment v long)
     (splat v long bias) in
     let ors : fold_l bit_or 0 (map reach v) ≤ 9223372036854775807 =
     subst (λ l. fold_l bit_or 0 l ≤ 9223372036854775807) mapped (omega (arith, low)) in
-    both _ _ (IsNear line)
+    both _ _ (IsNear segment)
     (λ x p q. record {
       near =
-          within_span (line_cycles line x) line.span bias (omega (arith, cycles_low line x)) e p;
+          within_span (segment_cycles segment x) segment.span bias (omega (arith, cycles_low segment x)) e p;
       read = q;
     }) v
     (each_of_map reach (λ y. y ≤ 9223372036854775807) (λ x. reach x ≤ 9223372036854775807)
     (λ x p. p) v
     (most_is_or 0 _ 9223372036854775807 ors).1)
-    (most_is_or 0 v line.mask read).1
+    (most_is_or 0 v segment.mask read).1

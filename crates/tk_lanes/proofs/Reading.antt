@@ -17,11 +17,11 @@ refused_read base clock stamp refusal e =
     sym (ap (λ r. unless_refused r (base_value base clock stamp)) e)
 
 -- a read that is not refused gives its time in nanoseconds
-pub told_read : (base : ReadBase) (clock : ClockId) (stamp : ℕ) (time : Timespec) (nanos : ℕ) →
+pub read_is : (base : ReadBase) (clock : ClockId) (stamp : ℕ) (time : Timespec) (nanos : ℕ) →
     pos nanos ≡ nanoseconds time → read_refusal base clock stamp ≡ None →
     nanoseconds time ≡ base_value base clock stamp →
     Ok nanos ≡ read_of base clock stamp
 unfolding read_of
-told_read base clock stamp time nanos same none value =
+read_is base clock stamp time nanos same none value =
     ap (λ z. Ok (unsigned_abs z)) (same ∙ value)
     ∙ sym (ap (λ r. unless_refused r (base_value base clock stamp)) none)

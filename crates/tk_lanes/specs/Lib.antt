@@ -1,3 +1,3 @@
 pub mod Batch
 pub mod BatchError
-pub mod Line
+pub mod Segment

@@ -4,7 +4,7 @@ ghost use Rattle.tk_clock.specs.Time.{nanoseconds};
 ghost use Rattle.tk_lanes.specs.Batch.{IsBatch, IsBatchFrom};
 
 use crate::batch_error::BatchError;
-use crate::line::{LANES, Line};
+use crate::segment::{LANES, Segment};
 use tk_clock::{ClockId, ReadError, Snapshot, Timespec};
 
 /// The nanoseconds of a second.
@@ -38,7 +38,7 @@ pub fn plain_batch(
 /// Does what `plain_batch` does, eight stamps at a time, with the same results.
 ///
 /// Eight stamps are converted one after the other if one of them is above the mask, or too far from
-/// the last command for a line. So are the stamps after the last eight.
+/// the last command for a segment. So are the stamps after the last eight.
 ///
 /// # Errors
 ///
@@ -55,16 +55,16 @@ pub fn lane_batch(
     if stamps.len() < LANES {
         return plain_batch(snapshot, clock, stamps, out);
     }
-    let Some(line) = Line::of(snapshot, clock) else {
+    let Some(segment) = Segment::of(snapshot, clock) else {
         return plain_batch(snapshot, clock, stamps, out);
     };
     let mut at = 0;
     'eights: while stamps.len() - at >= LANES {
         // these eight wherever they are, and then as many as are ahead
-        if !line.converts(stamps, out, at) {
+        if !segment.converts(stamps, out, at) {
             plain_from(snapshot, clock, stamps, out, at, at + LANES)?;
         }
-        at = line.convert_ahead(stamps, out, at + LANES);
+        at = segment.convert_ahead(stamps, out, at + LANES);
     }
     plain_from(snapshot, clock, stamps, out, at, stamps.len())
 }

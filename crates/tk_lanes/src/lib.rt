@@ -11,7 +11,7 @@
 
 mod batch;
 mod batch_error;
-mod line;
+mod segment;
 
 pub use batch::{lane_batch, plain_batch};
 pub use batch_error::BatchError;

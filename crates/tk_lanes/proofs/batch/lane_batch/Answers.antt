@@ -1,6 +1,6 @@
 use Rattle.std.proofs.Common.{◌≡◌, ℕ, ◌+◌, ◌≤◌, refl, sym, subst, List, length, ◌∙◌, arith}
 use Rattle.tk_lanes.specs.Batch.{IsFilled}
-use Rattle.tk_lanes.specs.Line.{IsLine}
+use Rattle.tk_lanes.specs.Segment.{IsSegment}
 use Rattle.tk_lanes.proofs.Filled.{filled_joined, filled_lanes}
 use Rattle.tk_lanes.proofs.batch.lane_batch.Goals as goal
 use Rattle.tk_lanes.proofs.batch.lane_batch.Goals.{then-not-converts+in_ok-plain_from, else-not-converts}
@@ -12,7 +12,7 @@ eights-preserved c =
     let stamps = c.args.stamps.now in
     let old = c.args.out.now in
     let at = c.eights.at in
-    let drawn : IsLine base clock c.in-Some.line = c.in-Some.ensures.drawn in
+    let drawn : IsSegment base clock c.in-Some.segment = c.in-Some.ensures.drawn in
     let inside : at + 8 ≤ length stamps = omega (arith, c.eights-test.true, c.eights.invariant.inside) in
     let more : (mid new : List ℕ) → mid ≡ c.eights.out →
     IsFilled base clock stamps at (at + 8) mid new →
@@ -30,7 +30,7 @@ eights-preserved c =
           (more c.converts.new.out w.plain_from.new.out w.if-not-converts.ensures
           w.in_ok-plain_from.ensures)
       | else-not-converts w ↦
-          let lanes = filled_lanes base clock c.in-Some.line stamps at c.eights.out
+          let lanes = filled_lanes base clock c.in-Some.segment stamps at c.eights.out
           c.type_inv.stamps (omega arith) inside drawn w.if-not-converts.ensures.0 in
           let e = w.out-is ∙ w.if-not-converts.ensures.1 in
           more c.eights.out c.if-not-converts.out refl

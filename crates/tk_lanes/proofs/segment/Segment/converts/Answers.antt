@@ -2,7 +2,7 @@ use Rattle.std.proofs.Common.{ap, ◌∙◌, arith}
 use Rattle.std.proofs.lemmas.Simd.{length-chunk}
 use Rattle.std.specs.Simd.Lanes.{chunk, put_chunk}
 use Rattle.tk_lanes.proofs.Lanes.{cycles-long, near_by_reaches, cycles-map, nanos_at_each}
-use Rattle.tk_lanes.proofs.line.Line.converts.Goals as goal
+use Rattle.tk_lanes.proofs.segment.Segment.converts.Goals as goal
 
 pub write-requires-clause-lanes : goal.write-requires-clause-lanes
 write-requires-clause-lanes c =
@@ -11,12 +11,12 @@ write-requires-clause-lanes c =
 
 pub returns : goal.returns
 returns c =
-    let line = c.args.self in
+    let segment = c.args.self in
     let v = chunk c.args.at 8 c.args.stamps.now in
     let long = length-chunk c.args.at 8 c.args.stamps.now c.requires.inside in (
-      near_by_reaches line v _ long c.requires.half
+      near_by_reaches segment v _ long c.requires.half
           (omega (arith, c.requires.leads, c.requires.half)) c.if-stamp-self.false c.if-reach.false,
       c.write.ensures
           ∙ ap (put_chunk c.args.at c.args.out.now)
-          (nanos_at_each line v _ (cycles-map line v long)),
+          (nanos_at_each segment v _ (cycles-map segment v long)),
     )

@@ -1,4 +1,4 @@
-//! Gives the beginning of a clock's line, and its slope.
+//! Gives the beginning of a clock's segment, and its slope.
 ghost use Rattle.std.specs.Prelude.{◌≡◌, ◌+◌, ◌*◌, ◌^◌, ◌<◌, ◌≤◌, pos};
 ghost use Rattle.tk_counter.specs.Counter.{second};
 ghost use Rattle.tk_clock.specs.Limits.{limit, clock_end};

@@ -4,12 +4,12 @@ ghost use Rattle.std.specs.Simd.Lanes.{chunk, put_chunk};
 ghost use Rattle.tk_clock.specs.State.{ReadBase};
 ghost use Rattle.tk_clock.specs.declared.clock_id.ClockId.{ClockId};
 ghost use Rattle.tk_lanes.specs.Batch.{IsFilled};
-ghost use Rattle.tk_lanes.specs.Line.{lane_count, nanos_after, line_nanos, IsEachNear, IsLine};
+ghost use Rattle.tk_lanes.specs.Segment.{lane_count, nanos_after, segment_nanos, IsEachNear, IsSegment};
 
-use super::{LANES, Line};
+use super::{LANES, Segment};
 use std::simd::prelude::*;
 
-impl Line {
+impl Segment {
     /// Converts the stamps from `first` on, eight at a time, as long as all eight are ahead and
     /// within the span. Returns the index at which that ends.
     ///
@@ -27,7 +27,7 @@ impl Line {
         requires inside { first ≤ length stamps.now }
         ensures order { first ≤ result }
         ensures inside { result ≤ length stamps.now }
-        ensures filled { (base : ReadBase) (clock : ClockId) → IsLine base clock self →
+        ensures filled { (base : ReadBase) (clock : ClockId) → IsSegment base clock self →
             IsFilled base clock stamps.now first result out.old out.new }
     {
         let mut at = first;
@@ -52,7 +52,7 @@ impl Line {
         requires inside { at + lane_count ≤ length stamps.now }
         ensures { let lanes = chunk at lane_count stamps.now in
             MatchBool result
-            (IsEachNear self lanes × (out.new ≡ put_chunk at out.old (map (line_nanos self) lanes)))
+            (IsEachNear self lanes × (out.new ≡ put_chunk at out.old (map (segment_nanos self) lanes)))
             (out.new ≡ out.old) }
     {
         let ahead = u64x8::from_slice(&stamps[at..]) - u64x8::splat(self.last);
@@ -73,7 +73,7 @@ impl Line {
         requires inside { at + lane_count ≤ length stamps.now }
         ensures { let lanes = chunk at lane_count stamps.now in
             MatchBool result
-            (IsEachNear self lanes × (out.new ≡ put_chunk at out.old (map (line_nanos self) lanes)))
+            (IsEachNear self lanes × (out.new ≡ put_chunk at out.old (map (segment_nanos self) lanes)))
             (out.new ≡ out.old) }
     {
         let stamp = u64x8::from_slice(&stamps[at..]);

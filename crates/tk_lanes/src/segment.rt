@@ -1,7 +1,7 @@
-//! Describes a clock as a straight line over the cycles since the last command, as far as no sum or
+//! Describes a clock as a straight segment over the cycles since the last command, as far as no sum or
 //! product exceeds a word and no value is out of range.
 ghost use Rattle.std.specs.Prelude.{◌≡◌, ℕ, ◌+◌, ◌*◌, ◌^◌, ◌<◌, ◌≤◌, bit_and, IfSome};
-ghost use Rattle.tk_lanes.specs.Line.{IsLine};
+ghost use Rattle.tk_lanes.specs.Segment.{IsSegment};
 
 mod lanes;
 mod origin;
@@ -16,7 +16,7 @@ pub(crate) const LANES: usize = 8;
 ///
 /// `cycles` is what the counter counted since the last command, or 0 if the stamp is behind.
 #[derive(Clone, Copy)]
-pub(crate) struct Line {
+pub(crate) struct Segment {
     /// The reading of the last command.
     last: u64,
     /// The units of `2^-shift` ns that a cycle adds.
@@ -31,24 +31,24 @@ pub(crate) struct Line {
     mask: u64,
     /// The longest gap that leads forward, in cycles.
     half: u64,
-    /// The longest gap up to which the line is the clock, in cycles.
+    /// The longest gap up to which the segment is the clock, in cycles.
     span: u64,
     /// How far ahead of `last` a stamp may be, in cycles, without exceeding the mask or the span.
     ahead: u64,
 }
 
-impl Line {
-    /// Makes the line of a snapshot's clock. Returns `None` if the clock is out of range at the
+impl Segment {
+    /// Makes the segment of a snapshot's clock. Returns `None` if the clock is out of range at the
     /// last command.
-    pub(crate) fn of(snapshot: &Snapshot, clock: ClockId) -> Option<Line>
-        ensures drawn { IfSome result (λ line. IsLine snapshot.now.base clock line) }
-        ensures shift { IfSome result (λ line. line.shift < 64) }
-        ensures leads { IfSome result (λ line. line.span ≤ line.half) }
-        ensures half { IfSome result (λ line. line.half < 2 ^ 63) }
-        ensures near { IfSome result (λ line. line.ahead ≤ line.span) }
-        ensures read { IfSome result (λ line. line.last + line.ahead ≤ line.mask) }
+    pub(crate) fn of(snapshot: &Snapshot, clock: ClockId) -> Option<Segment>
+        ensures drawn { IfSome result (λ segment. IsSegment snapshot.now.base clock segment) }
+        ensures shift { IfSome result (λ segment. segment.shift < 64) }
+        ensures leads { IfSome result (λ segment. segment.span ≤ segment.half) }
+        ensures half { IfSome result (λ segment. segment.half < 2 ^ 63) }
+        ensures near { IfSome result (λ segment. segment.ahead ≤ segment.span) }
+        ensures read { IfSome result (λ segment. segment.last + segment.ahead ≤ segment.mask) }
         ensures whole { IfSome result
-            (λ line. (gap : ℕ) → gap ≤ line.mask → bit_and gap line.mask ≡ gap) }
+            (λ segment. (gap : ℕ) → gap ≤ segment.mask → bit_and gap segment.mask ≡ gap) }
     {
         let desc = snapshot.desc();
         let origin = Origin::of(snapshot, clock);
@@ -60,7 +60,7 @@ impl Line {
         let span = span_of((end - base) as u64, origin, desc.shift(), desc.half())?;
         let (last, mask) = (snapshot.last(), desc.mask());
         let left = mask.checked_sub(last)?;
-        Some(Line {
+        Some(Segment {
             last,
             mult: origin.mult,
             shift: desc.shift(),

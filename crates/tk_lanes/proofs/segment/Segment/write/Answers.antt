@@ -1,7 +1,7 @@
 use Rattle.std.proofs.Common.{ap}
 use Rattle.std.specs.Simd.Lanes.{put_chunk}
 use Rattle.tk_lanes.proofs.Lanes.{nanos-map}
-use Rattle.tk_lanes.proofs.line.Line.write.Goals as goal
+use Rattle.tk_lanes.proofs.segment.Segment.write.Goals as goal
 
 pub returns : goal.returns
 returns c =

@@ -1,0 +1,43 @@
+-- A clock as a straight segment over the cycles since the last command.
+use Rattle.std.specs.Prelude.{ℤ, pos, ◌+ℤ◌, ◌*ℤ◌, Bool, true, false, ◌||◌, Ok, ◌≡◌, ◌<◌, ◌≤◌, ℕ, ◌+◌, ◌-◌, ◌*◌, ◌/◌, ◌%◌, ◌^◌, List, bit_and, nat_lt, if◌then◌else◌}
+use Rattle.std.specs.Simd.Lanes.{Each1}
+use Rattle.tk_clock.specs.declared.clock_id.ClockId.{ClockId}
+use Rattle.tk_clock.specs.declared.clock_id.ClockId.TheVariants.{Realtime, Monotonic, Boottime, Tai, RealtimeCoarse, MonotonicCoarse, MonotonicRaw}
+use Rattle.tk_clock.specs.State.{ReadBase}
+use Rattle.tk_clock.specs.Read.{read_of}
+use Rattle.tk_lanes.specs.declared.segment.Segment.{Segment}
+
+-- how many stamps are converted at a time
+abbrev pub lane_count : ℕ
+lane_count = 8
+
+-- the cycles from the last reading to a stamp, in words of 64 bits: 0 if the stamp is behind
+unfoldable pub segment_cycles : Segment → ℕ → ℕ
+segment_cycles segment stamp =
+    let gap = bit_and ((stamp + (2 ^ 64 - segment.last)) % 2 ^ 64) segment.mask in
+    if nat_lt segment.half gap then 0 else gap
+
+-- the segment's value after a number of cycles, in nanoseconds, in words of 64 bits
+unfoldable pub nanos_after : Segment → ℕ → ℕ
+nanos_after segment cycles =
+    let units = ((cycles * segment.mult) % 2 ^ 64 + segment.frac) % 2 ^ 64 in
+    (units / 2 ^ segment.shift + segment.base) % 2 ^ 64
+
+-- the segment's value at a stamp, in nanoseconds
+abbrev pub segment_nanos : Segment → ℕ → ℕ
+segment_nanos segment stamp = nanos_after segment (segment_cycles segment stamp)
+
+-- the stamp is a reading of the counter, and within the segment's span
+pub record IsNear (segment : Segment) (stamp : ℕ) : Type 0 where
+  pub near : segment_cycles segment stamp ≤ segment.span
+  pub read : stamp ≤ segment.mask
+
+-- each stamp of a list is near
+abbrev pub IsEachNear : Segment → List ℕ → Type 0
+IsEachNear segment stamps = Each1 (IsNear segment) stamps
+
+-- within its span the segment has the clock's value
+abbrev pub IsSegment : ReadBase → ClockId → Segment → Type 0
+IsSegment base clock segment =
+    (stamp : ℕ) → stamp < 2 ^ 64 → IsNear segment stamp →
+    read_of base clock stamp ≡ Ok (segment_nanos segment stamp)
