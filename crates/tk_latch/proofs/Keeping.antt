@@ -50,6 +50,24 @@ seats_after P views id view mine others seat v at =
     (λ (t : (seat ≢ id) × (get_elem? views seat ≡ some v)). others seat v t.0 t.1)
     (at_set views id seat view v at)
 
+-- what the rule says that this seat knows
+abbrev pub IsKnown : (s : Words) → Latched s → ℕ → View → Type 0
+IsKnown s r seat view = Knows (word s 0) r.history r.role r.writer seat view.history view.role
+
+-- the rule holds for other views, if each seat knows what its view says
+pub with_views : (s : Words) (r : Latched s) (views : List View) →
+    ((seat : ℕ) (view : View) → get_elem? views seat ≡ some view → IsKnown s r seat view) →
+    Latched (record { words = s.words; homes = s.homes; views = views })
+with_views s r views each = record {
+  history = r.history;
+  role = r.role;
+  writer = r.writer;
+  wide = r.wide;
+  numbered = r.numbered;
+  copies = r.copies;
+  each = each;
+}
+
 -- a store of the writer keeps the rule
 pub writes : (s : Words) (r : Latched s) (i n id : ℕ) (cs : List (ℕ × Unit {0})) (history : History)
     (role : Role) →
@@ -75,33 +93,21 @@ writes s r i n id cs history role own le more numbered copies mine = record {
 
 -- a load keeps the rule
 pub unmoved : (s : Words) (r : Latched s) (i id : ℕ) (cs : List (ℕ × Unit {0})) (view : View) →
-    Knows (word s 0) r.history r.role r.writer id view.history view.role →
-    Latched (stepped s i (word s i) id cs view keeps)
+    IsKnown s r id view → Latched (stepped s i (word s i) id cs view keeps)
 unmoved s r i id cs view mine =
     let after : List ℕ → Words = λ ws. record {
       words = ws;
       homes = s.homes;
       views = set s.views id view;
     } in
-    subst (λ ws. Latched (after ws)) (sym (set-get_or s.words i 0)) record {
-      history = r.history;
-      role = r.role;
-      writer = r.writer;
-      wide = r.wide;
-      numbered = r.numbered;
-      copies = r.copies;
-      each = seats_after (λ seat v. Knows
-          (word s 0) r.history r.role r.writer seat v.history v.role) s.views id view mine
-          (λ seat v apart at. r.each seat v at);
-    }
+    subst (λ ws. Latched (after ws)) (sym (set-get_or s.words i 0))
+    (with_views s r (set s.views id view)
+    (seats_after (IsKnown s r) s.views id view mine (λ seat v apart at. r.each seat v at)))
 
 -- what the rule knows of one seat
 pub known_of : (s : Words) (r : Latched s) (id : ℕ) (view is : View) →
-    get_elem? s.views id ≡ some view → view ≡ is →
-    Knows (word s 0) r.history r.role r.writer id is.history is.role
-known_of s r id view is at same =
-    subst (λ (w : View). Knows (word s 0) r.history r.role r.writer id w.history w.role) same
-    (r.each id view at)
+    get_elem? s.views id ≡ some view → view ≡ is → IsKnown s r id is
+known_of s r id view is at same = subst (λ w. IsKnown s r id w) same (r.each id view at)
 
 -- what the sequence shows of the publications
 pub counted : (words : List ℕ) (list : List Snapshot) (role : Role) → Copies words list role →

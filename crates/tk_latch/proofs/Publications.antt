@@ -12,13 +12,13 @@ use Rattle.tk_latch.specs.Look.{AreLatest}
 use Rattle.tk_latch.proofs.Prefixes.{prefix_self, prefix_trans, prefix_whole}
 
 -- the snapshot that words encode is the one that they restore
-pub told_is : (counter : Counter) (words : List ℕ) (snapshot : Snapshot) →
+pub snapshot_is : (counter : Counter) (words : List ℕ) (snapshot : Snapshot) →
     restored counter words ≡ Some snapshot →
     snapshot_told counter words ≡ snapshot
-told_is counter words snapshot is =
-    let told = told-restored counter words (subst IsSome (sym is) refl) in
+snapshot_is counter words snapshot is =
+    let kept = told-restored counter words (subst IsSome (sym is) refl) in
     same_Some (snapshot_told counter words) snapshot
-    (sym (restored-told counter words told.range told.within) ∙ is)
+    (sym (restored-told counter words kept.range kept.within) ∙ is)
 
 -- the front and the counter of a snapshot that words restore
 pub restored_parts : (counter : Counter) (words : List ℕ) (front : ℕ) →
@@ -27,11 +27,11 @@ pub restored_parts : (counter : Counter) (words : List ℕ) (front : ℕ) →
     (λ snapshot. (snapshot.front ≡ front) × (snapshot.base.counter ≡ counter))
 restored_parts counter words front is = by (restored counter words) refl
   where
-    by : (told : Option Snapshot) → restored counter words ≡ told →
-        IfSome told (λ snapshot. (snapshot.front ≡ front) × (snapshot.base.counter ≡ counter))
+    by : (back : Option Snapshot) → restored counter words ≡ back →
+        IfSome back (λ snapshot. (snapshot.front ≡ front) × (snapshot.base.counter ≡ counter))
     by None e = tt
     by (Some snapshot) e =
-        let same = sym (told_is counter words snapshot e) in
+        let same = sym (snapshot_is counter words snapshot e) in
         (ap (λ s. s.front) same ∙ is, ap (λ s. s.base.counter) same)
 
 pub begins_self : (history : History) → IsBeginning history history
@@ -106,8 +106,8 @@ are_latest history all some_there = by history.list refl
         let long = ap length is in
         record {
           snapshot = last.snapshot;
-          told = ap (λ l. restored history.counter (latest_words l)) is
-              ∙ ap (restored history.counter) last.shown ∙ last.publication.told;
+          answer = ap (λ l. restored history.counter (latest_words l)) is
+              ∙ ap (restored history.counter) last.shown ∙ last.publication.whole;
           listed = ap (λ l. slice_get l last.snapshot.front) is ∙ ap (slice_get (x ∷ xs)) front
               ∙ last.listed;
           latest = omega (arith, front, long);

@@ -20,7 +20,7 @@ use Rattle.tk_latch.specs.Steps.{Seated, began, loaded, ended}
 use Rattle.tk_latch.specs.Views.{resting, reading, found_by}
 use Rattle.tk_latch.specs.Look.{Gathered, AreLatest, IsLook}
 use Rattle.tk_latch.proofs.Prefixes.{prefix_length}
-use Rattle.tk_latch.proofs.Publications.{told_is, begins_self, begins_trans, begins_whole, are_latest, latest_long}
+use Rattle.tk_latch.proofs.Publications.{snapshot_is, begins_self, begins_trans, begins_whole, are_latest, latest_long}
 use Rattle.tk_latch.proofs.Keeping.{word, history_of, known_of, unmoved, counted}
 
 -- the copy that the sequence names is the latest publication
@@ -56,6 +56,18 @@ first_by _ = 0
 abbrev now_by : Role → ℕ
 now_by (Reading found first now) = now
 now_by _ = 0
+
+-- equal views of a read have equal parts
+parts : {known known' : History} {before before' : List ℕ} {first first' now now' : ℕ} →
+    reading known before first now ≡ reading known' before' first' now' →
+    ◌≡◌ {A = History × List ℕ × ℕ × ℕ}
+    (known, before, first, now) (known', before', first', now')
+parts same i = (
+  ap history_of same i,
+  ap found_of same i,
+  ap (λ (v : View). first_by v.role) same i,
+  ap (λ (v : View). now_by v.role) same i,
+)
 
 -- a read begins
 pub reads_begin : (slots id : ℕ) (me : Seated) (known : History) (before : List ℕ) →
@@ -95,7 +107,7 @@ reads_word slots id me known before first last k is s r _ at _ =
     let below = held.2 in
     let above = held.3 in
     let w = reading known before first n in
-    let told : (now : ℕ) × (w ≡ reading known before first now) × (last ≤ now)
+    let found : (now : ℕ) × (w ≡ reading known before first now) × (last ≤ now)
     × (now ≤ first → (i : ℕ) → i < 10 → k ≡ i + (1 + 10 * (first % 2)) →
     word s k ≡ get_or (latest_words known.list) i 0) = (
       n,
@@ -119,14 +131,7 @@ reads_word slots id me known before first last k is s r _ at _ =
             × (t.3 ≤ now)
             × (now ≤ t.2 → (i : ℕ) → i < 10 → k ≡ i + (1 + 10 * (t.2 % 2)) →
             word s k ≡ get_or (latest_words t.0.list) i 0))
-            (λ i. (
-              ap history_of same i,
-              ap found_of same i,
-              ap
-                  (λ (v : View). first_by v.role) same i,
-              ap
-                  (λ (v : View). now_by v.role) same i,
-            )) told,
+            (parts same) found,
       ),
     )
 
@@ -141,7 +146,7 @@ reads_end slots id me known before first last is s r _ at _ =
     let below = held.2 in
     let above = held.3 in
     let w = resting r.history (before ++ n ∷ []) in
-    let told : (later : History) × (w ≡ resting later (before ++ n ∷ [])) × IsBeginning known later
+    let found : (later : History) × (w ≡ resting later (before ++ n ∷ [])) × IsBeginning known later
     × Counts later.list n × (last ≤ n)
     × (first ≤ n) × (n ≡ first → later ≡ known) = (
       r.history,
@@ -164,14 +169,7 @@ reads_end slots id me known before first last is s r _ at _ =
             subst (λ (t : History × List ℕ × ℕ × ℕ). (later : History)
             × (w ≡ resting later (t.1 ++ n ∷ [])) × IsBeginning t.0 later
             × Counts later.list n × (t.3 ≤ n) × (t.2 ≤ n) × (n ≡ t.2 → later ≡ t.0))
-            (λ i. (
-              ap history_of same i,
-              ap found_of same i,
-              ap
-                  (λ (v : View). first_by v.role) same i,
-              ap
-                  (λ (v : View). now_by v.role) same i,
-            )) told,
+            (parts same) found,
       ),
     )
 
@@ -262,10 +260,10 @@ pub whole_read : (table : TableId) (old : Learnt) (before after : View) (first l
     old.found ≡ found_of before →
     restored after.history.counter words ≡ Some snapshot →
     IsRead old (learnt_of table after) snapshot
-whole_read table old before after first last words snapshot look same publications found told =
+whole_read table old before after first last words snapshot look same publications found back =
     let latest = look.whole same in
     let is : latest.snapshot ≡ snapshot = same_Some latest.snapshot snapshot
-    (sym latest.told ∙ told) in
+    (sym latest.answer ∙ back) in
     let number : snapshot.front + 1 ≡ length after.history.list =
     subst (λ (s : Snapshot). s.front + 1 ≡ length after.history.list) is latest.latest in
     let long = ap length publications in
@@ -277,7 +275,7 @@ whole_read table old before after first last words snapshot look same publicatio
       whole =
           subst (λ (s : Snapshot). slice_get after.history.list s.front ≡ Some s) is latest.listed;
       counter = ap (λ (s : Snapshot). s.base.counter)
-          (sym (told_is after.history.counter words snapshot told));
+          (sym (snapshot_is after.history.counter words snapshot back));
       mark = omega (arith, number);
       newer = omega (arith, number, long, low, high, from, same);
       sequence = first;

@@ -1,6 +1,6 @@
 -- A reader may get what the writer knows, and the writer may note what a reader knew: both keep the
 -- rule.
-use Rattle.std.proofs.Common.{◌≡◌, ◌≢◌, ℕ, List, [], set, refl, sym, ap, ◌∙◌, subst, ⊎_elim}
+use Rattle.std.proofs.Common.{◌≡◌, ◌≢◌, ℕ, List, [], ◌∷◌, ◌++◌, set, refl, sym, ap, ◌∙◌, subst, ⊎_elim}
 use mathlib.Core.Option.{some, none}
 use lib.ListN.{get_elem?}
 use Rattle.atomic_table.specs.Table.{step, keeps, Allows, Splits, Joins}
@@ -10,11 +10,11 @@ use Rattle.tk_latch.specs.declared.rule.View.{View}
 use Rattle.tk_latch.specs.declared.rule.Role.{Role}
 use Rattle.tk_latch.specs.declared.rule.Role.TheVariants.{Noting}
 use Rattle.tk_latch.specs.Publications.{IsBeginning}
-use Rattle.tk_latch.specs.Rule.{Knows, Latched}
+use Rattle.tk_latch.specs.Rule.{Latched}
 use Rattle.tk_latch.specs.Steps.{Seated, compared}
 use Rattle.tk_latch.specs.Views.{resting, copying, noting, spent}
 use Rattle.tk_latch.proofs.Publications.{begins_self}
-use Rattle.tk_latch.proofs.Keeping.{word, history_of, known_of, seats_after, unmoved}
+use Rattle.tk_latch.proofs.Keeping.{IsKnown, history_of, known_of, seats_after, unmoved, with_views}
 
 -- the writer's seat can be split into itself and a reader's seat
 pub hands : (id : ℕ) (view : View) (history : History) → view ≡ copying history 10 →
@@ -23,21 +23,11 @@ hands id view history is s r at =
     let known = known_of s r id view (copying history 10) at is in
     let same : view.history ≡ r.history = ap history_of is ∙ known.1 in
     let new = resting view.history [] in
-    record {
-      history = r.history;
-      role = r.role;
-      writer = r.writer;
-      wide = r.wide;
-      numbered = r.numbered;
-      copies = r.copies;
-      each = λ seat u e. ⊎_elim
-          (λ h. r.each seat u (subst (λ l. get_elem? l seat ≡ some u)
-          (set_again s.views id view at) h))
-          (λ (t : new ≡ u). subst
-          (λ (x : View). Knows (word s 0) r.history r.role r.writer seat x.history x.role) t
-          (subst (λ h. IsBeginning h r.history) (sym same) (begins_self r.history)))
-          (at_snoc (set s.views id view) new u seat e);
-    }
+    let mine = subst (λ h. IsBeginning h r.history) (sym same) (begins_self r.history) in
+    with_views s r (set s.views id view ++ new ∷ []) (λ seat u e. ⊎_elim
+    (λ h. r.each seat u (subst (λ l. get_elem? l seat ≡ some u) (set_again s.views id view at) h))
+    (λ (t : new ≡ u). subst (λ x. IsKnown s r seat x) t mine)
+    (at_snoc (set s.views id view) new u seat e))
 
 -- the writer takes in what a reader knew
 pub notes : (id : ℕ) (view : View) (other : ℕ) (reader : View) (history note : History)
@@ -51,9 +41,7 @@ notes id view other reader history note found is there s r at apart from =
     (λ (t : (other ≢ id) × (get_elem? s.views other ≡ some reader)). t.1)
     (at_set s.views id other w reader from) in
     let begins = known_of s r other reader (resting note found) here there in
-    let P : ℕ → View → Type 0 = λ seat x. Knows
-    (word s 0) r.history r.role r.writer seat x.history x.role in
-    let mine : P id w = (
+    let mine : IsKnown s r id w = (
       known.0,
       ap history_of is
           ∙ known.1,
@@ -61,16 +49,9 @@ notes id view other reader history note found is there s r at apart from =
       subst (λ h. IsBeginning h r.history)
           (sym (ap history_of there)) begins,
     ) in
-    record {
-      history = r.history;
-      role = r.role;
-      writer = r.writer;
-      wide = r.wide;
-      numbered = r.numbered;
-      copies = r.copies;
-      each = seats_after P (set s.views id w) other spent tt
-          (λ seat x _ e. seats_after P s.views id w mine (λ i y _ e'. r.each i y e') seat x e);
-    }
+    with_views s r (set (set s.views id w) other spent)
+    (seats_after (IsKnown s r) (set s.views id w) other spent tt
+    (λ seat x _ e. seats_after (IsKnown s r) s.views id w mine (λ i y _ e'. r.each i y e') seat x e))
 
 abbrev note_by : Role → History
 note_by (Noting note) = note

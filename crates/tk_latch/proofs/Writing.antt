@@ -13,7 +13,7 @@ use Rattle.tk_latch.specs.declared.rule.History.{History}
 use Rattle.tk_latch.specs.declared.rule.View.{View}
 use Rattle.tk_latch.specs.declared.rule.Role.{Role}
 use Rattle.tk_latch.specs.declared.rule.Role.TheVariants.{Making, Copying}
-use Rattle.tk_latch.specs.Publications.{latest_words, IsPublication, AreNumbered, IsBeginning, opening_of, pushed, pushed_told, IsNext}
+use Rattle.tk_latch.specs.Publications.{latest_words, IsPublication, AreNumbered, IsBeginning, opening_of, pushed, pushed_words, IsNext}
 use Rattle.tk_latch.specs.Rule.{started, Copies, Knows, Latched}
 use Rattle.tk_latch.specs.Steps.{Seated, opened, found_word, replaced_word, committed, checked_word, copied_word}
 use Rattle.tk_latch.specs.Views.{making, copying}
@@ -46,7 +46,7 @@ with_last x history (Making written) = making history (last_set x written)
 with_last x history role = record { history = history; role = role }
 
 abbrev with_publication : History → Role → View
-with_publication history (Making written) = copying (pushed_told history written) 0
+with_publication history (Making written) = copying (pushed_words history written) 0
 with_publication history role = record { history = history; role = role }
 
 abbrev with_copied : History → Role → View
@@ -154,19 +154,19 @@ commits slots id me history written even is next up s r _ at _ =
     let now : get_or (set s.words 0 even) 0 0 ≡ even =
     get_or-set_same s.words 0 even 0 (omega arith) in
     let before = copies.0 in
-    let told = snapshot_told history.counter written in
-    let more = pushed history told in
-    let long = length-append history.list (told ∷ []) in
-    let shown : latest_words more.list ≡ written = latest_words-push history.list told
+    let latest = snapshot_told history.counter written in
+    let more = pushed history latest in
+    let long = length-append history.list (latest ∷ []) in
+    let shown : latest_words more.list ≡ written = latest_words-push history.list latest
     ∙ next.words_again in
     let ten : length written ≡ 10 = ap length (sym next.words_again) in (
       copying more 0,
       keeps,
       tt,
       writes s r 0 even id me.1 more (Copying 0) known.0 (omega arith)
-          (subst (λ h. IsBeginning h more) known.1 (refl, (told ∷ [], refl)))
-          (numbered_push history.counter 0 history.list told (numbered_at s r history known.1)
-          (subst (λ (n : ℕ). IsPublication history.counter n told) (omega arith)
+          (subst (λ h. IsBeginning h more) known.1 (refl, (latest ∷ [], refl)))
+          (numbered_push history.counter 0 history.list latest (numbered_at s r history known.1)
+          (subst (λ (n : ℕ). IsPublication history.counter n latest) (omega arith)
           next.publication)) (
             omega (arith, long),
             omega arith,

@@ -22,9 +22,13 @@ pub record Learnt : Type 0 where
   pub publications : List Snapshot
   pub found : List ℕ
 
--- how many readers a latch may be opened with: 1 to 64
+-- the most readers of a latch
+abbrev pub most_readers : ℕ
+most_readers = 64
+
+-- a latch may be opened with this number of readers
 abbrev pub IsReaderCount : ℕ → Type 0
-IsReaderCount count = (1 ≤ count) × (count ≤ 64)
+IsReaderCount count = (1 ≤ count) × (count ≤ most_readers)
 
 -- the number of the latest of these publications; the opening is number 0
 abbrev pub mark_of : List Snapshot → ℕ

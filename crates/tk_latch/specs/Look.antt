@@ -20,7 +20,7 @@ Gathered begun first words view count =
 -- these words are those of the latest publication of the history
 pub record AreLatest (history : History) (words : List ℕ) : Type 0 where
   pub snapshot : Snapshot
-  pub told : restored history.counter words ≡ Some snapshot
+  pub answer : restored history.counter words ≡ Some snapshot
   pub listed : slice_get history.list snapshot.front ≡ Some snapshot
   pub latest : snapshot.front + 1 ≡ length history.list
 

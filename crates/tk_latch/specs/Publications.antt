@@ -14,7 +14,7 @@ latest_words (snapshot ∷ next ∷ more) = latest_words (next ∷ more)
 
 -- publication k of a latch over this counter: its words restore it, and its front is k
 pub record IsPublication (counter : Counter) (k : ℕ) (snapshot : Snapshot) : Type 0 where
-  pub told : restored counter (words_of snapshot) ≡ Some snapshot
+  pub whole : restored counter (words_of snapshot) ≡ Some snapshot
   pub front : snapshot.front ≡ k
 
 -- these are the publications k, k + 1, and so on
@@ -37,8 +37,8 @@ abbrev pub pushed : History → Snapshot → History
 pushed history snapshot = record history { list = history.list ++ snapshot ∷ [] }
 
 -- the history with one more publication, which these words encode
-abbrev pub pushed_told : History → List ℕ → History
-pushed_told history words = pushed history (snapshot_told history.counter words)
+abbrev pub pushed_words : History → List ℕ → History
+pushed_words history words = pushed history (snapshot_told history.counter words)
 
 -- these words encode the next publication
 pub record IsNext (history : History) (words : List ℕ) : Type 0 where

@@ -4,7 +4,7 @@ use Rattle.std.specs.Prelude.{◌≡◌, ◌≢◌, ℕ, ◌+◌, ◌*◌, ◌%�
 use Rattle.atomic_table.specs.Table.{Me, Step}
 use Rattle.tk_latch.specs.declared.rule.History.{History}
 use Rattle.tk_latch.specs.declared.rule.View.{View}
-use Rattle.tk_latch.specs.Publications.{latest_words, AreNumbered, IsBeginning, pushed_told}
+use Rattle.tk_latch.specs.Publications.{latest_words, AreNumbered, IsBeginning, pushed_words}
 use Rattle.tk_latch.specs.Rule.{Counts}
 use Rattle.tk_latch.specs.Views.{resting, reading, making, copying, noting}
 
@@ -36,7 +36,7 @@ replaced_word move old found new =
 abbrev pub committed : Move → Seated → ℕ → Seated → Type 0
 committed move old found new =
     (history : History) (written : List ℕ) → old.0 ≡ making history written →
-    new.0 ≡ copying (pushed_told history written) 0
+    new.0 ≡ copying (pushed_words history written) 0
 
 -- the next word of copy 1 is found: copy 1 has one more word of the latest publication exactly if
 -- it is that word

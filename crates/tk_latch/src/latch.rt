@@ -62,7 +62,7 @@ pub(crate) const COPY_1: usize = COPY_0 + SNAPSHOT_WORDS;
 const WORDS: usize = COPY_1 + SNAPSHOT_WORDS;
 
 /// The greatest number of readers that a latch is opened with.
-const READERS_LIMIT: usize = 64;
+pub const READERS_LIMIT: usize = 64;
 
 /// Holds a sequence word and two copies of a snapshot's ten words.
 ///
@@ -132,10 +132,10 @@ impl<A: Allocator + Copy> Latch<A> {
         ensures { IfOk result (λ opened. (opened.0.counter ≡ snapshot.base.counter)
             × (opened.1 ≡ opened_writer opened.0 snapshot)) }
     {
-        let told = snapshot.words();
+        let shown = snapshot.words();
         let mut words = [0; WORDS];
-        words[COPY_0..COPY_1].copy_from_slice(&told);
-        words[COPY_1..].copy_from_slice(&told);
+        words[COPY_0..COPY_1].copy_from_slice(&shown);
+        words[COPY_1..].copy_from_slice(&shown);
         let (words, seat) = Words::of_words(alloc, &words, &snapshot)?;
         let latch = Latch {
             words,
@@ -173,8 +173,8 @@ impl<A: Allocator> Latch<A> {
     {
         // 8. The reader gets the writer's history, and the writer a note of what the reader knew.
         let shared = &self.words.shared;
-        let told = shared.split_seat::<Hands>(&mut writer.seat);
-        let former = mem::replace(&mut reader.seat, told);
+        let given = shared.split_seat::<Hands>(&mut writer.seat);
+        let former = mem::replace(&mut reader.seat, given);
         shared.join_seat::<KeepsNote>(&mut writer.seat, former);
         // 9. The note is a beginning of the history.
         shared.load::<Compares>(&mut writer.seat, SEQUENCE);

@@ -3,6 +3,7 @@
 //! | Item | What it is |
 //! |---|---|
 //! | `Latch` | a sequence word and two copies of a snapshot's ten words |
+//! | `READERS_LIMIT` | the greatest number of readers of a latch |
 //! | `LatchWriter` | publishes snapshots; each latch has one |
 //! | `LatchReader` | reads the latest snapshot, and knows the number of publications |
 //! | `LatchError` | why a latch can't be opened |
@@ -19,6 +20,6 @@ mod rule;
 mod writer;
 
 pub use errors::{LatchError, Moved, PageFull};
-pub use latch::Latch;
+pub use latch::{Latch, READERS_LIMIT};
 pub use reader::LatchReader;
 pub use writer::LatchWriter;

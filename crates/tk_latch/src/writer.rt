@@ -1,5 +1,5 @@
 ghost use Rattle.std.specs.Prelude.{◌≡◌, ◌+◌, ◌*◌, ◌<◌, length, []};
-ghost use Rattle.tk_latch.specs.Publications.{IsNext, pushed_told};
+ghost use Rattle.tk_latch.specs.Publications.{IsNext, pushed_words};
 ghost use Rattle.tk_latch.specs.Views.{making, copying};
 
 use crate::errors::PageFull;
@@ -113,7 +113,7 @@ fn commit<A: Allocator>(
     requires writer { seat.old.me.0 ≡ making seat.old.me.0.history words.now }
     requires even { even ≡ 2 * length seat.old.me.0.history.list }
     ensures latch { seat.new.table_id ≡ seat.old.table_id }
-    ensures writer { seat.new.me.0 ≡ copying (pushed_told seat.old.me.0.history words.now) 10 }
+    ensures writer { seat.new.me.0 ≡ copying (pushed_words seat.old.me.0.history words.now) 10 }
 {
     let shared = &latch.words.shared;
     // 3. The publication: from now on readers take copy 0.

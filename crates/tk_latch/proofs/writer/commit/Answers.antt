@@ -22,8 +22,8 @@ load-found-requires g c = (
 pub store-requires-then-found-words : goal.store-requires-then-found-words
 store-requires-then-found-words g c =
     let history = c.args.seat.now.me.0.history in
-    let told = snapshot_told history.counter c.args.words.now in
-    let shown = latest_words-push history.list told ∙ c.requires.next.words_again in
+    let snapshot = snapshot_told history.counter c.args.words.now in
+    let shown = latest_words-push history.list snapshot ∙ c.requires.next.words_again in
     let same = ap (λ (p : List ℕ). get_or p c.loop-i.i 0) (sym shown) in (
       search rules,
       search rules,
@@ -35,8 +35,8 @@ store-requires-then-found-words g c =
 pub loop-i-preserved : goal.loop-i-preserved
 loop-i-preserved g c =
     let history = c.args.seat.now.me.0.history in
-    let told = snapshot_told history.counter c.args.words.now in
-    let shown = latest_words-push history.list told ∙ c.requires.next.words_again in
+    let snapshot = snapshot_told history.counter c.args.words.now in
+    let shown = latest_words-push history.list snapshot ∙ c.requires.next.words_again in
     let same = ap (λ (p : List ℕ). get_or p c.loop-i.i 0) (sym shown) in
     let found = c.load-found.ensures.2 _ _ c.loop-i.invariant.writer in
     elim c.if-found-words.branch [

@@ -6,5 +6,5 @@ use Rattle.tk_latch.proofs.latch.Latch.with_writer.Goals as goal
 pub of_words-requires : goal.of_words-requires
 of_words-requires g c =
     begins _ c.args.snapshot
-    (record { told = c.words-told.ensures.back; front = c.requires.opening })
+    (record { whole = c.words-shown.ensures.back; front = c.requires.opening })
     (search (rules, common_steps))
