@@ -20,7 +20,7 @@ use std::alloc::{Allocator, Global};
 use std::process::Abort;
 use std::test::Fail;
 use tk_clock::{ClockId, Command, Refusal, Snapshot, Timespec};
-use tk_keeper::Timekeeper;
+use tk_keeper::{FrontError, Timekeeper};
 use tk_test_support::OPENED_REAL;
 
 /// The words of the snapshot at the opening.
@@ -96,6 +96,21 @@ fn applied<A: Allocator + Copy>(
     keeper.apply(0, reading, cmd)
 }
 
+/// Applies `many` updates, each `step` cycles after the one before, and checks the number of each.
+fn updates<A: Allocator + Copy>(rt: &impl Abort, keeper: &mut Timekeeper<A>, many: u64, step: u64) {
+    for number in 1..=many {
+        let answer = applied(rt, keeper, step.wrapping_mul(number), Command::Update);
+        assert_same(rt, &answer, &Ok(number));
+    }
+}
+
+/// Opens a timekeeper and applies `many` updates, each `step` cycles after the one before.
+fn updated(rt: &impl Abort, alloc: Global, many: u64, step: u64) -> Result<Timekeeper, Fail> {
+    let mut keeper = opened(alloc)?;
+    updates(rt, &mut keeper, many, step);
+    Ok(keeper)
+}
+
 /// Applies commands in their order, and checks the answer to each.
 fn answers(
     rt: &impl Abort,
@@ -120,6 +135,20 @@ fn answers_and_reads(
     answers(rt, &mut keeper, steps);
     reads(rt, &keeper.snapshot(), values);
     Ok(())
+}
+
+/// Checks the time of MONOTONIC at a reading.
+fn reads_monotonic(rt: &impl Abort, keeper: &Timekeeper, reading: u64, told: Timespec) {
+    reads(
+        rt,
+        &keeper.snapshot(),
+        &[(ClockId::Monotonic, reading, told)],
+    );
+}
+
+/// Checks that no snapshot is given as of a front, and the error.
+fn has_no_front(rt: &impl Abort, keeper: &Timekeeper, front: u64, error: FrontError) {
+    assert_same(rt, &keeper.snapshot_at(front).err(), &Some(error));
 }
 
 /// Reads clocks, and checks the time of each.

@@ -33,6 +33,11 @@ fn counted(alloc: Global, many: usize) -> Result<Lists, Fail> {
     })
 }
 
+/// A steered timekeeper, and so many items as of its opening.
+fn kept(alloc: Global, many: usize) -> Result<(Timekeeper, Lists), Fail> {
+    Ok((steered(alloc)?, counted(alloc, many)?))
+}
+
 /// What `trace_all` answers, out of another allocator.
 fn asked<A: Allocator + Copy + Send + Sync, B: Allocator>(
     alloc: B,
@@ -96,8 +101,7 @@ fn lists_of_each_length_are_converted(rt: HostRuntime) -> Result<(), Fail> {
 #[test]
 fn the_first_fault_of_all_pieces_decides(rt: HostRuntime) -> Result<(), Fail> {
     let alloc = rt.alloc();
-    let mut keeper = steered(alloc)?;
-    let mut lists = counted(alloc, MANY)?;
+    let (mut keeper, mut lists) = kept(alloc, MANY)?;
     // each fault stands before those that came earlier
     for (place, front, stamp, fault) in [
         (262_144, 0, ABOVE, TraceError::Invalid { index: 262_144 }),
@@ -125,8 +129,7 @@ fn the_first_fault_of_all_pieces_decides(rt: HostRuntime) -> Result<(), Fail> {
 #[test]
 fn fronts_up_and_down_are_told_as_by_one_thread(rt: HostRuntime) -> Result<(), Fail> {
     let alloc = rt.alloc();
-    let keeper = steered(alloc)?;
-    let mut lists = counted(alloc, MANY)?;
+    let (keeper, mut lists) = kept(alloc, MANY)?;
     let mut seed: u64 = 88_172_645_463_325_252;
     for place in 0..MANY {
         seed = next_random(seed);

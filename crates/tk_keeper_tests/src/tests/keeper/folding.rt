@@ -1,9 +1,21 @@
 use super::sleep::wakes;
 use super::steering::speeds_up;
-use super::{answers, applied, assert_same, opened, reads, steered, time};
+use super::{
+    answers, assert_same, has_no_front, opened, reads, reads_monotonic, steered, time, updated,
+};
+use std::alloc::Global;
+use std::process::Abort;
 use std::test::Fail;
 use tk_clock::{ClockId, Command};
-use tk_keeper::FrontError;
+use tk_keeper::{FrontError, Timekeeper};
+
+/// Opens a timekeeper, applies a command and folds its entry.
+fn folded(rt: &impl Abort, alloc: Global, reading: u64, cmd: Command) -> Result<Timekeeper, Fail> {
+    let mut keeper = opened(alloc)?;
+    answers(rt, &mut keeper, &[(reading, cmd, Ok(1))]);
+    assert_same(rt, &keeper.fold(0), &1);
+    Ok(keeper)
+}
 
 #[test]
 fn folded_entries_are_gone_and_count_on(rt: HostRuntime) -> Result<(), Fail> {
@@ -13,47 +25,30 @@ fn folded_entries_are_gone_and_count_on(rt: HostRuntime) -> Result<(), Fail> {
     assert_same(&rt, &(keeper.len(), keeper.folded()), &(2, 1));
     assert_same(&rt, &keeper.entry(1), &None);
     assert!(rt; keeper.entry(2).is_some());
-    assert_same(&rt, &keeper.snapshot_at(0).err(), &Some(FrontError::Folded));
+    has_no_front(&rt, &keeper, 0, FrontError::Folded);
     assert_same(&rt, &keeper.snapshot_at(1)?.mult(), &16_785_604);
     reads(
         &rt,
         &keeper.snapshot_at(1)?,
         &[(ClockId::Monotonic, at, time(1, 499_963))],
     );
-    reads(
-        &rt,
-        &keeper.snapshot(),
-        &[(ClockId::Monotonic, at + 1, time(1, 499_964))],
-    );
+    reads_monotonic(&rt, &keeper, at + 1, time(1, 499_964));
     assert_same(&rt, &keeper.fold(5), &1);
     Ok(())
 }
 
 #[test]
-fn a_sleep_outlasts_folding(rt: HostRuntime) -> Result<(), Fail> {
-    let mut keeper = opened(rt.alloc())?;
-    answers(&rt, &mut keeper, &[(1_000, Command::Suspend, Ok(1))]);
-    assert_same(&rt, &keeper.fold(0), &1);
-    wakes(&rt, &mut keeper);
-    Ok(())
-}
-
-#[test]
-fn a_tick_outlasts_folding(rt: HostRuntime) -> Result<(), Fail> {
-    let mut keeper = opened(rt.alloc())?;
-    answers(&rt, &mut keeper, &[(0, Command::Tick(11_000), Ok(1))]);
-    assert_same(&rt, &keeper.fold(0), &1);
-    speeds_up(&rt, &mut keeper);
+fn a_sleep_and_a_tick_outlast_folding(rt: HostRuntime) -> Result<(), Fail> {
+    let mut asleep = folded(&rt, rt.alloc(), 1_000, Command::Suspend)?;
+    wakes(&rt, &mut asleep);
+    let mut ticked = folded(&rt, rt.alloc(), 0, Command::Tick(11_000))?;
+    speeds_up(&rt, &mut ticked);
     Ok(())
 }
 
 #[test]
 fn kept_states_outlast_folding(rt: HostRuntime) -> Result<(), Fail> {
-    let mut keeper = opened(rt.alloc())?;
-    for number in 1..=1_000 {
-        let told = applied(&rt, &mut keeper, 1_000 * number, Command::Update);
-        assert_same(&rt, &told, &Ok(number));
-    }
+    let mut keeper = updated(&rt, rt.alloc(), 1_000, 1_000)?;
     for (keep, folded, front, nanos) in [
         (745, 255, 255, 255_000),
         (744, 256, 256, 256_000),
@@ -64,8 +59,7 @@ fn kept_states_outlast_folding(rt: HostRuntime) -> Result<(), Fail> {
         assert_same(&rt, &keeper.fold(keep), &folded);
         let told = (ClockId::MonotonicCoarse, 0, time(0, nanos));
         reads(&rt, &keeper.snapshot_at(front)?, &[told]);
-        let gone = keeper.snapshot_at(254).err();
-        assert_same(&rt, &gone, &Some(FrontError::Folded));
+        has_no_front(&rt, &keeper, 254, FrontError::Folded);
     }
     Ok(())
 }

@@ -1,20 +1,10 @@
-use super::{answers, applied, assert_same, opened, reads, time};
-use std::process::Abort;
+use super::{answers, assert_same, reads_monotonic, time, updated};
 use std::test::Fail;
-use tk_clock::{ClockId, Command, Refusal};
-use tk_keeper::Timekeeper;
-
-/// Applies `many` updates at reading 0.
-fn updates(rt: &impl Abort, keeper: &mut Timekeeper, many: u64) {
-    for number in 1..=many {
-        assert_same(rt, &applied(rt, keeper, 0, Command::Update), &Ok(number));
-    }
-}
+use tk_clock::{Command, Refusal};
 
 #[test]
 fn a_full_journal_refuses_every_command(rt: HostRuntime) -> Result<(), Fail> {
-    let mut keeper = opened(rt.alloc())?;
-    updates(&rt, &mut keeper, 1_048_575);
+    let mut keeper = updated(&rt, rt.alloc(), 1_048_575, 0)?;
     answers(
         &rt,
         &mut keeper,
@@ -25,11 +15,7 @@ fn a_full_journal_refuses_every_command(rt: HostRuntime) -> Result<(), Fail> {
         ],
     );
     assert_same(&rt, &keeper.len(), &1_048_576);
-    reads(
-        &rt,
-        &keeper.snapshot(),
-        &[(ClockId::Monotonic, 5, time(0, 0))],
-    );
+    reads_monotonic(&rt, &keeper, 5, time(0, 0));
     assert!(rt; keeper.snapshot().asleep());
     assert_same(&rt, &keeper.reserve(5), &Ok(()));
     Ok(())
@@ -37,8 +23,7 @@ fn a_full_journal_refuses_every_command(rt: HostRuntime) -> Result<(), Fail> {
 
 #[test]
 fn folding_makes_room_again(rt: HostRuntime) -> Result<(), Fail> {
-    let mut keeper = opened(rt.alloc())?;
-    updates(&rt, &mut keeper, 1_048_576);
+    let mut keeper = updated(&rt, rt.alloc(), 1_048_576, 0)?;
     answers(
         &rt,
         &mut keeper,

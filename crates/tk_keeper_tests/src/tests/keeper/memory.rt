@@ -1,17 +1,26 @@
-use super::{applied, assert_same, opened, told};
+use super::{applied, assert_same, opened, told, updates};
 use linked_list_allocator::LocalHeap;
-use std::alloc::Allocator;
+use std::alloc::Global;
 use std::process::Abort;
 use std::test::Fail;
 use tk_clock::{Command, Entry, Refusal};
-use tk_keeper::Timekeeper;
 use tk_test_support::Heap;
 
-/// Applies `many` updates, each one nanosecond after the one before.
-fn updates<A: Allocator + Copy>(rt: &impl Abort, keeper: &mut Timekeeper<A>, many: u64) {
-    for number in 1..=many {
-        assert_same(rt, &keeper.apply(0, number, Command::Update), &Ok(number));
-    }
+/// The most requests that are refused in turn.
+const MOST: u64 = 100;
+
+/// Returns whether request `request` never came, so that none was refused, and grants all requests.
+/// Checks that more than `least` requests came, and fewer than `MOST`.
+fn is_past_all(rt: &impl Abort, heap: &Heap<Global>, request: u64, least: u64) -> bool {
+    let granted = heap.grant_all();
+    assert!(rt;
+        if granted {
+            request > least
+        } else {
+            request < MOST
+        }
+    );
+    granted
 }
 
 #[test]
@@ -49,32 +58,31 @@ fn spare_commands_go_through_while_every_request_is_refused(rt: HostRuntime) -> 
 #[test]
 fn each_growth_refused_in_turn_refuses_one_command(rt: HostRuntime) -> Result<(), Fail> {
     let heap = Heap::new(rt.alloc());
-    for request in 1..=100 {
+    'requests: for request in 1..=MOST {
         let mut keeper = opened(&heap)?;
         heap.refuse(request);
         for number in 1..=600 {
             let answer = applied(&rt, &mut keeper, number, Command::Update);
             assert_eq!(rt; answer, Ok(number), "request {request}");
         }
-        if heap.grant_all() {
-            assert!(rt; request > 4);
-            return Ok(());
+        if is_past_all(&rt, &heap, request, 4) {
+            break 'requests;
         }
     }
-    Err("each run met a refusal".into())
+    Ok(())
 }
 
 #[test]
 fn each_growth_refused_in_turn_leaves_the_journal(rt: HostRuntime) -> Result<(), Fail> {
     let heap = Heap::new(rt.alloc());
-    for request in 1..=100 {
+    'requests: for request in 1..=MOST {
         let mut keeper = opened(&heap)?;
-        updates(&rt, &mut keeper, 255);
+        updates(&rt, &mut keeper, 255, 1);
         let before = told(&keeper);
         let spare = keeper.spare();
         heap.refuse(request);
         let answer = keeper.reserve(1_000);
-        let granted = heap.grant_all();
+        let granted = is_past_all(&rt, &heap, request, 2);
         if answer == Err(Refusal::Memory) {
             assert!(rt; !granted && keeper.spare() >= spare);
             assert_same(&rt, &told(&keeper), &before);
@@ -83,11 +91,10 @@ fn each_growth_refused_in_turn_leaves_the_journal(rt: HostRuntime) -> Result<(),
         assert_same(&rt, &told(&keeper), &before);
         assert!(rt; keeper.spare() >= 1_000);
         if granted {
-            assert!(rt; request > 2);
-            return Ok(());
+            break 'requests;
         }
     }
-    Err("each call met a refusal".into())
+    Ok(())
 }
 
 #[test]
@@ -99,7 +106,7 @@ fn each_growth_refused_in_turn_applies_nothing_of_a_run(rt: HostRuntime) -> Resu
         cmd: Command::Update,
     };
     let events = [event; 300];
-    for request in 1..=100 {
+    'requests: for request in 1..=MOST {
         let mut keeper = opened(&heap)?;
         let before = told(&keeper);
         heap.refuse(request);
@@ -115,12 +122,11 @@ fn each_growth_refused_in_turn_applies_nothing_of_a_run(rt: HostRuntime) -> Resu
             assert_same(&rt, answer, &Ok(place as u64 + 1));
         }
         assert_same(&rt, &(answers.len(), keeper.len()), &(300, 300));
-        if heap.grant_all() {
-            assert!(rt; request > 3);
-            return Ok(());
+        if is_past_all(&rt, &heap, request, 3) {
+            break 'requests;
         }
     }
-    Err("each run met a refusal".into())
+    Ok(())
 }
 
 #[test]
@@ -130,7 +136,7 @@ fn room_for_three_holds_three(rt: HostRuntime) -> Result<(), Fail> {
     keeper.reserve(3)?;
     assert!(rt; keeper.spare() >= 3);
     heap.refuse_all();
-    updates(&rt, &mut keeper, 3);
+    updates(&rt, &mut keeper, 3, 1);
     Ok(())
 }
 

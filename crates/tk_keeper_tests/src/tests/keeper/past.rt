@@ -1,4 +1,7 @@
-use super::{OPENED_REAL, OPENED_WORDS, applied, assert_same, opened, reads, steered, time};
+use super::{
+    OPENED_REAL, OPENED_WORDS, applied, assert_same, has_no_front, opened, reads, steered, time,
+    updated,
+};
 use std::test::Fail;
 use tk_clock::{ClockId, Command};
 use tk_keeper::FrontError;
@@ -23,21 +26,13 @@ fn each_front_keeps_its_own_clocks(rt: HostRuntime) -> Result<(), Fail> {
         let snapshot = keeper.snapshot_at(front)?;
         reads(&rt, &snapshot, &[(ClockId::Monotonic, reading, told)]);
     }
-    assert_same(
-        &rt,
-        &keeper.snapshot_at(3).err(),
-        &Some(FrontError::Unknown),
-    );
+    has_no_front(&rt, &keeper, 3, FrontError::Unknown);
     Ok(())
 }
 
 #[test]
 fn fronts_round_a_kept_state_are_exact(rt: HostRuntime) -> Result<(), Fail> {
-    let mut keeper = opened(rt.alloc())?;
-    for number in 1..=600 {
-        let told = applied(&rt, &mut keeper, 1_000 * number, Command::Update);
-        assert_same(&rt, &told, &Ok(number));
-    }
+    let keeper = updated(&rt, rt.alloc(), 600, 1_000)?;
     for (front, nanos) in [
         (0, 0),
         (1, 1_000),
@@ -75,11 +70,7 @@ fn fronts_round_a_kept_state_are_exact(rt: HostRuntime) -> Result<(), Fail> {
         0,
     ];
     assert_same(&rt, &keeper.snapshot_at(256)?.words(), &at_256);
-    assert_same(
-        &rt,
-        &keeper.snapshot_at(601).err(),
-        &Some(FrontError::Unknown),
-    );
+    has_no_front(&rt, &keeper, 601, FrontError::Unknown);
     Ok(())
 }
 

@@ -1,4 +1,4 @@
-use super::{answers, answers_and_reads, assert_same, opened, reads, time};
+use super::{answers, answers_and_reads, reads, reads_monotonic, time};
 use std::test::Fail;
 use tk_clock::{ClockId, Command, Refusal};
 use tk_counter::CounterDesc;
@@ -7,25 +7,16 @@ use tk_test_support::{OPENED_TIME, nanosecond_counter};
 
 #[test]
 fn half_the_range_is_the_longest_way_ahead(rt: HostRuntime) -> Result<(), Fail> {
-    let mut keeper = opened(rt.alloc())?;
-    answers(
+    let half = 2_147_483_648;
+    let refused = (half, Command::Update, Err(Refusal::Behind));
+    let unmoved = (ClockId::Monotonic, half, time(0, 0));
+    answers_and_reads(&rt, rt.alloc(), &[refused], &[unmoved])?;
+    answers_and_reads(
         &rt,
-        &mut keeper,
-        &[(2_147_483_648, Command::Update, Err(Refusal::Behind))],
-    );
-    assert_same(&rt, &keeper.len(), &0);
-    reads(
-        &rt,
-        &keeper.snapshot(),
-        &[(ClockId::Monotonic, 2_147_483_648, time(0, 0))],
-    );
-    answers(&rt, &mut keeper, &[(2_147_483_647, Command::Update, Ok(1))]);
-    reads(
-        &rt,
-        &keeper.snapshot(),
-        &[(ClockId::Monotonic, 2_147_483_647, time(2, 147_483_647))],
-    );
-    Ok(())
+        rt.alloc(),
+        &[refused, (half - 1, Command::Update, Ok(1))],
+        &[(ClockId::Monotonic, half - 1, time(2, 147_483_647))],
+    )
 }
 
 #[test]
@@ -33,22 +24,17 @@ fn readings_wrap_at_the_counters_end(rt: HostRuntime) -> Result<(), Fail> {
     let desc = nanosecond_counter()?;
     let mut keeper = Timekeeper::open(rt.alloc(), desc, 4_294_967_290, OPENED_TIME)?;
     answers(&rt, &mut keeper, &[(10, Command::Update, Ok(1))]);
-    reads(
-        &rt,
-        &keeper.snapshot(),
-        &[(ClockId::Monotonic, 10, time(0, 16))],
-    );
+    reads_monotonic(&rt, &keeper, 10, time(0, 16));
     Ok(())
 }
 
 #[test]
 fn the_first_test_that_fails_is_told(rt: HostRuntime) -> Result<(), Fail> {
-    let mut keeper = opened(rt.alloc())?;
     let late = Command::SetTime(time(8_277_292_036, 0));
     let early = Command::SetTime(time(0, 0));
-    answers(
+    answers_and_reads(
         &rt,
-        &mut keeper,
+        rt.alloc(),
         &[
             (4_294_967_296, Command::Update, Err(Refusal::Invalid)),
             (100, Command::Update, Ok(1)),
@@ -56,8 +42,8 @@ fn the_first_test_that_fails_is_told(rt: HostRuntime) -> Result<(), Fail> {
             (99, early, Err(Refusal::Behind)),
             (100, early, Err(Refusal::Invalid)),
         ],
-    );
-    Ok(())
+        &[],
+    )
 }
 
 #[test]

@@ -60,10 +60,9 @@ fn only_a_sleeping_clock_resumes(rt: HostRuntime) -> Result<(), Fail> {
 
 #[test]
 fn a_suspension_ends_below_the_clocks_limits(rt: HostRuntime) -> Result<(), Fail> {
-    let mut keeper = opened(rt.alloc())?;
-    answers(
+    answers_and_reads(
         &rt,
-        &mut keeper,
+        rt.alloc(),
         &[
             (0, Command::Suspend, Ok(1)),
             (
@@ -77,6 +76,6 @@ fn a_suspension_ends_below_the_clocks_limits(rt: HostRuntime) -> Result<(), Fail
             (0, Command::Step(time(0, 0)), Err(Refusal::Invalid)),
             (1, Command::SetTime(time(100, 0)), Ok(3)),
         ],
-    );
-    Ok(())
+        &[],
+    )
 }

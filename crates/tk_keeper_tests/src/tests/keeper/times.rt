@@ -1,13 +1,16 @@
-use super::{applied, assert_same, opened, time};
+use super::{answers, assert_same, opened, time};
 use std::test::Fail;
 use tk_clock::{ClockId, Command, ReadError};
 
 #[test]
 fn reads_are_the_journals_own(rt: HostRuntime) -> Result<(), Fail> {
     let mut keeper = opened(rt.alloc())?;
-    let suspend = applied(&rt, &mut keeper, 1_000, Command::Suspend);
-    let resume = applied(&rt, &mut keeper, 5, Command::Resume(time(5, 500_000_000)));
-    assert_same(&rt, &(suspend, resume), &(Ok(1), Ok(2)));
+    let wake = Command::Resume(time(5, 500_000_000));
+    answers(
+        &rt,
+        &mut keeper,
+        &[(1_000, Command::Suspend, Ok(1)), (5, wake, Ok(2))],
+    );
     for fold in [false, true] {
         if fold {
             assert_same(&rt, &keeper.fold(0), &2);
@@ -33,12 +36,11 @@ fn a_reading_above_the_mask_is_told_first(rt: HostRuntime) -> Result<(), Fail> {
         &keeper.get(ClockId::Monotonic, 4_294_967_296),
         &Err(ReadError::Invalid),
     );
-    let away = time(7_523_372_035, 999_999_999);
-    assert_same(&rt, &applied(&rt, &mut keeper, 0, Command::Suspend), &Ok(1));
-    assert_same(
+    let wake = Command::Resume(time(7_523_372_035, 999_999_999));
+    answers(
         &rt,
-        &applied(&rt, &mut keeper, 0, Command::Resume(away)),
-        &Ok(2),
+        &mut keeper,
+        &[(0, Command::Suspend, Ok(1)), (0, wake, Ok(2))],
     );
     assert_same(
         &rt,

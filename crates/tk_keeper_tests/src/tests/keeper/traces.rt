@@ -1,4 +1,4 @@
-use super::{ABOVE, applied, assert_same, numbers, opened, put, steered, time};
+use super::{ABOVE, answers, assert_same, numbers, opened, put, steered, time};
 use std::alloc::{Allocator, Global};
 use std::process::Abort;
 use std::test::Fail;
@@ -51,31 +51,43 @@ pub(super) fn traced<A: Allocator + Copy>(
     Ok(())
 }
 
+/// The fronts of a trace, its stamps, the values of MONOTONIC up to the first fault, and the answer.
+type Row<'a> = (&'a [u64], &'a [u64], &'a [u64], Result<(), TraceError>);
+
+/// Checks the answers to traces of MONOTONIC.
+fn all_traced(
+    rt: &impl Abort,
+    alloc: Global,
+    keeper: &Timekeeper,
+    rows: &[Row<'_>],
+) -> Result<(), Fail> {
+    for (fronts, stamps, values, answer) in rows {
+        let clock = ClockId::Monotonic;
+        traced(rt, alloc, keeper, fronts, stamps, clock, values, *answer)?;
+    }
+    Ok(())
+}
+
 #[test]
 fn each_stamp_is_told_as_of_its_front(rt: HostRuntime) -> Result<(), Fail> {
     let keeper = steered(rt.alloc())?;
     let at = 1_000_000_000;
-    traced(
-        &rt,
-        rt.alloc(),
-        &keeper,
-        &[0, 1, 2, 2],
-        &[at, at, at, at + 1],
-        ClockId::Monotonic,
-        &[at, 1_000_499_963, 1_000_499_963, 1_000_499_964],
-        Ok(()),
-    )?;
-    // fronts go up and down, and no two neighbours have the same front
-    traced(
-        &rt,
-        rt.alloc(),
-        &keeper,
-        &[2, 0, 1, 0, 2, 1],
-        &[at + 1, at, at, 5, at, 0],
-        ClockId::Monotonic,
-        &[1_000_499_964, at, 1_000_499_963, 5, 1_000_499_963, 0],
-        Ok(()),
-    )
+    let rows: [Row<'_>; 2] = [
+        (
+            &[0, 1, 2, 2],
+            &[at, at, at, at + 1],
+            &[at, 1_000_499_963, 1_000_499_963, 1_000_499_964],
+            Ok(()),
+        ),
+        // fronts go up and down, and no two neighbours have the same front
+        (
+            &[2, 0, 1, 0, 2, 1],
+            &[at + 1, at, at, 5, at, 0],
+            &[1_000_499_964, at, 1_000_499_963, 5, 1_000_499_963, 0],
+            Ok(()),
+        ),
+    ];
+    all_traced(&rt, rt.alloc(), &keeper, &rows)
 }
 
 #[test]
@@ -83,77 +95,44 @@ fn the_first_fault_decides_by_its_place(rt: HostRuntime) -> Result<(), Fail> {
     let mut keeper = steered(rt.alloc())?;
     let at = 1_000_000_000;
     let unknown = Err(TraceError::Unknown { index: 1 });
-    let clock = ClockId::Monotonic;
-    traced(
-        &rt,
-        rt.alloc(),
-        &keeper,
-        &[0, 3],
-        &[0, 0],
-        clock,
-        &[0],
-        unknown,
-    )?;
-    // of an item's two faults that of the front comes first; a later item's front is not tested
-    traced(
-        &rt,
-        rt.alloc(),
-        &keeper,
-        &[0, 3, 0],
-        &[1, ABOVE, ABOVE],
-        clock,
-        &[1],
-        unknown,
-    )?;
-    traced(
-        &rt,
-        rt.alloc(),
-        &keeper,
-        &[1, 1, 2, 2, 2, 3],
-        &[0, 0, at, at + 1, ABOVE, 0],
-        clock,
-        &[0, 0, 1_000_499_963, 1_000_499_964],
-        Err(TraceError::Invalid { index: 4 }),
-    )?;
+    let whole: [Row<'_>; 3] = [
+        (&[0, 3], &[0, 0], &[0], unknown),
+        // of an item's two faults that of the front comes first; a later item's front is not tested
+        (&[0, 3, 0], &[1, ABOVE, ABOVE], &[1], unknown),
+        (
+            &[1, 1, 2, 2, 2, 3],
+            &[0, 0, at, at + 1, ABOVE, 0],
+            &[0, 0, 1_000_499_963, 1_000_499_964],
+            Err(TraceError::Invalid { index: 4 }),
+        ),
+    ];
+    all_traced(&rt, rt.alloc(), &keeper, &whole)?;
     keeper.fold(1);
-    let folded = Err(TraceError::Folded { index: 1 });
-    traced(
-        &rt,
-        rt.alloc(),
-        &keeper,
-        &[1, 0],
-        &[0, 0],
-        clock,
-        &[0],
-        folded,
-    )?;
-    traced(
-        &rt,
-        rt.alloc(),
-        &keeper,
-        &[2, 1],
-        &[at + 1, at],
-        clock,
-        &[1_000_499_964, 1_000_499_963],
-        Ok(()),
-    )
+    let folded: [Row<'_>; 2] = [
+        (&[1, 0], &[0, 0], &[0], Err(TraceError::Folded { index: 1 })),
+        (
+            &[2, 1],
+            &[at + 1, at],
+            &[1_000_499_964, 1_000_499_963],
+            Ok(()),
+        ),
+    ];
+    all_traced(&rt, rt.alloc(), &keeper, &folded)
 }
 
 #[test]
 fn a_clock_past_its_limit_is_told(rt: HostRuntime) -> Result<(), Fail> {
     let mut keeper = opened(rt.alloc())?;
-    let latest = time(8_277_292_035, 999_999_999);
-    assert_same(
+    let set = Command::SetTime(time(8_277_292_035, 999_999_999));
+    let wake = Command::Resume(time(946_079_999, 999_999_999));
+    answers(
         &rt,
-        &applied(&rt, &mut keeper, 0, Command::SetTime(latest)),
-        &Ok(1),
-    );
-    let away = time(946_079_999, 999_999_999);
-    assert_same(&rt, &applied(&rt, &mut keeper, 0, Command::Suspend), &Ok(2));
-    assert_same(
-        &rt,
-        &applied(&rt, &mut keeper, 0, Command::Resume(away)),
-        &Ok(3),
+        &mut keeper,
+        &[
+            (0, set, Ok(1)),
+            (0, Command::Suspend, Ok(2)),
+            (0, wake, Ok(3)),
+        ],
     );
     // 9223372035 s and 999999998 ns at reading 0, so one nanosecond is left before the limit
     traced(

@@ -1,6 +1,6 @@
 //! Lists so long that another thread converts pieces ahead.
 
-use super::{ABOVE, asked, assert_same, counted, put, steered};
+use super::{ABOVE, asked, assert_same, counted, kept, put, steered};
 use std::test::Fail;
 use tk_clock::ClockId;
 use tk_keeper::TraceError;
@@ -12,8 +12,7 @@ pub(crate) const LONG: usize = 4_194_305;
 #[test]
 fn a_long_list_is_told_as_by_one_thread(rt: HostRuntime) -> Result<(), Fail> {
     let alloc = rt.alloc();
-    let keeper = steered(alloc)?;
-    let mut lists = counted(alloc, LONG)?;
+    let (keeper, mut lists) = kept(alloc, LONG)?;
     for place in 0..LONG as u64 {
         put(&mut lists.fronts, place as usize, place / 10_000 % 3);
         put(
@@ -36,8 +35,7 @@ fn a_long_list_is_told_as_by_one_thread(rt: HostRuntime) -> Result<(), Fail> {
 #[test]
 fn the_first_fault_of_a_long_list_decides(rt: HostRuntime) -> Result<(), Fail> {
     let alloc = rt.alloc();
-    let keeper = steered(alloc)?;
-    let mut lists = counted(alloc, LONG)?;
+    let (keeper, mut lists) = kept(alloc, LONG)?;
     // each fault stands before those that came earlier
     for (place, front, stamp, fault) in [
         (
