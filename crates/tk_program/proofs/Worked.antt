@@ -12,126 +12,65 @@ abbrev ask_for : List Text → Option Task
 unfolding asked_by
 ask_for words = asked_by (codes "tkcore" ∷ words)
 
-no_words : ask_for [] ≡ Some (Replay None)
+-- `replay`, and the number of entries to keep
+kept : (ask_for [] ≡ Some (Replay None))
+    × (ask_for (codes "replay" ∷ []) ≡ Some (Replay None))
+    × (ask_for (codes "replay" ∷ codes "--keep" ∷ codes "7" ∷ []) ≡ Some (Replay (Some 7)))
+    × (ask_for (codes "replay" ∷ codes "--keep=007" ∷ []) ≡ Some (Replay (Some 7)))
+    × (ask_for (codes "replay" ∷ codes "--keep" ∷ codes "524288" ∷ [])
+    ≡ Some (Replay (Some 524288)))
 unfolding asked_by clap_on_literals
-no_words = refl
+kept = (refl, refl, refl, refl, refl)
 
-replay : ask_for (codes "replay" ∷ []) ≡ Some (Replay None)
+-- a number to keep is from 1 to 524,288, without a sign, and given once
+not_kept : (ask_for (codes "replay" ∷ codes "--keep" ∷ codes "524289" ∷ []) ≡ None)
+    × (ask_for (codes "replay" ∷ codes "--keep" ∷ codes "0" ∷ []) ≡ None)
+    × (ask_for (codes "replay" ∷ codes "--keep" ∷ codes "+1" ∷ []) ≡ None)
+    × (ask_for (codes "replay" ∷ codes "--keep" ∷ []) ≡ None)
+    × (ask_for (codes "replay" ∷ codes "--keep" ∷ codes "1" ∷ codes "--keep" ∷ codes "1" ∷ []) ≡ None)
 unfolding asked_by clap_on_literals
-replay = refl
+not_kept = (refl, refl, refl, refl, refl)
 
-keep : ask_for (codes "replay" ∷ codes "--keep" ∷ codes "7" ∷ []) ≡ Some (Replay (Some 7))
+-- `--keep` follows `replay`, which takes no file, and there is no help
+other_words : (ask_for (codes "--keep" ∷ codes "1" ∷ []) ≡ None)
+    × (ask_for (codes "replay" ∷ codes "1" ∷ []) ≡ None)
+    × (ask_for (codes "--help" ∷ []) ≡ None)
+    × (ask_for (codes "help" ∷ []) ≡ None)
 unfolding asked_by clap_on_literals
-keep = refl
+other_words = (refl, refl, refl, refl)
 
-keep_with_zeros : ask_for (codes "replay" ∷ codes "--keep=007" ∷ []) ≡ Some (Replay (Some 7))
+-- `trace`, a clock and two files, whose names may begin with dashes after `--`
+traced : (ask_for (codes "trace" ∷ codes "tai" ∷ codes "a" ∷ codes "b" ∷ [])
+    ≡ Some (Trace Tai (codes "a") (codes "b")))
+    × (ask_for (codes "trace" ∷ codes "monotonic_raw" ∷ codes "a" ∷ codes "a" ∷ [])
+    ≡ Some (Trace MonotonicRaw (codes "a") (codes "a")))
+    × (ask_for (codes "trace" ∷ codes "tai" ∷ codes "--" ∷ codes "-a" ∷ codes "--b" ∷ [])
+    ≡ Some (Trace Tai (codes "-a") (codes "--b")))
 unfolding asked_by clap_on_literals
-keep_with_zeros = refl
+traced = (refl, refl, refl)
 
-greatest : ask_for (codes "replay" ∷ codes "--keep" ∷ codes "524288" ∷ [])
-    ≡ Some (Replay (Some 524288))
+-- `trace` takes the word of a clock and exactly two files
+not_traced : (ask_for (codes "trace" ∷ codes "time" ∷ codes "a" ∷ codes "b" ∷ []) ≡ None)
+    × (ask_for (codes "trace" ∷ codes "tai" ∷ codes "a" ∷ []) ≡ None)
+    × (ask_for (codes "trace" ∷ codes "tai" ∷ codes "a" ∷ codes "b" ∷ codes "c" ∷ []) ≡ None)
 unfolding asked_by clap_on_literals
-greatest = refl
+not_traced = (refl, refl, refl)
 
-too_great : ask_for (codes "replay" ∷ codes "--keep" ∷ codes "524289" ∷ []) ≡ None
+-- `many`, 1 to 64 workers and at least one file
+many : (ask_for (codes "many" ∷ codes "4" ∷ codes "a" ∷ codes "b" ∷ codes "a" ∷ [])
+    ≡ Some (Many 4 (codes "a" ∷ codes "b" ∷ codes "a" ∷ [])))
+    × (ask_for (codes "many" ∷ codes "064" ∷ codes "a" ∷ []) ≡ Some (Many 64 (codes "a" ∷ [])))
+    × (ask_for (codes "many" ∷ codes "65" ∷ codes "a" ∷ []) ≡ None)
+    × (ask_for (codes "many" ∷ codes "0" ∷ codes "a" ∷ []) ≡ None)
+    × (ask_for (codes "many" ∷ codes "1" ∷ []) ≡ None)
 unfolding asked_by clap_on_literals
-too_great = refl
+many = (refl, refl, refl, refl, refl)
 
-nothing_kept : ask_for (codes "replay" ∷ codes "--keep" ∷ codes "0" ∷ []) ≡ None
+-- `race`, a step and at least one file
+race : (ask_for (codes "race" ∷ codes "18446744073709551615" ∷ codes "a" ∷ codes "b" ∷ [])
+    ≡ Some (Race 18446744073709551615 (codes "a" ∷ codes "b" ∷ [])))
+    × (ask_for (codes "race" ∷ codes "0" ∷ codes "a" ∷ []) ≡ Some (Race 0 (codes "a" ∷ [])))
+    × (ask_for (codes "race" ∷ codes "18446744073709551616" ∷ codes "a" ∷ []) ≡ None)
+    × (ask_for (codes "race" ∷ codes "1" ∷ []) ≡ None)
 unfolding asked_by clap_on_literals
-nothing_kept = refl
-
-signed : ask_for (codes "replay" ∷ codes "--keep" ∷ codes "+1" ∷ []) ≡ None
-unfolding asked_by clap_on_literals
-signed = refl
-
-no_number : ask_for (codes "replay" ∷ codes "--keep" ∷ []) ≡ None
-unfolding asked_by clap_on_literals
-no_number = refl
-
-kept_twice : ask_for (codes "replay" ∷ codes "--keep" ∷ codes "1" ∷ codes "--keep" ∷ codes "1" ∷ [])
-    ≡ None
-unfolding asked_by clap_on_literals
-kept_twice = refl
-
-keep_alone : ask_for (codes "--keep" ∷ codes "1" ∷ []) ≡ None
-unfolding asked_by clap_on_literals
-keep_alone = refl
-
-a_file : ask_for (codes "replay" ∷ codes "1" ∷ []) ≡ None
-unfolding asked_by clap_on_literals
-a_file = refl
-
-help : ask_for (codes "--help" ∷ []) ≡ None
-unfolding asked_by clap_on_literals
-help = refl
-
-another_word : ask_for (codes "help" ∷ []) ≡ None
-unfolding asked_by clap_on_literals
-another_word = refl
-
-trace : ask_for (codes "trace" ∷ codes "tai" ∷ codes "a" ∷ codes "b" ∷ [])
-    ≡ Some (Trace Tai (codes "a") (codes "b"))
-unfolding asked_by clap_on_literals
-trace = refl
-
-trace_by_the_counter : ask_for (codes "trace" ∷ codes "monotonic_raw" ∷ codes "a" ∷ codes "a" ∷ [])
-    ≡ Some (Trace MonotonicRaw (codes "a") (codes "a"))
-unfolding asked_by clap_on_literals
-trace_by_the_counter = refl
-
-trace_of_dashes :
-    ask_for (codes "trace" ∷ codes "tai" ∷ codes "--" ∷ codes "-a" ∷ codes "--b" ∷ [])
-    ≡ Some (Trace Tai (codes "-a") (codes "--b"))
-unfolding asked_by clap_on_literals
-trace_of_dashes = refl
-
-no_clock : ask_for (codes "trace" ∷ codes "time" ∷ codes "a" ∷ codes "b" ∷ []) ≡ None
-unfolding asked_by clap_on_literals
-no_clock = refl
-
-no_stamps : ask_for (codes "trace" ∷ codes "tai" ∷ codes "a" ∷ []) ≡ None
-unfolding asked_by clap_on_literals
-no_stamps = refl
-
-a_third_file : ask_for (codes "trace" ∷ codes "tai" ∷ codes "a" ∷ codes "b" ∷ codes "c" ∷ []) ≡ None
-unfolding asked_by clap_on_literals
-a_third_file = refl
-
-many : ask_for (codes "many" ∷ codes "4" ∷ codes "a" ∷ codes "b" ∷ codes "a" ∷ [])
-    ≡ Some (Many 4 (codes "a" ∷ codes "b" ∷ codes "a" ∷ []))
-unfolding asked_by clap_on_literals
-many = refl
-
-most_workers : ask_for (codes "many" ∷ codes "064" ∷ codes "a" ∷ []) ≡ Some (Many 64 (codes "a" ∷ []))
-unfolding asked_by clap_on_literals
-most_workers = refl
-
-too_many_workers : ask_for (codes "many" ∷ codes "65" ∷ codes "a" ∷ []) ≡ None
-unfolding asked_by clap_on_literals
-too_many_workers = refl
-
-no_worker : ask_for (codes "many" ∷ codes "0" ∷ codes "a" ∷ []) ≡ None
-unfolding asked_by clap_on_literals
-no_worker = refl
-
-many_of_no_file : ask_for (codes "many" ∷ codes "1" ∷ []) ≡ None
-unfolding asked_by clap_on_literals
-many_of_no_file = refl
-
-race : ask_for (codes "race" ∷ codes "18446744073709551615" ∷ codes "a" ∷ codes "b" ∷ [])
-    ≡ Some (Race 18446744073709551615 (codes "a" ∷ codes "b" ∷ []))
-unfolding asked_by clap_on_literals
-race = refl
-
-still_race : ask_for (codes "race" ∷ codes "0" ∷ codes "a" ∷ []) ≡ Some (Race 0 (codes "a" ∷ []))
-unfolding asked_by clap_on_literals
-still_race = refl
-
-too_great_a_step : ask_for (codes "race" ∷ codes "18446744073709551616" ∷ codes "a" ∷ []) ≡ None
-unfolding asked_by clap_on_literals
-too_great_a_step = refl
-
-race_of_no_file : ask_for (codes "race" ∷ codes "1" ∷ []) ≡ None
-unfolding asked_by clap_on_literals
-race_of_no_file = refl
+race = (refl, refl, refl, refl)

@@ -79,25 +79,26 @@ replied whole kept after entry result alike room answered enough =
           (λ none. none)),
     )
 
+-- only an answer other than an allocation failure has to be that of the reply
+by_answer : (reply : Reply) (result : Result ℕ Refusal) (after : Journal) →
+    ((result ≡ Err Memory → ⊥) → (reply.answer ≡ result) × IsAlike after reply.journal) →
+    IsReplied reply result after
+by_answer reply (Ok number) after told = told (λ e. cc e)
+by_answer reply (Err Full) after told = told (λ e. cc e)
+by_answer reply (Err Asleep) after told = told (λ e. cc e)
+by_answer reply (Err Awake) after told = told (λ e. cc e)
+by_answer reply (Err Invalid) after told = told (λ e. cc e)
+by_answer reply (Err Behind) after told = told (λ e. cc e)
+by_answer reply (Err Range) after told = told (λ e. cc e)
+by_answer reply (Err Memory) after told = tt
+
 pub IsReplied-folded : (whole : Journal) (kept after : Keeper) (entry : Entry)
     (result : Result ℕ Refusal) →
     IsAlike kept.journal whole → is_full kept.journal ≡ false → IsAnswer kept entry result after →
     IsReplied (reply_by clock_refusal whole entry) result after.journal
-IsReplied-folded whole kept after entry (Ok number) alike room answered =
-    replied whole kept after entry (Ok number) alike room answered (λ e. cc e)
-IsReplied-folded whole kept after entry (Err Full) alike room answered =
-    replied whole kept after entry (Err Full) alike room answered (λ e. cc e)
-IsReplied-folded whole kept after entry (Err Asleep) alike room answered =
-    replied whole kept after entry (Err Asleep) alike room answered (λ e. cc e)
-IsReplied-folded whole kept after entry (Err Awake) alike room answered =
-    replied whole kept after entry (Err Awake) alike room answered (λ e. cc e)
-IsReplied-folded whole kept after entry (Err Invalid) alike room answered =
-    replied whole kept after entry (Err Invalid) alike room answered (λ e. cc e)
-IsReplied-folded whole kept after entry (Err Behind) alike room answered =
-    replied whole kept after entry (Err Behind) alike room answered (λ e. cc e)
-IsReplied-folded whole kept after entry (Err Range) alike room answered =
-    replied whole kept after entry (Err Range) alike room answered (λ e. cc e)
-IsReplied-folded whole kept after entry (Err Memory) alike room answered = tt
+IsReplied-folded whole kept after entry result alike room answered =
+    by_answer (reply_by clock_refusal whole entry) result after.journal
+    (replied whole kept after entry result alike room answered)
 
 -- while fewer commands were accepted than a journal lists, the journal is not full, and the count
 -- alone refuses nothing

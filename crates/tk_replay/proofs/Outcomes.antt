@@ -29,7 +29,7 @@ module _ {A B : Type 0} (R : A → B → Type 0) where
       (all.0, all_zip-set xs ys place x y all.1 here fits)
 
   -- one more pair
-  all_zip-push : (xs : List A) (ys : List B) (x : A) (y : B) → AllZip R xs ys → R x y →
+  pub all_zip-push : (xs : List A) (ys : List B) (x : A) (y : B) → AllZip R xs ys → R x y →
       AllZip R (xs ++ x ∷ []) (ys ++ y ∷ [])
   all_zip-push [] [] x y all fits = (fits, tt)
   all_zip-push [] (z ∷ ys) x y all fits = absurd all
