@@ -274,7 +274,8 @@ pub(crate) fn trace_ahead<
     R: Threads + Sync,
     A: Allocator + Copy + Send + Sync,
     B: Allocator,
->(rt: &R, input: Input<'_, A>, values: Vec<u64, B>) -> Result<Vec<u64, B>, TraceError>
+>(rt: &R, size: usize, input: Input<'_, A>, values: Vec<u64, B>) -> Result<Vec<u64, B>, TraceError>
+    requires size { 0 < size }
     requires named { of_input (IsNamed N.item N.count) input }
     requires filled { 0 < length input.stamps.now }
     requires empty { values.items ≡ [] }
@@ -283,7 +284,7 @@ pub(crate) fn trace_ahead<
         (λ error. of_input IsFault input.entry error) }
 {
     let Some((supply, intake, words)) = prepared::<N, A>(input.keeper) else {
-        return convert_at_once(rt, input, values);
+        return convert_at_once(rt, size, input, values);
     };
     let (_, values) = thread::join(
         rt,

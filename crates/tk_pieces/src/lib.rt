@@ -9,6 +9,7 @@
 #![tactic(auto)]
 
 mod ahead;
+mod cost;
 mod input;
 mod pieces;
 #[cfg(test)]

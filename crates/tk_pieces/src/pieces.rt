@@ -9,8 +9,8 @@ ghost use Rattle.tk_pieces.specs.Input.{of_input};
 ghost use Rattle.tk_pieces.specs.Pieces.{ArePieces, IsPiece, IsTracedInPieces, further_on, place_told};
 
 use crate::ahead::trace_ahead;
+use crate::cost::{estimated_ns, is_long, piece_size};
 use crate::input::Input;
-use rayon::current_num_threads;
 use rayon::prelude::*;
 use std::alloc::Allocator;
 use std::marker::{Brand, Send, Sync};
@@ -19,16 +19,13 @@ use std::thread::Threads;
 use tk_clock::ClockId;
 use tk_keeper::{Timekeeper, TraceError};
 
-/// The number of items of a piece: so large that giving a piece to a thread costs nothing compared
-/// with its conversion.
-const PIECE: usize = 65_536;
-
-/// The calling thread alone converts a list of fewer items than this, two pieces.
-const SHARED: usize = 2 * PIECE;
-
 /// The number of items, 32 MB of words, from which on the system maps the result's memory anew for
 /// each call. The first write to that memory takes longer than the conversion.
 const UNTOUCHED: usize = 4_194_304;
+
+/// The estimated time of an item in ns, from which on conversion takes more of the time than the
+/// first write does.
+const DEAR_NS: u64 = 16;
 
 /// The first word of a piece with a fault. No clock has this value: all end before it.
 const REFUSED: u64 = u64::MAX;
@@ -37,14 +34,14 @@ const REFUSED: u64 = u64::MAX;
 /// was at the front with the same index. `fronts` and `stamps` have the same length.
 ///
 /// The result is that of `Timekeeper::trace`, allocated by `alloc`. The call uses several threads,
-/// at most two for each processor, which have ended when it returns. For 4,194,304 items or more,
-/// on at least two processors, it also allocates buffers from the keeper's allocator. It works
-/// without them if that fails.
+/// at most two for each processor, which have ended when it returns, if they are likely to save
+/// time. For 4,194,304 items or more it may also allocate buffers from the keeper's allocator. It
+/// works without them if that fails.
 ///
 /// # Errors
 ///
 /// `TraceError::Memory` if the result can't be allocated. The call reserves the result's capacity
-/// before it examines any item; for an empty list it allocates nothing. Otherwise the error of the
+/// before it converts any item; for an empty list it allocates nothing. Otherwise the error of the
 /// first item of the whole list that has a fault: `TraceError::Unknown`, `Folded`, `Invalid` or
 /// `Range`, tested in this order.
 pub fn trace_all<R: Threads + Sync, A: Allocator + Copy + Send + Sync, B: Allocator>(
@@ -60,30 +57,34 @@ pub fn trace_all<R: Threads + Sync, A: Allocator + Copy + Send + Sync, B: Alloca
         (λ values. IsConverted keeper.now.journal clock fronts.now stamps.now values.items)
         (λ error. IsFault keeper.now.journal clock fronts.now stamps.now error) }
 {
-    if stamps.is_empty() {
-        return Ok(Vec::new(alloc));
-    }
-    let Ok(values) = Vec::with_capacity(alloc, stamps.len()) else {
-        return Err(TraceError::Memory);
-    };
     let input = Input {
         keeper,
         fronts,
         stamps,
         clock,
     };
-    if stamps.len() < UNTOUCHED || current_num_threads(rt) < 2 {
-        return convert_at_once(rt, input, values);
+    let each_ns = estimated_ns(input);
+    if !is_long(rt, stamps, each_ns) {
+        return keeper.trace_in(alloc, fronts, stamps, clock);
     }
-    trace_ahead::<Brand, R, A, B>(rt, input, values)
+    let Ok(values) = Vec::with_capacity(alloc, stamps.len()) else {
+        return Err(TraceError::Memory);
+    };
+    let size = piece_size(each_ns);
+    if stamps.len() < UNTOUCHED || each_ns >= DEAR_NS {
+        return convert_at_once(rt, size, input, values);
+    }
+    trace_ahead::<Brand, R, A, B>(rt, size, input, values)
 }
 
 /// Does what `trace_all` does, into an empty list: fills it with zeros, and then converts in place.
 pub(crate) fn convert_at_once<R: Threads + Sync, A: Allocator + Copy + Sync, B: Allocator>(
     rt: &R,
+    size: usize,
     input: Input<'_, A>,
     values: Vec<u64, B>,
 ) -> Result<Vec<u64, B>, TraceError>
+    requires size { 0 < size }
     requires filled { 0 < length input.stamps.now }
     requires empty { values.items ≡ [] }
     ensures { MatchResult result
@@ -94,7 +95,7 @@ pub(crate) fn convert_at_once<R: Threads + Sync, A: Allocator + Copy + Sync, B: 
     let Ok(()) = values.resize(input.stamps.len(), 0) else {
         return Err(TraceError::Memory);
     };
-    write_all(rt, input, values.as_mut_slice())?;
+    trace_in_pieces(rt, size, input, values.as_mut_slice())?;
     Ok(values)
 }
 
@@ -124,24 +125,11 @@ pub fn trace_all_into<R: Threads + Sync, A: Allocator + Copy + Sync>(
         stamps,
         clock,
     };
-    write_all(rt, input, out)
-}
-
-/// Does what `trace_all_into` does.
-fn write_all<R: Threads + Sync, A: Allocator + Copy + Sync>(
-    rt: &R,
-    input: Input<'_, A>,
-    out: &mut [u64],
-) -> Result<(), TraceError>
-    requires room { length input.stamps.now ≡ length out.old }
-    ensures { of_input IsTracedInPieces input.entry out.new result }
-{
-    if input.stamps.len() < SHARED {
-        return input
-            .keeper
-            .trace_into(input.fronts, input.stamps, input.clock, out);
+    let each_ns = estimated_ns(input);
+    if is_long(rt, stamps, each_ns) {
+        return trace_in_pieces(rt, piece_size(each_ns), input, out);
     }
-    trace_in_pieces(rt, PIECE, input, out)
+    keeper.trace_into(fronts, stamps, clock, out)
 }
 
 /// Does what `trace_all_into` does, in pieces of `size` items, however few items there are.

@@ -54,8 +54,8 @@ fn items_of(alloc: Global, stamps: &[u8]) -> Result<Stamps, Fault>
 /// journal at its front, in ns.
 ///
 /// The two lists of `items` must have the same length, as `Stamps::from_bytes` gives them. The text
-/// is allocated from `alloc`. From 131,072 items on, several threads convert them; if no thread can
-/// be started, the calling thread converts them all.
+/// is allocated from `alloc`. If that is likely to save time, several threads convert the items; if
+/// no thread can be started, the calling thread converts them all.
 ///
 /// # Errors
 ///

@@ -19,8 +19,9 @@ use tk_clock::ClockId;
 /// Both inputs are read before either is parsed, each up to 16,777,217 bytes; the last of these
 /// shows that the input is too large. No read or write is tried again, as in `replay`.
 ///
-/// From 131,072 stamps on, several threads convert them, at most two for each processor. If none
-/// can be started, the calling thread converts them. The calling thread does all other work.
+/// If that is likely to save time, several threads convert the stamps, at most two for each
+/// processor. If none can be started, the calling thread converts them. The calling thread does all
+/// other work.
 ///
 /// # Errors
 ///

@@ -46,7 +46,26 @@ impl<A: Allocator + Copy> Timekeeper<A> {
             (λ values. IsConverted self.now.journal clock fronts.now stamps.now values.items)
             (λ error. IsFault self.now.journal clock fronts.now stamps.now error) }
     {
-        let alloc = *self.entries.allocator();
+        self.trace_in(*self.entries.allocator(), fronts, stamps, clock)
+    }
+
+    /// Converts each stamp as `trace` does, into a list that `alloc` allocates.
+    ///
+    /// # Errors
+    ///
+    /// Those of `trace`, in the same order.
+    pub fn trace_in<B: Allocator>(
+        &self,
+        alloc: B,
+        fronts: &[u64],
+        stamps: &[u64],
+        clock: ClockId,
+    ) -> Result<Vec<u64, B>, TraceError>
+        requires { length fronts.now ≡ length stamps.now }
+        ensures { MatchResult result
+            (λ values. IsConverted self.now.journal clock fronts.now stamps.now values.items)
+            (λ error. IsFault self.now.journal clock fronts.now stamps.now error) }
+    {
         if stamps.is_empty() {
             return Ok(Vec::new(alloc));
         }

@@ -1,7 +1,7 @@
 use Rattle.std.proofs.Common.{◌-◌, ◌≤◌, length}
 use Rattle.tk_keeper.specs.Past.{IsAt}
 use Rattle.tk_keeper.specs.Trace.{AreValues, TellsItems}
-use Rattle.tk_keeper.proofs.timekeeper.Timekeeper.trace.Given as goal
+use Rattle.tk_keeper.proofs.timekeeper.Timekeeper.trace_in.Given as goal
 
 abbrev pub invariant-runs : goal.invariant-runs
 invariant-runs g l = record {

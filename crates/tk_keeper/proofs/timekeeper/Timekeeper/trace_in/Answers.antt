@@ -3,7 +3,7 @@ use Rattle.std.specs.Prelude.{pos}
 use Rattle.std.proofs.lemmas.Result.{err_from_is_err_and}
 use Rattle.tk_keeper.specs.Trace.{TellsItems}
 use Rattle.tk_keeper.proofs.Stretches.{fault_at, taken_back}
-use Rattle.tk_keeper.proofs.timekeeper.Timekeeper.trace.Goals as goal
+use Rattle.tk_keeper.proofs.timekeeper.Timekeeper.trace_in.Goals as goal
 
 pub returns-in_err-bring_to : goal.returns-in_err-bring_to
 returns-in_err-bring_to g c =
