@@ -57,6 +57,7 @@ fn count_orders(replies: &[RaceReply]) -> Counts
             RaceReply::Done(_) => accepted += 1,
             RaceReply::Refused(_) => refused += 1,
             RaceReply::Saw(_) | RaceReply::Glanced(_) | RaceReply::Moved => {}
+            RaceReply::Timed { .. } | RaceReply::Untimed { .. } => {}
         }
     }
     Counts { accepted, refused }

@@ -3,50 +3,65 @@ use Rattle.std.proofs.Common.{◌≡◌, ℕ, ◌+◌, ◌<◌, List, [], ◌∷
 use Rattle.std.proofs.lemmas.List.{take_more}
 use Rattle.std.proofs.lemmas.List.Sums.{sum_by_push}
 use Rattle.tk_clock.specs.Journal.{Journal}
+use Rattle.tk_now.specs.declared.rule.Taken.{Taken}
+use Rattle.tk_now.proofs.Lists.{life_first}
 use Rattle.tk_shared.specs.Callers.{Known}
 use Rattle.tk_shared.proofs.Prefixes.{prefix_trans}
 use Rattle.tk_shared.proofs.Snapshots.{snapshots_prefix}
 use Rattle.tk_race.specs.declared.action.Action.{Action}
 use Rattle.tk_race.specs.declared.action.RaceReply.{RaceReply}
 use Rattle.tk_race.specs.Actor.{IsAnswer, IsHistoryOf, IsLater, HasActed, Knows, last_front, last_mark}
-use Rattle.tk_race.specs.Replies.{AreReplies, IsReply, front_after, mark_after, done_by, reads_by}
+use Rattle.tk_race.specs.Replies.{AreReplies, IsReply, front_after, mark_after, done_by, reads_by, times_by}
 use Rattle.tk_race.proofs.Answering.{begins_trans}
 
 -- a history of what a caller knows is one of what it knew before
-history_before : (now next : Known) (done looks : ℕ) (history : Journal) →
-    IsLater now next done looks → IsHistoryOf next history → IsHistoryOf now history
-history_before now next done looks history later is = record {
+history_before : (now next : Known) (done looks times : ℕ) (history : Journal)
+    (commands : List Taken) → IsLater now next done looks times →
+    IsHistoryOf next history commands → IsHistoryOf now history commands
+history_before now next done looks times history commands later is = record {
   whole = is.whole;
   begins = begins_trans now.seen next.seen history later.seen is.begins;
   learnt = snapshots_prefix history now.learnt.publications next.learnt.publications is.learnt
       later.learnt;
+  watched = record {
+    begins = prefix_trans now.watched.commands next.watched.commands commands later.commands
+        is.watched.begins;
+    life = life_first commands now.watched.log next.watched.log later.log is.watched.life;
+  };
 }
 
-later_twice : (start now next : Known) (one other both saw more all : ℕ) →
-    IsLater start now one saw → IsLater now next other more → both ≡ one + other →
-    all ≡ saw + more → IsLater start next both all
-later_twice start now next one other both saw more all p q sum total = record {
+later_twice : (start now next : Known) (one other both saw more all asked again times : ℕ) →
+    IsLater start now one saw asked → IsLater now next other more again → both ≡ one + other →
+    all ≡ saw + more → times ≡ asked + again → IsLater start next both all times
+later_twice start now next one other both saw more all asked again times p q sum total counted = record {
   id = q.id ∙ p.id;
   seen = begins_trans start.seen now.seen next.seen p.seen q.seen;
   learnt = prefix_trans start.learnt.publications now.learnt.publications next.learnt.publications
       p.learnt q.learnt;
   counted = (let first = p.counted in let rest = q.counted in omega (arith, first, rest, sum));
-  looked = (let first = p.looked in let rest = q.looked in omega (arith, first, rest, total));
+  looked = λ none.
+      (let first = p.looked (omega (arith, none, counted)) in
+      let rest = q.looked (omega (arith, none, counted)) in
+      omega (arith, first, rest, total));
+  commands = prefix_trans start.watched.commands now.watched.commands next.watched.commands
+      p.commands q.commands;
+  log = prefix_trans start.watched.log now.watched.log next.watched.log p.log q.log;
 }
 
 -- one more right reply
-replies_push : (history : Journal) (id front mark : ℕ) (actions : List Action)
-    (replies : List RaceReply) (action : Action) (reply : RaceReply) →
-    AreReplies history id front mark actions replies →
-    IsReply history id (last_front front replies) (last_mark mark replies) action reply →
-    AreReplies history id front mark (actions ++ action ∷ []) (replies ++ reply ∷ [])
-replies_push history id front mark [] [] action reply are last = (last, tt)
-replies_push history id front mark [] (r ∷ rs) action reply are last = absurd are
-replies_push history id front mark (a ∷ acts) [] action reply are last = absurd are
-replies_push history id front mark (a ∷ acts) (r ∷ rs) action reply are last = (
-  are.0,
-  replies_push history id (front_after front r) (mark_after mark r) acts rs action reply are.1 last,
-)
+module _ (history : Journal) (commands : List Taken) (id : ℕ) where
+  replies_push : (front mark : ℕ) (actions : List Action) (replies : List RaceReply)
+      (action : Action) (reply : RaceReply) →
+      AreReplies history commands id front mark actions replies →
+      IsReply history commands id (last_front front replies) (last_mark mark replies) action reply →
+      AreReplies history commands id front mark (actions ++ action ∷ []) (replies ++ reply ∷ [])
+  replies_push front mark [] [] action reply are last = (last, tt)
+  replies_push front mark [] (r ∷ rs) action reply are last = absurd are
+  replies_push front mark (a ∷ acts) [] action reply are last = absurd are
+  replies_push front mark (a ∷ acts) (r ∷ rs) action reply are last = (
+    are.0,
+    replies_push (front_after front r) (mark_after mark r) acts rs action reply are.1 last,
+  )
 
 last_front-push : (front : ℕ) (replies : List RaceReply) (reply : RaceReply) →
     last_front front (replies ++ reply ∷ []) ≡ front_after (last_front front replies) reply
@@ -64,18 +79,20 @@ acted_push : (start now next : Known) (actions : List Action) (replies : List Ra
     IsAnswer now next action reply →
     HasActed start next (actions ++ action ∷ []) (replies ++ reply ∷ [])
 acted_push start now next actions replies action reply acted answer = record {
-  later = later_twice start now next _ (done_by reply) _ _ (reads_by reply) _ acted.later
-      answer.later (sum_by_push done_by replies reply) (sum_by_push reads_by replies reply);
-  right = λ history is.
+  later = later_twice start now next _ (done_by reply) _ _ (reads_by reply) _ _ (times_by reply) _
+      acted.later answer.later (sum_by_push done_by replies reply)
+      (sum_by_push reads_by replies reply) (sum_by_push times_by replies reply);
+  right = λ history commands is.
       (let was =
-      acted.right history
-      (history_before now next (done_by reply) (reads_by reply) history answer.later is) in
+      acted.right history commands
+      (history_before now next (done_by reply) (reads_by reply) (times_by reply) history commands
+      answer.later is) in
       let front = last_front 0 replies in
       let mark = last_mark 0 replies in
-      let told = answer.right history is front mark was.1 in
-      let last = subst (λ (id : ℕ). IsReply history id front mark action reply) acted.later.id
+      let told = answer.right history commands is front mark was.1 in
+      let last = subst (λ (id : ℕ). IsReply history commands id front mark action reply) acted.later.id
       told.0 in (
-        replies_push history start.id 0 0 actions replies action reply was.0 last,
+        replies_push history commands start.id 0 0 actions replies action reply was.0 last,
         subst (λ (t : ℕ × ℕ). Knows next t.0 t.1)
             (λ i. (sym (last_front-push 0 replies reply) i, sym (last_mark-push 0 replies reply) i))
             told.1,

@@ -11,6 +11,7 @@ use Rattle.tk_clock.specs.declared.refusal.Refusal.{Refusal}
 use Rattle.tk_clock.specs.Journal.{Opening, Journal, prefix}
 use Rattle.tk_page.specs.History.{Begins}
 use Rattle.tk_latch.specs.Latch.{Learnt, mark_of}
+use Rattle.tk_now.specs.Views.{Watched}
 use Rattle.tk_shared.specs.Callers.{Known, IsAccepted, IsRefused, IsSameCaller, IsRefusalAfter, entry_of}
 use Rattle.tk_shared.proofs.Kept.{whole_count}
 use Rattle.tk_shared.proofs.Prefixes.{prefix_self, prefix_trans, prefix_length}
@@ -29,7 +30,7 @@ pub begins_length : (a b : Journal) → Begins a b → length a.entries ≤ leng
 begins_length a b p = prefix_length a.entries b.entries p.1
 
 -- a journal that begins another consists of the other's first entries
-begins_prefix : (before history : Journal) → Begins before history →
+pub begins_prefix : (before history : Journal) → Begins before history →
     before ≡ prefix (length before.entries) history
 begins_prefix before history begins =
     let n = length before.entries in
@@ -78,9 +79,11 @@ done old new cmd number told same =
         );
         learnt = told.learnt;
         counted = told.counted;
-        looked = let still = same.2 in omega (arith, still);
+        looked = λ none. (let still = same.2 in omega (arith, still));
+        commands = told.commands;
+        log = told.log;
       };
-      right = λ history is front least known.
+      right = λ history commands is front least known.
           (let low = known.0 in
           let high = known.1 in
           let rest = is.begins.1.0 in
@@ -114,9 +117,13 @@ refused old new cmd refusal told same =
         learnt = subst (λ (l : Learnt). IsPrefix old.learnt.publications l.publications)
             (sym told.learnt) (prefix_self old.learnt.publications);
         counted = omega (arith, counted);
-        looked = let still = same.2 in omega (arith, still);
+        looked = λ none. (let still = same.2 in omega (arith, still));
+        commands = subst (λ (w : Watched). IsPrefix old.watched.commands w.commands)
+            (sym told.watched) (prefix_self old.watched.commands);
+        log = subst (λ (w : Watched). IsPrefix old.watched.log w.log) (sym told.watched)
+            (prefix_self old.watched.log);
       };
-      right = λ history is front mark known.
+      right = λ history commands is front mark known.
           (let low = known.0 in
           let high = known.1 in
           let learnt = ap (λ (l : Learnt). mark_of l.publications) told.learnt in (

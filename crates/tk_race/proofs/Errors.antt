@@ -1,10 +1,13 @@
 -- The reasons why a race is not run.
 use Rattle.std.proofs.Common.{◌≡◌, ℕ, ◌≤◌, Bool, true, false, refl}
 use Rattle.std.specs.Prelude.{Some, None, Result, Ok, Err, MatchResult, not, nat_lt, ◌||◌, if◌then◌else◌}
+use borrow.Author.Tests.{ltb-false}
 use Rattle.std.proofs.lemmas.Bool.{le-ltb}
 use Rattle.tk_counter.specs.Counter.{Counter, mask}
 use Rattle.tk_clock.specs.declared.timespec.Timespec.{Timespec}
+use Rattle.tk_clock.specs.declared.refusal.Refusal.TheVariants as refusals
 use Rattle.tk_clock.specs.Limits.{is_settable}
+use Rattle.tk_clock.specs.Refusal.{opening_refusal}
 use Rattle.tk_shared.specs.declared.fault.OpenError.TheVariants as faults
 use Rattle.tk_shared.specs.Opening.{opening_fault, most_callers}
 use Rattle.tk_race.specs.declared.race_error.RaceError.{RaceError}
@@ -21,6 +24,18 @@ split false true good above told low = absurd (cc told)
 split false false false above told low = absurd (cc told)
 split false false true true told low = absurd (cc low)
 split false false true false told low = refl
+
+first_false : (above bad : Bool) → (if above || bad then Some refusals.Invalid else None) ≡ None →
+    above ≡ false
+first_false true bad told = absurd (cc told)
+first_false false bad told = refl
+
+-- clocks that can be opened at a reading are opened at one of their counter
+pub within_mask : (counter : Counter) (reading : ℕ) (real : Timespec) →
+    opening_refusal counter reading real ≡ None → reading ≤ mask counter
+within_mask counter reading real none =
+    ltb-false (mask counter) reading
+    (first_false (nat_lt (mask counter) reading) (not (is_settable real)) none)
 
 -- the race has no error, if the keeper can be prepared and the counter can have the reading
 pub nothing_wrong : (actors : ℕ) (counter : Counter) (reading : ℕ) (real : Timespec) →

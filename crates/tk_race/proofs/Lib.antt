@@ -1,4 +1,5 @@
 pub mod Answering
+pub mod Timing
 pub mod Acting
 pub mod Actors
 pub mod Outcome

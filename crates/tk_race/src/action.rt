@@ -1,4 +1,4 @@
-use tk_clock::{Command, Refusal};
+use tk_clock::{ClockId, Command, ReadError, Refusal, Timespec};
 
 /// Describes one action of an actor.
 #[derive(Clone, Copy, Debug, PartialEq, Eq)]
@@ -10,6 +10,9 @@ pub enum Action {
     Look,
     /// Reads the latch. It waits for nobody.
     Glance,
+    /// Asks for a clock's time now, by the page. It takes a reading of the counter, and may wait for
+    /// whoever holds the words of the page.
+    Now(ClockId),
 }
 
 /// Reports how an action ended.
@@ -25,4 +28,8 @@ pub enum RaceReply {
     Glanced(u64),
     /// The glance read nothing, because a publication came between.
     Moved,
+    /// The time now, and the number of commands that were accepted before its reading.
+    Timed { front: u64, time: Timespec },
+    /// The clock refuses the reading, which came after this many accepted commands.
+    Untimed { front: u64, refusal: ReadError },
 }

@@ -6,7 +6,8 @@ use crate::action::{Action, RaceReply};
 use crate::gate::Gate;
 use std::marker::Model;
 use std::sync::Wait;
-use tk_shared::{Caller, Named, SharedKeeper, Ticker};
+use tk_now::SharedTicker;
+use tk_shared::{Caller, Named, SharedKeeper, SharedReader};
 
 /// Contains an actor: its caller, and its replies so far.
 #[derive(Drop)]
@@ -28,10 +29,14 @@ impl<L: Named> Model for Actor<L> {
     } };
 }
 
+/// The keeper of a race, over a counter that orders and times read.
+pub(crate) type RaceKeeper<'c, L> = SharedKeeper<L, SharedReader<'c, SharedTicker>>;
+
 /// Does an action and returns the reply to it.
 fn answer<L: Named, R: Wait>(
     rt: &R,
-    keeper: &SharedKeeper<L, Ticker>,
+    keeper: &RaceKeeper<'_, L>,
+    counter: &SharedTicker,
     caller: &mut Caller<L>,
     action: Action,
 ) -> RaceReply
@@ -47,13 +52,24 @@ fn answer<L: Named, R: Wait>(
             Ok(snapshot) => RaceReply::Glanced(snapshot.front()),
             Err(_) => RaceReply::Moved,
         },
+        Action::Now(clock) => match keeper.now(rt, caller, counter, clock) {
+            Ok(time) => RaceReply::Timed {
+                front: caller.front(),
+                time,
+            },
+            Err(refusal) => RaceReply::Untimed {
+                front: caller.front(),
+                refusal,
+            },
+        },
     }
 }
 
 /// Does all actions of an actor, in order, and calls the gate before and after them.
 pub(crate) fn act<L: Named, G: Gate, R: Wait>(
     rt: &R,
-    keeper: &SharedKeeper<L, Ticker>,
+    keeper: &RaceKeeper<'_, L>,
+    counter: &SharedTicker,
     gate: &G,
     piece: usize,
     actions: &[Action],
@@ -68,7 +84,7 @@ pub(crate) fn act<L: Named, G: Gate, R: Wait>(
         mut replies,
     } = actor;
     for action in actions {
-        replies.push_reserved(answer(rt, keeper, &mut caller, *action));
+        replies.push_reserved(answer(rt, keeper, counter, &mut caller, *action));
     }
     gate.after(piece);
     Actor { caller, replies }

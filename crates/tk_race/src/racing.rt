@@ -6,7 +6,7 @@ ghost use Rattle.tk_race.specs.RaceError.{IsRaceError, IsLate, race_error};
 ghost use Rattle.tk_race.specs.Actor.{AreReady};
 
 use crate::action::{Action, RaceReply};
-use crate::actor::Actor;
+use crate::actor::{Actor, RaceKeeper};
 use crate::gate::Gate;
 use crate::race_error::RaceError;
 use crate::report::RaceReport;
@@ -15,17 +15,20 @@ use std::alloc::{AllocError, Global};
 use std::marker::Brand;
 use std::sync::Wait;
 use std::thread::Threads;
-use tk_clock::Timespec;
+use tk_clock::{Clock, Timespec};
 use tk_counter::CounterDesc;
-use tk_shared::{Caller, Named, Prepared, SharedKeeper, Ticker, prepare};
+use tk_now::SharedTicker;
+use tk_shared::{Caller, Named, Prepared, SharedKeeper, SharedReader, prepare};
 
 /// The greatest number of actors of a race, which is that of callers of a keeper.
 const ACTORS_LIMIT: usize = 64;
 
 /// Runs a race: each actor does its actions in its own thread, all on one keeper. Returns the
-/// keeper and the replies, which are those of `SharedKeeper`'s `command`, `read` and `fast_read`.
+/// keeper and the replies, which are those of `SharedKeeper`'s `command`, `read`, `fast_read` and
+/// `now`.
 ///
-/// The counter reads `reading` at the opening and `step` cycles more in each order, modulo 2^64.
+/// The counter reads `reading` at the opening, and `step` cycles more, modulo 2^64, in each order and
+/// whenever a time now reads it.
 /// Actor k is piece k of the gate: `before(k)` runs before its first action, `after(k)` after its
 /// last. The call waits until all actors are done. It reserves all capacity before it starts a
 /// thread.
@@ -55,12 +58,13 @@ pub fn race<G: Gate + Sync, R: Threads + Wait + Sync>(
     if actors.is_empty() || actors.len() > ACTORS_LIMIT {
         return Err(RaceError::Count);
     }
-    if reading > desc.mask() {
+    let Ok(_) = Clock::open(desc, reading, real) else {
         return Err(RaceError::Invalid);
-    }
-    let counter = Ticker::new(reading, step);
-    match prepare(alloc, rt, desc, real, counter, actors.len(), orders(actors)) {
-        Ok(prepared) => raced::<Brand, G, R>(alloc, rt, prepared, actors, gate),
+    };
+    let counter = SharedTicker::new(reading, step);
+    let reader = SharedReader::new(alloc, &counter)?;
+    match prepare(alloc, rt, desc, real, reader, actors.len(), orders(actors)) {
+        Ok(prepared) => raced::<Brand, G, R>(alloc, rt, prepared, &counter, actors, gate),
         Err(fault) => Err(fault.error.into()),
     }
 }
@@ -96,7 +100,8 @@ fn orders_of(actions: &[Action]) -> usize
 fn raced<L: Named + Send + Sync, G: Gate + Sync, R: Threads + Wait + Sync>(
     alloc: Global,
     rt: &R,
-    prepared: Prepared<Ticker>,
+    prepared: Prepared<SharedReader<'_, SharedTicker>>,
+    counter: &SharedTicker,
     actions: &[Vec<Action>],
     gate: &G,
 ) -> Result<RaceReport, RaceError>
@@ -106,17 +111,17 @@ fn raced<L: Named + Send + Sync, G: Gate + Sync, R: Threads + Wait + Sync>(
     requires room { min (sum_by (λ a. orders_in a.items) actions.now) listed_most
         ≤ prepared.spare }
     ensures { MatchResult result
-        (λ report. IsOutcome prepared.journal (map (λ a. a.items) actions.now)
+        (λ report. IsOutcome prepared.entry.journal (map (λ a. a.items) actions.now)
         report.keeper.journal (map (λ r. r.items) report.replies.items))
         IsLate }
 {
-    let Ok((keeper, callers)) = SharedKeeper::<L, Ticker>::open(alloc, prepared) else {
+    let Ok((keeper, callers)) = RaceKeeper::<L>::open(alloc, prepared) else {
         return Err(RaceError::Memory);
     };
     let mut back = Vec::with_capacity(alloc, actions.len())?;
     let mut replies = Vec::with_capacity(alloc, actions.len())?;
     let actors = ready(alloc, actions, callers)?;
-    let acted = act_at_once(rt, &keeper, gate, actions, actors)?;
+    let acted = act_at_once(rt, &keeper, counter, gate, actions, actors)?;
     part(acted, &mut back, &mut replies);
     let Ok(closed) = keeper.close(rt, back) else {
         unreachable!()

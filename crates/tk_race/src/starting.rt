@@ -3,14 +3,15 @@ ghost use Rattle.std.specs.Prelude.{◌≡◌, length, map, IfOk, vec_len, vec_c
 ghost use Rattle.tk_race.specs.Actor.{HasActed, IsReady, HaveActed, AreReady};
 
 use crate::action::Action;
-use crate::actor::{Actor, act};
+use crate::actor::{Actor, RaceKeeper, act};
 use crate::gate::Gate;
 use crate::race_error::RaceError;
 use std::snapshot::Snapshot;
 use std::sync::Wait;
 use std::thread;
 use std::thread::{Promise, PromisedHandle, Scope, Threads};
-use tk_shared::{Caller, Named, SharedKeeper, Ticker};
+use tk_now::SharedTicker;
+use tk_shared::{Caller, Named};
 
 /// States what an actor's thread promises: that it has done these actions, starting from this
 /// caller.
@@ -28,10 +29,11 @@ impl<L: Named> Promise<Actor<L>> for Acts<L> {
 }
 
 /// Starts an actor's thread. Returns `Threads` if it can't be started.
-fn start<'s, 'e, L: Named + Send + Sync + 'e, G: Gate + Sync, R: Threads + Wait + Sync>(
+fn start<'s, 'c: 'e, 'e, L: Named + Send + Sync + 'e, G: Gate + Sync, R: Threads + Wait + Sync>(
     scope: &'s Scope<'s, &'e ()>,
     rt: &'e R,
-    keeper: &'e SharedKeeper<L, Ticker>,
+    keeper: &'e RaceKeeper<'c, L>,
+    counter: &'e SharedTicker,
     gate: &'e G,
     piece: usize,
     actions: &'e Vec<Action>,
@@ -50,7 +52,7 @@ fn start<'s, 'e, L: Named + Send + Sync + 'e, G: Gate + Sync, R: Threads + Wait 
     let work = move || -> Actor<L>
         requires { IsReady actions.now.items actor }
         ensures { HasActed actor.caller result.caller actions.entry.now.items result.replies }
-    { act(rt, keeper, gate, piece, actions.as_slice(), actor) };
+    { act(rt, keeper, counter, gate, piece, actions.as_slice(), actor) };
     match scope.spawn_with(promise, work) {
         Ok(handle) => Ok(handle),
         Err(_) => Err(RaceError::Threads),
@@ -59,10 +61,11 @@ fn start<'s, 'e, L: Named + Send + Sync + 'e, G: Gate + Sync, R: Threads + Wait 
 
 /// Starts a thread for each actor, the last one first, and joins them all. It allocates no list:
 /// the actors that come back are in the list that was passed.
-fn start_all<'s, 'e, L: Named + Send + Sync + 'e, G: Gate + Sync, R: Threads + Wait + Sync>(
+fn start_all<'s, 'c: 'e, 'e, L: Named + Send + Sync + 'e, G: Gate + Sync, R: Threads + Wait + Sync>(
     scope: &'s Scope<'s, &'e ()>,
     rt: &'e R,
-    keeper: &'e SharedKeeper<L, Ticker>,
+    keeper: &'e RaceKeeper<'c, L>,
+    counter: &'e SharedTicker,
     gate: &'e G,
     actions: &'e [Vec<Action>],
     mut actors: Vec<Actor<L>>,
@@ -77,8 +80,8 @@ fn start_all<'s, 'e, L: Named + Send + Sync + 'e, G: Gate + Sync, R: Threads + W
         return Ok(actors);
     };
     let actor = actors.pop().unwrap();
-    let handle = start(scope, rt, keeper, gate, others.len(), last, actor)?;
-    let mut back = start_all(scope, rt, keeper, gate, others, actors)?;
+    let handle = start(scope, rt, keeper, counter, gate, others.len(), last, actor)?;
+    let mut back = start_all(scope, rt, keeper, counter, gate, others, actors)?;
     back.push_reserved(handle.join(rt));
     Ok(back)
 }
@@ -88,7 +91,8 @@ fn start_all<'s, 'e, L: Named + Send + Sync + 'e, G: Gate + Sync, R: Threads + W
 /// Returns `Threads` if a thread couldn't be started. Those that were started have ended then too.
 pub(crate) fn act_at_once<L: Named + Send + Sync, G: Gate + Sync, R: Threads + Wait + Sync>(
     rt: &R,
-    keeper: &SharedKeeper<L, Ticker>,
+    keeper: &RaceKeeper<'_, L>,
+    counter: &SharedTicker,
     gate: &G,
     actions: &[Vec<Action>],
     actors: Vec<Actor<L>>,
@@ -106,6 +110,6 @@ pub(crate) fn act_at_once<L: Named + Send + Sync, G: Gate + Sync, R: Threads + W
             ensures { MatchResult result
                 (λ back. HaveActed (map (λ a. a.items) actions.entry.now) actors.items back.items)
                 (λ error. error ≡ RaceError.Threads) }
-        { start_all(scope, rt, keeper, gate, actions, actors) },
+        { start_all(scope, rt, keeper, counter, gate, actions, actors) },
     )
 }
