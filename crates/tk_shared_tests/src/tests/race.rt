@@ -3,6 +3,7 @@
 mod gates;
 mod memory;
 mod replies;
+mod times;
 
 use super::assert_same;
 use std::alloc::{AllocError, Global};

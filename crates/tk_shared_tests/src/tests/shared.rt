@@ -7,9 +7,11 @@ mod folding;
 mod locked;
 mod many;
 mod memory;
+mod never_back;
 mod openings;
 mod readers;
 mod readings;
+mod times;
 mod turns;
 
 use super::assert_same;
@@ -25,6 +27,12 @@ use tk_test_support::{OPENED_TIME, nanosecond_counter};
 /// A time in seconds and nanoseconds.
 fn time(sec: i64, nsec: u32) -> Timespec {
     Timespec { sec, nsec }
+}
+
+/// A clock's time in nanoseconds.
+fn nanoseconds(time: Timespec) -> u64 {
+    let seconds = time.sec.unsigned_abs().wrapping_mul(1_000_000_000);
+    seconds.wrapping_add(u64::from(time.nsec))
 }
 
 /// A keeper for this number of callers, with no room for commands yet.

@@ -9,8 +9,10 @@ use std::process::Abort;
 use std::sync::Wait;
 use std::test::Fail;
 use tk_clock::{Command, Refusal};
+use tk_now::{Look, SharedCounter, SharedTicker};
 use tk_shared::{
-    Caller, Counter, Named, OpenError, OpenFault, Prepared, SharedKeeper, Ticker, prepare,
+    Caller, Counter, Named, OpenError, OpenFault, Prepared, SharedKeeper, SharedReader, Ticker,
+    prepare,
 };
 
 /// How many commands are given: room is made again and again.
@@ -87,4 +89,16 @@ fn gives_all<L: Named, R: Wait + Abort>(
     }
     // one request at most is refused
     assert!(rt; accepted >= COMMANDS - 1);
+}
+
+/// A reader of a shared counter. If its request is refused, the counter wasn't read.
+#[test]
+fn a_shared_reader_or_no_memory(rt: HostRuntime) -> Result<(), Fail> {
+    let ticker = SharedTicker::new(7, 1);
+    let first = match SharedReader::new(rt.alloc(), &ticker) {
+        Ok(mut reader) => reader.read(),
+        Err(_) => ticker.read(&Look::first(rt.alloc())?),
+    };
+    assert_same(&rt, &first, &7);
+    Ok(())
 }

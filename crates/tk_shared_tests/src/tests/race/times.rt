@@ -1,0 +1,86 @@
+//! Tests the time now in races.
+use std::test::Fail;
+use tk_clock::{ClockId, Command, ReadError, Timespec};
+use tk_counter::CounterDesc;
+use tk_race::{Action, NoGate, RaceReply, race};
+use tk_test_support::{OPENED_TIME, nanosecond_counter};
+
+/// A reply with this front and this time.
+fn timed(front: u64, sec: i64, nsec: u32) -> RaceReply {
+    RaceReply::Timed {
+        front,
+        time: Timespec { sec, nsec },
+    }
+}
+
+/// The clocks open at reading 5, and each action reads 10 ns more. MONOTONIC is 40 ns at the
+/// suspension, which lasts a second by the resume.
+#[test]
+fn times_are_those_of_the_counters_readings(rt: HostRuntime) -> Result<(), Fail> {
+    let actions = vec![in rt.alloc();
+        Action::Now(ClockId::Monotonic),
+        Action::Order(Command::Update),
+        Action::Now(ClockId::Realtime),
+        Action::Order(Command::Suspend),
+        Action::Now(ClockId::Monotonic),
+        Action::Now(ClockId::Boottime),
+        Action::Order(Command::Resume(Timespec { sec: 1, nsec: 0 })),
+        Action::Now(ClockId::Boottime),
+        Action::Glance,
+    ]?;
+    let actors = vec![in rt.alloc(); actions]?;
+    let desc = nanosecond_counter()?;
+    let report = race(
+        rt.alloc(),
+        &rt,
+        desc,
+        5,
+        OPENED_TIME,
+        10,
+        actors.as_slice(),
+        &NoGate,
+    )
+    .ok()
+    .ok_or("a report")?;
+    let expected = [
+        timed(0, 0, 10),
+        RaceReply::Done(1),
+        timed(1, 1_700_000_000, 30),
+        RaceReply::Done(2),
+        timed(2, 0, 40),
+        timed(2, 0, 40),
+        RaceReply::Done(3),
+        timed(3, 1, 50),
+        RaceReply::Glanced(3),
+    ];
+    let replies = report.replies.first().ok_or("replies")?;
+    assert!(&rt; replies.as_slice() == expected.as_slice());
+    Ok(())
+}
+
+/// 2^62 ns after the opening no clock has a value any more.
+#[test]
+fn a_reading_beyond_the_clocks_is_refused(rt: HostRuntime) -> Result<(), Fail> {
+    let actions = vec![in rt.alloc(); Action::Now(ClockId::Monotonic); 1]?;
+    let actors = vec![in rt.alloc(); actions]?;
+    let desc = CounterDesc::new(64, 16_777_216, 24)?;
+    let report = race(
+        rt.alloc(),
+        &rt,
+        desc,
+        0,
+        OPENED_TIME,
+        1 << 62,
+        actors.as_slice(),
+        &NoGate,
+    )
+    .ok()
+    .ok_or("a report")?;
+    let refused = RaceReply::Untimed {
+        front: 0,
+        refusal: ReadError::Range,
+    };
+    let replies = report.replies.first().ok_or("replies")?;
+    assert!(&rt; replies.as_slice() == &[refused]);
+    Ok(())
+}

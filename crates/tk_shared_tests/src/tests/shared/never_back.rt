@@ -1,0 +1,219 @@
+//! Four threads ask for the time now while two give commands. No answer for MONOTONIC is below an
+//! earlier one of any thread.
+ghost use Rattle.std.specs.Prelude.{◌≡◌};
+ghost use Rattle.tk_shared.specs.Opening.{IsNamed};
+
+use super::{assert_same, commanded, nanoseconds, opened, ready_on, time};
+use std::alloc::Global;
+use std::marker::Brand;
+use std::process::Abort;
+use std::sync::Wait;
+use std::sync::atomic::{AtomicU64, Ordering};
+use std::test::Fail;
+use std::thread::{self, Threads};
+use tk_clock::{ClockId, Command, ReadError, Refusal, Timespec};
+use tk_counter::CounterDesc;
+use tk_now::SharedTicker;
+use tk_shared::{Caller, Counter, Named, NowFault, Prepared, SharedKeeper, SharedReader};
+
+/// The number of answers that each of the four threads gets, so 10,000,000 in all.
+const ANSWERS: u64 = 2_500_000;
+
+/// The fewest commands that each of the two threads gives. They go on until all answers are there.
+const COMMANDS: u64 = 10_000;
+
+/// The cycles, of a nanosecond, from one reading to the next.
+const STEP: u64 = 1_000;
+
+/// The first reading: the counter wraps in the middle.
+const START: u64 = (1 << 48) - 5_000_000 * STEP;
+
+/// What the threads share with each other, besides the keeper.
+#[derive(Drop)]
+struct Board {
+    counter: SharedTicker,
+    /// The greatest answer of any thread, in nanoseconds.
+    greatest: AtomicU64,
+    /// The number of threads that still ask.
+    asking: AtomicU64,
+    /// The number of answers below an earlier one, and of refusals that no thread may meet.
+    faults: AtomicU64,
+}
+
+/// The callers 0 and 1 ask by the page, 2 and 3 by the latch, and 4 and 5 give commands.
+fn plays<L: Named, C: Counter, R: Wait>(
+    rt: &R,
+    keeper: &SharedKeeper<L, C>,
+    caller: &mut Caller<L>,
+    board: &Board,
+) {
+    if caller.id() >= 4 {
+        gives_commands(rt, keeper, caller, board);
+        return;
+    }
+    asks(rt, keeper, caller, board);
+    board.asking.fetch_sub(1, Ordering::SeqCst);
+}
+
+/// Asks until all answers are there.
+fn asks<L: Named, C: Counter, R: Wait>(
+    rt: &R,
+    keeper: &SharedKeeper<L, C>,
+    caller: &mut Caller<L>,
+    board: &Board,
+) {
+    let mut answers = 0u64;
+    for _ in rt.forever() {
+        let before = board.greatest.load(Ordering::SeqCst);
+        match asked(rt, keeper, caller, &board.counter) {
+            Ok(Some(time)) => compares(board, before, nanoseconds(time)),
+            Ok(None) => continue,
+            Err(_) => fails(board),
+        }
+        answers = answers.wrapping_add(1);
+        if answers == ANSWERS {
+            return;
+        }
+    }
+}
+
+/// MONOTONIC now. `None` means that a command came between.
+fn asked<L: Named, C: Counter, R: Wait>(
+    rt: &R,
+    keeper: &SharedKeeper<L, C>,
+    caller: &mut Caller<L>,
+    counter: &SharedTicker,
+) -> Result<Option<Timespec>, ReadError> {
+    let clock = ClockId::Monotonic;
+    if caller.id() < 2 {
+        return Ok(Some(keeper.now(rt, caller, counter, clock)?));
+    }
+    match keeper.now_fast(caller, counter, clock) {
+        Ok(time) => Ok(Some(time)),
+        Err(NowFault::Refused(refusal)) => Err(refusal),
+        Err(_) => Ok(None),
+    }
+}
+
+/// Notes an answer, and whether it is below one that some thread had when the call began.
+fn compares(board: &Board, before: u64, answer: u64) {
+    if answer < before {
+        fails(board);
+    }
+    board.greatest.fetch_max(answer, Ordering::SeqCst);
+}
+
+fn fails(board: &Board) {
+    board.faults.fetch_add(1, Ordering::SeqCst);
+}
+
+/// Gives commands until no thread asks any more, and now and then folds.
+fn gives_commands<L: Named, C: Counter, R: Wait>(
+    rt: &R,
+    keeper: &SharedKeeper<L, C>,
+    caller: &mut Caller<L>,
+    board: &Board,
+) {
+    for turn in 0..u64::MAX {
+        if turn >= COMMANDS && board.asking.load(Ordering::SeqCst) == 0 {
+            return;
+        }
+        let cmd = command_of(turn);
+        if let Err(refusal) = commanded(rt, keeper, caller, cmd) {
+            if !matches!(refusal, Refusal::Asleep | Refusal::Awake) {
+                fails(board);
+            }
+        }
+        if turn % 1_024 == 0 {
+            keeper.fold(rt, 16);
+        }
+        thread::yield_now();
+    }
+}
+
+/// The fastest and the slowest clocks in turn, a sleep, and steps of REALTIME alone.
+fn command_of(turn: u64) -> Command {
+    match turn % 8 {
+        0 => Command::Freq(500 << 16),
+        1 => Command::Tick(11_000),
+        2 => Command::Step(time(-1, 999_999_990)),
+        3 => Command::Suspend,
+        4 => Command::Resume(time(0, 10)),
+        5 => Command::Tick(9_000),
+        6 => Command::Freq(-(500 << 16)),
+        _ => Command::Update,
+    }
+}
+
+#[test]
+fn no_answer_is_below_an_earlier_one(rt: HostRuntime) -> Result<(), Fail> {
+    let board = Board {
+        counter: SharedTicker::new(START, STEP),
+        greatest: AtomicU64::new(0),
+        asking: AtomicU64::new(4),
+        faults: AtomicU64::new(0),
+    };
+    let desc = CounterDesc::new(48, 16_777_216, 24)?;
+    let counter = SharedReader::new(rt.alloc(), &board.counter)?;
+    let prepared = ready_on(&rt, rt.alloc(), desc, counter, 6)?;
+    all_play::<Brand, _, _>(&rt, rt.alloc(), prepared, &board)
+}
+
+/// Lets two callers play at once.
+fn two_play<L: Named + Send + Sync, C: Counter, R: Threads + Wait + Sync>(
+    rt: &R,
+    keeper: &SharedKeeper<L, C>,
+    mut one: Caller<L>,
+    mut other: Caller<L>,
+    board: &Board,
+) {
+    let _ = thread::join(
+        rt,
+        move || plays(rt, keeper, &mut one, board),
+        move || plays(rt, keeper, &mut other, board),
+    );
+}
+
+/// Lets the last four callers play at once.
+fn four_play<L: Named + Send + Sync, C: Counter, R: Threads + Wait + Sync>(
+    rt: &R,
+    keeper: &SharedKeeper<L, C>,
+    mut callers: Vec<Caller<L>>,
+    board: &Board,
+) {
+    let (Some(one), Some(two), Some(three), Some(four)) = (
+        callers.pop(),
+        callers.pop(),
+        callers.pop(),
+        callers.pop(),
+    ) else {
+        fails(board);
+        return;
+    };
+    let _ = thread::join(
+        rt,
+        move || two_play(rt, keeper, one, two, board),
+        move || two_play(rt, keeper, three, four, board),
+    );
+}
+
+fn all_play<L: Named + Send + Sync, C: Counter, R: Threads + Wait + Abort + Sync>(
+    rt: &R,
+    alloc: Global,
+    prepared: Prepared<C>,
+    board: &Board,
+) -> Result<(), Fail>
+    requires named { IsNamed prepared L.page L.latch L.notice L.name L.parts L.callers }
+{
+    let (keeper, mut callers) = opened::<L, C>(alloc, prepared)?;
+    let one = callers.pop().ok_or("a caller")?;
+    let two = callers.pop().ok_or("a caller")?;
+    let keeper = &keeper;
+    let _ = thread::join(
+        rt,
+        move || two_play(rt, keeper, one, two, board),
+        move || four_play(rt, keeper, callers, board),
+    );
+    assert_same(rt, &board.faults.load(Ordering::SeqCst), &0);
+    Ok(())
+}
