@@ -59,6 +59,23 @@ impl Page {
         unsafe { words.assume_init() }
     }
 
+    /// The words, and what `read` gives while they stand.
+    #[allow(dead_code)]
+    pub fn load_with(&self, mut read: impl FnMut() -> u64) -> (Words, u64) {
+        loop {
+            let before = self.version.load(Ordering::Acquire);
+            if before != 1 {
+                let words = unsafe { ptr::read_volatile(self.words.get()) };
+                let given = read();
+                fence(Ordering::Acquire);
+                if self.version.load(Ordering::Relaxed) == before {
+                    return (unsafe { words.assume_init() }, given);
+                }
+            }
+            spin_loop();
+        }
+    }
+
     pub fn store(&self, words: Words) {
         let before = self.lock();
         unsafe { ptr::write(self.words.get(), MaybeUninit::new(words)) };

@@ -14,12 +14,14 @@
 mod latch;
 mod latch_desk;
 mod many;
+mod now;
 mod page;
 mod race;
 mod shared;
 mod timed_job;
 mod unpublished;
 
+use now::{Asked, Beside};
 use shared::Work;
 use std::alloc::Global;
 use std::process::ExitCode;
@@ -56,6 +58,15 @@ fn turn_of<R: Threads + Wait + Hours + Sync>(
         TimedJob::SharedCommand4 => shared::turn(rt, alloc, Work::FourThreads, effort),
         TimedJob::SharedReadBeside => shared::turn(rt, alloc, Work::ReadsBeside, effort),
         TimedJob::SharedFastReadBeside => shared::turn(rt, alloc, Work::FastReadsBeside, effort),
+        TimedJob::NowParts => now::turn(rt, alloc, Asked::Parts, Beside::Nothing, effort),
+        TimedJob::Now | TimedJob::NowLock | TimedJob::NowCell => {
+            now::turn(rt, alloc, Asked::Now, Beside::Nothing, effort)
+        }
+        TimedJob::NowFast => now::turn(rt, alloc, Asked::NowFast, Beside::Nothing, effort),
+        TimedJob::NowPartsBeside => now::turn(rt, alloc, Asked::Parts, Beside::Updates, effort),
+        TimedJob::NowBeside => now::turn(rt, alloc, Asked::Now, Beside::Updates, effort),
+        TimedJob::NowFastBeside => now::turn(rt, alloc, Asked::NowFast, Beside::Updates, effort),
+        TimedJob::NowHost => now::by_host(rt, alloc, effort),
         TimedJob::Many1 => many::turn(rt, alloc, 1, effort),
         TimedJob::Many4 => many::turn(rt, alloc, 4, effort),
         TimedJob::Race4 => race::turn(rt, alloc, effort),

@@ -22,6 +22,18 @@ pub enum TimedJob {
     /// Reads of its page, and of its latch, by one thread, while four threads give commands.
     SharedReadBeside,
     SharedFastReadBeside,
+    /// The parts of the time now one after the other, the time now by the page, and by the latch.
+    NowParts,
+    Now,
+    NowFast,
+    /// The same three jobs with a thousand commands a second in another thread.
+    NowPartsBeside,
+    NowBeside,
+    NowFastBeside,
+    /// The time now by the page, beside peers with a lock, with a retried read, and with the host.
+    NowLock,
+    NowCell,
+    NowHost,
     /// Reports of eight scripts, by one worker and by four.
     Many1,
     Many4,
@@ -30,7 +42,7 @@ pub enum TimedJob {
 }
 
 /// All jobs, in the order in which they run.
-pub const JOBS: [TimedJob; 15] = [
+pub const JOBS: [TimedJob; 24] = [
     TimedJob::PageRead,
     TimedJob::PageReadBeside,
     TimedJob::PagePublish,
@@ -43,6 +55,15 @@ pub const JOBS: [TimedJob; 15] = [
     TimedJob::SharedCommand4,
     TimedJob::SharedReadBeside,
     TimedJob::SharedFastReadBeside,
+    TimedJob::NowParts,
+    TimedJob::Now,
+    TimedJob::NowFast,
+    TimedJob::NowPartsBeside,
+    TimedJob::NowBeside,
+    TimedJob::NowFastBeside,
+    TimedJob::NowLock,
+    TimedJob::NowCell,
+    TimedJob::NowHost,
     TimedJob::Many1,
     TimedJob::Many4,
     TimedJob::Race4,
@@ -63,6 +84,15 @@ impl Job for TimedJob {
             TimedJob::SharedCommand4 => "shared_command_4",
             TimedJob::SharedReadBeside => "shared_read_beside",
             TimedJob::SharedFastReadBeside => "shared_fast_read_beside",
+            TimedJob::NowParts => "now_parts",
+            TimedJob::Now => "now",
+            TimedJob::NowFast => "now_fast",
+            TimedJob::NowPartsBeside => "now_parts_beside",
+            TimedJob::NowBeside => "now_beside",
+            TimedJob::NowFastBeside => "now_fast_beside",
+            TimedJob::NowLock => "now_lock",
+            TimedJob::NowCell => "now_cell",
+            TimedJob::NowHost => "now_host",
             TimedJob::Many1 => "many_1",
             TimedJob::Many4 => "many_4",
             TimedJob::Race4 => "race_4",
@@ -75,6 +105,10 @@ impl Job for TimedJob {
             TimedJob::PageRead | TimedJob::PageReadBeside => "ns/read",
             TimedJob::LatchRead | TimedJob::LatchReadBeside => "ns/read",
             TimedJob::SharedReadBeside | TimedJob::SharedFastReadBeside => "ns/read",
+            TimedJob::NowParts | TimedJob::NowPartsBeside => "ns/time",
+            TimedJob::Now | TimedJob::NowBeside | TimedJob::NowHost => "ns/time",
+            TimedJob::NowFast | TimedJob::NowFastBeside => "ns/time",
+            TimedJob::NowLock | TimedJob::NowCell => "ns/time",
             TimedJob::Many1 | TimedJob::Many4 => "ms",
             _ => "ns/command",
         }

@@ -1,0 +1,98 @@
+//! The time now as hand-written Rust: a reading and a conversion under a lock; the same within a
+//! retried read of a page; and the host's own monotonic clock.
+use crate::clock::{Clock, Desc, Words};
+use crate::page::Page;
+use crate::turns::{Effort, Turn};
+use std::hint::black_box;
+use std::sync::atomic::{AtomicU64, Ordering};
+use std::sync::Mutex;
+use std::time::Instant;
+
+const CALLS: u64 = 3_000_000;
+
+/// The cycles from one reading of the counter to the next.
+const CYCLES: u64 = 10;
+
+const NANOS: u64 = 1_000_000_000;
+
+/// A counter that each read moves on.
+struct Ticker {
+    next: AtomicU64,
+}
+
+impl Ticker {
+    /// A counter whose reading 0 has opened the clocks.
+    fn opened() -> Box<Ticker> {
+        black_box(Box::new(Ticker {
+            next: AtomicU64::new(CYCLES),
+        }))
+    }
+
+    fn read(&self) -> u64 {
+        self.next.fetch_add(CYCLES, Ordering::SeqCst)
+    }
+}
+
+/// MONOTONIC at a reading, as seconds and nanoseconds.
+fn monotonic(words: &Words, desc: &Desc, reading: u64) -> (u64, u64) {
+    let [_, last, mult, frac, sec, ..] = *words;
+    let cycles = reading.wrapping_sub(last) & desc.mask();
+    let units = frac as u128 + cycles as u128 * mult as u128;
+    let second = (NANOS as u128) << desc.shift;
+    if units < second {
+        return (sec, (units >> desc.shift) as u64);
+    }
+    let rest = (units % second) >> desc.shift;
+    (sec + (units / second) as u64, rest as u64)
+}
+
+/// Times calls, and adds up what they give.
+fn summed(effort: Effort, mut call: impl FnMut() -> (u64, u64)) -> Turn {
+    let count = effort.of(CALLS);
+    let start = Instant::now();
+    let mut check = 0u64;
+    for _ in 0..count {
+        let (sec, nsec) = call();
+        check = check.wrapping_add(sec.wrapping_mul(NANOS).wrapping_add(nsec));
+    }
+    let time = start.elapsed();
+    Turn { time, count, check }
+}
+
+/// Times calls that take a lock, read the counter and convert.
+pub fn by_lock(effort: Effort) -> Turn {
+    let clock = Clock::opened();
+    let (desc, counter) = (clock.desc, Ticker::opened());
+    let locked = black_box(Box::new(Mutex::new(clock.words(0))));
+    summed(effort, || {
+        let words = locked.lock().unwrap();
+        monotonic(&words, &desc, counter.read())
+    })
+}
+
+/// Times calls that read the counter within a read of a page, which is tried again if a writer came
+/// between.
+pub fn by_cell(effort: Effort) -> Turn {
+    let clock = Clock::opened();
+    let (desc, counter) = (clock.desc, Ticker::opened());
+    let page = black_box(Box::new(Page::new(clock.words(0))));
+    summed(effort, || {
+        let (words, reading) = page.load_with(|| counter.read());
+        monotonic(&words, &desc, reading)
+    })
+}
+
+/// Times calls of `clock_gettime(CLOCK_MONOTONIC)`. The check is the number of answers that aren't
+/// below the one before.
+pub fn by_host(effort: Effort) -> Turn {
+    let count = effort.of(CALLS);
+    let start = Instant::now();
+    let (mut last, mut check) = (start, 0u64);
+    for _ in 0..count {
+        let now = black_box(Instant::now());
+        check += u64::from(now >= last);
+        last = now;
+    }
+    let time = start.elapsed();
+    Turn { time, count, check }
+}

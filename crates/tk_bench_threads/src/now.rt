@@ -1,0 +1,242 @@
+//! Times the time now of a shared keeper: by the page, by the latch, and by the parts of such a
+//! call; alone, and beside a thousand commands a second.
+ghost use Rattle.tk_shared.specs.Opening.{IsNamed};
+
+use std::alloc::Global;
+use std::marker::Brand;
+use std::sync::Wait;
+use std::sync::atomic::{AtomicBool, Ordering};
+use std::thread::{self, Threads};
+use std::time::{Clock as Hours, Duration, Instant};
+use tk_clock::{ClockId, Command, Timespec};
+use tk_now::{HostCounter, Look, SharedCounter, SharedTicker};
+use tk_shared::{Caller, Counter, Named, Prepared, SharedKeeper, SharedReader, prepare};
+use tk_test_support::{Effort, OPENED_TIME, Turn, nanosecond_counter};
+
+/// The number of calls of a full turn.
+const CALLS: u64 = 3_000_000;
+
+/// The number of commands that the keeper has room for.
+const ROOM: usize = 100_000;
+
+/// The cycles from one reading of the counter to the next.
+const CYCLES: u64 = 10;
+
+/// Names what a call asks for.
+#[derive(Clone, Copy)]
+pub enum Asked {
+    /// The time now, by the page.
+    Now,
+    /// The time now without waiting, by the latch.
+    NowFast,
+    /// A read of the page, a reading of the counter, and the time at that reading.
+    Parts,
+}
+
+/// Names the commands beside the calls.
+#[derive(Clone, Copy)]
+pub enum Beside {
+    Nothing,
+    /// A thousand updates a second, in another thread.
+    Updates,
+}
+
+/// Adds up answers.
+#[derive(Clone, Copy)]
+struct Tally {
+    sum: u64,
+    last: u64,
+    /// The number of answers that aren't below the one before.
+    kept: u64,
+}
+
+impl Tally {
+    fn new() -> Tally {
+        Tally {
+            sum: 0,
+            last: 0,
+            kept: 0,
+        }
+    }
+
+    fn add(&mut self, time: Timespec) {
+        let seconds = time.sec.unsigned_abs().wrapping_mul(1_000_000_000);
+        let nanos = seconds.wrapping_add(u64::from(time.nsec));
+        if nanos >= self.last {
+            self.kept = self.kept.wrapping_add(1);
+        }
+        self.sum = self.sum.wrapping_add(nanos);
+        self.last = nanos;
+    }
+}
+
+/// Returns the time now without waiting. Calls again while a command comes between.
+#[inline(always)]
+fn fast<L: Named, C: Counter, S: SharedCounter>(
+    keeper: &SharedKeeper<L, C>,
+    caller: &mut Caller<L>,
+    counter: &S,
+) -> Option<Timespec> {
+    for _ in 0..u64::MAX {
+        if let Ok(time) = keeper.now_fast(caller, counter, ClockId::Monotonic) {
+            return Some(time);
+        }
+    }
+    None
+}
+
+/// Asks for MONOTONIC `count` times, and returns the tally of the answers. `look` is one of
+/// the time before the notice, since the parts announce nothing.
+fn asks<L: Named, C: Counter, S: SharedCounter, R: Wait>(
+    rt: &R,
+    keeper: &SharedKeeper<L, C>,
+    caller: &mut Caller<L>,
+    counter: &S,
+    look: &Look,
+    asked: Asked,
+    count: u64,
+) -> Tally {
+    let mut tally = Tally::new();
+    for _ in 0..count {
+        let time = match asked {
+            Asked::Now => keeper.now(rt, caller, counter, ClockId::Monotonic).ok(),
+            Asked::NowFast => fast(keeper, caller, counter),
+            Asked::Parts => {
+                let snapshot = keeper.read(rt, caller);
+                let reading = counter.read(look) & snapshot.desc().mask();
+                snapshot.get(ClockId::Monotonic, reading).ok()
+            }
+        };
+        if let Some(time) = time {
+            tally.add(time);
+        }
+    }
+    tally
+}
+
+/// Gives an update a thousand times a second until `enough` is set.
+fn updates_slowly<L: Named, C: Counter, R: Wait + Hours>(
+    rt: &R,
+    keeper: &SharedKeeper<L, C>,
+    mut caller: Caller<L>,
+    enough: &AtomicBool,
+) {
+    for _ in 0..ROOM {
+        let _ = keeper.command(rt, &mut caller, Command::Update);
+        if enough.load(Ordering::SeqCst) {
+            return;
+        }
+        thread::sleep(rt, Duration::from_millis(1));
+    }
+}
+
+/// Asks in one thread, and gives updates in another until the answers are there.
+fn asks_beside<
+    L: Named + Send + Sync,
+    C: Counter + Send,
+    S: SharedCounter + Sync,
+    R: Threads + Wait + Hours + Sync,
+>(
+    rt: &R,
+    keeper: &SharedKeeper<L, C>,
+    caller: &mut Caller<L>,
+    other: Caller<L>,
+    counter: &S,
+    look: &Look,
+    asked: Asked,
+    count: u64,
+) -> Tally {
+    let enough = AtomicBool::new(false);
+    let stop = &enough;
+    let (_, tally) = thread::join(
+        rt,
+        move || updates_slowly(rt, keeper, other, stop),
+        move || {
+            let tally = asks(rt, keeper, caller, counter, look, asked, count);
+            stop.store(true, Ordering::SeqCst);
+            tally
+        },
+    );
+    tally
+}
+
+/// Opens the keeper, and times the calls.
+fn timed<L: Named + Send + Sync, S: SharedCounter + Sync, R: Threads + Wait + Hours + Sync>(
+    rt: &R,
+    alloc: Global,
+    prepared: Prepared<SharedReader<'_, S>>,
+    counter: &S,
+    asked: Asked,
+    beside: Beside,
+    count: u64,
+) -> Option<(Duration, Tally)>
+    requires named { IsNamed prepared L.page L.latch L.notice L.name L.parts L.callers }
+{
+    let look = Look::first(alloc).ok()?;
+    let (keeper, mut callers) = SharedKeeper::<L, SharedReader<'_, S>>::open(alloc, prepared).ok()?;
+    let (mut caller, other) = (callers.pop()?, callers.pop()?);
+    let start = Instant::now(rt).ok()?;
+    let tally = match beside {
+        Beside::Nothing => asks(rt, &keeper, &mut caller, counter, &look, asked, count),
+        Beside::Updates => asks_beside(
+            rt,
+            &keeper,
+            &mut caller,
+            other,
+            counter,
+            &look,
+            asked,
+            count,
+        ),
+    };
+    Some((start.elapsed(rt).ok()?, tally))
+}
+
+/// Prepares a keeper over the counter, opens it and times the calls.
+fn tallied<S: SharedCounter + Sync, R: Threads + Wait + Hours + Sync>(
+    rt: &R,
+    alloc: Global,
+    counter: &S,
+    asked: Asked,
+    beside: Beside,
+    count: u64,
+) -> Option<(Duration, Tally)> {
+    let reader = SharedReader::new(alloc, counter).ok()?;
+    let desc = nanosecond_counter().ok()?;
+    let prepared = prepare(alloc, rt, desc, OPENED_TIME, reader, 2, ROOM).ok()?;
+    timed::<Brand, S, R>(rt, alloc, prepared, counter, asked, beside, count)
+}
+
+/// Times calls over a counter that each read moves on. The check is the sum of the answers or,
+/// beside updates, the number of those that aren't below the one before. Returns `None` if a call
+/// fails.
+pub fn turn<R: Threads + Wait + Hours + Sync>(
+    rt: &R,
+    alloc: Global,
+    asked: Asked,
+    beside: Beside,
+    effort: Effort,
+) -> Option<Turn> {
+    let counter = SharedTicker::new(0, CYCLES);
+    let count = effort.of(CALLS);
+    let (time, tally) = tallied(rt, alloc, &counter, asked, beside, count)?;
+    let check = match beside {
+        Beside::Nothing => tally.sum,
+        Beside::Updates => tally.kept,
+    };
+    Some(Turn { time, count, check })
+}
+
+/// Times calls over the host's monotonic clock. The check is the number of answers that aren't below
+/// the one before. Returns `None` if a call fails.
+pub fn by_host<R: Threads + Wait + Hours + Sync>(
+    rt: &R,
+    alloc: Global,
+    effort: Effort,
+) -> Option<Turn> {
+    let counter = HostCounter::new(rt, Instant::now(rt).ok()?);
+    let count = effort.of(CALLS);
+    let (time, tally) = tallied(rt, alloc, &counter, Asked::Now, Beside::Nothing, count)?;
+    let check = tally.kept;
+    Some(Turn { time, count, check })
+}
