@@ -81,6 +81,6 @@ fn a_reading_beyond_the_clocks_is_refused(rt: HostRuntime) -> Result<(), Fail> {
         refusal: ReadError::Range,
     };
     let replies = report.replies.first().ok_or("replies")?;
-    assert!(&rt; replies.as_slice() == &[refused]);
+    assert!(&rt; replies.as_slice() == [refused].as_slice());
     Ok(())
 }
