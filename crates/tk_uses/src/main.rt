@@ -1,9 +1,10 @@
 //! Runs the clocks of a counter of 1 MHz through settings, a timer, a sleep and a fold, and prints
-//! their values on the way.
+//! their values on the way. At the end three threads share clocks.
 #![tactic(auto)]
 
 mod numbers;
 mod stop;
+mod threads;
 
 ghost use Rattle.std.specs.Prelude.{◌≡◌, ◌≤ℤ◌, IfOk, IfSome, MatchOption};
 ghost use Rattle.tk_clock.specs.Clocks.{clock_value};
@@ -29,7 +30,8 @@ fn main(rt: HostRuntime) -> Result<(), Stop> {
     tell(&rt, &keeper, 1_000_000)?;
     settings(&rt, &mut keeper)?;
     sleep(&rt, &mut keeper)?;
-    fold(&rt, &mut keeper)
+    fold(&rt, &mut keeper)?;
+    threads::run(&rt, rt.alloc())
 }
 
 /// Opens the clocks of a counter with 1 microsecond a cycle and readings of 32 bits. At the reading

@@ -1,7 +1,9 @@
+use std::alloc::AllocError;
 use std::io;
 use tk_clock::{ReadError, Refusal};
 use tk_counter::DescError;
 use tk_keeper::FrontError;
+use tk_shared::OpenError;
 
 /// States why the program stops early.
 #[derive(Debug, Drop)]
@@ -14,6 +16,8 @@ pub(crate) enum Stop {
     Read(ReadError),
     /// A front has no snapshot.
     Front(FrontError),
+    /// The clocks can't be opened for threads.
+    Open(OpenError),
     /// A write to standard output failed.
     Output(io::Error),
 }
@@ -45,5 +49,11 @@ impl From<FrontError> for Stop {
 impl From<io::Error> for Stop {
     fn from(error: io::Error) -> Stop {
         Stop::Output(error)
+    }
+}
+
+impl From<AllocError> for Stop {
+    fn from(_error: AllocError) -> Stop {
+        Stop::Open(OpenError::Memory)
     }
 }
