@@ -1,5 +1,5 @@
 //! Times the time now of a shared keeper: by the page, by the latch, and by the parts of such a
-//! call; alone, and beside a thousand commands a second.
+//! call; alone, and with a thousand commands a second in another thread.
 ghost use Rattle.tk_shared.specs.Opening.{IsNamed};
 
 use std::alloc::Global;
@@ -33,7 +33,7 @@ pub enum Asked {
     Parts,
 }
 
-/// Names the commands beside the calls.
+/// Names the commands that are given during the calls.
 #[derive(Clone, Copy)]
 pub enum Beside {
     Nothing,
@@ -208,7 +208,7 @@ fn tallied<S: SharedCounter + Sync, R: Threads + Wait + Hours + Sync>(
 }
 
 /// Times calls over a counter that each read moves on. The check is the sum of the answers or,
-/// beside updates, the number of those that aren't below the one before. Returns `None` if a call
+/// with updates, the number of those that aren't below the one before. Returns `None` if a call
 /// fails.
 pub fn turn<R: Threads + Wait + Hours + Sync>(
     rt: &R,

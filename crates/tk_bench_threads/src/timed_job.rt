@@ -30,7 +30,7 @@ pub enum TimedJob {
     NowPartsBeside,
     NowBeside,
     NowFastBeside,
-    /// The time now by the page, beside peers with a lock, with a retried read, and with the host.
+    /// The time now by the page. The peers use a lock, a retried read, and the host's clock.
     NowLock,
     NowCell,
     NowHost,

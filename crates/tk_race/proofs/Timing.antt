@@ -35,7 +35,7 @@ life_last commands log between b listed all i place a t at_a at_t =
     (ap (λ (l : List Answer). slice_get l (i + length between)) listed
     ∙ get_after between (b ∷ []) i ∙ at_a) at_t
 
--- a caller asked for a clock's time now, and has seen so many entries
+-- a caller asked for a clock's time now, and has seen this number of entries
 pub record IsAsked {S : Type 0} (answers : S → ℕ → ℕ → Type 0) (counter : S) (old new : Known)
     (clock : ClockId) (result : Result Timespec ReadError) (read : ℕ) : Type 0 where
   pub seen : Begins old.seen new.seen

@@ -33,7 +33,7 @@ fn counted(alloc: Global, many: usize) -> Result<Lists, Fail> {
     })
 }
 
-/// A steered timekeeper, and so many items as of its opening.
+/// A steered timekeeper, and this number of items as of its opening.
 fn kept(alloc: Global, many: usize) -> Result<(Timekeeper, Lists), Fail> {
     Ok((steered(alloc)?, counted(alloc, many)?))
 }
