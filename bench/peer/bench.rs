@@ -12,6 +12,11 @@ pub trait Job {
     /// Does the work once.
     fn turn(&mut self);
 
+    /// The time in ns that counts as the last turn's, which took `whole`.
+    fn counted(&self, whole: u128) -> u128 {
+        whole
+    }
+
     /// A number computed from all results of the last turn, or `None` if Jomrezal's job gives
     /// another one.
     fn check(&self) -> Option<u64>;
@@ -22,6 +27,8 @@ pub trait Job {
 pub enum Unit {
     /// Nanoseconds for each of the items of a turn: their number and their name.
     Each(u64, &'static str),
+    /// Microseconds of one item.
+    One,
     /// Milliseconds for a turn.
     Whole,
 }
@@ -64,6 +71,7 @@ impl Bench {
         }
         let (figure, unit) = match unit {
             Unit::Each(count, of) => (nanos as f64 / count as f64, format!("ns/{of}")),
+            Unit::One => (nanos as f64 / 1e3, "us".to_string()),
             Unit::Whole => (nanos as f64 / 1e6, "ms".to_string()),
         };
         println!("{name}\t{figure:.3}\t{unit}\t{check}");
@@ -76,7 +84,8 @@ fn least(turns: u32, job: &mut impl Job) -> u128 {
         job.ready();
         let start = Instant::now();
         job.turn();
-        start.elapsed().as_nanos()
+        let whole = start.elapsed().as_nanos();
+        job.counted(whole)
     };
     (0..turns).map(turn).min().unwrap_or(0)
 }

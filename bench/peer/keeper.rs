@@ -33,6 +33,11 @@ impl Keeper {
         })
     }
 
+    pub fn reserve(&mut self, extra: usize) {
+        self.entries.reserve(extra);
+        self.kept.reserve(extra / KEPT_EVERY);
+    }
+
     pub fn len(&self) -> usize {
         self.folded + self.entries.len()
     }

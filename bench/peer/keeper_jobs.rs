@@ -5,6 +5,7 @@ use crate::clocks::{Command, Desc, Timespec};
 use crate::digest::of_numbers;
 use crate::keeper::{Keeper, LISTED_LIMIT};
 use std::hint::black_box;
+use std::time::Instant;
 
 const COMMANDS: u64 = 10_000_000;
 const KEPT: usize = 786_432;
@@ -15,22 +16,54 @@ struct Commands {
     keeper: Keeper,
 }
 
+impl Commands {
+    fn command(&mut self, step: u64) {
+        let reading = step.wrapping_mul(1_000) & 0xffff_ffff;
+        if self.keeper.apply(0, reading, Command::Update).is_err() {
+            self.keeper.fold(KEPT);
+            let again = self.keeper.apply(0, reading, Command::Update);
+            again.expect("an accepted command");
+        }
+    }
+}
+
 impl Job for Commands {
     fn turn(&mut self) {
         self.keeper = opened();
         for step in 0..self.count {
-            let reading = step.wrapping_mul(1_000) & 0xffff_ffff;
-            if self.keeper.apply(0, reading, Command::Update).is_err() {
-                self.keeper.fold(KEPT);
-                let again = self.keeper.apply(0, reading, Command::Update);
-                again.expect("an accepted command");
-            }
+            self.command(step);
         }
     }
 
     fn check(&self) -> Option<u64> {
         let words = self.keeper.base().words(self.keeper.len() as u64);
         Some(of_numbers(&words).wrapping_add(self.keeper.folded() as u64))
+    }
+}
+
+struct LongestCommand {
+    commands: Commands,
+    longest: u128,
+}
+
+impl Job for LongestCommand {
+    fn turn(&mut self) {
+        self.commands.keeper = opened();
+        self.commands.keeper.reserve(LISTED_LIMIT);
+        self.longest = 0;
+        for step in 0..self.commands.count {
+            let start = Instant::now();
+            self.commands.command(step);
+            self.longest = self.longest.max(start.elapsed().as_nanos());
+        }
+    }
+
+    fn counted(&self, _whole: u128) -> u128 {
+        self.longest
+    }
+
+    fn check(&self) -> Option<u64> {
+        self.commands.check()
     }
 }
 
@@ -70,6 +103,12 @@ pub fn run(bench: &Bench) {
         1,
         &mut job,
     );
+    let mut longest = LongestCommand {
+        commands: job,
+        longest: 0,
+    };
+    bench.run("keeper_longest_command", Unit::One, 3, &mut longest);
+    let mut job = longest.commands;
     job.count = LISTED_LIMIT as u64;
     job.turn();
     let mut job = Past {

@@ -5,6 +5,7 @@ use crate::digest::of_numbers;
 use crate::inputs::{OPENING, repeated, stamps};
 use anyhow::{Context, Result, ensure};
 use std::thread::Threads;
+use std::time::Clock as Hours;
 use tk_clock::{Clock, ClockId, Command, Snapshot, Timespec};
 use tk_counter::CounterDesc;
 use tk_lanes::{lane_batch, plain_batch};
@@ -27,7 +28,7 @@ struct Batch {
 }
 
 impl Job for Batch {
-    fn turn<R: Threads + Sync>(&mut self, _rt: &R) -> Result<()> {
+    fn turn<R: Threads + Hours + Sync>(&mut self, _rt: &R) -> Result<()> {
         let snapshot = self.snapshot;
         let (stamps, out) = (self.stamps.as_slice(), self.out.as_mut_slice());
         ensure!(stamps.len() == out.len(), "lists of two lengths");
@@ -46,7 +47,7 @@ impl Job for Batch {
 }
 
 /// Times lists of 4,096 stamps, fifty times in a turn, and of ten million.
-pub(crate) fn run_batches(rt: &(impl Threads + Sync), bench: &Bench<'_>) -> Result<()> {
+pub(crate) fn run_batches(rt: &(impl Threads + Hours + Sync), bench: &Bench<'_>) -> Result<()> {
     if !bench.wants_any("batch_") {
         return Ok(());
     }
@@ -69,7 +70,7 @@ pub(crate) fn run_batches(rt: &(impl Threads + Sync), bench: &Bench<'_>) -> Resu
 
 /// Times the jobs of these names, over a list of `count` stamps, converted `times` times in a turn.
 fn run_forms(
-    rt: &(impl Threads + Sync),
+    rt: &(impl Threads + Hours + Sync),
     bench: &Bench<'_>,
     snapshot: Snapshot,
     count: usize,

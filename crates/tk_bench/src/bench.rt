@@ -5,7 +5,7 @@ ghost use Rattle.std.specs.Thread.{IsSync};
 use anyhow::{Result, bail};
 use std::alloc::Global;
 use std::thread::Threads;
-use std::time::Instant;
+use std::time::{Clock as Hours, Instant};
 
 /// The number of turns of a job whose time isn't printed.
 const CHECKED_TURNS: u32 = 2;
@@ -16,8 +16,13 @@ pub(crate) trait Job {
     fn ready(&mut self) {}
 
     /// Does the job once. A job with threads starts them through the handle.
-    fn turn<R: Threads + Sync>(&mut self, rt: &R) -> Result<()>
+    fn turn<R: Threads + Hours + Sync>(&mut self, rt: &R) -> Result<()>
         requires { IsSync R.row };
+
+    /// Returns the time in ns that counts as the last turn's, which took `whole`.
+    fn counted(&self, whole: u128) -> u128 {
+        whole
+    }
 
     /// Returns a number that is computed from all results of the last turn.
     fn check(&self) -> u64;
@@ -28,6 +33,8 @@ pub(crate) trait Job {
 pub(crate) enum Unit {
     /// Nanoseconds per item: the number of items in a turn, and their name.
     Each(u64, &'static str),
+    /// Microseconds of one item.
+    One,
     /// Milliseconds for a whole turn.
     Whole,
 }
@@ -101,7 +108,7 @@ impl<'a> Bench<'a> {
     }
 
     /// Runs a job if it is asked for, and prints its line.
-    pub(crate) fn run<R: Threads + Sync, J: Job>(
+    pub(crate) fn run<R: Threads + Hours + Sync, J: Job>(
         &self,
         rt: &R,
         name: &str,
@@ -126,13 +133,19 @@ impl<'a> Bench<'a> {
     }
 
     /// Runs `turns` turns, and returns the least time of one in ns.
-    fn least<R: Threads + Sync, J: Job>(&self, rt: &R, turns: u32, job: &mut J) -> Result<u128> {
+    fn least<R: Threads + Hours + Sync, J: Job>(
+        &self,
+        rt: &R,
+        turns: u32,
+        job: &mut J,
+    ) -> Result<u128> {
         let mut least = u128::MAX;
         for _ in 0..turns {
             job.ready();
-            let start = Instant::now(self.rt)?;
+            let start = Instant::now(rt)?;
             job.turn(rt)?;
-            least = least.min(start.elapsed(self.rt)?.as_nanos());
+            let whole = start.elapsed(rt)?.as_nanos();
+            least = least.min(job.counted(whole));
         }
         Ok(least)
     }
@@ -141,6 +154,7 @@ impl<'a> Bench<'a> {
     fn tell(&self, name: &str, unit: Unit, nanos: u128, check: u64) -> Result<()> {
         let (each, before, of) = match unit {
             Unit::Each(count, of) => (count.max(1), "ns/", of),
+            Unit::One => (1_000, "us", ""),
             Unit::Whole => (1_000_000, "ms", ""),
         };
         let figure = nanos.wrapping_mul(1_000) / u128::from(each);

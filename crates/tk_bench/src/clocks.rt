@@ -4,6 +4,7 @@ use crate::bench::{Bench, Job, Unit};
 use crate::digest::of_snapshot;
 use anyhow::{Context, Result};
 use std::thread::Threads;
+use std::time::Clock as Hours;
 use tk_clock::{Clock, ClockId, Command, Snapshot, Timespec};
 use tk_counter::CounterDesc;
 
@@ -22,7 +23,7 @@ struct Gets {
 }
 
 impl Job for Gets {
-    fn turn<R: Threads + Sync>(&mut self, _rt: &R) -> Result<()> {
+    fn turn<R: Threads + Hours + Sync>(&mut self, _rt: &R) -> Result<()> {
         let mut sum: u64 = 0;
         for turn in 0..CALLS {
             let reading = turn.wrapping_mul(0x9e37_79b9_7f4a_7c15) & self.mask;
@@ -49,7 +50,7 @@ struct Updates {
 }
 
 impl Job for Updates {
-    fn turn<R: Threads + Sync>(&mut self, _rt: &R) -> Result<()> {
+    fn turn<R: Threads + Hours + Sync>(&mut self, _rt: &R) -> Result<()> {
         let mut clock = self.opened;
         let mut reading: u64 = 0;
         let mut accepted: u64 = 0;
@@ -69,7 +70,7 @@ impl Job for Updates {
 }
 
 /// Times reads near the last command and far from it, and updates 1 microsecond and 0.7 s apart.
-pub(crate) fn run_clocks(rt: &(impl Threads + Sync), bench: &Bench<'_>) -> Result<()> {
+pub(crate) fn run_clocks(rt: &(impl Threads + Hours + Sync), bench: &Bench<'_>) -> Result<()> {
     let unknown = bench.unknown();
     let fine = opened(unknown, 32, 16_777_216).context("no clocks")?;
     let wide = opened(unknown, 64, 699_050_667).context("no clocks")?;

@@ -5,6 +5,7 @@ use crate::digest::of_snapshot;
 use anyhow::{Context, Result};
 use std::alloc::Global;
 use std::thread::Threads;
+use std::time::{Clock as Hours, Instant};
 use tk_clock::{Command, Timespec};
 use tk_counter::CounterDesc;
 use tk_keeper::Timekeeper;
@@ -28,22 +29,62 @@ struct Commands {
     keeper: Timekeeper,
 }
 
+impl Commands {
+    /// Applies the command of this number, after a fold if the journal is full.
+    fn command(&mut self, step: u64) -> Result<()> {
+        let reading = step.wrapping_mul(1_000) & 0xffff_ffff;
+        if self.keeper.apply(0, reading, Command::Update).is_err() {
+            let _ = self.keeper.fold(KEPT);
+            let again = self.keeper.apply(0, reading, Command::Update);
+            again.ok().context("a command is refused")?;
+        }
+        Ok(())
+    }
+}
+
 impl Job for Commands {
-    fn turn<R: Threads + Sync>(&mut self, _rt: &R) -> Result<()> {
+    fn turn<R: Threads + Hours + Sync>(&mut self, _rt: &R) -> Result<()> {
         self.keeper = opened(self.alloc, self.desc).context("no keeper")?;
         for step in 0..self.count {
-            let reading = step.wrapping_mul(1_000) & 0xffff_ffff;
-            if self.keeper.apply(0, reading, Command::Update).is_err() {
-                let _ = self.keeper.fold(KEPT);
-                let again = self.keeper.apply(0, reading, Command::Update);
-                again.ok().context("a command is refused")?;
-            }
+            self.command(step)?;
         }
         Ok(())
     }
 
     fn check(&self) -> u64 {
         of_snapshot(&self.keeper.snapshot()).wrapping_add(self.keeper.folded())
+    }
+}
+
+/// Applies the same commands with memory reserved first, and times each together with its fold.
+#[derive(Drop)]
+struct LongestCommand {
+    commands: Commands,
+    /// The longest time of one command in ns.
+    longest: u128,
+}
+
+impl Job for LongestCommand {
+    fn turn<R: Threads + Hours + Sync>(&mut self, rt: &R) -> Result<()> {
+        let mut keeper = opened(self.commands.alloc, self.commands.desc).context("no keeper")?;
+        let reserved = keeper.reserve(LISTED as usize);
+        reserved.ok().context("no memory for a journal")?;
+        self.commands.keeper = keeper;
+        self.longest = 0;
+        for step in 0..self.commands.count {
+            let start = Instant::now(rt)?;
+            self.commands.command(step)?;
+            self.longest = self.longest.max(start.elapsed(rt)?.as_nanos());
+        }
+        Ok(())
+    }
+
+    fn counted(&self, _whole: u128) -> u128 {
+        self.longest
+    }
+
+    fn check(&self) -> u64 {
+        self.commands.check()
     }
 }
 
@@ -55,7 +96,7 @@ struct Past {
 }
 
 impl Job for Past {
-    fn turn<R: Threads + Sync>(&mut self, _rt: &R) -> Result<()> {
+    fn turn<R: Threads + Hours + Sync>(&mut self, _rt: &R) -> Result<()> {
         let mut sum: u64 = 0;
         for step in 0..READS {
             let front = step.wrapping_mul(0x9e37_79b9_7f4a_7c15) >> 44;
@@ -72,8 +113,8 @@ impl Job for Past {
     }
 }
 
-/// Times ten million updates with folds, and snapshots of a full journal.
-pub(crate) fn run_keepers(rt: &(impl Threads + Sync), bench: &Bench<'_>) -> Result<()> {
+/// Times ten million updates with folds, the longest of them, and snapshots of a full journal.
+pub(crate) fn run_keepers(rt: &(impl Threads + Hours + Sync), bench: &Bench<'_>) -> Result<()> {
     if !bench.wants_any("keeper_") {
         return Ok(());
     }
@@ -88,6 +129,12 @@ pub(crate) fn run_keepers(rt: &(impl Threads + Sync), bench: &Bench<'_>) -> Resu
     };
     let unit = Unit::Each(COMMANDS, "command");
     bench.run(rt, "keeper_commands_10000000", unit, 1, &mut job)?;
+    let mut longest = LongestCommand {
+        commands: job,
+        longest: 0,
+    };
+    bench.run(rt, "keeper_longest_command", Unit::One, 3, &mut longest)?;
+    let mut job = longest.commands;
     job.count = LISTED;
     job.turn(rt)?;
     let mut job = Past {

@@ -6,7 +6,8 @@
 //! | `time` | for each job a line `JOB<tab>NUMBER<tab>UNIT<tab>CHECK` |
 //! | `time JOB..` | the lines of `time` for these jobs alone |
 //!
-//! NUMBER is the least time of a turn, in ns for each item that UNIT names, or in ms for the whole.
+//! NUMBER is the least figure of some turns. A turn's figure is its time, in ns for each item that
+//! UNIT names or in ms for the whole, or the time of its longest item, in us.
 //! CHECK is computed from all results of the last turn. The peer in `bench/peer` has jobs of the
 //! same names. `bench/run` runs it and this program alternately and compares the checks.
 #![tactic(auto)]

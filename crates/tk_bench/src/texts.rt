@@ -6,6 +6,7 @@ use crate::inputs::{COMMANDS, Fronts, script, stamp_file};
 use anyhow::Result;
 use std::alloc::Global;
 use std::thread::Threads;
+use std::time::Clock as Hours;
 use tk_clock::ClockId;
 use tk_replay::{report, trace};
 
@@ -18,7 +19,7 @@ struct Report {
 }
 
 impl Job for Report {
-    fn turn<R: Threads + Sync>(&mut self, _rt: &R) -> Result<()> {
+    fn turn<R: Threads + Hours + Sync>(&mut self, _rt: &R) -> Result<()> {
         self.text = Vec::new(self.alloc);
         self.text = report(self.alloc, self.script.as_slice())?;
         Ok(())
@@ -39,7 +40,7 @@ struct Trace {
 }
 
 impl Job for Trace {
-    fn turn<R: Threads + Sync>(&mut self, rt: &R) -> Result<()> {
+    fn turn<R: Threads + Hours + Sync>(&mut self, rt: &R) -> Result<()> {
         self.text = Vec::new(self.alloc);
         let (mut script, mut stamps) = (self.script.as_slice(), self.stamps.as_slice());
         trace(
@@ -59,7 +60,7 @@ impl Job for Trace {
 }
 
 /// Times reports of 100,000 and a million records, and traces.
-pub(crate) fn run_texts(rt: &(impl Threads + Sync), bench: &Bench<'_>) -> Result<()> {
+pub(crate) fn run_texts(rt: &(impl Threads + Hours + Sync), bench: &Bench<'_>) -> Result<()> {
     if !bench.wants_any("text_") {
         return Ok(());
     }
@@ -80,7 +81,7 @@ pub(crate) fn run_texts(rt: &(impl Threads + Sync), bench: &Bench<'_>) -> Result
 }
 
 /// Times traces of a million and 100,000 stamps, with fronts of each kind.
-fn run_text_traces(rt: &(impl Threads + Sync), bench: &Bench<'_>) -> Result<()> {
+fn run_text_traces(rt: &(impl Threads + Hours + Sync), bench: &Bench<'_>) -> Result<()> {
     let alloc = bench.alloc();
     for (name, stamps, fronts) in [
         ("text_trace_equal_1000000", 1_000_000, Fronts::Equal),

@@ -7,6 +7,7 @@ use crate::inputs::{OPENING, repeated, stamps};
 use anyhow::{Context, Result, ensure};
 use std::alloc::Global;
 use std::thread::Threads;
+use std::time::Clock as Hours;
 use tk_clock::{ClockId, Command, Timespec};
 use tk_counter::CounterDesc;
 use tk_keeper::Timekeeper;
@@ -41,7 +42,7 @@ impl Job for Trace {
         self.made = Vec::new(self.alloc);
     }
 
-    fn turn<R: Threads + Sync>(&mut self, rt: &R) -> Result<()> {
+    fn turn<R: Threads + Hours + Sync>(&mut self, rt: &R) -> Result<()> {
         let (fronts, stamps) = (self.fronts.as_slice(), self.stamps.as_slice());
         let (keeper, clock) = (&self.keeper, ClockId::Realtime);
         let out = self.out.as_mut_slice();
@@ -67,7 +68,7 @@ impl Job for Trace {
 }
 
 /// Times each form at 100,000, a million and ten million stamps.
-pub(crate) fn run_traces(rt: &(impl Threads + Sync), bench: &Bench<'_>) -> Result<()> {
+pub(crate) fn run_traces(rt: &(impl Threads + Hours + Sync), bench: &Bench<'_>) -> Result<()> {
     if !bench.wants_any("trace_") && !bench.wants_any("pieces_") {
         return Ok(());
     }
@@ -96,7 +97,7 @@ pub(crate) fn run_traces(rt: &(impl Threads + Sync), bench: &Bench<'_>) -> Resul
 
 /// Times the jobs of these names, over `count` stamps.
 fn run_forms(
-    rt: &(impl Threads + Sync),
+    rt: &(impl Threads + Hours + Sync),
     bench: &Bench<'_>,
     count: usize,
     turns: u32,
