@@ -1,9 +1,10 @@
 //! Long lists by pieces, beside the same lists by one thread and worked values.
 
+mod costly;
 mod long;
 
 use self::long::LONG;
-use super::{ABOVE, assert_same, numbers, put, steered};
+use super::{ABOVE, assert_same, numbers, opened, put, steered};
 use std::alloc::{Allocator, Global};
 use std::marker::{Send, Sync};
 use std::test::Fail;
@@ -13,8 +14,11 @@ use tk_keeper::{Timekeeper, TraceError};
 use tk_pieces::{trace_all, trace_all_into};
 use tk_test_support::{Heap, next_random};
 
-/// Items that make five pieces, the last of one item.
-const MANY: usize = 262_145;
+/// Items of equal fronts that make 17 pieces, the last of one item.
+const MANY: usize = 1_048_577;
+
+/// Items whose fronts differ from one to the next, so that fewer are converted by several threads.
+const UNEVEN: usize = 262_145;
 
 /// A trace, with the memory that it is converted into.
 #[derive(Drop)]
@@ -87,7 +91,10 @@ fn answered(
 fn lists_of_each_length_are_converted(rt: HostRuntime) -> Result<(), Fail> {
     let alloc = rt.alloc();
     let keeper = steered(alloc)?;
-    for many in [0, 1, 100_000, 131_071, 131_072, 131_073, 196_608, MANY] {
+    // several threads convert a million of equal fronts, in pieces of 65,536
+    for many in [
+        0, 1, 1_023, 1_024, 999_999, 1_000_000, 1_000_001, 1_048_575, 1_048_576, MANY,
+    ] {
         let mut lists = counted(alloc, many)?;
         let values = answered(alloc, &rt, &keeper, &mut lists)??;
         assert_same(&rt, &values.len(), &many);
@@ -104,10 +111,15 @@ fn the_first_fault_of_all_pieces_decides(rt: HostRuntime) -> Result<(), Fail> {
     let (mut keeper, mut lists) = kept(alloc, MANY)?;
     // each fault stands before those that came earlier
     for (place, front, stamp, fault) in [
-        (262_144, 0, ABOVE, TraceError::Invalid { index: 262_144 }),
-        (200_000, 3, 0, TraceError::Unknown { index: 200_000 }),
-        (131_072, 0, ABOVE, TraceError::Invalid { index: 131_072 }),
-        (131_071, 9, ABOVE, TraceError::Unknown { index: 131_071 }),
+        (
+            1_048_576,
+            0,
+            ABOVE,
+            TraceError::Invalid { index: 1_048_576 },
+        ),
+        (1_000_000, 3, 0, TraceError::Unknown { index: 1_000_000 }),
+        (65_536, 0, ABOVE, TraceError::Invalid { index: 65_536 }),
+        (65_535, 9, ABOVE, TraceError::Unknown { index: 65_535 }),
         (9_000, 0, ABOVE, TraceError::Invalid { index: 9_000 }),
         (5_000, 0, ABOVE, TraceError::Invalid { index: 5_000 }),
         (4_999, 3, 0, TraceError::Unknown { index: 4_999 }),
@@ -129,15 +141,15 @@ fn the_first_fault_of_all_pieces_decides(rt: HostRuntime) -> Result<(), Fail> {
 #[test]
 fn fronts_up_and_down_are_told_as_by_one_thread(rt: HostRuntime) -> Result<(), Fail> {
     let alloc = rt.alloc();
-    let (keeper, mut lists) = kept(alloc, MANY)?;
+    let (keeper, mut lists) = kept(alloc, UNEVEN)?;
     let mut seed: u64 = 88_172_645_463_325_252;
-    for place in 0..MANY {
+    for place in 0..UNEVEN {
         seed = next_random(seed);
         put(&mut lists.fronts, place, seed % 3);
         put(&mut lists.stamps, place, (seed >> 8) % ABOVE);
     }
-    put(&mut lists.fronts, MANY - 1, 2);
-    put(&mut lists.stamps, MANY - 1, 1_000_000_001);
+    put(&mut lists.fronts, UNEVEN - 1, 2);
+    put(&mut lists.stamps, UNEVEN - 1, 1_000_000_001);
     let values = answered(alloc, &rt, &keeper, &mut lists)??;
     assert_same(&rt, &values.last(), &Some(&1_000_499_964));
     for ((front, stamp), value) in lists.fronts.iter().zip(&lists.stamps).zip(&values) {
