@@ -7,8 +7,12 @@ mod times;
 
 use super::assert_same;
 use std::alloc::{AllocError, Global};
+use std::sync::Wait;
+use std::test::Fail;
+use std::thread::Threads;
 use tk_clock::Command;
-use tk_race::{Action, RaceReply};
+use tk_counter::CounterDesc;
+use tk_race::{Action, Gate, RaceReply, RaceReport, race};
 use tk_test_support::{OPENED_TIME, nanosecond_counter};
 
 /// An order that only brings the clocks to the reading.
@@ -26,6 +30,21 @@ fn alike(
         all.push(vec![in alloc; action; actions]?)?;
     }
     Ok(all)
+}
+
+/// Returns the report of a race whose counter begins with the first of `readings`, and adds the
+/// second to each reading.
+fn raced<G: Gate + Sync, R: Threads + Wait + Sync>(
+    rt: &R,
+    alloc: Global,
+    desc: CounterDesc,
+    readings: (u64, u64),
+    actors: &[Vec<Action>],
+    gate: &G,
+) -> Result<RaceReport, Fail> {
+    let (first, step) = readings;
+    let report = race(alloc, rt, desc, first, OPENED_TIME, step, actors, gate);
+    Ok(report.ok().ok_or("a report")?)
 }
 
 /// Returns whether all these orders were done, with numbers that rise from above `last`.

@@ -1,13 +1,13 @@
 //! When the gate is called, and that actors act at the same time.
 
-use super::{OPENED_TIME, UPDATE, alike, assert_same, nanosecond_counter, rise};
+use super::{UPDATE, alike, assert_same, nanosecond_counter, raced, rise};
 use std::alloc::Global;
 use std::process::Abort;
 use std::sync::Wait;
 use std::sync::atomic::{AtomicBool, AtomicU64, Ordering};
 use std::test::Fail;
 use std::thread::{self, Threads};
-use tk_race::{Action, Gate, RaceReply, race};
+use tk_race::{Action, Gate, RaceReply};
 
 /// The number of times that a held piece checks a flag before it gives up.
 const TURNS: u32 = 50_000_000;
@@ -85,18 +85,7 @@ fn all_meet<R: Abort + Threads + Wait + Sync>(
         ended: AtomicU64::new(0),
         late: Flag::new(),
     };
-    let report = race(
-        alloc,
-        rt,
-        desc,
-        0,
-        OPENED_TIME,
-        1_000,
-        actors.as_slice(),
-        &gate,
-    )
-    .ok()
-    .ok_or("a report")?;
+    let report = raced(rt, alloc, desc, (0, 1_000), actors.as_slice(), &gate)?;
     assert!(rt; !gate.late.0.load(Ordering::SeqCst));
     let ended = gate.ended.load(Ordering::SeqCst);
     assert_same(rt, &ended, &u64::from(count));
@@ -140,18 +129,14 @@ fn each_piece_begins_and_ends_once_even_without_actions(rt: HostRuntime) -> Resu
         begun: [AtomicU64::new(0), AtomicU64::new(0), AtomicU64::new(0)],
         ended: [AtomicU64::new(0), AtomicU64::new(0), AtomicU64::new(0)],
     };
-    let report = race(
-        rt.alloc(),
+    let report = raced(
         &rt,
+        rt.alloc(),
         nanosecond_counter()?,
-        0,
-        OPENED_TIME,
-        1,
+        (0, 1),
         actors.as_slice(),
         &gate,
-    )
-    .ok()
-    .ok_or("a report")?;
+    )?;
     assert_same(&rt, &report.keeper.len(), &2);
     for pieces in [&gate.begun, &gate.ended] {
         for times in pieces {
@@ -197,18 +182,7 @@ fn a_gate_is_told_round_all_actions_of_an_actor(rt: HostRuntime) -> Result<(), F
         second: Flag::new(),
         late: Flag::new(),
     };
-    let report = race(
-        rt.alloc(),
-        &rt,
-        desc,
-        0,
-        OPENED_TIME,
-        1,
-        actors.as_slice(),
-        &gate,
-    )
-    .ok()
-    .ok_or("a report")?;
+    let report = raced(&rt, rt.alloc(), desc, (0, 1), actors.as_slice(), &gate)?;
     assert!(&rt; !gate.late.0.load(Ordering::SeqCst));
     // all entries of actor 0 precede all entries of actor 1
     let mut number = 0u64;
@@ -253,18 +227,7 @@ fn an_actor_reads_what_another_did_before_it_began(rt: HostRuntime) -> Result<()
         done: Flag::new(),
         late: Flag::new(),
     };
-    let report = race(
-        rt.alloc(),
-        &rt,
-        desc,
-        0,
-        OPENED_TIME,
-        1,
-        actors.as_slice(),
-        &gate,
-    )
-    .ok()
-    .ok_or("a report")?;
+    let report = raced(&rt, rt.alloc(), desc, (0, 1), actors.as_slice(), &gate)?;
     assert!(&rt; !gate.late.0.load(Ordering::SeqCst));
     let replies = report.replies.first().ok_or("replies")?;
     let expected = [RaceReply::Glanced(4), RaceReply::Saw(4)];

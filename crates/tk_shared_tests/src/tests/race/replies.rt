@@ -1,6 +1,6 @@
 //! The replies that actors get.
 
-use super::{OPENED_TIME, UPDATE, alike, assert_same, nanosecond_counter, rise};
+use super::{OPENED_TIME, UPDATE, alike, assert_same, nanosecond_counter, raced, rise};
 use std::alloc::Global;
 use std::process::Abort;
 use std::sync::Wait;
@@ -14,18 +14,14 @@ use tk_race::{Action, NoGate, RaceError, RaceReply, race};
 fn two_actors_of_three_updates_make_six_entries(rt: HostRuntime) -> Result<(), Fail> {
     let desc = nanosecond_counter()?;
     let actors = alike(rt.alloc(), 2, UPDATE, 3)?;
-    let report = race(
-        rt.alloc(),
+    let report = raced(
         &rt,
+        rt.alloc(),
         desc,
-        0,
-        OPENED_TIME,
-        1_000,
+        (0, 1_000),
         actors.as_slice(),
         &NoGate,
-    )
-    .ok()
-    .ok_or("a report")?;
+    )?;
     assert_same(&rt, &(report.keeper.len(), report.replies.len()), &(6, 2));
     for replies in report.replies.as_slice() {
         assert!(&rt; replies.len() == 3 && rise(0, replies.as_slice()));
@@ -53,19 +49,7 @@ fn three_updates<R: Threads + Wait + Sync>(
 ) -> Result<([u64; 3], Timespec), Fail> {
     let desc = CounterDesc::new(bits, 16_777_216, 24)?;
     let actors = alike(alloc, 1, UPDATE, 3)?;
-    let keeper = race(
-        alloc,
-        rt,
-        desc,
-        reading,
-        OPENED_TIME,
-        step,
-        actors.as_slice(),
-        &NoGate,
-    )
-    .ok()
-    .ok_or("a report")?
-    .keeper;
+    let keeper = raced(rt, alloc, desc, (reading, step), actors.as_slice(), &NoGate)?.keeper;
     let mut readings = [0; 3];
     for (number, place) in (1..).zip(&mut readings) {
         *place = keeper.entry(number).ok_or("an entry")?.reading;
@@ -118,18 +102,7 @@ fn one_actor_is_answered_as_on_one_thread(rt: HostRuntime) -> Result<(), Fail> {
         Action::Glance,
     ]?;
     let actors = vec![in rt.alloc(); actions]?;
-    let report = race(
-        rt.alloc(),
-        &rt,
-        desc,
-        5,
-        OPENED_TIME,
-        10,
-        actors.as_slice(),
-        &NoGate,
-    )
-    .ok()
-    .ok_or("a report")?;
+    let report = raced(&rt, rt.alloc(), desc, (5, 10), actors.as_slice(), &NoGate)?;
     let expected = [
         RaceReply::Done(1),
         RaceReply::Glanced(1),

@@ -1,9 +1,10 @@
 //! Tests the time now in races.
+
+use super::{nanosecond_counter, raced};
 use std::test::Fail;
 use tk_clock::{ClockId, Command, ReadError, Timespec};
 use tk_counter::CounterDesc;
-use tk_race::{Action, NoGate, RaceReply, race};
-use tk_test_support::{OPENED_TIME, nanosecond_counter};
+use tk_race::{Action, NoGate, RaceReply};
 
 /// A reply with this front and this time.
 fn timed(front: u64, sec: i64, nsec: u32) -> RaceReply {
@@ -30,18 +31,7 @@ fn times_are_those_of_the_counters_readings(rt: HostRuntime) -> Result<(), Fail>
     ]?;
     let actors = vec![in rt.alloc(); actions]?;
     let desc = nanosecond_counter()?;
-    let report = race(
-        rt.alloc(),
-        &rt,
-        desc,
-        5,
-        OPENED_TIME,
-        10,
-        actors.as_slice(),
-        &NoGate,
-    )
-    .ok()
-    .ok_or("a report")?;
+    let report = raced(&rt, rt.alloc(), desc, (5, 10), actors.as_slice(), &NoGate)?;
     let expected = [
         timed(0, 0, 10),
         RaceReply::Done(1),
@@ -64,18 +54,14 @@ fn a_reading_beyond_the_clocks_is_refused(rt: HostRuntime) -> Result<(), Fail> {
     let actions = vec![in rt.alloc(); Action::Now(ClockId::Monotonic); 1]?;
     let actors = vec![in rt.alloc(); actions]?;
     let desc = CounterDesc::new(64, 16_777_216, 24)?;
-    let report = race(
-        rt.alloc(),
+    let report = raced(
         &rt,
+        rt.alloc(),
         desc,
-        0,
-        OPENED_TIME,
-        1 << 62,
+        (0, 1 << 62),
         actors.as_slice(),
         &NoGate,
-    )
-    .ok()
-    .ok_or("a report")?;
+    )?;
     let refused = RaceReply::Untimed {
         front: 0,
         refusal: ReadError::Range,
