@@ -17,7 +17,7 @@ use tk_test_support::{Heap, next_random};
 /// Items of equal fronts that make 17 pieces, the last of one item.
 const MANY: usize = 1_048_577;
 
-/// Items whose fronts differ from one to the next, so that fewer are converted by several threads.
+/// The number of items whose fronts differ from one to the next. Several threads convert them.
 const UNEVEN: usize = 262_145;
 
 /// A trace, with the memory that it is converted into.
@@ -91,7 +91,7 @@ fn answered(
 fn lists_of_each_length_are_converted(rt: HostRuntime) -> Result<(), Fail> {
     let alloc = rt.alloc();
     let keeper = steered(alloc)?;
-    // several threads convert a million of equal fronts, in pieces of 65,536
+    // several threads convert a million items of equal fronts, in pieces of 65,536 items
     for many in [
         0, 1, 1_023, 1_024, 999_999, 1_000_000, 1_000_001, 1_048_575, 1_048_576, MANY,
     ] {

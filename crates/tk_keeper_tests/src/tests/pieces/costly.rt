@@ -10,7 +10,7 @@ use tk_test_support::next_random;
 /// The number of pairs of commands in a journal.
 const PAIRS: u64 = 500;
 
-/// Two times as many: the last front.
+/// The number of commands in a journal, which is also its last front.
 const LAST: u64 = 1_000;
 
 /// The reading of every command.
