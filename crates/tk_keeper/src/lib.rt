@@ -5,6 +5,8 @@
 //! | `Timekeeper` | the clocks and their journal: opens, changes, reads and folds them |
 //! | `FrontError` | why a front has no snapshot |
 //! | `TraceError` | why a list of stamps isn't converted |
+//! | `LISTED_LIMIT` | the most entries that a journal lists |
+//! | `KEPT_EVERY` | the number of commands from one kept copy of the clocks to the next |
 //!
 //! Units are those of `tk_clock`: readings in cycles, clock times in s and ns. Entries are numbered
 //! from 1. A front is the number of commands accepted up to then. Both count the folded commands.
@@ -16,5 +18,5 @@ mod timekeeper;
 mod trace_error;
 
 pub use front_error::FrontError;
-pub use timekeeper::Timekeeper;
+pub use timekeeper::{KEPT_EVERY, LISTED_LIMIT, Timekeeper};
 pub use trace_error::TraceError;

@@ -14,13 +14,14 @@ use tk_clock::{Clock, ClockId, Entry, ReadError, Refusal, Snapshot, Timespec};
 use tk_counter::CounterDesc;
 
 /// The most entries that a journal lists.
-const LISTED_LIMIT: usize = 1_048_576;
+pub const LISTED_LIMIT: usize = 1_048_576;
 
 /// The most commands that a journal counts, the folded ones included.
 const COUNTED_LIMIT: u64 = (1 << 63) - 1;
 
-/// A copy of the clocks is kept after each entry whose number is a multiple of this.
-const KEPT_EVERY: usize = 256;
+/// The number of commands from one kept copy of the clocks to the next: one is kept after each entry
+/// whose number is a multiple of this.
+pub const KEPT_EVERY: usize = 256;
 
 /// Keeps the clocks of one counter, and the journal of all accepted commands (the kernel's
 /// `struct timekeeper`).

@@ -2,8 +2,8 @@
 //!
 //! An item takes little time if its front is that of the item before it. Otherwise commands of the
 //! journal are applied again: from the front before, or from one of the states that the keeper
-//! keeps after each 256th command. A sample of the fronts shows how many. The times are those of
-//! the machine that `bench/README.md` describes; no value of a trace depends on them.
+//! keeps, one for each `KEPT_EVERY` commands. A sample of the fronts shows how many. The times are
+//! those of the machine that `bench/README.md` describes; no value of a trace depends on them.
 ghost use Rattle.std.specs.Prelude.{◌<◌, length, IsTrue};
 
 use crate::input::Input;
@@ -11,6 +11,7 @@ use rayon::current_num_threads;
 use std::alloc::Allocator;
 use std::thread::Threads;
 use tk_clock::{Command, Entry};
+use tk_keeper::KEPT_EVERY;
 
 /// One thread converts a list of fewer items, so its time isn't estimated.
 const ESTIMATED: usize = 1_024;
@@ -33,9 +34,6 @@ const SNAPSHOT_NS: u64 = 32;
 
 /// The time in ns in which an update is left out, and that in which another command is applied.
 const ENTRY_NS: (u64, u64) = (2, 16);
-
-/// The number of commands from one kept state to the next.
-const KEPT_EVERY: u64 = 256;
 
 /// Several threads convert a list that takes this long, in ns. Starting them takes some hundreds of
 /// µs, more when the processors are busy.
@@ -97,7 +95,7 @@ fn change_ns<A: Allocator + Copy>(input: Input<'_, A>, place: usize) -> u64 {
 /// Returns how many commands lead to a front, if the clocks are at the front `before`.
 fn entries_between<A: Allocator + Copy>(input: Input<'_, A>, before: u64, front: u64) -> u64 {
     let folded = input.keeper.folded();
-    let near = (front % KEPT_EVERY).min(front.saturating_sub(folded));
+    let near = (front % KEPT_EVERY as u64).min(front.saturating_sub(folded));
     if before < front {
         return near.min(front - before);
     }

@@ -10,13 +10,10 @@ ghost use Rattle.tk_replay.specs.Report.{event, reply_by};
 
 use std::alloc::Allocator;
 use tk_clock::{Command, Refusal};
-use tk_keeper::Timekeeper;
+use tk_keeper::{LISTED_LIMIT, Timekeeper};
 
 /// The caller that a script's commands are recorded with.
 pub(crate) const CALLER: u32 = 0;
-
-/// The most commands that a journal lists.
-const LISTED_LIMIT: usize = 1_048_576;
 
 /// The greatest number of entries that a full journal is folded to: half of what it lists.
 pub const KEEP_LIMIT: u64 = LISTED_LIMIT as u64 / 2;
