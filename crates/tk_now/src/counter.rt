@@ -99,7 +99,10 @@ impl<'c, C: Clock> HostCounter<'c, C> {
     /// Returns a counter that starts at 0 at `start`, a time of `clock`.
     ///
     /// It never waits and allocates nothing.
-    pub fn new(clock: &'c C, start: Instant) -> HostCounter<'c, C> {
+    pub fn new(clock: &'c C, start: Instant) -> HostCounter<'c, C>
+        ensures clock { result.clock ≡ clock.entry }
+        ensures start { result.start ≡ start }
+    {
         HostCounter { clock, start }
     }
 }
