@@ -1,6 +1,6 @@
 -- Items by their place in a part of a list, and one more piece.
 use Rattle.std.proofs.Common.{◌≡◌, ℕ, ◌+◌, ◌-◌, ◌*◌, ◌<◌, ◌≤◌, List, length, get_or, take, drop, ◌++◌, length-take, Some, None, Ok, Err, Result, refl, sym, ap, ap₂, ◌∙◌, subst, arith, rules, inl, inr}
-use Rattle.std.specs.Prelude.{ℤ, pos, IsOk, Option}
+use Rattle.std.specs.Prelude.{ℤ, ⊤, pos, IsOk, Option}
 use Rattle.std.proofs.lemmas.Bool.{cases_lt}
 use Rattle.std.proofs.lemmas.List.{get_or-take, get_or-drop, length-drop, length-take-le, places}
 use Rattle.tk_clock.specs.declared.clock_id.ClockId.{ClockId}
@@ -181,12 +181,19 @@ module _ (journal : Journal) (clock : ClockId) (fronts stamps : List ℕ) where
       (get_or-take n (drop m fronts) k 0 low ∙ get_or-drop m fronts k 0)
       (get_or-take n (drop m stamps) k 0 low ∙ get_or-drop m stamps k 0)
 
+  -- a trace into memory, whatever is known of the rest of the memory
+  pub in_pieces : (old new : List ℕ) (result : Result ⊤ TraceError) →
+      IsTraced journal clock fronts stamps old new result →
+      IsTracedInPieces journal clock fronts stamps new result
+  in_pieces old new (Ok done) written = written.values
+  in_pieces old new (Err error) (index, fault, written) = (index, fault, written.values)
+
   -- the first fault of a part is that of the list from there on
-  pub part_refused : (m n : ℕ) (old new : List ℕ) (error : TraceError) → m + n ≤ length stamps →
-      IsTraced journal clock (take n (drop m fronts)) (take n (drop m stamps)) old new
+  pub part_refused : (m n : ℕ) (new : List ℕ) (error : TraceError) → m + n ≤ length stamps →
+      IsTracedInPieces journal clock (take n (drop m fronts)) (take n (drop m stamps)) new
       (Err error) →
       IsFaultFrom (item_of journal clock fronts stamps) (length stamps) m (further_on error m)
-  part_refused m n old new error inside (index, fault, written) =
+  part_refused m n new error inside (index, fault, values) =
       let long : length (take n (drop m stamps)) ≡ n =
       length-take-le n (drop m stamps) (omega (arith, length-drop m stamps)) in
       let low : index < n = subst (λ l. index < l) long fault.within in (
@@ -203,5 +210,19 @@ module _ (journal : Journal) (clock : ClockId) (fronts stamps : List ℕ) where
             (ap (item_of journal clock fronts stamps) (sym back)
             ∙ value_anywhere journal clock j (m + j) (get_or fronts (m + j) 0)
             (get_or stamps (m + j) 0) _
-            (sym (item_in m n j j (omega arith)) ∙ written.values j (omega arith))),
+            (sym (item_in m n j j (omega arith)) ∙ values j (omega arith))),
       )
+
+  -- the items before a part, and those of the part
+  pub part_done : (m n : ℕ) (out xs ys : List ℕ) (done : ⊤) → m + n ≤ length stamps →
+      length xs ≡ m → xs ≡ take m out → AreValues journal clock fronts stamps m out →
+      IsTracedInPieces journal clock (take n (drop m fronts)) (take n (drop m stamps)) ys
+      (Ok done) →
+      AreValues journal clock fronts stamps (m + n) (xs ++ ys)
+  part_done m n out xs ys done inside long is_front before values =
+      let whole : length (take n (drop m stamps)) ≡ n =
+      length-take-le n (drop m stamps) (omega (arith, length-drop m stamps)) in
+      late_values m n out xs ys long is_front before (λ k low.
+      ap₂ (item journal clock k) (sym (get_or-take n (drop m fronts) k 0 low))
+      (sym (get_or-take n (drop m stamps) k 0 low))
+      ∙ values k (subst (λ l. k < l) (sym whole) low))

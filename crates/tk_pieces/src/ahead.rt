@@ -5,142 +5,22 @@
 //! Neither thread waits for a piece. If the next piece isn't ready, the calling thread converts it
 //! itself. If no buffer comes back for a while, the other thread ends. The calling thread waits
 //! only for that end.
-ghost use Rattle.std.specs.Prelude.{◌≡◌, ◌+◌, ◌<◌, ◌≤◌, [], length, MatchResult, OnOk, IfErr, IfSome};
+ghost use Rattle.std.specs.Prelude.{◌≡◌, ◌<◌, ◌≤◌, [], length, MatchResult, OnOk, IfErr, IfSome};
 ghost use Rattle.tk_keeper.specs.Trace.{IsConverted, IsFault};
 ghost use Rattle.tk_keeper.specs.declared.trace_error.TraceError.TheVariants.{Memory};
 ghost use Rattle.tk_pieces.specs.Input.{of_input};
-ghost use Rattle.tk_pieces.specs.Pieces.{HoldFirst, HoldFrom, IsFaultFrom, IsNamed};
+ghost use Rattle.tk_pieces.specs.Pieces.{HoldFirst, IsFaultFrom, IsNamed};
 
 use crate::input::Input;
-use crate::pieces::{convert_at_once, moved};
-use rtrb::{Consumer, Producer, RingBuffer};
-use std::alloc::{AllocError, Allocator};
-use std::marker::{Brand, PhantomData, Send, Sync};
+use crate::pieces::moved;
+use crate::queues::{Intake, NamesTrace, PIECE, Piece, Supply, ends};
+use crate::stages::convert_in_stages;
+use std::alloc::Allocator;
+use std::marker::{PhantomData, Send, Sync};
 use std::thread;
 use std::thread::Threads;
 use tk_clock::ClockId;
 use tk_keeper::{Timekeeper, TraceError};
-
-/// The number of items of a piece. Its words stay in the caches until they are appended.
-const PIECE: usize = 8_192;
-
-/// The number of pieces between the two threads at once.
-const PIECES: usize = 4;
-
-/// How many times the other thread polls for returned words before it ends. That takes some
-/// hundredths of a second.
-const LOOKS: usize = 100_000;
-
-/// Names the items of a trace. It has no function, and no value of it is made.
-///
-/// The proof knows of what one thread receives from another only its type. So the type names the
-/// items.
-pub(crate) trait NamesTrace {
-    ghost use Rattle.std.specs.Prelude.{ℕ};
-    ghost use Rattle.tk_pieces.specs.Pieces.{Items};
-
-    ghost item: { Items };
-
-    ghost count: { ℕ };
-}
-
-impl NamesTrace for Brand {
-    ghost use Rattle.std.specs.Prelude.{Err};
-    ghost use Rattle.tk_keeper.specs.declared.trace_error.TraceError.TheVariants.{Memory};
-
-    ghost item = { λ _. Err Memory };
-
-    ghost count = { 0 };
-}
-
-/// The values of consecutive items.
-#[derive(Drop)]
-pub(crate) struct Piece<N: NamesTrace, A: Allocator> {
-    /// The place of the first item.
-    at: usize,
-    words: Vec<u64, A>,
-    of: PhantomData<N>,
-    ghost inside: { (0 < length words.items) × (at + length words.items ≤ N.count) },
-    ghost values: { HoldFrom N.item at words.items },
-}
-
-/// The calling thread's ends of the queues: converted pieces come in, and their words go back.
-#[derive(Drop)]
-pub(crate) struct Intake<N: NamesTrace, A: Allocator> {
-    ready: Consumer<Piece<N, A>, A>,
-    back: Producer<Vec<u64, A>, A>,
-}
-
-/// The other thread's ends of the queues.
-#[derive(Drop)]
-pub(crate) struct Supply<N: NamesTrace, A: Allocator> {
-    ready: Producer<Piece<N, A>, A>,
-    back: Consumer<Vec<u64, A>, A>,
-}
-
-impl<N: NamesTrace, A: Allocator> Intake<N, A> {
-    /// Returns the piece that begins at `at`, if it is ready. Gives back the words of pieces that
-    /// the calling thread converted itself in the meantime.
-    fn take(&mut self, at: usize) -> Option<Piece<N, A>>
-        ensures { IfSome result (λ piece. piece.at ≡ at) }
-    {
-        for _ in 0..PIECES {
-            match self.ready.pop() {
-                Ok(piece) => {
-                    if piece.at == at {
-                        return Some(piece);
-                    }
-                    self.give_back(piece);
-                }
-                Err(_) => return None,
-            }
-        }
-        None
-    }
-
-    /// Gives a piece's words back. The queue has capacity for the words of all pieces.
-    fn give_back(&mut self, piece: Piece<N, A>) {
-        let _given = self.back.push(piece.words);
-    }
-}
-
-impl<N: NamesTrace, A: Allocator> Supply<N, A> {
-    /// Returns words that came back. `None` means that the calling thread has ended, or that no
-    /// words came back within `LOOKS` polls.
-    fn words(&mut self) -> Option<Vec<u64, A>> {
-        for _ in 0..LOOKS {
-            if let Ok(words) = self.back.pop() {
-                return Some(words);
-            }
-            if self.ready.is_abandoned() {
-                return None;
-            }
-            thread::yield_now();
-        }
-        None
-    }
-}
-
-/// Creates both threads' ends of the queues, and allocates the words of all pieces.
-fn ends<N: NamesTrace, A: Allocator + Copy>(
-    alloc: A,
-) -> Result<(Supply<N, A>, Intake<N, A>), AllocError> {
-    let (ready_in, ready_out) = RingBuffer::new(alloc, PIECES)?;
-    let (mut back_in, back_out) = RingBuffer::new(alloc, PIECES)?;
-    for _ in 0..PIECES {
-        let words = vec![in alloc; 0; PIECE]?;
-        let _given = back_in.push(words);
-    }
-    let supply = Supply {
-        ready: ready_in,
-        back: back_out,
-    };
-    let intake = Intake {
-        ready: ready_out,
-        back: back_in,
-    };
-    Ok((supply, intake))
-}
 
 /// Converts the piece that begins at `at`. It has as many items as there are words, up to the end
 /// of the list.
@@ -284,7 +164,7 @@ pub(crate) fn trace_ahead<
         (λ error. of_input IsFault input.entry error) }
 {
     let Some((supply, intake, words)) = prepared::<N, A>(input.keeper) else {
-        return convert_at_once(rt, size, input, values);
+        return convert_in_stages(rt, size, input, values);
     };
     let (_, values) = thread::join(
         rt,

@@ -12,6 +12,8 @@ mod ahead;
 mod cost;
 mod input;
 mod pieces;
+mod queues;
+mod stages;
 #[cfg(test)]
 mod tests;
 

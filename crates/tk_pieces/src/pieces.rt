@@ -1,8 +1,8 @@
 //! Cuts a long list into pieces, which threads convert in place.
 //!
 //! Then the calling thread checks the pieces in order. If one has a fault, the calling thread
-//! converts the list once more from the first such piece on, up to the fault. The longest new lists
-//! are made by `ahead`.
+//! converts the list once more from the first such piece on, up to the fault. New lists are made by
+//! `stages`, the longest ones by `ahead`.
 ghost use Rattle.std.specs.Prelude.{[], ◌≡◌, ◌+◌, ◌<◌, ◌≤◌, ◌^◌, length, MatchResult};
 ghost use Rattle.tk_keeper.specs.Trace.{AreValues, IsConverted, IsFault};
 ghost use Rattle.tk_pieces.specs.Input.{of_input};
@@ -11,6 +11,7 @@ ghost use Rattle.tk_pieces.specs.Pieces.{ArePieces, IsPiece, IsTracedInPieces, f
 use crate::ahead::trace_ahead;
 use crate::cost::{estimated_ns, is_long, piece_size};
 use crate::input::Input;
+use crate::stages::convert_in_stages;
 use rayon::prelude::*;
 use std::alloc::Allocator;
 use std::marker::{Brand, Send, Sync};
@@ -72,31 +73,9 @@ pub fn trace_all<R: Threads + Sync, A: Allocator + Copy + Send + Sync, B: Alloca
     };
     let size = piece_size(each_ns);
     if stamps.len() < UNTOUCHED || each_ns >= DEAR_NS {
-        return convert_at_once(rt, size, input, values);
+        return convert_in_stages(rt, size, input, values);
     }
     trace_ahead::<Brand, R, A, B>(rt, size, input, values)
-}
-
-/// Does what `trace_all` does, into an empty list: fills it with zeros, and then converts in place.
-pub(crate) fn convert_at_once<R: Threads + Sync, A: Allocator + Copy + Sync, B: Allocator>(
-    rt: &R,
-    size: usize,
-    input: Input<'_, A>,
-    values: Vec<u64, B>,
-) -> Result<Vec<u64, B>, TraceError>
-    requires size { 0 < size }
-    requires filled { 0 < length input.stamps.now }
-    requires empty { values.items ≡ [] }
-    ensures { MatchResult result
-        (λ values. of_input IsConverted input.entry values.items)
-        (λ error. of_input IsFault input.entry error) }
-{
-    let mut values = values;
-    let Ok(()) = values.resize(input.stamps.len(), 0) else {
-        return Err(TraceError::Memory);
-    };
-    trace_in_pieces(rt, size, input, values.as_mut_slice())?;
-    Ok(values)
 }
 
 /// Converts each stamp as `trace_all` does, and writes the values to `out`. All three slices have

@@ -2,6 +2,7 @@
 
 use crate::input::Input;
 use crate::pieces::trace_in_pieces;
+use crate::stages::convert_in_stages;
 use std::fmt::Debug;
 use std::process::Abort;
 use std::test::Fail;
@@ -64,6 +65,11 @@ fn the_first_fault_of_three_thousand_pieces_decides(rt: HostRuntime) -> Result<(
             Some(TraceError::Invalid { index: 50_016 }),
         ),
         (50_015, 9, 0, Some(TraceError::Unknown { index: 50_015 })),
+        // a stage ends before the item 8,736, and one before the item 544
+        (8_736, 0, ABOVE, Some(TraceError::Invalid { index: 8_736 })),
+        (8_735, 2, 0, Some(TraceError::Unknown { index: 8_735 })),
+        (544, 0, ABOVE, Some(TraceError::Invalid { index: 544 })),
+        (543, 2, 0, Some(TraceError::Unknown { index: 543 })),
         (33, 0, ABOVE, Some(TraceError::Invalid { index: 33 })),
         (32, 2, ABOVE, Some(TraceError::Unknown { index: 32 })),
         (31, 0, ABOVE, Some(TraceError::Invalid { index: 31 })),
@@ -85,6 +91,11 @@ fn the_first_fault_of_three_thousand_pieces_decides(rt: HostRuntime) -> Result<(
         };
         let done = trace_in_pieces(&rt, SIZE, input, out.as_mut_slice());
         assert_same(&rt, &done.err(), &fault);
+        let list = convert_in_stages(&rt, SIZE, input, Vec::new(alloc));
+        assert_same(&rt, &list.as_ref().err(), &fault.as_ref());
+        if let Ok(values) = &list {
+            assert_same(&rt, &values.as_slice(), &stamps);
+        }
         for (at, value) in out.iter().take(place).enumerate() {
             assert_same(&rt, value, &(at as u64));
         }

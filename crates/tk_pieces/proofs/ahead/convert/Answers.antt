@@ -1,7 +1,7 @@
-use Rattle.std.proofs.Common.{◌+◌, ◌-◌, length, sym, subst, rules}
+use Rattle.std.proofs.Common.{◌+◌, ◌-◌, length, Err, sym, subst, rules}
 use Rattle.tk_keeper.specs.Trace.{item_of}
 use Rattle.tk_pieces.specs.Pieces.{IsFaultFrom}
-use Rattle.tk_pieces.proofs.Parts.{part_refused}
+use Rattle.tk_pieces.proofs.Parts.{in_pieces, part_refused}
 use Rattle.tk_pieces.proofs.ahead.convert.Goals as goal
 
 pub returns-in-Err : goal.returns-in-Err
@@ -11,8 +11,8 @@ returns-in-Err g c =
     let stamps = c.args.input.stamps.now in
     let at = c.args.at in
     let n = at + c.len.result - at in
-    let whole = part_refused journal c.args.input.clock fronts stamps at n _ _ c.in-Err.error (search rules)
-    c.in-Err.ensures in
+    let whole = part_refused journal c.args.input.clock fronts stamps at n _ c.in-Err.error (search rules)
+    (in_pieces journal c.args.input.clock _ _ _ _ (Err c.in-Err.error) c.in-Err.ensures) in
     let told = subst (IsFaultFrom (item_of journal c.args.input.clock fronts stamps) (length stamps) at)
     (sym c.moved.ensures) whole in
     let counted = subst (λ count. IsFaultFrom (item_of journal c.args.input.clock fronts stamps) count at

@@ -2,7 +2,7 @@ use Rattle.std.proofs.Common.{◌≡◌, ℕ, ◌+◌, ◌*◌, ◌<◌, ◌≤�
 use Rattle.std.proofs.Math.Nat.{suc-mul}
 use Rattle.std.proofs.Math.Numerals.{suc-eq-add-one}
 use Rattle.tk_pieces.specs.Pieces.{ArePieces, refused_mark}
-use Rattle.tk_pieces.proofs.Parts.{IsDone, pieces_done}
+use Rattle.tk_pieces.proofs.Parts.{pieces_done}
 use Rattle.tk_pieces.proofs.pieces.first_fault.Goals as goal
 
 pub returns-then-count-at : goal.returns-then-count-at
