@@ -3,11 +3,26 @@
 mod replay;
 mod script;
 
-use std::fmt::Debug;
+use std::fmt::{Debug, Display};
 use std::process::Abort;
+use std::test::Fail;
 
 /// Stops the test if `found` is not equal to `wanted`. It is a separate call to keep the proof of
 /// each test short.
 fn assert_same<T: PartialEq + Debug>(rt: &impl Abort, found: &T, wanted: &T) {
     assert_eq!(rt; found, wanted);
+}
+
+/// Stops the test if the texts of the items, each in its own line, are not equal to `wanted`.
+fn assert_lines<T: Display>(
+    rt: &(impl Abort + AllocGlobal),
+    items: &[T],
+    wanted: &str,
+) -> Result<(), Fail> {
+    let mut lines = String::new(rt.alloc());
+    for item in items {
+        lines.push_str(format!(in rt.alloc(); "{item}\n")?.as_str())?;
+    }
+    assert_same(rt, &lines.as_str(), &wanted);
+    Ok(())
 }

@@ -13,7 +13,7 @@ mod scenarios;
 mod streams;
 mod traces;
 
-use super::assert_same;
+use super::{assert_lines, assert_same};
 
 /// Opens a counter of one nanosecond a cycle, and brings the clocks forward by half of the
 /// counter's range.

@@ -11,7 +11,7 @@ mod scripts;
 mod stamps;
 mod ways;
 
-use super::assert_same;
+use super::{assert_lines, assert_same};
 use std::test::Fail;
 use tk_clock::{ClockId, Command, Timespec};
 use tk_script::{Row, ScriptError};

@@ -1,6 +1,15 @@
 //! Readers and writers that fail once, when they are told to, and then go on.
 
-use std::io::{Error, ErrorKind, Read, Result, Write};
+use super::assert_same;
+use std::io::{self, Error, ErrorKind, Read, Write};
+use std::process::Abort;
+use tk_replay::Fault;
+
+/// More calls than a reader or a writer gets.
+pub(super) const NEVER: u32 = 100_000_000;
+
+/// A fault that ends all, and one after which a call could be tried again.
+pub(super) const FAULTS: [ErrorKind; 2] = [ErrorKind::Other, ErrorKind::Interrupted];
 
 /// Gives ten bytes a read, and fails at one of its reads.
 #[derive(Drop)]
@@ -25,7 +34,7 @@ impl<'a> Reader<'a> {
 }
 
 impl Read for Reader<'_> {
-    fn read(&mut self, buf: &mut [u8]) -> Result<usize> {
+    fn read(&mut self, buf: &mut [u8]) -> io::Result<usize> {
         let read = self.reads;
         self.reads = read.saturating_add(1);
         if read == self.fault_at {
@@ -43,7 +52,7 @@ pub(super) struct Endless {
 }
 
 impl Read for Endless {
-    fn read(&mut self, buf: &mut [u8]) -> Result<usize> {
+    fn read(&mut self, buf: &mut [u8]) -> io::Result<usize> {
         buf.fill(b'\n');
         self.given = self.given.saturating_add(buf.len());
         Ok(buf.len())
@@ -56,6 +65,13 @@ pub(super) enum Turn {
     Fails(ErrorKind),
     TakesNone,
 }
+
+/// Each turn after which nothing more is written.
+pub(super) const TURNS: [Turn; 3] = [
+    Turn::Fails(ErrorKind::Other),
+    Turn::Fails(ErrorKind::Interrupted),
+    Turn::TakesNone,
+];
 
 /// Takes a piece of the text at each write but one, at which it has its turn.
 #[derive(Drop)]
@@ -85,13 +101,37 @@ impl Writer {
         }
     }
 
+    /// Returns a writer that accepts every byte, in pieces of ten bytes.
+    pub(super) fn willing() -> Writer {
+        Writer::new(10, NEVER, Turn::TakesNone)
+    }
+
     pub(super) fn text(&self) -> &[u8] {
         &self.taken[..self.len.min(128)]
     }
 }
 
+/// Stops the test unless a write or the flush failed after this text, as the last of the calls.
+pub(super) fn assert_write_fault(
+    rt: &impl Abort,
+    outcome: Result<(), Fault>,
+    writer: &Writer,
+    text: &[u8],
+    calls: u32,
+) {
+    let written = text.len() as u64;
+    assert_same(rt, &outcome, &Err(Fault::Write { written }));
+    assert_taken(rt, writer, text, calls);
+}
+
+/// Stops the test if the writer has another text, or had another number of writes and flushes.
+pub(super) fn assert_taken(rt: &impl Abort, writer: &Writer, text: &[u8], calls: u32) {
+    assert_same(rt, &writer.text(), &text);
+    assert_same(rt, &writer.calls, &calls);
+}
+
 impl Write for Writer {
-    fn write(&mut self, buf: &[u8]) -> Result<usize> {
+    fn write(&mut self, buf: &[u8]) -> io::Result<usize> {
         let call = self.calls;
         self.calls = call.saturating_add(1);
         if call == self.turn_at {
@@ -110,7 +150,7 @@ impl Write for Writer {
         Ok(piece.len())
     }
 
-    fn flush(&mut self) -> Result<()> {
+    fn flush(&mut self) -> io::Result<()> {
         self.calls = self.calls.saturating_add(1);
         match self.flush_fault.take() {
             None => Ok(()),

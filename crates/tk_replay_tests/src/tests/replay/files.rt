@@ -48,14 +48,8 @@ fn traces_two_files_into_a_third(rt: HostRuntime) -> Result<(), Fail> {
     let mut script = File::open(&rt, "tk_replay_steered")?;
     let mut stamps = File::open(&rt, "tk_replay_stamps")?;
     let mut text = File::create(&rt, "tk_replay_trace")?;
-    let outcome = trace(
-        rt.alloc(),
-        &rt,
-        &mut script,
-        &mut stamps,
-        ClockId::Monotonic,
-        &mut text,
-    );
+    let clock = ClockId::Monotonic;
+    let outcome = trace(rt.alloc(), &rt, &mut script, &mut stamps, clock, &mut text);
     assert_same(&rt, &outcome, &Ok(()));
     let told = fs::read(&rt, "tk_replay_trace")?;
     assert_same(&rt, &told.as_slice(), &TRACE);

@@ -1,6 +1,8 @@
 use super::assert_same;
 use std::alloc::{AllocError, Global};
+use std::process::Abort;
 use std::test::Fail;
+use std::thread::Threads;
 use tk_clock::{ClockId, Timespec};
 use tk_counter::CounterDesc;
 use tk_keeper::{Timekeeper, TraceError};
@@ -35,11 +37,16 @@ fn refuses_a_command_where_the_journal_is_full(rt: HostRuntime) -> Result<(), Fa
     Ok(())
 }
 
+/// Stops the test unless the text ends and is as long as the report of an accepted last command.
+fn assert_whole(rt: &impl Abort, text: &[u8]) {
+    assert!(rt; text.ends_with(LAST));
+    assert_same(rt, &text.len(), &LENGTH);
+}
+
 #[test]
 fn folds_a_full_journal_in_time(rt: HostRuntime) -> Result<(), Fail> {
     let text = report_bounded(rt.alloc(), script(rt.alloc())?.as_slice(), 1)?;
-    assert!(rt; text.ends_with(LAST));
-    assert_same(&rt, &text.len(), &LENGTH);
+    assert_whole(&rt, text.as_slice());
     Ok(())
 }
 
@@ -48,14 +55,23 @@ fn writes_the_report_of_a_folded_journal(rt: HostRuntime) -> Result<(), Fail> {
     let script = script(rt.alloc())?;
     let mut reader = script.as_slice();
     let mut text = Vec::new(rt.alloc());
-    assert_same(
-        &rt,
-        &replay_bounded(rt.alloc(), &mut reader, &mut text, 1),
-        &Ok(()),
-    );
-    assert!(rt; text.ends_with(LAST));
-    assert_same(&rt, &text.len(), &LENGTH);
+    let outcome = replay_bounded(rt.alloc(), &mut reader, &mut text, 1);
+    assert_same(&rt, &outcome, &Ok(()));
+    assert_whole(&rt, text.as_slice());
     Ok(())
+}
+
+/// Traces MONOTONIC. Returns the outcome, and the text that was written.
+fn traced(
+    rt: &(impl AllocGlobal + Threads + Sync),
+    script: &[u8],
+    stamps: &[u8],
+) -> (Result<(), Fault>, Vec<u8>) {
+    let (mut script, mut stamps) = (script, stamps);
+    let mut text = Vec::new(rt.alloc());
+    let clock = ClockId::Monotonic;
+    let outcome = trace(rt.alloc(), rt, &mut script, &mut stamps, clock, &mut text);
+    (outcome, text)
 }
 
 #[test]
@@ -69,15 +85,9 @@ fn a_full_journal_has_no_later_front(rt: HostRuntime) -> Result<(), Fail> {
             Err(Fault::Trace(TraceError::Unknown { index: 1 })),
         ),
     ];
-    for (mut stamps, lines, outcome) in outcomes {
-        let mut reader = script.as_slice();
-        let mut text = Vec::new(rt.alloc());
-        let clock = ClockId::Monotonic;
-        assert_same(
-            &rt,
-            &trace(rt.alloc(), &rt, &mut reader, &mut stamps, clock, &mut text),
-            &outcome,
-        );
+    for (stamps, lines, wanted) in outcomes {
+        let (outcome, text) = traced(&rt, script.as_slice(), stamps);
+        assert_same(&rt, &outcome, &wanted);
         assert_same(&rt, &text.as_slice(), &lines);
     }
     Ok(())
@@ -100,20 +110,8 @@ fn traces_stamps_by_the_million(rt: HostRuntime) -> Result<(), Fail> {
         lines.extend_from_slice(stamp.as_bytes())?;
     }
     assert_same(&rt, &stamps.len(), &STAMPS_LENGTH);
-    let (mut script, mut stamps) = (OPENING, stamps.as_slice());
-    let mut text = Vec::new(rt.alloc());
-    assert_same(
-        &rt,
-        &trace(
-            rt.alloc(),
-            &rt,
-            &mut script,
-            &mut stamps,
-            ClockId::Monotonic,
-            &mut text,
-        ),
-        &Ok(()),
-    );
+    let (outcome, text) = traced(&rt, OPENING, stamps.as_slice());
+    assert_same(&rt, &outcome, &Ok(()));
     assert!(rt; text.as_slice() == lines.as_slice());
     Ok(())
 }

@@ -1,6 +1,6 @@
 //! Many scripts at once: order, counts, threads and gates.
 
-use super::{REPORT, SCRIPT, assert_same};
+use super::{REPORT, SCRIPT, assert_lines, assert_same};
 use std::alloc::{AllocError, Global};
 use std::process::Abort;
 use std::sync::atomic::{AtomicU64, Ordering};
@@ -33,7 +33,7 @@ fn uneven(alloc: Global, count: usize) -> Result<Vec<Vec<u8>>, AllocError> {
     Ok(scripts)
 }
 
-/// Holds each piece until as many have come as are wanted, for at most 50,000,000 turns.
+/// Holds each piece until as many have come as are wanted.
 #[derive(Drop)]
 struct Meeting {
     wanted: u64,
@@ -41,16 +41,26 @@ struct Meeting {
     late: AtomicU64,
 }
 
-impl Gate for Meeting {
-    fn before(&self, _piece: usize) {
+impl Meeting {
+    /// Counts one more, and waits for the others for at most 50,000,000 turns. Returns whether all
+    /// have come.
+    fn meet(&self) -> bool {
         self.came.fetch_add(1, Ordering::SeqCst);
         for _ in 0..50_000_000u32 {
             if self.came.load(Ordering::SeqCst) >= self.wanted {
-                return;
+                return true;
             }
             thread::yield_now();
         }
-        self.late.store(1, Ordering::SeqCst);
+        false
+    }
+}
+
+impl Gate for Meeting {
+    fn before(&self, _piece: usize) {
+        if !self.meet() {
+            self.late.store(1, Ordering::SeqCst);
+        }
     }
 
     fn after(&self, _piece: usize) {}
@@ -279,13 +289,7 @@ fn many_reports_or_want_of_them(rt: HostRuntime) -> Result<(), Fail> {
 
 #[test]
 fn tells_why_there_are_no_reports(rt: HostRuntime) -> Result<(), Fail> {
-    let texts = [
-        (ManyError::Count, "count out of range"),
-        (ManyError::Memory, "out of memory"),
-        (ManyError::Threads, "cannot start a thread"),
-    ];
-    for (error, text) in texts {
-        assert_same(&rt, &format!(in rt.alloc(); "{error}")?.as_str(), &text);
-    }
-    Ok(())
+    let errors = [ManyError::Count, ManyError::Memory, ManyError::Threads];
+    let texts = "count out of range\nout of memory\ncannot start a thread\n";
+    assert_lines(&rt, errors.as_slice(), texts)
 }

@@ -2,13 +2,12 @@
 
 use super::assert_same;
 use super::fakes::{Turn, Writer};
-use super::traces::{STAMPS, STEERED, TRACE, traced, willing};
+use super::traces::{STAMPS, STEERED, TRACE, traced};
 use std::alloc::Global;
 use std::process::Abort;
 use std::test::Fail;
 use std::thread::Threads;
 use tk_clock::ClockId;
-use tk_keeper::Timekeeper;
 use tk_replay::{
     Fault, convert, keeper_after, keeper_of, replay, replay_bounded, report, report_bounded,
     report_rows,
@@ -93,87 +92,6 @@ const DATED: &[u8] = b"open,64,16777216,24,0,1700000000,0\n\
 update,1\nupdate,2\nupdate,3\nupdate,4\nupdate,5\nget,5,realtime\nupdate,6\nupdate,7\n\
 update,8\nupdate,9\nget,86400000000000,realtime\nget,86400000000000,tai\nupdate,10\n";
 
-#[test]
-fn each_growth_of_a_report_refused_in_turn(rt: HostRuntime) -> Result<(), Fail> {
-    let heap = Heap::new(rt.alloc());
-    let whole = report(rt.alloc(), DATED)?;
-    assert!(rt;
-        whole.ends_with(
-            b",2023-11-15T22:13:20.000000000Z\n\
-at,tai,1700086400.000000000\nok,10,0.000000010\n"
-        )
-    );
-    for keep in [None, Some(1)] {
-        let mut is_whole = false;
-        'requests: for request in 1..=1_000 {
-            let (start, mut rows) = RowReader::open(rt.alloc(), DATED)?;
-            heap.refuse(request);
-            let told = report_rows(&heap, start, &mut rows, keep);
-            is_whole = heap.grant_all();
-            match told {
-                Ok(text) => {
-                    assert!(rt; is_whole && request > 5);
-                    assert_same(&rt, &text.as_slice(), &whole.as_slice());
-                    break 'requests;
-                }
-                Err(error) => {
-                    assert!(rt; !is_whole);
-                    assert_same(&rt, &error, &ScriptError::Memory);
-                }
-            }
-        }
-        assert!(rt; is_whole);
-    }
-    Ok(())
-}
-
-#[test]
-fn trace_or_want_of_it(rt: HostRuntime) {
-    let mut writer = willing();
-    let outcome = traced(&rt, STEERED, STAMPS, ClockId::Monotonic, &mut writer);
-    assert_written(&rt, outcome, &writer);
-}
-
-#[test]
-fn there_is_memory_for_a_trace(rt: HostRuntime) {
-    let mut writer = willing();
-    let outcome = traced(&rt, STEERED, STAMPS, ClockId::Monotonic, &mut writer);
-    assert_same(&rt, &outcome, &Ok(()));
-    assert_same(&rt, &writer.text(), &TRACE);
-}
-
-/// The commands of `DATED` out of the heap.
-fn commands<'h>(
-    alloc: Global,
-    heap: &'h Heap<Global>,
-) -> Result<Timekeeper<&'h Heap<Global>>, ScriptError> {
-    let (start, mut rows) = RowReader::open(alloc, DATED)?;
-    keeper_after(heap, start, &mut rows)
-}
-
-#[test]
-fn each_growth_of_a_traces_journal_refused_in_turn(rt: HostRuntime) {
-    let heap = Heap::new(rt.alloc());
-    let mut is_whole = false;
-    'requests: for request in 1..=1_000 {
-        heap.refuse(request);
-        let told = commands(rt.alloc(), &heap);
-        is_whole = heap.grant_all();
-        match told {
-            Ok(keeper) => {
-                assert!(rt; is_whole && request > 2);
-                assert_same(&rt, &keeper.len(), &10);
-                break 'requests;
-            }
-            Err(error) => {
-                assert!(rt; !is_whole);
-                assert_same(&rt, &error, &ScriptError::Memory);
-            }
-        }
-    }
-    assert!(rt; is_whole);
-}
-
 /// The lines of stamps by the journal of `DATED`, out of the heap.
 fn lines<'h>(
     heap: &'h Heap<Global>,
@@ -185,28 +103,108 @@ fn lines<'h>(
     convert(heap, rt, &keeper, &items, ClockId::Monotonic)
 }
 
-#[test]
-fn each_growth_of_a_traces_lines_refused_in_turn(rt: HostRuntime) {
-    let heap = Heap::new(rt.alloc());
-    let mut is_whole = false;
-    'requests: for request in 1..=1_000 {
-        heap.refuse(request);
-        let told = lines(&heap, &rt, b"10,12\n0,7\n9,1000\n");
-        is_whole = heap.grant_all();
-        match told {
-            Ok(text) => {
-                assert!(rt; is_whole && request > 2);
-                assert_same(&rt, &text.as_slice(), &b"12\n7\n1000\n".as_slice());
-                break 'requests;
+/// What is made while memory is refused.
+#[derive(Clone, Copy)]
+enum Work {
+    Report,
+    BoundedReport,
+    /// The journal of a trace.
+    Journal,
+    /// The lines of a trace.
+    Lines,
+}
+
+impl Work {
+    /// Makes it from `DATED`, in memory of the heap. Stops the test if the result is wrong.
+    fn make(
+        self,
+        rt: &(impl Abort + AllocGlobal + Threads + Sync),
+        heap: &Heap<Global>,
+    ) -> Result<(), Fault> {
+        let (start, mut rows) = RowReader::open(rt.alloc(), DATED)?;
+        match self {
+            Work::Report => {
+                let text = report_rows(heap, start, &mut rows, None)?;
+                assert_same(rt, &text.as_slice(), &report(rt.alloc(), DATED)?.as_slice());
             }
-            Err(fault) => {
-                assert!(rt; !is_whole);
-                assert_same(&rt, &fault, &Fault::Memory);
+            Work::BoundedReport => {
+                let text = report_rows(heap, start, &mut rows, Some(1))?;
+                assert_same(rt, &text.as_slice(), &report(rt.alloc(), DATED)?.as_slice());
+            }
+            Work::Journal => {
+                let keeper = keeper_after(heap, start, &mut rows)?;
+                assert_same(rt, &keeper.len(), &10);
+            }
+            Work::Lines => {
+                let text = lines(heap, rt, b"10,12\n0,7\n9,1000\n")?;
+                assert_same(rt, &text.as_slice(), &b"12\n7\n1000\n".as_slice());
             }
         }
+        Ok(())
     }
-    assert!(rt; is_whole);
+}
+
+/// Refuses each request of the work in turn, at least `least` of them. Stops the test unless the
+/// fault is then `Memory`, and the work is done when nothing is refused.
+fn assert_made_or_memory(
+    rt: &(impl Abort + AllocGlobal + Threads + Sync),
+    work: Work,
+    least: u64,
+) -> Result<(), Fail> {
+    let heap = Heap::new(rt.alloc());
+    for request in 1..=1_000 {
+        heap.refuse(request);
+        let outcome = work.make(rt, &heap);
+        if heap.grant_all() {
+            assert_same(rt, &outcome, &Ok(()));
+            assert!(rt; request > least);
+            return Ok(());
+        }
+        assert_same(rt, &outcome, &Err(Fault::Memory));
+    }
+    Err("each request was refused".into())
+}
+
+#[test]
+fn each_growth_of_a_report_refused_in_turn(rt: HostRuntime) -> Result<(), Fail> {
+    assert!(rt;
+        report(rt.alloc(), DATED)?.ends_with(
+            b",2023-11-15T22:13:20.000000000Z\n\
+at,tai,1700086400.000000000\nok,10,0.000000010\n"
+        )
+    );
+    for work in [Work::Report, Work::BoundedReport] {
+        assert_made_or_memory(&rt, work, 5)?;
+    }
+    Ok(())
+}
+
+#[test]
+fn trace_or_want_of_it(rt: HostRuntime) {
+    let mut writer = Writer::willing();
+    let outcome = traced(&rt, STEERED, STAMPS, ClockId::Monotonic, &mut writer);
+    assert_written(&rt, outcome, &writer);
+}
+
+#[test]
+fn there_is_memory_for_a_trace(rt: HostRuntime) {
+    let mut writer = Writer::willing();
+    let outcome = traced(&rt, STEERED, STAMPS, ClockId::Monotonic, &mut writer);
+    assert_same(&rt, &outcome, &Ok(()));
+    assert_same(&rt, &writer.text(), &TRACE);
+}
+
+#[test]
+fn each_growth_of_a_traces_journal_refused_in_turn(rt: HostRuntime) -> Result<(), Fail> {
+    assert_made_or_memory(&rt, Work::Journal, 2)
+}
+
+#[test]
+fn each_growth_of_a_traces_lines_refused_in_turn(rt: HostRuntime) -> Result<(), Fail> {
+    assert_made_or_memory(&rt, Work::Lines, 2)?;
+    let heap = Heap::new(rt.alloc());
     heap.refuse_all();
     assert!(rt; matches!(lines(&heap, &rt, b"10,12\n"), Err(Fault::Memory)));
     heap.grant_all();
+    Ok(())
 }

@@ -1,15 +1,11 @@
-use super::fakes::{Endless, Reader, Turn, Writer};
+use super::fakes::{
+    Endless, FAULTS, NEVER, Reader, TURNS, Turn, Writer, assert_taken, assert_write_fault,
+};
 use super::{REPORT, SCRIPT, assert_same};
 use std::alloc::Global;
 use std::io::{ErrorKind, Read, Write};
 use tk_replay::{Fault, replay, replay_bounded};
 use tk_script::ScriptError;
-
-/// More calls than a reader or a writer gets here.
-const NEVER: u32 = 1000;
-
-/// A fault that ends all, and one after which a call could be tried again.
-const FAULTS: [ErrorKind; 2] = [ErrorKind::Other, ErrorKind::Interrupted];
 
 /// Replays the script with a journal that may be folded, or without.
 fn replayed<R: Read, W: Write>(
@@ -28,18 +24,13 @@ fn replayed<R: Read, W: Write>(
 /// Both ways to replay.
 const BOTH: [bool; 2] = [false, true];
 
-/// A writer that takes all in pieces of ten bytes.
-fn willing() -> Writer {
-    Writer::new(10, NEVER, Turn::TakesNone)
-}
-
 #[test]
 fn a_read_that_fails_is_not_tried_again(rt: HostRuntime) {
     for is_bounded in BOTH {
         for fault in FAULTS {
             for read in 0..12 {
                 let mut reader = Reader::new(SCRIPT, read, fault);
-                let mut writer = willing();
+                let mut writer = Writer::willing();
                 let outcome = replayed(rt.alloc(), is_bounded, &mut reader, &mut writer);
                 if outcome == Err(Fault::Memory) {
                     return;
@@ -56,7 +47,7 @@ fn a_read_that_fails_is_not_tried_again(rt: HostRuntime) {
 fn reads_to_the_end(rt: HostRuntime) {
     for is_bounded in BOTH {
         let mut reader = Reader::new(SCRIPT, 12, ErrorKind::Other);
-        let mut writer = willing();
+        let mut writer = Writer::willing();
         let outcome = replayed(rt.alloc(), is_bounded, &mut reader, &mut writer);
         assert_same(&rt, &outcome, &Ok(()));
         assert_same(&rt, &writer.text(), &REPORT);
@@ -67,7 +58,7 @@ fn reads_to_the_end(rt: HostRuntime) {
 fn stops_reading_at_the_limit(rt: HostRuntime) {
     for is_bounded in BOTH {
         let mut reader = Endless { given: 0 };
-        let mut writer = willing();
+        let mut writer = Writer::willing();
         let outcome = replayed(rt.alloc(), is_bounded, &mut reader, &mut writer);
         assert_same(&rt, &outcome, &Err(Fault::Script(ScriptError::TooLarge)));
         assert_same(&rt, &reader.given, &16_777_217);
@@ -77,21 +68,14 @@ fn stops_reading_at_the_limit(rt: HostRuntime) {
 
 #[test]
 fn a_write_that_fails_is_not_tried_again(rt: HostRuntime) {
-    let turns = [
-        Turn::Fails(ErrorKind::Other),
-        Turn::Fails(ErrorKind::Interrupted),
-        Turn::TakesNone,
-    ];
     for is_bounded in BOTH {
-        for turn in turns {
+        for turn in TURNS {
             for write in 0..10 {
                 let mut writer = Writer::new(10, write, turn);
                 let mut script = SCRIPT;
                 let outcome = replayed(rt.alloc(), is_bounded, &mut script, &mut writer);
-                let written = u64::from(write) * 10;
-                assert_eq!(rt; outcome, Err(Fault::Write { written }), "{turn:?}");
-                assert_same(&rt, &writer.text(), &&REPORT[..write as usize * 10]);
-                assert_same(&rt, &writer.calls, &(write + 1));
+                let text = &REPORT[..write as usize * 10];
+                assert_write_fault(&rt, outcome, &writer, text, write + 1);
             }
         }
     }
@@ -101,13 +85,11 @@ fn a_write_that_fails_is_not_tried_again(rt: HostRuntime) {
 fn a_flush_that_fails_is_not_tried_again(rt: HostRuntime) {
     for is_bounded in BOTH {
         for fault in FAULTS {
-            let mut writer = willing();
+            let mut writer = Writer::willing();
             writer.flush_fault = Some(fault);
             let mut script = SCRIPT;
             let outcome = replayed(rt.alloc(), is_bounded, &mut script, &mut writer);
-            assert_same(&rt, &outcome, &Err(Fault::Write { written: 97 }));
-            assert_same(&rt, &writer.text(), &REPORT);
-            assert_same(&rt, &writer.calls, &11);
+            assert_write_fault(&rt, outcome, &writer, REPORT, 11);
         }
     }
 }
@@ -119,7 +101,6 @@ fn writes_by_single_bytes(rt: HostRuntime) {
         let mut script = SCRIPT;
         let outcome = replayed(rt.alloc(), is_bounded, &mut script, &mut writer);
         assert_same(&rt, &outcome, &Ok(()));
-        assert_same(&rt, &writer.text(), &REPORT);
-        assert_same(&rt, &writer.calls, &98);
+        assert_taken(&rt, &writer, REPORT, 98);
     }
 }

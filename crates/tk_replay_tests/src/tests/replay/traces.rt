@@ -1,8 +1,10 @@
 //! Traces of a script and a stamp file, and the faults of both.
 
 use super::assert_same;
-use super::fakes::{Endless, Reader, Turn, Writer};
-use std::io::{ErrorKind, Read};
+use super::fakes::{
+    Endless, FAULTS, NEVER, Reader, TURNS, Turn, Writer, assert_taken, assert_write_fault,
+};
+use std::io::Read;
 use std::process::Abort;
 use std::test::Fail;
 use std::thread::Threads;
@@ -10,9 +12,6 @@ use tk_clock::ClockId;
 use tk_keeper::TraceError;
 use tk_replay::{Fault, trace};
 use tk_script::ScriptError;
-
-/// More calls than a reader or a writer gets here.
-pub(super) const NEVER: u32 = 100_000_000;
 
 /// One nanosecond a cycle, and two settings of the frequency.
 pub(super) const STEERED: &[u8] =
@@ -36,11 +35,6 @@ pub(super) fn traced(
     trace(rt.alloc(), rt, &mut script, &mut stamps, clock, writer)
 }
 
-/// A writer that takes all in pieces of ten bytes.
-pub(super) fn willing() -> Writer {
-    Writer::new(10, NEVER, Turn::TakesNone)
-}
-
 /// The text of a trace.
 fn assert_trace(
     rt: &(impl Abort + AllocGlobal + Threads + Sync),
@@ -49,7 +43,7 @@ fn assert_trace(
     stamps: &[u8],
     text: &[u8],
 ) {
-    let mut writer = willing();
+    let mut writer = Writer::willing();
     assert_same(rt, &traced(rt, script, stamps, clock, &mut writer), &Ok(()));
     assert_same(rt, &writer.text(), &text);
 }
@@ -61,7 +55,7 @@ fn assert_fault(
     stamps: &[u8],
     fault: Fault,
 ) {
-    let mut writer = willing();
+    let mut writer = Writer::willing();
     let outcome = traced(rt, script, stamps, ClockId::Monotonic, &mut writer);
     assert_same(rt, &outcome, &Err(fault));
     assert_same(rt, &writer.calls, &0);
@@ -86,8 +80,7 @@ update,4294967296\nget,5,monotonic\nfreq,0,65536000\nresume,0,0,0\nget,429496729
 freq,1000000000,-32768000\n";
     assert_trace(&rt, script, ClockId::Monotonic, STAMPS, TRACE);
     let further = b"3,0\n";
-    let fault = Fault::Trace(TraceError::Unknown { index: 0 });
-    assert_fault(&rt, script, further, fault);
+    assert_fault(&rt, script, further, Fault::Trace(unknown(0)));
 }
 
 #[test]
@@ -121,7 +114,7 @@ tai,1000,37\nsuspend,1000\nresume,5,5,500000000\n";
 #[test]
 fn no_stamps_are_no_byte(rt: HostRuntime) {
     for stamps in [b"".as_slice(), b"\n\r\n\n".as_slice()] {
-        let mut writer = willing();
+        let mut writer = Writer::willing();
         let outcome = traced(&rt, STEERED, stamps, ClockId::Tai, &mut writer);
         assert_same(&rt, &outcome, &Ok(()));
         assert_same(&rt, &writer.len, &0);
@@ -130,44 +123,33 @@ fn no_stamps_are_no_byte(rt: HostRuntime) {
     }
 }
 
+fn unknown(index: usize) -> TraceError {
+    TraceError::Unknown { index }
+}
+
+fn invalid(index: usize) -> TraceError {
+    TraceError::Invalid { index }
+}
+
+fn above_the_limit(index: usize) -> TraceError {
+    TraceError::Range { index }
+}
+
 #[test]
 fn the_first_item_with_a_fault_decides(rt: HostRuntime) {
     let range = b"open,64,4194304,0,0,1700000000,0\nupdate,5\n";
+    let late = b"0,1000000000\n1,1000000000\n2,1000000001\n3,0\n";
     let faults: [(&[u8], &[u8], TraceError); 7] = [
-        (
-            STEERED,
-            b"0,1000000000\n1,1000000000\n2,1000000001\n3,0\n",
-            TraceError::Unknown { index: 3 },
-        ),
-        (
-            STEERED,
-            b"18446744073709551615,0\n",
-            TraceError::Unknown { index: 0 },
-        ),
-        (
-            STEERED,
-            b"0,1\n2,4294967296\n9,0\n",
-            TraceError::Invalid { index: 1 },
-        ),
-        (
-            STEERED,
-            b"0,1\n9,4294967296\n",
-            TraceError::Unknown { index: 1 },
-        ),
-        (
-            STEERED,
-            b"0,18446744073709551615\n",
-            TraceError::Invalid { index: 0 },
-        ),
-        (
-            range,
-            b"0,1\n0,225563049317\n",
-            TraceError::Range { index: 1 },
-        ),
+        (STEERED, late, unknown(3)),
+        (STEERED, b"18446744073709551615,0\n", unknown(0)),
+        (STEERED, b"0,1\n2,4294967296\n9,0\n", invalid(1)),
+        (STEERED, b"0,1\n9,4294967296\n", unknown(1)),
+        (STEERED, b"0,18446744073709551615\n", invalid(0)),
+        (range, b"0,1\n0,225563049317\n", above_the_limit(1)),
         (
             range,
             b"1,1\n0,5\n1,9223372036854775807\n2,0\n",
-            TraceError::Range { index: 2 },
+            above_the_limit(2),
         ),
     ];
     for (script, stamps, error) in faults {
@@ -219,15 +201,26 @@ fn takes_no_stamps_above_the_limit(rt: HostRuntime) -> Result<(), Fail> {
     let stamps = Vec::from_elem(rt.alloc(), b'\n', 16_777_217)?;
     let fault = Fault::Stamps(ScriptError::TooLarge);
     assert_fault(&rt, STEERED, stamps.as_slice(), fault);
-    let mut writer = willing();
+    let mut writer = Writer::willing();
     let outcome = traced(&rt, STEERED, &stamps[1..], ClockId::Tai, &mut writer);
     assert_same(&rt, &outcome, &Ok(()));
     assert_same(&rt, &writer.len, &0);
     Ok(())
 }
 
-/// A fault that ends all, and one after which a call could be tried again.
-const FAULTS: [ErrorKind; 2] = [ErrorKind::Other, ErrorKind::Interrupted];
+/// Stops the test unless the trace of two readers has this fault, and nothing is written.
+fn assert_stops<R: Read, S: Read>(
+    rt: &(impl Abort + AllocGlobal + Threads + Sync),
+    script: &mut R,
+    stamps: &mut S,
+    clock: ClockId,
+    fault: Fault,
+) {
+    let mut writer = Writer::willing();
+    let outcome = trace(rt.alloc(), rt, script, stamps, clock, &mut writer);
+    assert_same(rt, &outcome, &Err(fault));
+    assert_same(rt, &writer.calls, &0);
+}
 
 /// Traces two readers, one of which fails: nothing is written, and no read is tried again.
 fn assert_unread<R: Read, S: Read>(
@@ -235,11 +228,7 @@ fn assert_unread<R: Read, S: Read>(
     script: &mut R,
     stamps: &mut S,
 ) {
-    let mut writer = willing();
-    let clock = ClockId::Monotonic;
-    let outcome = trace(rt.alloc(), rt, script, stamps, clock, &mut writer);
-    assert_same(rt, &outcome, &Err(Fault::Read));
-    assert_same(rt, &writer.calls, &0);
+    assert_stops(rt, script, stamps, ClockId::Monotonic, Fault::Read);
 }
 
 #[test]
@@ -269,39 +258,20 @@ fn a_read_that_fails_is_told_before_all_other_faults(rt: HostRuntime) {
 fn reads_both_inputs_to_the_limit(rt: HostRuntime) {
     let mut script = Endless { given: 0 };
     let mut stamps = Endless { given: 0 };
-    let mut writer = willing();
-    let outcome = trace(
-        rt.alloc(),
-        &rt,
-        &mut script,
-        &mut stamps,
-        ClockId::Tai,
-        &mut writer,
-    );
-    assert_same(&rt, &outcome, &Err(Fault::Script(ScriptError::TooLarge)));
-    assert_same(
-        &rt,
-        &(script.given, stamps.given),
-        &(16_777_217, 16_777_217),
-    );
-    assert_same(&rt, &writer.calls, &0);
+    let fault = Fault::Script(ScriptError::TooLarge);
+    assert_stops(&rt, &mut script, &mut stamps, ClockId::Tai, fault);
+    let given = (script.given, stamps.given);
+    assert_same(&rt, &given, &(16_777_217, 16_777_217));
 }
 
 #[test]
 fn a_write_that_fails_ends_it(rt: HostRuntime) {
-    let turns = [
-        Turn::Fails(ErrorKind::Other),
-        Turn::Fails(ErrorKind::Interrupted),
-        Turn::TakesNone,
-    ];
-    for turn in turns {
+    for turn in TURNS {
         for write in 0..4 {
             let mut writer = Writer::new(10, write, turn);
             let outcome = traced(&rt, STEERED, STAMPS, ClockId::Monotonic, &mut writer);
-            let written = u64::from(write) * 10;
-            assert_eq!(rt; outcome, Err(Fault::Write { written }), "{turn:?}");
-            assert_same(&rt, &writer.text(), &&TRACE[..write as usize * 10]);
-            assert_same(&rt, &writer.calls, &(write + 1));
+            let text = &TRACE[..write as usize * 10];
+            assert_write_fault(&rt, outcome, &writer, text, write + 1);
         }
     }
 }
@@ -309,12 +279,10 @@ fn a_write_that_fails_ends_it(rt: HostRuntime) {
 #[test]
 fn a_flush_that_fails_is_told_behind_the_text(rt: HostRuntime) {
     for fault in FAULTS {
-        let mut writer = willing();
+        let mut writer = Writer::willing();
         writer.flush_fault = Some(fault);
         let outcome = traced(&rt, STEERED, STAMPS, ClockId::Monotonic, &mut writer);
-        assert_same(&rt, &outcome, &Err(Fault::Write { written: 33 }));
-        assert_same(&rt, &writer.text(), &TRACE);
-        assert_same(&rt, &writer.calls, &5);
+        assert_write_fault(&rt, outcome, &writer, TRACE, 5);
     }
 }
 
@@ -323,6 +291,5 @@ fn writes_a_trace_by_single_bytes(rt: HostRuntime) {
     let mut writer = Writer::new(1, NEVER, Turn::TakesNone);
     let outcome = traced(&rt, STEERED, STAMPS, ClockId::Monotonic, &mut writer);
     assert_same(&rt, &outcome, &Ok(()));
-    assert_same(&rt, &writer.text(), &TRACE);
-    assert_same(&rt, &writer.calls, &34);
+    assert_taken(&rt, &writer, TRACE, 34);
 }

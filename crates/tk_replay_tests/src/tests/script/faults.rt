@@ -1,4 +1,4 @@
-use super::{OPENING, assert_same, fault_of};
+use super::{OPENING, assert_lines, assert_same, fault_of};
 use std::alloc::Global;
 use std::test::Fail;
 use tk_script::{Script, ScriptError};
@@ -13,39 +13,34 @@ fn fault_after_opening(alloc: Global, records: &[u8]) -> Result<ScriptError, Fai
     fault(alloc, bytes.as_slice())
 }
 
+const NO_OPENING: ScriptError = ScriptError::Opening { row: 1 };
+
 #[test]
 fn tells_the_fault_of_the_first_record(rt: HostRuntime) -> Result<(), Fail> {
-    let opening = ScriptError::Opening { row: 1 };
     let fields = ScriptError::Fields { row: 1 };
     let number = ScriptError::Number { row: 1 };
     for (bytes, want) in [
         (b"".as_slice(), ScriptError::Empty),
-        (b"\n\r\n".as_slice(), ScriptError::Empty),
-        (b"update,0".as_slice(), opening),
-        (b"get,0,monotonic".as_slice(), opening),
-        (b"openhz,7,24000000,600,0,0,0".as_slice(), opening),
-        (b"openhz,32,0,600,0,0,0".as_slice(), opening),
-        (b"openhz,32,24000000,0,0,0,0".as_slice(), opening),
-        (b"openhz,32,24000000,601,0,0,0".as_slice(), opening),
-        (b"\"".as_slice(), opening),
-        (b"\"\"".as_slice(), opening),
-        (b"\xff".as_slice(), opening),
-        (b"\"open,32,16777216,24,0,1700000000,0".as_slice(), opening),
-        (b"open,7,16777216,24,0,1700000000,0".as_slice(), opening),
-        (
-            b"open,32,16777216,24,4294967296,1700000000,0".as_slice(),
-            opening,
-        ),
-        (b"open,32,16777216,24,0,8277292036,0".as_slice(), opening),
-        (b"open,32,16777216,24,0,-1,0".as_slice(), opening),
-        (b"open,32,16777216,24,0,0,1000000000".as_slice(), opening),
-        (b"open,32,16777216,24,0,1700000000".as_slice(), fields),
-        (b"open,32,4294967296,24,0,1700000000,0".as_slice(), number),
-        (
-            b"open,32,16777216,24,0,9223372036854775808,0".as_slice(),
-            number,
-        ),
-        (b"open,7,16777216,24,0,1700000000,-0".as_slice(), number),
+        (b"\n\r\n", ScriptError::Empty),
+        (b"update,0", NO_OPENING),
+        (b"get,0,monotonic", NO_OPENING),
+        (b"openhz,7,24000000,600,0,0,0", NO_OPENING),
+        (b"openhz,32,0,600,0,0,0", NO_OPENING),
+        (b"openhz,32,24000000,0,0,0,0", NO_OPENING),
+        (b"openhz,32,24000000,601,0,0,0", NO_OPENING),
+        (b"\"", NO_OPENING),
+        (b"\"\"", NO_OPENING),
+        (b"\xff", NO_OPENING),
+        (b"\"open,32,16777216,24,0,1700000000,0", NO_OPENING),
+        (b"open,7,16777216,24,0,1700000000,0", NO_OPENING),
+        (b"open,32,16777216,24,4294967296,1700000000,0", NO_OPENING),
+        (b"open,32,16777216,24,0,8277292036,0", NO_OPENING),
+        (b"open,32,16777216,24,0,-1,0", NO_OPENING),
+        (b"open,32,16777216,24,0,0,1000000000", NO_OPENING),
+        (b"open,32,16777216,24,0,1700000000", fields),
+        (b"open,32,4294967296,24,0,1700000000,0", number),
+        (b"open,32,16777216,24,0,9223372036854775808,0", number),
+        (b"open,7,16777216,24,0,1700000000,-0", number),
     ] {
         assert_same(&rt, &fault(rt.alloc(), bytes)?, &want);
     }
@@ -59,48 +54,45 @@ fn tells_the_fault_of_a_later_record(rt: HostRuntime) -> Result<(), Fail> {
     let number = ScriptError::Number { row: 2 };
     for (records, want) in [
         (b"updat,0".as_slice(), word),
-        (b"updat,0,0".as_slice(), word),
-        (b"updates,0".as_slice(), word),
-        (b"Update,0".as_slice(), word),
-        (b"settime,0,0,0".as_slice(), word),
-        (b"monotonic,0".as_slice(), word),
+        (b"updat,0,0", word),
+        (b"updates,0", word),
+        (b"Update,0", word),
+        (b"settime,0,0,0", word),
+        (b"monotonic,0", word),
         (OPENING, word),
-        (b"openhz,32,24000000,600,0,0,0".as_slice(), word),
-        (b"\"\"".as_slice(), word),
-        (b"update".as_slice(), fields),
-        (b"update,1,1".as_slice(), fields),
-        (b"set,5,7".as_slice(), fields),
-        (b"step,5,7,0,0".as_slice(), fields),
-        (b"freq,5".as_slice(), fields),
-        (b"tick,5,10000,0".as_slice(), fields),
-        (b"tai,5".as_slice(), fields),
-        (b"suspend,5,0".as_slice(), fields),
-        (b"resume,5,0".as_slice(), fields),
-        (b"set,x,y".as_slice(), fields),
-        (b"get,x".as_slice(), fields),
-        (b"update, 1".as_slice(), number),
-        (b"update,+1".as_slice(), number),
-        (b"update,".as_slice(), number),
-        (b"update,18446744073709551616".as_slice(), number),
-        (b"update,\"7\nget,1,foo".as_slice(), number),
-        (b"set,0,-9223372036854775809,0".as_slice(), number),
-        (b"set,0,9223372036854775808,0".as_slice(), number),
-        (b"set,0,0,4294967296".as_slice(), number),
-        (b"step,0,0,-1".as_slice(), number),
-        (b"step,0,--1,0".as_slice(), number),
-        (b"resume,0,+1,0".as_slice(), number),
-        (b"freq,0,-".as_slice(), number),
-        (b"freq,0,1.5".as_slice(), number),
-        (b"tick,0,".as_slice(), number),
-        (b"tai,-1,0".as_slice(), number),
-        (b"suspend,-1".as_slice(), number),
-        (b"get,x,foo".as_slice(), number),
-        (b"get,1,foo".as_slice(), word),
-        (
-            b"update,1\nget,1,foo".as_slice(),
-            ScriptError::Word { row: 3 },
-        ),
-        (b"update\nfoo".as_slice(), fields),
+        (b"openhz,32,24000000,600,0,0,0", word),
+        (b"\"\"", word),
+        (b"update", fields),
+        (b"update,1,1", fields),
+        (b"set,5,7", fields),
+        (b"step,5,7,0,0", fields),
+        (b"freq,5", fields),
+        (b"tick,5,10000,0", fields),
+        (b"tai,5", fields),
+        (b"suspend,5,0", fields),
+        (b"resume,5,0", fields),
+        (b"set,x,y", fields),
+        (b"get,x", fields),
+        (b"update, 1", number),
+        (b"update,+1", number),
+        (b"update,", number),
+        (b"update,18446744073709551616", number),
+        (b"update,\"7\nget,1,foo", number),
+        (b"set,0,-9223372036854775809,0", number),
+        (b"set,0,9223372036854775808,0", number),
+        (b"set,0,0,4294967296", number),
+        (b"step,0,0,-1", number),
+        (b"step,0,--1,0", number),
+        (b"resume,0,+1,0", number),
+        (b"freq,0,-", number),
+        (b"freq,0,1.5", number),
+        (b"tick,0,", number),
+        (b"tai,-1,0", number),
+        (b"suspend,-1", number),
+        (b"get,x,foo", number),
+        (b"get,1,foo", word),
+        (b"update,1\nget,1,foo", ScriptError::Word { row: 3 }),
+        (b"update\nfoo", fields),
     ] {
         assert_same(&rt, &fault_after_opening(rt.alloc(), records)?, &want);
     }
@@ -138,8 +130,7 @@ fn fault_of_size(alloc: Global, len: usize) -> Result<ScriptError, Fail> {
 
 #[test]
 fn refuses_a_script_by_its_length(rt: HostRuntime) -> Result<(), Fail> {
-    let opening = ScriptError::Opening { row: 1 };
-    assert_same(&rt, &fault_of_size(rt.alloc(), 16_777_216)?, &opening);
+    assert_same(&rt, &fault_of_size(rt.alloc(), 16_777_216)?, &NO_OPENING);
     assert_same(
         &rt,
         &fault_of_size(rt.alloc(), 16_777_217)?,
@@ -162,25 +153,22 @@ fn counts_the_records_before_a_fault(rt: HostRuntime) -> Result<(), Fail> {
 
 #[test]
 fn shows_each_fault(rt: HostRuntime) -> Result<(), Fail> {
-    for (fault, want) in [
-        (ScriptError::TooLarge, "larger than 16777216 bytes"),
-        (ScriptError::Empty, "no record"),
-        (
-            ScriptError::Opening { row: 1 },
-            "record 1: not a valid opening",
-        ),
-        (ScriptError::Word { row: 2 }, "record 2: unknown word"),
-        (
-            ScriptError::Fields { row: 3 },
-            "record 3: wrong number of fields",
-        ),
-        (
-            ScriptError::Number { row: 4 },
-            "record 4: not a number in range",
-        ),
-        (ScriptError::Memory, "out of memory"),
-    ] {
-        assert_same(&rt, &fault.to_string(rt.alloc())?.as_str(), &want);
-    }
-    Ok(())
+    let of_records = [
+        ScriptError::Opening { row: 1 },
+        ScriptError::Word { row: 2 },
+        ScriptError::Fields { row: 3 },
+        ScriptError::Number { row: 4 },
+    ];
+    let texts = "record 1: not a valid opening\n\
+record 2: unknown word\n\
+record 3: wrong number of fields\n\
+record 4: not a number in range\n";
+    assert_lines(&rt, of_records.as_slice(), texts)?;
+    let others = [
+        ScriptError::TooLarge,
+        ScriptError::Empty,
+        ScriptError::Memory,
+    ];
+    let texts = "larger than 16777216 bytes\nno record\nout of memory\n";
+    assert_lines(&rt, others.as_slice(), texts)
 }

@@ -59,8 +59,14 @@ get,000000000000000000000003,realtime\n"
     Ok(())
 }
 
+/// A first record without a fault.
+const FIRST: &[u8] = b"open,8,256,0,0,0,0";
+
 #[test]
 fn both_ways_tell_the_same_fault(rt: HostRuntime) -> Result<(), Fail> {
+    let fields = ScriptError::Fields { row: 2 };
+    let number = ScriptError::Number { row: 2 };
+    let word = ScriptError::Word { row: 2 };
     for (first, later, want) in [
         (b"".as_slice(), b"".as_slice(), ScriptError::Empty),
         (b"\n", b"\n\n", ScriptError::Empty),
@@ -76,78 +82,22 @@ fn both_ways_tell_the_same_fault(rt: HostRuntime) -> Result<(), Fail> {
             ScriptError::Opening { row: 1 },
         ),
         (b"\xef", b"", ScriptError::Opening { row: 1 }),
+        (FIRST, b"\nupdate,5,", fields),
+        (FIRST, b"\nupdate", fields),
+        (FIRST, b"\nupdate,", number),
+        (FIRST, b"\nupdate,5 \n", number),
+        (FIRST, b"\n,update,5\n", word),
+        (FIRST, b"\n,\n", word),
+        (FIRST, b"\nupdates,5\n", word),
+        (FIRST, b"\nget,5\n", fields),
+        (FIRST, b"\nget,5,tai,\n", fields),
+        (FIRST, b"\nget,5,\n", word),
+        (FIRST, b"\nget,5,ta", word),
+        (FIRST, b"\nget,5,\xef\xbb\xbf\n", word),
+        (FIRST, b"\nget,x,tai\n", number),
+        (FIRST, b"\nupdate,18446744073709551616\n", number),
         (
-            b"open,8,256,0,0,0,0",
-            b"\nupdate,5,",
-            ScriptError::Fields { row: 2 },
-        ),
-        (
-            b"open,8,256,0,0,0,0",
-            b"\nupdate",
-            ScriptError::Fields { row: 2 },
-        ),
-        (
-            b"open,8,256,0,0,0,0",
-            b"\nupdate,",
-            ScriptError::Number { row: 2 },
-        ),
-        (
-            b"open,8,256,0,0,0,0",
-            b"\nupdate,5 \n",
-            ScriptError::Number { row: 2 },
-        ),
-        (
-            b"open,8,256,0,0,0,0",
-            b"\n,update,5\n",
-            ScriptError::Word { row: 2 },
-        ),
-        (
-            b"open,8,256,0,0,0,0",
-            b"\n,\n",
-            ScriptError::Word { row: 2 },
-        ),
-        (
-            b"open,8,256,0,0,0,0",
-            b"\nupdates,5\n",
-            ScriptError::Word { row: 2 },
-        ),
-        (
-            b"open,8,256,0,0,0,0",
-            b"\nget,5\n",
-            ScriptError::Fields { row: 2 },
-        ),
-        (
-            b"open,8,256,0,0,0,0",
-            b"\nget,5,tai,\n",
-            ScriptError::Fields { row: 2 },
-        ),
-        (
-            b"open,8,256,0,0,0,0",
-            b"\nget,5,\n",
-            ScriptError::Word { row: 2 },
-        ),
-        (
-            b"open,8,256,0,0,0,0",
-            b"\nget,5,ta",
-            ScriptError::Word { row: 2 },
-        ),
-        (
-            b"open,8,256,0,0,0,0",
-            b"\nget,5,\xef\xbb\xbf\n",
-            ScriptError::Word { row: 2 },
-        ),
-        (
-            b"open,8,256,0,0,0,0",
-            b"\nget,x,tai\n",
-            ScriptError::Number { row: 2 },
-        ),
-        (
-            b"open,8,256,0,0,0,0",
-            b"\nupdate,18446744073709551616\n",
-            ScriptError::Number { row: 2 },
-        ),
-        (
-            b"open,8,256,0,0,0,0",
+            FIRST,
             b"\nupdate,1\n\nupdate,2\nset,3,4,5,6,7,8,9,10,11,12,13\n",
             ScriptError::Fields { row: 4 },
         ),
