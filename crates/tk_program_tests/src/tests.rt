@@ -10,6 +10,7 @@ mod openings;
 mod race_lines;
 mod races;
 mod traces;
+mod words;
 
 use std::alloc::{AllocError, Global};
 use std::fmt::Debug;
@@ -18,8 +19,7 @@ use std::process::Abort;
 use std::sync::Wait;
 use std::test::Fail;
 use std::thread::Threads;
-use tk_clock::ClockId;
-use tk_program::{Ending, Folder, Request, WordsError, asked, run};
+use tk_program::{Ending, Folder, WordsError, run};
 use tk_replay::{Fault, ManyError};
 use tk_script::ScriptError;
 
@@ -38,174 +38,6 @@ fn line(alloc: Global, words: &[&str]) -> Result<Vec<String>, AllocError> {
     Ok(line)
 }
 
-/// The words ask for this, or are refused.
-fn assert_words(
-    rt: &impl Abort,
-    alloc: Global,
-    words: &[&str],
-    wanted: Result<Request<'_>, WordsError>,
-) -> Result<(), AllocError> {
-    let given = line(alloc, words)?;
-    let found = asked(alloc, given.as_slice());
-    assert!(rt;
-        found == wanted || found == Err(WordsError::Memory),
-        "{words:?}"
-    );
-    Ok(())
-}
-
-#[test]
-fn takes_its_words(rt: HostRuntime) -> Result<(), Fail> {
-    let plain: [&[&str]; 2] = [&["tkcore"], &["tkcore", "replay"]];
-    for words in plain {
-        assert_words(&rt, rt.alloc(), words, Ok(Request::Replay { keep: None }))?;
-    }
-    let bounded: [(&[&str], u64); 5] = [
-        (&["tkcore", "replay", "--keep", "1"], 1),
-        (&["tkcore", "replay", "--keep", "007"], 7),
-        (&["tkcore", "replay", "--keep=8"], 8),
-        (&["tkcore", "replay", "--keep", "524288"], 524_288),
-        (
-            &["tkcore", "replay", "--keep=0000000000000000000000524288"],
-            524_288,
-        ),
-    ];
-    for (words, keep) in bounded {
-        assert_words(
-            &rt,
-            rt.alloc(),
-            words,
-            Ok(Request::Replay { keep: Some(keep) }),
-        )?;
-    }
-    Ok(())
-}
-
-#[test]
-fn takes_the_words_of_traces(rt: HostRuntime) -> Result<(), Fail> {
-    let clocks: [(&str, ClockId); 7] = [
-        ("realtime", ClockId::Realtime),
-        ("monotonic", ClockId::Monotonic),
-        ("boottime", ClockId::Boottime),
-        ("tai", ClockId::Tai),
-        ("realtime_coarse", ClockId::RealtimeCoarse),
-        ("monotonic_coarse", ClockId::MonotonicCoarse),
-        ("monotonic_raw", ClockId::MonotonicRaw),
-    ];
-    for (word, clock) in clocks {
-        let wanted = Request::Trace {
-            clock,
-            script: "a",
-            stamps: "b/c d",
-        };
-        let words = ["tkcore", "trace", word, "a", "b/c d"];
-        assert_words(&rt, rt.alloc(), &words, Ok(wanted))?;
-    }
-    Ok(())
-}
-
-#[test]
-fn takes_the_words_of_many_scripts(rt: HostRuntime) -> Result<(), Fail> {
-    let numbers: [(&str, u64); 3] = [("1", 1), ("007", 7), ("64", 64)];
-    let names: [&str; 3] = ["b", "a", "b"];
-    for (word, workers) in numbers {
-        let files = Vec::from_slice(rt.alloc(), names.as_slice())?;
-        let words = ["tkcore", "many", word, "b", "a", "b"];
-        assert_words(
-            &rt,
-            rt.alloc(),
-            &words,
-            Ok(Request::Many { workers, files }),
-        )?;
-    }
-    Ok(())
-}
-
-#[test]
-fn takes_the_words_of_races(rt: HostRuntime) -> Result<(), Fail> {
-    let numbers: [(&str, u64); 3] = [
-        ("0", 0),
-        ("01000", 1_000),
-        ("18446744073709551615", u64::MAX),
-    ];
-    let names: [&str; 2] = ["a", "-b"];
-    for (word, step) in numbers {
-        let files = Vec::from_slice(rt.alloc(), names.as_slice())?;
-        let words = ["tkcore", "race", word, "--", "a", "-b"];
-        assert_words(&rt, rt.alloc(), &words, Ok(Request::Race { step, files }))?;
-    }
-    Ok(())
-}
-
-#[test]
-fn takes_its_words_when_memory_is_there(rt: HostRuntime) -> Result<(), Fail> {
-    let bounded = line(rt.alloc(), &["tkcore", "replay", "--keep", "1"])?;
-    let found = asked(rt.alloc(), bounded.as_slice());
-    assert_same(&rt, &found, &Ok(Request::Replay { keep: Some(1) }));
-    let many = line(rt.alloc(), &["tkcore", "many", "2", "a"])?;
-    let names: [&str; 1] = ["a"];
-    let files = Vec::from_slice(rt.alloc(), names.as_slice())?;
-    let found = asked(rt.alloc(), many.as_slice());
-    assert_same(&rt, &found, &Ok(Request::Many { workers: 2, files }));
-    Ok(())
-}
-
-#[test]
-fn refuses_other_words(rt: HostRuntime) -> Result<(), Fail> {
-    let refused: [&[&str]; 46] = [
-        &["tkcore", "replay", "--keep", "0"],
-        &["tkcore", "replay", "--keep", "524289"],
-        &["tkcore", "replay", "--keep", "18446744073709551617"],
-        &["tkcore", "replay", "--keep", "+1"],
-        &["tkcore", "replay", "--keep", "-1"],
-        &["tkcore", "replay", "--keep=-1"],
-        &["tkcore", "replay", "--keep", " 1"],
-        &["tkcore", "replay", "--keep", "0x1"],
-        &["tkcore", "replay", "--keep", ""],
-        &["tkcore", "replay", "--keep="],
-        &["tkcore", "replay", "--keep"],
-        &["tkcore", "replay", "--keep", "1", "--keep", "1"],
-        &["tkcore", "--keep", "1"],
-        &["tkcore", "replay", "1"],
-        &["tkcore", "replay", "replay"],
-        &["tkcore", "replay", "--help"],
-        &["tkcore", "--help"],
-        &["tkcore", "-h"],
-        &["tkcore", "help"],
-        &["tkcore", "--version"],
-        &["tkcore", "trace"],
-        &["tkcore", "trace", "tai"],
-        &["tkcore", "trace", "tai", "a"],
-        &["tkcore", "trace", "tai", "a", "b", "c"],
-        &["tkcore", "trace", "TAI", "a", "b"],
-        &["tkcore", "trace", "utc", "a", "b"],
-        &["tkcore", "trace", "", "a", "b"],
-        &["tkcore", "trace", "tai", "a", "-b"],
-        &["tkcore", "trace", "--help"],
-        &["tkcore", "trace", "tai", "a", "b", "--keep", "1"],
-        &["tkcore", "many"],
-        &["tkcore", "many", "1"],
-        &["tkcore", "many", "0", "a"],
-        &["tkcore", "many", "65", "a"],
-        &["tkcore", "many", "+1", "a"],
-        &["tkcore", "many", "18446744073709551617", "a"],
-        &["tkcore", "many", "a", "1"],
-        &["tkcore", "many", "1", "a", "-b"],
-        &["tkcore", "race"],
-        &["tkcore", "race", "1"],
-        &["tkcore", "race", "18446744073709551616", "a"],
-        &["tkcore", "race", "-1", "a"],
-        &["tkcore", "race", "x", "a"],
-        &["tkcore", "race", "1", "--help"],
-        &["tkcore", "help", "race"],
-        &["tkcore", "replay", "trace"],
-    ];
-    for words in refused {
-        assert_words(&rt, rt.alloc(), words, Err(WordsError::Refused))?;
-    }
-    Ok(())
-}
-
 #[test]
 fn refuses_words_that_could_not_be_taken(rt: HostRuntime) {
     let refused = WordsError::from(Error::from(ErrorKind::InvalidData));
@@ -214,19 +46,27 @@ fn refuses_words_that_could_not_be_taken(rt: HostRuntime) {
     assert_same(&rt, &memory, &WordsError::Memory);
 }
 
-/// What a run by these words tells of how it ended.
+/// Runs the program by these words over the system's files, and returns how it ends.
+fn ran(
+    rt: &(impl AllocGlobal + Folder + Threads + Wait + Sync),
+    words: &[&str],
+    reader: &mut &[u8],
+    writer: &mut Vec<u8>,
+) -> Result<Ending, AllocError> {
+    let given = line(rt.alloc(), words)?;
+    Ok(run(rt.alloc(), rt, given.as_slice(), rt, reader, writer))
+}
+
+/// Returns the line of error of a run by these words.
 fn told(
     rt: &(impl AllocGlobal + Folder + Threads + Wait + Sync),
     words: &[&str],
     script: &[u8],
 ) -> Result<Vec<u8>, Fail> {
-    let alloc = rt.alloc();
-    let given = line(alloc, words)?;
     let mut reader = script;
-    let mut writer = Vec::new(alloc);
-    let mut told = Vec::new(alloc);
-    let ending = run(alloc, rt, given.as_slice(), rt, &mut reader, &mut writer);
-    ending.tell(&mut told)?;
+    let mut writer = Vec::new(rt.alloc());
+    let mut told = Vec::new(rt.alloc());
+    ran(rt, words, &mut reader, &mut writer)?.tell(&mut told)?;
     Ok(told)
 }
 
@@ -260,18 +100,11 @@ fn tells_the_fault_of_a_script(rt: HostRuntime) -> Result<(), Fail> {
 
 #[test]
 fn refused_words_leave_the_script_and_the_report(rt: HostRuntime) -> Result<(), Fail> {
-    let given = line(rt.alloc(), &["tkcore", "replay", "--keep", "0"])?;
+    let words = ["tkcore", "replay", "--keep", "0"];
     let script: &[u8] = b"open,32,16777216,24,0,1700000000,0\n";
     let mut reader = script;
     let mut writer = b"-".to_vec(rt.alloc())?;
-    let ending = run(
-        rt.alloc(),
-        &rt,
-        given.as_slice(),
-        &rt,
-        &mut reader,
-        &mut writer,
-    );
+    let ending = ran(&rt, &words, &mut reader, &mut writer)?;
     assert_same(&rt, &ending, &Ending::Words);
     assert_same(&rt, &reader, &script);
     assert_same(&rt, &writer.as_slice(), &b"-".as_slice());

@@ -2,6 +2,7 @@
 
 use super::files::{Shelf, outcome};
 use super::{assert_same, line};
+use std::alloc::{AllocError, Global};
 use std::io;
 use std::io::Write;
 use std::process::Abort;
@@ -25,6 +26,19 @@ const BAD: &[u8] = b"open,32,16777216,24,0,1700000000,0\nset,5,7\n";
 
 const BAD_ERROR: ScriptError = ScriptError::Fields { row: 2 };
 
+/// A run by these words over these files is done, and writes this text.
+fn assert_text(
+    rt: &(impl AllocGlobal + Abort + Threads + Wait + Sync),
+    words: &[&str],
+    files: &[(&str, &[u8])],
+    wanted: &[u8],
+) -> Result<(), Fail> {
+    let (ending, text) = outcome(rt, words, files)?;
+    assert_same(rt, &ending, &Ending::Done);
+    assert_same(rt, &text.as_slice(), &wanted);
+    Ok(())
+}
+
 #[test]
 fn two_scripts_race(rt: HostRuntime) -> Result<(), Fail> {
     let files: [(&str, &[u8]); 2] = [("a", UPDATES), ("b", MIXED)];
@@ -47,48 +61,44 @@ fn two_scripts_race(rt: HostRuntime) -> Result<(), Fail> {
         ),
     ];
     for (words, wanted) in races {
-        let (ending, text) = outcome(&rt, words, &files)?;
-        assert_same(&rt, &ending, &Ending::Done);
-        assert_same(&rt, &text.as_slice(), &wanted);
+        assert_text(&rt, words, &files, wanted)?;
     }
     Ok(())
 }
+
+/// Three updates of a counter of 64 bits at 1 ns per cycle.
+const NANOSECONDS: &[u8] = b"open,64,16777216,24,0,1700000000,0\nupdate,0\nupdate,0\nupdate,0\n";
+
+/// Five orders and a read of a counter of 64 bits at about 4 ms per cycle.
+const MILLISECONDS: &[u8] = b"open,64,4194304,0,0,1700000000,0\nupdate,0\nget,0,tai\n\
+    update,0\ntai,0,37\nupdate,0\nupdate,0\n";
 
 /// The wanted texts are those of `tools/model.py race`. Each step is refused where the low half of
 /// its bits would not be.
 #[test]
 fn a_step_of_more_than_32_bits_is_taken_whole(rt: HostRuntime) -> Result<(), Fail> {
-    let files: [(&str, &[u8]); 2] = [
-        (
-            "ns",
-            b"open,64,16777216,24,0,1700000000,0\nupdate,0\nupdate,0\nupdate,0\n",
-        ),
-        (
-            "ms",
-            b"open,64,4194304,0,0,1700000000,0\nupdate,0\nget,0,tai\nupdate,0\ntai,0,37\n\
-            update,0\nupdate,0\n",
-        ),
+    let files: [(&str, &[u8]); 2] = [("ns", NANOSECONDS), ("ms", MILLISECONDS)];
+    let races: [(&str, &str, &[u8]); 3] = [
+        ("500000000000000000", "ns", b"entries,1\nactor,0,1,2\n"),
+        ("68719476737", "ms", b"entries,3\nactor,0,3,2\n"),
+        ("4294967297", "ms", b"entries,5\nactor,0,5,0\n"),
     ];
-    let races: [(&[&str], &[u8]); 3] = [
-        (
-            &["tkcore", "race", "500000000000000000", "ns"],
-            b"entries,1\nactor,0,1,2\n",
-        ),
-        (
-            &["tkcore", "race", "68719476737", "ms"],
-            b"entries,3\nactor,0,3,2\n",
-        ),
-        (
-            &["tkcore", "race", "4294967297", "ms"],
-            b"entries,5\nactor,0,5,0\n",
-        ),
-    ];
-    for (words, wanted) in races {
-        let (ending, text) = outcome(&rt, words, &files)?;
-        assert_same(&rt, &ending, &Ending::Done);
-        assert_same(&rt, &text.as_slice(), &wanted);
+    for (step, name, wanted) in races {
+        assert_text(&rt, &["tkcore", "race", step, name], &files, wanted)?;
     }
     Ok(())
+}
+
+/// The words of a race of these files, with a step of 1.
+fn words_of<'a>(alloc: Global, names: &[&'a str]) -> Result<Vec<&'a str>, AllocError> {
+    let mut words: Vec<&str> = Vec::new(alloc);
+    for word in ["tkcore", "race", "1"] {
+        words.push(word)?;
+    }
+    for name in names {
+        words.push(*name)?;
+    }
+    Ok(words)
 }
 
 /// A race of these files ends so, and nothing is written.
@@ -98,13 +108,7 @@ fn assert_stops(
     files: &[(&str, &[u8])],
     wanted: Ending,
 ) -> Result<(), Fail> {
-    let mut words: Vec<&str> = Vec::new(rt.alloc());
-    for word in ["tkcore", "race", "1"] {
-        words.push(word)?;
-    }
-    for name in names {
-        words.push(*name)?;
-    }
+    let words = words_of(rt.alloc(), names)?;
     let (ending, text) = outcome(rt, words.as_slice(), files)?;
     assert_same(rt, &ending, &wanted);
     assert!(rt; text.is_empty());
@@ -172,11 +176,8 @@ fn openings_are_one_by_their_values(rt: HostRuntime) -> Result<(), Fail> {
         ("b", b"open,32,699050667,24,0,1,0\n"),
     ];
     let words = ["tkcore", "race", "1", "a", "b"];
-    let (ending, text) = outcome(&rt, &words, &files)?;
-    assert_same(&rt, &ending, &Ending::Done);
-    let wanted: &[u8] = b"entries,1\nactor,0,1,0\nactor,1,0,0\n";
-    assert_same(&rt, &text.as_slice(), &wanted);
-    Ok(())
+    let wanted = b"entries,1\nactor,0,1,0\nactor,1,0,0\n";
+    assert_text(&rt, &words, &files, wanted)
 }
 
 #[test]
@@ -204,21 +205,12 @@ fn sixty_five_files_are_too_many(rt: HostRuntime) -> Result<(), Fail> {
 #[test]
 fn sixty_four_files_race(rt: HostRuntime) -> Result<(), Fail> {
     let files: [(&str, &[u8]); 1] = [("a", UPDATES)];
-    let mut words = Vec::new(rt.alloc());
-    for word in ["tkcore", "race", "1"] {
-        words.push(word)?;
-    }
-    for _ in 0..64 {
-        words.push("a")?;
-    }
-    let (ending, text) = outcome(&rt, words.as_slice(), &files)?;
-    assert_same(&rt, &ending, &Ending::Done);
+    let words = words_of(rt.alloc(), &["a"; 64])?;
     let mut wanted = b"entries,192\n".to_vec(rt.alloc())?;
     for id in 0..64u32 {
         writeln!(wanted, "actor,{id},3,0")?;
     }
-    assert_same(&rt, &text.as_slice(), &wanted.as_slice());
-    Ok(())
+    assert_text(&rt, words.as_slice(), &files, wanted.as_slice())
 }
 
 /// Takes so many bytes, and then none.

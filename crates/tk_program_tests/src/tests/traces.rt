@@ -1,11 +1,11 @@
 //! The subcommand `trace`, over files in memory.
 
 use super::files::outcome;
-use super::{assert_same, line};
+use super::{assert_same, ran};
 use std::fs;
 use std::test::Fail;
 use tk_keeper::TraceError;
-use tk_program::{Ending, run};
+use tk_program::Ending;
 use tk_replay::Fault;
 use tk_script::ScriptError;
 
@@ -97,29 +97,14 @@ fn traces_files_of_the_system(rt: HostRuntime) -> Result<(), Fail> {
         "tk_program_script",
         "tk_program_stamps",
     ];
-    let given = line(rt.alloc(), &words)?;
     let mut reader: &[u8] = b"";
     let mut text = Vec::new(rt.alloc());
-    let ending = run(
-        rt.alloc(),
-        &rt,
-        given.as_slice(),
-        &rt,
-        &mut reader,
-        &mut text,
-    );
+    let ending = ran(&rt, &words, &mut reader, &mut text)?;
     assert_same(&rt, &ending, &Ending::Done);
     assert_same(&rt, &text.as_slice(), &TRACE);
     fs::remove_file(&rt, "tk_program_stamps")?;
     text.clear();
-    let ending = run(
-        rt.alloc(),
-        &rt,
-        given.as_slice(),
-        &rt,
-        &mut reader,
-        &mut text,
-    );
+    let ending = ran(&rt, &words, &mut reader, &mut text)?;
     assert_same(&rt, &ending, &Ending::Fault(Fault::Read));
     assert!(rt; text.is_empty());
     fs::remove_file(&rt, "tk_program_script")?;
