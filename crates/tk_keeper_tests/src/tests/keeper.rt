@@ -105,7 +105,12 @@ fn updates<A: Allocator + Copy>(rt: &impl Abort, keeper: &mut Timekeeper<A>, man
 }
 
 /// Opens a timekeeper and applies `many` updates, each `step` cycles after the one before.
-fn updated(rt: &impl Abort, alloc: Global, many: u64, step: u64) -> Result<Timekeeper, Fail> {
+fn updated<A: Allocator + Copy>(
+    rt: &impl Abort,
+    alloc: A,
+    many: u64,
+    step: u64,
+) -> Result<Timekeeper<A>, Fail> {
     let mut keeper = opened(alloc)?;
     updates(rt, &mut keeper, many, step);
     Ok(keeper)

@@ -7,6 +7,7 @@ use self::long::LONG;
 use super::{ABOVE, assert_same, numbers, opened, put, steered};
 use std::alloc::{Allocator, Global};
 use std::marker::{Send, Sync};
+use std::process::Abort;
 use std::test::Fail;
 use std::thread::Threads;
 use tk_clock::ClockId;
@@ -28,7 +29,7 @@ struct Lists {
     out: Vec<u64>,
 }
 
-/// So many items as of the opening, each stamp its own number.
+/// Returns this number of items as of the opening, where each stamp is the item's place.
 fn counted(alloc: Global, many: usize) -> Result<Lists, Fail> {
     Ok(Lists {
         fronts: vec![in alloc; 0; many]?,
@@ -37,9 +38,18 @@ fn counted(alloc: Global, many: usize) -> Result<Lists, Fail> {
     })
 }
 
-/// A steered timekeeper, and this number of items as of its opening.
+/// Returns a steered timekeeper, and this number of items as of its opening.
 fn kept(alloc: Global, many: usize) -> Result<(Timekeeper, Lists), Fail> {
     Ok((steered(alloc)?, counted(alloc, many)?))
+}
+
+/// Returns the values of one thread.
+fn alone(keeper: &Timekeeper, lists: &Lists) -> Result<Vec<u64>, Fail> {
+    let (fronts, stamps) = (lists.fronts.as_slice(), lists.stamps.as_slice());
+    if fronts.len() != stamps.len() {
+        return Err("lists of two lengths".into());
+    }
+    Ok(keeper.trace(fronts, stamps, ClockId::Monotonic)?)
 }
 
 /// What `trace_all` answers, out of another allocator.
@@ -87,6 +97,58 @@ fn answered(
     Ok(list)
 }
 
+/// Checks that both calls return `many` values, and that one thread gives the same values.
+fn agrees_with_one_thread(
+    rt: &(impl Threads + Sync + Abort),
+    alloc: Global,
+    keeper: &Timekeeper,
+    lists: &mut Lists,
+    many: usize,
+) -> Result<(), Fail> {
+    let values = answered(alloc, rt, keeper, lists)??;
+    let alone = alone(keeper, lists)?;
+    assert_same(rt, &values.len(), &many);
+    assert_same(rt, &(values.as_slice() == alone.as_slice()), &true);
+    Ok(())
+}
+
+/// A faulty item: its place in the list, its front, its stamp and the fault.
+type Faulty = (usize, u64, u64, TraceError);
+
+/// Returns a faulty item at each of four places, which are the last item, one in the middle, the
+/// first item of a piece, and the last item of the piece before it.
+fn faulty_at(places: [usize; 4]) -> [Faulty; 4] {
+    let [last, middle, first, before] = places;
+    [
+        (last, 0, ABOVE, TraceError::Invalid { index: last }),
+        (middle, 3, 0, TraceError::Unknown { index: middle }),
+        (first, 0, ABOVE, TraceError::Invalid { index: first }),
+        (before, 9, ABOVE, TraceError::Unknown { index: before }),
+    ]
+}
+
+/// Writes faulty items in turn, each before those that were written earlier. Checks after each that
+/// both calls return its fault, and that the items before it have these values.
+fn first_faults(
+    rt: &(impl Threads + Sync + Abort),
+    alloc: Global,
+    keeper: &Timekeeper,
+    lists: &mut Lists,
+    values: &[u64],
+    items: &[Faulty],
+) -> Result<(), Fail> {
+    for (place, front, stamp, fault) in items {
+        put(&mut lists.fronts, *place, *front);
+        put(&mut lists.stamps, *place, *stamp);
+        let answer = answered(alloc, rt, keeper, lists)?;
+        assert_same(rt, &answer.err(), &Some(*fault));
+        for (value, wanted) in lists.out.iter().zip(values).take(*place) {
+            assert_same(rt, value, wanted);
+        }
+    }
+    Ok(())
+}
+
 #[test]
 fn lists_of_each_length_are_converted(rt: HostRuntime) -> Result<(), Fail> {
     let alloc = rt.alloc();
@@ -109,29 +171,15 @@ fn lists_of_each_length_are_converted(rt: HostRuntime) -> Result<(), Fail> {
 fn the_first_fault_of_all_pieces_decides(rt: HostRuntime) -> Result<(), Fail> {
     let alloc = rt.alloc();
     let (mut keeper, mut lists) = kept(alloc, MANY)?;
-    // each fault stands before those that came earlier
-    for (place, front, stamp, fault) in [
-        (
-            1_048_576,
-            0,
-            ABOVE,
-            TraceError::Invalid { index: 1_048_576 },
-        ),
-        (1_000_000, 3, 0, TraceError::Unknown { index: 1_000_000 }),
-        (65_536, 0, ABOVE, TraceError::Invalid { index: 65_536 }),
-        (65_535, 9, ABOVE, TraceError::Unknown { index: 65_535 }),
+    let values = numbers(alloc, MANY)?;
+    let items = faulty_at([1_048_576, 1_000_000, 65_536, 65_535]);
+    first_faults(&rt, alloc, &keeper, &mut lists, values.as_slice(), &items)?;
+    let items = [
         (9_000, 0, ABOVE, TraceError::Invalid { index: 9_000 }),
         (5_000, 0, ABOVE, TraceError::Invalid { index: 5_000 }),
         (4_999, 3, 0, TraceError::Unknown { index: 4_999 }),
-    ] {
-        put(&mut lists.fronts, place, front);
-        put(&mut lists.stamps, place, stamp);
-        let answer = answered(alloc, &rt, &keeper, &mut lists)?;
-        assert_same(&rt, &answer.err(), &Some(fault));
-        for (at, value) in lists.out.iter().take(place).enumerate() {
-            assert_same(&rt, value, &(at as u64));
-        }
-    }
+    ];
+    first_faults(&rt, alloc, &keeper, &mut lists, values.as_slice(), &items)?;
     keeper.fold(1);
     let answer = answered(alloc, &rt, &keeper, &mut lists)?;
     assert_same(&rt, &answer.err(), &Some(TraceError::Folded { index: 0 }));
@@ -161,12 +209,11 @@ fn fronts_up_and_down_are_told_as_by_one_thread(rt: HostRuntime) -> Result<(), F
 
 #[test]
 fn room_is_asked_for_first(rt: HostRuntime) -> Result<(), Fail> {
-    let alloc = rt.alloc();
-    let heap = Heap::new(alloc);
-    let keeper = steered(alloc)?;
-    let none = counted(alloc, 0)?;
+    let heap = Heap::new(rt.alloc());
+    let keeper = steered(rt.alloc())?;
+    let none = counted(rt.alloc(), 0)?;
     for many in [3, MANY, LONG] {
-        let mut lists = counted(alloc, many)?;
+        let mut lists = counted(rt.alloc(), many)?;
         put(&mut lists.fronts, 2, 7);
         heap.refuse_all();
         let refused = asked(&heap, &rt, &keeper, &lists);
@@ -181,11 +228,10 @@ fn room_is_asked_for_first(rt: HostRuntime) -> Result<(), Fail> {
 
 #[test]
 fn the_answer_takes_one_request_of_its_own_length(rt: HostRuntime) -> Result<(), Fail> {
-    let alloc = rt.alloc();
-    let heap = Heap::new(alloc);
-    let keeper = steered(alloc)?;
+    let heap = Heap::new(rt.alloc());
+    let keeper = steered(rt.alloc())?;
     for many in [1, 3, MANY, LONG] {
-        let lists = counted(alloc, many)?;
+        let lists = counted(rt.alloc(), many)?;
         heap.refuse(2);
         let values = asked(&heap, &rt, &keeper, &lists)?;
         assert_same(&rt, &heap.grant_all(), &true);

@@ -49,16 +49,16 @@ fn a_sleep_and_a_tick_outlast_folding(rt: HostRuntime) -> Result<(), Fail> {
 #[test]
 fn kept_states_outlast_folding(rt: HostRuntime) -> Result<(), Fail> {
     let mut keeper = updated(&rt, rt.alloc(), 1_000, 1_000)?;
-    for (keep, folded, front, nanos) in [
-        (745, 255, 255, 255_000),
-        (744, 256, 256, 256_000),
-        (743, 257, 512, 512_000),
-        (300, 700, 767, 767_000),
-        (0, 1_000, 1_000, 1_000_000),
+    for (keep, folded, front, coarse) in [
+        (745, 255, 255, time(0, 255_000)),
+        (744, 256, 256, time(0, 256_000)),
+        (743, 257, 512, time(0, 512_000)),
+        (300, 700, 767, time(0, 767_000)),
+        (0, 1_000, 1_000, time(0, 1_000_000)),
     ] {
         assert_same(&rt, &keeper.fold(keep), &folded);
-        let told = (ClockId::MonotonicCoarse, 0, time(0, nanos));
-        reads(&rt, &keeper.snapshot_at(front)?, &[told]);
+        let value = (ClockId::MonotonicCoarse, 0, coarse);
+        reads(&rt, &keeper.snapshot_at(front)?, &[value]);
         has_no_front(&rt, &keeper, 254, FrontError::Folded);
     }
     Ok(())

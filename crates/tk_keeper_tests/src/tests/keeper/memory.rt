@@ -1,4 +1,4 @@
-use super::{applied, assert_same, opened, told, updates};
+use super::{applied, assert_same, opened, told, updated, updates};
 use linked_list_allocator::LocalHeap;
 use std::alloc::Global;
 use std::process::Abort;
@@ -6,12 +6,12 @@ use std::test::Fail;
 use tk_clock::{Command, Entry, Refusal};
 use tk_test_support::Heap;
 
-/// The most requests that are refused in turn.
+/// The number of requests that are refused in turn, which is more than a test makes.
 const MOST: u64 = 100;
 
-/// Returns whether request `request` never came, so that none was refused, and grants all requests.
-/// Checks that more than `least` requests came, and fewer than `MOST`.
-fn is_past_all(rt: &impl Abort, heap: &Heap<Global>, request: u64, least: u64) -> bool {
+/// Grants all requests. Returns whether there was no request of the number `request`, so that none
+/// was refused. Checks that there were more than `least` requests, and fewer than `MOST`.
+fn grant_all(rt: &impl Abort, heap: &Heap<Global>, request: u64, least: u64) -> bool {
     let granted = heap.grant_all();
     assert!(rt;
         if granted {
@@ -58,16 +58,14 @@ fn spare_commands_go_through_while_every_request_is_refused(rt: HostRuntime) -> 
 #[test]
 fn each_growth_refused_in_turn_refuses_one_command(rt: HostRuntime) -> Result<(), Fail> {
     let heap = Heap::new(rt.alloc());
-    'requests: for request in 1..=MOST {
+    for request in 1..=MOST {
         let mut keeper = opened(&heap)?;
         heap.refuse(request);
         for number in 1..=600 {
             let answer = applied(&rt, &mut keeper, number, Command::Update);
             assert_eq!(rt; answer, Ok(number), "request {request}");
         }
-        if is_past_all(&rt, &heap, request, 4) {
-            break 'requests;
-        }
+        grant_all(&rt, &heap, request, 4);
     }
     Ok(())
 }
@@ -75,14 +73,13 @@ fn each_growth_refused_in_turn_refuses_one_command(rt: HostRuntime) -> Result<()
 #[test]
 fn each_growth_refused_in_turn_leaves_the_journal(rt: HostRuntime) -> Result<(), Fail> {
     let heap = Heap::new(rt.alloc());
-    'requests: for request in 1..=MOST {
-        let mut keeper = opened(&heap)?;
-        updates(&rt, &mut keeper, 255, 1);
+    for request in 1..=MOST {
+        let mut keeper = updated(&rt, &heap, 255, 1)?;
         let before = told(&keeper);
         let spare = keeper.spare();
         heap.refuse(request);
         let answer = keeper.reserve(1_000);
-        let granted = is_past_all(&rt, &heap, request, 2);
+        let granted = grant_all(&rt, &heap, request, 2);
         if answer == Err(Refusal::Memory) {
             assert!(rt; !granted && keeper.spare() >= spare);
             assert_same(&rt, &told(&keeper), &before);
@@ -90,9 +87,6 @@ fn each_growth_refused_in_turn_leaves_the_journal(rt: HostRuntime) -> Result<(),
         }
         assert_same(&rt, &told(&keeper), &before);
         assert!(rt; keeper.spare() >= 1_000);
-        if granted {
-            break 'requests;
-        }
     }
     Ok(())
 }
@@ -106,7 +100,7 @@ fn each_growth_refused_in_turn_applies_nothing_of_a_run(rt: HostRuntime) -> Resu
         cmd: Command::Update,
     };
     let events = [event; 300];
-    'requests: for request in 1..=MOST {
+    for request in 1..=MOST {
         let mut keeper = opened(&heap)?;
         let before = told(&keeper);
         heap.refuse(request);
@@ -122,9 +116,7 @@ fn each_growth_refused_in_turn_applies_nothing_of_a_run(rt: HostRuntime) -> Resu
             assert_same(&rt, answer, &Ok(place as u64 + 1));
         }
         assert_same(&rt, &(answers.len(), keeper.len()), &(300, 300));
-        if is_past_all(&rt, &heap, request, 3) {
-            break 'requests;
-        }
+        grant_all(&rt, &heap, request, 3);
     }
     Ok(())
 }

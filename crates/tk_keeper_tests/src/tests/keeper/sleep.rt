@@ -3,20 +3,19 @@ use super::{
 };
 use std::process::Abort;
 use std::test::Fail;
-use tk_clock::{ClockId, Command, Refusal};
+use tk_clock::ClockId;
+use tk_clock::Command::{Resume, SetTime, Step, Suspend, Tai, Update};
+use tk_clock::Refusal::{Asleep, Awake, Invalid, Range};
 use tk_keeper::Timekeeper;
 
 /// Resumes clocks that were suspended at reading 1,000, and checks them before and after.
 pub(super) fn wakes(rt: &impl Abort, keeper: &mut Timekeeper) {
     assert_same(rt, &keeper.snapshot().words(), &ASLEEP_WORDS);
-    answers(
-        rt,
-        keeper,
-        &[
-            (2_000, Command::Update, Err(Refusal::Asleep)),
-            (5, Command::Resume(time(5, 500_000_000)), Ok(2)),
-        ],
-    );
+    let steps = [
+        (2_000, Update, Err(Asleep)),
+        (5, Resume(time(5, 500_000_000)), Ok(2)),
+    ];
+    answers(rt, keeper, &steps);
     assert_same(rt, &keeper.snapshot().words(), &AWAKE_WORDS);
     reads(
         rt,
@@ -33,49 +32,34 @@ pub(super) fn wakes(rt: &impl Abort, keeper: &mut Timekeeper) {
 #[test]
 fn a_suspension_moves_realtime_and_boottime(rt: HostRuntime) -> Result<(), Fail> {
     let mut keeper = opened(rt.alloc())?;
-    answers(&rt, &mut keeper, &[(1_000, Command::Suspend, Ok(1))]);
+    answers(&rt, &mut keeper, &[(1_000, Suspend, Ok(1))]);
     wakes(&rt, &mut keeper);
     Ok(())
 }
 
 #[test]
 fn only_a_sleeping_clock_resumes(rt: HostRuntime) -> Result<(), Fail> {
-    answers_and_reads(
-        &rt,
-        rt.alloc(),
-        &[
-            (0, Command::Resume(time(0, 0)), Err(Refusal::Awake)),
-            (0, Command::Suspend, Ok(1)),
-            (
-                0,
-                Command::Resume(time(0, 1_000_000_000)),
-                Err(Refusal::Invalid),
-            ),
-            (4_294_967_296, Command::Update, Err(Refusal::Asleep)),
-            (0, Command::Resume(time(0, 1)), Ok(2)),
-        ],
-        &[(ClockId::Boottime, 0, time(0, 1))],
-    )
+    let steps = [
+        (0, Resume(time(0, 0)), Err(Awake)),
+        (0, Suspend, Ok(1)),
+        (0, Resume(time(0, 1_000_000_000)), Err(Invalid)),
+        (4_294_967_296, Update, Err(Asleep)),
+        (0, Resume(time(0, 1)), Ok(2)),
+    ];
+    let values = [(ClockId::Boottime, 0, time(0, 1))];
+    answers_and_reads(&rt, rt.alloc(), &steps, &values)
 }
 
 #[test]
 fn a_suspension_ends_below_the_clocks_limits(rt: HostRuntime) -> Result<(), Fail> {
-    answers_and_reads(
-        &rt,
-        rt.alloc(),
-        &[
-            (0, Command::Suspend, Ok(1)),
-            (
-                0,
-                Command::Resume(time(7_523_372_036, 0)),
-                Err(Refusal::Range),
-            ),
-            (0, Command::Resume(time(7_523_372_035, 999_999_999)), Ok(2)),
-            (1, Command::Update, Err(Refusal::Range)),
-            (0, Command::Tai(1), Err(Refusal::Range)),
-            (0, Command::Step(time(0, 0)), Err(Refusal::Invalid)),
-            (1, Command::SetTime(time(100, 0)), Ok(3)),
-        ],
-        &[],
-    )
+    let steps = [
+        (0, Suspend, Ok(1)),
+        (0, Resume(time(7_523_372_036, 0)), Err(Range)),
+        (0, Resume(time(7_523_372_035, 999_999_999)), Ok(2)),
+        (1, Update, Err(Range)),
+        (0, Tai(1), Err(Range)),
+        (0, Step(time(0, 0)), Err(Invalid)),
+        (1, SetTime(time(100, 0)), Ok(3)),
+    ];
+    answers_and_reads(&rt, rt.alloc(), &steps, &[])
 }

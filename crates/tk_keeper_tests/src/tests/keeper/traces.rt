@@ -14,6 +14,12 @@ fn repeated(alloc: Global, number: u64, many: usize) -> Result<Vec<u64>, Fail> {
     Ok(vec![in alloc; number; many]?)
 }
 
+/// Returns the fronts and the stamps of this number of items as of the opening, where each stamp is
+/// the item's place.
+fn counted(alloc: Global, many: usize) -> Result<(Vec<u64>, Vec<u64>), Fail> {
+    Ok((repeated(alloc, 0, many)?, numbers(alloc, many)?))
+}
+
 /// Returns the last value of MONOTONIC at these stamps, or the fault.
 fn last(keeper: &Timekeeper, fronts: &[u64], stamps: &[u64]) -> Result<Option<u64>, TraceError> {
     if fronts.len() != stamps.len() {
@@ -151,9 +157,7 @@ fn a_clock_past_its_limit_is_told(rt: HostRuntime) -> Result<(), Fail> {
 fn a_long_trace_tells_the_place_in_the_whole_list(rt: HostRuntime) -> Result<(), Fail> {
     let alloc = rt.alloc();
     let keeper = opened(alloc)?;
-    let many = 100_000;
-    let mut fronts = repeated(alloc, 0, many)?;
-    let mut stamps = numbers(alloc, many)?;
+    let (mut fronts, mut stamps) = counted(alloc, 100_000)?;
     let told = last(&keeper, fronts.as_slice(), stamps.as_slice());
     assert_same(&rt, &told, &Ok(Some(99_999)));
     put(&mut stamps, 9_000, ABOVE);
@@ -170,9 +174,7 @@ fn a_long_trace_tells_the_place_in_the_whole_list(rt: HostRuntime) -> Result<(),
 fn a_fault_in_any_part_of_a_new_list_is_told(rt: HostRuntime) -> Result<(), Fail> {
     let alloc = rt.alloc();
     let keeper = opened(alloc)?;
-    let many = 1_000;
-    let mut fronts = repeated(alloc, 0, many)?;
-    let mut stamps = numbers(alloc, many)?;
+    let (mut fronts, mut stamps) = counted(alloc, 1_000)?;
     let values = stamps.clone()?;
     let clock = ClockId::Monotonic;
     // in the first part, at the edges of parts, and in the last part

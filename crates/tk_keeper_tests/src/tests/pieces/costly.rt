@@ -1,9 +1,9 @@
 //! Lists whose fronts have no order, so that several threads convert a few thousand items.
 
-use super::{ABOVE, Lists, answered, assert_same, counted, opened, put};
+use super::{ABOVE, Lists, agrees_with_one_thread, alone, counted, first_faults, opened};
 use std::alloc::Global;
 use std::test::Fail;
-use tk_clock::{ClockId, Command};
+use tk_clock::Command;
 use tk_keeper::{Timekeeper, TraceError};
 use tk_test_support::next_random;
 
@@ -45,15 +45,6 @@ fn scattered(alloc: Global, many: usize) -> Result<Lists, Fail> {
     Ok(lists)
 }
 
-/// Returns the values of one thread.
-fn alone(keeper: &Timekeeper, lists: &Lists) -> Result<Vec<u64>, Fail> {
-    let (fronts, stamps) = (lists.fronts.as_slice(), lists.stamps.as_slice());
-    if fronts.len() != stamps.len() {
-        return Err("lists of two lengths".into());
-    }
-    Ok(keeper.trace(fronts, stamps, ClockId::Monotonic)?)
-}
-
 #[test]
 fn costly_lists_of_each_length_are_converted(rt: HostRuntime) -> Result<(), Fail> {
     let alloc = rt.alloc();
@@ -65,10 +56,7 @@ fn costly_lists_of_each_length_are_converted(rt: HostRuntime) -> Result<(), Fail
         let keeper = busy(alloc, pair)?;
         for many in lengths {
             let mut lists = scattered(alloc, many)?;
-            let values = answered(alloc, &rt, &keeper, &mut lists)??;
-            let alone = alone(&keeper, &lists)?;
-            assert_same(&rt, &values.len(), &many);
-            assert_same(&rt, &(values.as_slice() == alone.as_slice()), &true);
+            agrees_with_one_thread(&rt, alloc, &keeper, &mut lists, many)?;
         }
     }
     Ok(())
@@ -79,9 +67,9 @@ fn the_first_fault_of_a_costly_list_decides(rt: HostRuntime) -> Result<(), Fail>
     let alloc = rt.alloc();
     let keeper = busy(alloc, SETTINGS)?;
     let mut lists = scattered(alloc, 2_049)?;
-    let alone = alone(&keeper, &lists)?;
-    // each fault stands before those that came earlier; a piece has 32 items
-    for (place, front, stamp, fault) in [
+    let values = alone(&keeper, &lists)?;
+    // a piece has 32 items
+    let items = [
         (2_048, LAST, ABOVE, TraceError::Invalid { index: 2_048 }),
         (2_016, 1_001, 0, TraceError::Unknown { index: 2_016 }),
         (2_015, 0, ABOVE, TraceError::Invalid { index: 2_015 }),
@@ -89,14 +77,6 @@ fn the_first_fault_of_a_costly_list_decides(rt: HostRuntime) -> Result<(), Fail>
         (32, 1_001, ABOVE, TraceError::Unknown { index: 32 }),
         (31, 0, ABOVE, TraceError::Invalid { index: 31 }),
         (0, 1_001, 0, TraceError::Unknown { index: 0 }),
-    ] {
-        put(&mut lists.fronts, place, front);
-        put(&mut lists.stamps, place, stamp);
-        let answer = answered(alloc, &rt, &keeper, &mut lists)?;
-        assert_same(&rt, &answer.err(), &Some(fault));
-        for (value, wanted) in lists.out.iter().zip(&alone).take(place) {
-            assert_same(&rt, value, wanted);
-        }
-    }
-    Ok(())
+    ];
+    first_faults(&rt, alloc, &keeper, &mut lists, values.as_slice(), &items)
 }

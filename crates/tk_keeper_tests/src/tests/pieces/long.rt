@@ -1,8 +1,10 @@
 //! Lists so long that another thread converts pieces ahead.
 
-use super::{ABOVE, asked, assert_same, counted, kept, put, steered};
+use super::{
+    ABOVE, agrees_with_one_thread, asked, assert_same, counted, faulty_at, first_faults, kept,
+    numbers, put, steered,
+};
 use std::test::Fail;
-use tk_clock::ClockId;
 use tk_keeper::TraceError;
 use tk_test_support::Heap;
 
@@ -21,39 +23,18 @@ fn a_long_list_is_told_as_by_one_thread(rt: HostRuntime) -> Result<(), Fail> {
             place.wrapping_mul(1_021) % ABOVE,
         );
     }
-    let values = asked(alloc, &rt, &keeper, &lists)?;
-    let (fronts, stamps) = (lists.fronts.as_slice(), lists.stamps.as_slice());
-    if fronts.len() != stamps.len() {
-        return Err("lists of two lengths".into());
-    }
-    let alone = keeper.trace(fronts, stamps, ClockId::Monotonic)?;
-    assert_same(&rt, &values.len(), &LONG);
-    assert_same(&rt, &(values.as_slice() == alone.as_slice()), &true);
-    Ok(())
+    agrees_with_one_thread(&rt, alloc, &keeper, &mut lists, LONG)
 }
 
 #[test]
 fn the_first_fault_of_a_long_list_decides(rt: HostRuntime) -> Result<(), Fail> {
     let alloc = rt.alloc();
     let (keeper, mut lists) = kept(alloc, LONG)?;
-    // each fault stands before those that came earlier
-    for (place, front, stamp, fault) in [
-        (
-            4_194_304,
-            0,
-            ABOVE,
-            TraceError::Invalid { index: 4_194_304 },
-        ),
-        (3_000_000, 3, 0, TraceError::Unknown { index: 3_000_000 }),
-        (8_192, 0, ABOVE, TraceError::Invalid { index: 8_192 }),
-        (8_191, 9, ABOVE, TraceError::Unknown { index: 8_191 }),
-        (0, 0, ABOVE, TraceError::Invalid { index: 0 }),
-    ] {
-        put(&mut lists.fronts, place, front);
-        put(&mut lists.stamps, place, stamp);
-        assert_same(&rt, &asked(alloc, &rt, &keeper, &lists).err(), &Some(fault));
-    }
-    Ok(())
+    let values = numbers(alloc, LONG)?;
+    let items = faulty_at([4_194_304, 3_000_000, 8_192, 8_191]);
+    first_faults(&rt, alloc, &keeper, &mut lists, values.as_slice(), &items)?;
+    let items = [(0, 0, ABOVE, TraceError::Invalid { index: 0 })];
+    first_faults(&rt, alloc, &keeper, &mut lists, values.as_slice(), &items)
 }
 
 #[test]
