@@ -1,10 +1,26 @@
 //! Makes clocks of random journals, which are the same in each run.
 
 use super::time;
+use std::alloc::Global;
 use std::test::Fail;
 use tk_clock::{Clock, Command};
 use tk_counter::CounterDesc;
 use tk_test_support::{OPENED_TIME, next_random};
+
+/// Replaces a random number by the next one, and returns that.
+pub(super) fn drawn(seed: &mut u64) -> u64 {
+    *seed = next_random(*seed);
+    *seed
+}
+
+/// Returns this many random numbers, which follow `seed`.
+pub(super) fn numbers(alloc: Global, mut seed: u64, many: usize) -> Result<Vec<u64>, Fail> {
+    let mut list = vec![in alloc; 0; many]?;
+    for item in list.iter_mut() {
+        *item = drawn(&mut seed);
+    }
+    Ok(list)
+}
 
 /// Makes a counter from a number: of 8 to 64 bits, with any shift.
 fn counter_of(number: u64) -> Result<CounterDesc, Fail> {

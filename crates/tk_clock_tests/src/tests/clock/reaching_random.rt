@@ -2,11 +2,11 @@
 //! snapshots of random journals, which are the same in each run.
 
 use super::time;
-use crate::tests::random::clock_of;
+use crate::tests::random::{clock_of, numbers};
 use std::process::Abort;
 use std::test::Fail;
 use tk_clock::{ClockId, Snapshot, Timespec};
-use tk_test_support::{CLOCKS, next_random};
+use tk_test_support::CLOCKS;
 
 /// Computes a clock after a number of cycles, in ns, in integers of 128 bits.
 fn value(snapshot: &Snapshot, clock: ClockId, cycles: u64) -> u128 {
@@ -101,11 +101,9 @@ fn agrees_near(rt: &impl Abort, snapshot: &Snapshot, clock: ClockId, cycles: u64
 
 #[test]
 fn the_first_reading_agrees_with_a_search(rt: HostRuntime) -> Result<(), Fail> {
-    let mut seed = 88_172_645_463_325_252;
     let mut reached: u64 = 0;
     let mut tried: u64 = 0;
-    for _ in 0..300u64 {
-        seed = next_random(seed);
+    for seed in numbers(rt.alloc(), 88_172_645_463_325_252, 300)? {
         let snapshot = clock_of(seed)?.snapshot(0);
         let half = snapshot.desc().half();
         for clock in CLOCKS {
@@ -132,10 +130,8 @@ fn the_first_reading_agrees_with_a_search(rt: HostRuntime) -> Result<(), Fail> {
 
 #[test]
 fn a_time_that_was_read_is_given_again(rt: HostRuntime) -> Result<(), Fail> {
-    let mut seed = 6_364_136_223_846_793_005;
     let mut given: u64 = 0;
-    for _ in 0..300u64 {
-        seed = next_random(seed);
+    for seed in numbers(rt.alloc(), 6_364_136_223_846_793_005, 300)? {
         let snapshot = clock_of(seed)?.snapshot(0);
         let desc = snapshot.desc();
         let reading = snapshot.last().wrapping_add((seed >> 9) & desc.half()) & desc.mask();

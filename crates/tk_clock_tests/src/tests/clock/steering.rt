@@ -1,30 +1,35 @@
 use super::{answers, assert_same, opened, reads, time};
+use std::process::Abort;
 use std::test::Fail;
-use tk_clock::{ClockId, Command, Refusal};
+use tk_clock::ClockId::{Monotonic, MonotonicRaw};
+use tk_clock::Command::{Freq, Tick};
+use tk_clock::{Clock, Command, Refusal};
+
+/// The reading one second after the opening.
+const SECOND: u64 = 1_000_000_000;
+
+/// Applies a command and checks the multiplier after it.
+fn steers(rt: &impl Abort, clock: &mut Clock, reading: u64, cmd: Command, mult: u32) {
+    answers(rt, clock, reading, cmd, Ok(()));
+    assert_eq!(rt; clock.snapshot(0).mult(), mult, "{cmd:?} at {reading}");
+}
 
 #[test]
 fn a_frequency_holds_from_its_reading_on(rt: HostRuntime) -> Result<(), Fail> {
     let mut clock = opened()?;
-    let at = 1_000_000_000;
-    answers(&rt, &mut clock, 0, Command::Freq(65_536_000), Ok(()));
-    assert_same(&rt, &clock.snapshot(1).mult(), &16_785_604);
-    reads(&rt, &clock, ClockId::Monotonic, at, time(1, 499_963));
-    answers(&rt, &mut clock, at, Command::Freq(-32_768_000), Ok(()));
-    assert_same(&rt, &clock.snapshot(2).mult(), &16_768_827);
-    reads(&rt, &clock, ClockId::Monotonic, at, time(1, 499_963));
-    reads(&rt, &clock, ClockId::Monotonic, at + 1, time(1, 499_964));
+    steers(&rt, &mut clock, 0, Freq(65_536_000), 16_785_604);
+    reads(&rt, &clock, Monotonic, SECOND, time(1, 499_963));
+    steers(&rt, &mut clock, SECOND, Freq(-32_768_000), 16_768_827);
+    reads(&rt, &clock, Monotonic, SECOND, time(1, 499_963));
+    reads(&rt, &clock, Monotonic, SECOND + 1, time(1, 499_964));
     Ok(())
 }
 
 #[test]
 fn any_frequency_is_held_to_500_ppm(rt: HostRuntime) -> Result<(), Fail> {
     let mut clock = opened()?;
-    for (frequency, mult) in [
-        (-9_223_372_036_854_775_808, 16_768_827),
-        (9_223_372_036_854_775_807, 16_785_604),
-    ] {
-        answers(&rt, &mut clock, 0, Command::Freq(frequency), Ok(()));
-        assert_eq!(rt; clock.snapshot(0).mult(), mult, "at {frequency}");
+    for (frequency, mult) in [(i64::MIN, 16_768_827), (i64::MAX, 16_785_604)] {
+        steers(&rt, &mut clock, 0, Freq(frequency), mult);
     }
     Ok(())
 }
@@ -32,12 +37,12 @@ fn any_frequency_is_held_to_500_ppm(rt: HostRuntime) -> Result<(), Fail> {
 #[test]
 fn a_snapshot_used_beyond_its_life_may_tell_more(rt: HostRuntime) -> Result<(), Fail> {
     let mut clock = opened()?;
-    answers(&rt, &mut clock, 0, Command::Freq(32_768_000), Ok(()));
+    answers(&rt, &mut clock, 0, Freq(32_768_000), Ok(()));
     let first = clock.snapshot(1);
-    answers(&rt, &mut clock, 1_000, Command::Freq(-32_768_000), Ok(()));
+    answers(&rt, &mut clock, 1_000, Freq(-32_768_000), Ok(()));
     let second = clock.snapshot(2);
     for (snapshot, told) in [(first, time(1, 499_963)), (second, time(0, 999_499_977))] {
-        let read = snapshot.get(ClockId::Monotonic, 1_000_000_000);
+        let read = snapshot.get(Monotonic, SECOND);
         assert_eq!(rt; read, Ok(told), "after {} commands", snapshot.front());
     }
     Ok(())
@@ -46,13 +51,11 @@ fn a_snapshot_used_beyond_its_life_may_tell_more(rt: HostRuntime) -> Result<(), 
 #[test]
 fn a_tick_and_a_frequency_keep_each_other(rt: HostRuntime) -> Result<(), Fail> {
     let mut clock = opened()?;
-    let at = 1_000_000_000;
-    answers(&rt, &mut clock, 0, Command::Tick(11_000), Ok(()));
-    assert_same(&rt, &clock.snapshot(1).mult(), &18_454_937);
-    reads(&rt, &clock, ClockId::Monotonic, at, time(1, 99_999_964));
-    reads(&rt, &clock, ClockId::MonotonicRaw, at, time(1, 0));
-    answers(&rt, &mut clock, at, Command::Freq(32_768_000), Ok(()));
-    reads(&rt, &clock, ClockId::Monotonic, at, time(1, 99_999_964));
+    steers(&rt, &mut clock, 0, Tick(11_000), 18_454_937);
+    reads(&rt, &clock, Monotonic, SECOND, time(1, 99_999_964));
+    reads(&rt, &clock, MonotonicRaw, SECOND, time(1, 0));
+    answers(&rt, &mut clock, SECOND, Freq(32_768_000), Ok(()));
+    reads(&rt, &clock, Monotonic, SECOND, time(1, 99_999_964));
     assert_same(
         &rt,
         &clock.snapshot(2).words(),
@@ -69,8 +72,8 @@ fn a_tick_and_a_frequency_keep_each_other(rt: HostRuntime) -> Result<(), Fail> {
             1,
         ],
     );
-    reads(&rt, &clock, ClockId::Monotonic, at + 1, time(1, 99_999_965));
-    reads(&rt, &clock, ClockId::MonotonicRaw, at + 1, time(1, 1));
+    reads(&rt, &clock, Monotonic, SECOND + 1, time(1, 99_999_965));
+    reads(&rt, &clock, MonotonicRaw, SECOND + 1, time(1, 1));
     Ok(())
 }
 
@@ -83,7 +86,7 @@ fn a_tick_is_of_9_to_11_milliseconds(rt: HostRuntime) -> Result<(), Fail> {
         (9_000, Ok(())),
         (11_000, Ok(())),
     ] {
-        answers(&rt, &mut clock, 0, Command::Tick(tick), answer);
+        answers(&rt, &mut clock, 0, Tick(tick), answer);
     }
     Ok(())
 }

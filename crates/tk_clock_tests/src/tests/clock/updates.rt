@@ -1,12 +1,13 @@
 use super::{answers, nanosecond_counter, opened, reads, time, wide_counter};
 use std::test::Fail;
-use tk_clock::{Clock, ClockId, Command, Refusal};
+use tk_clock::ClockId::{Monotonic, MonotonicCoarse, Realtime, RealtimeCoarse};
+use tk_clock::{Clock, Command, Refusal};
 
 #[test]
 fn half_the_range_leads_forward_and_one_more_leads_back(rt: HostRuntime) -> Result<(), Fail> {
     let mut clock = opened()?;
     let longer = 2_147_483_648;
-    reads(&rt, &clock, ClockId::Monotonic, longer, time(0, 0));
+    reads(&rt, &clock, Monotonic, longer, time(0, 0));
     answers(
         &rt,
         &mut clock,
@@ -14,12 +15,12 @@ fn half_the_range_leads_forward_and_one_more_leads_back(rt: HostRuntime) -> Resu
         Command::Update,
         Err(Refusal::Behind),
     );
-    reads(&rt, &clock, ClockId::Monotonic, longer, time(0, 0));
+    reads(&rt, &clock, Monotonic, longer, time(0, 0));
     answers(&rt, &mut clock, 2_147_483_647, Command::Update, Ok(()));
     let half = time(2, 147_483_647);
-    reads(&rt, &clock, ClockId::Monotonic, 2_147_483_647, half);
+    reads(&rt, &clock, Monotonic, 2_147_483_647, half);
     let one_more = time(2, 147_483_648);
-    reads(&rt, &clock, ClockId::Monotonic, longer, one_more);
+    reads(&rt, &clock, Monotonic, longer, one_more);
     answers(&rt, &mut clock, 0, Command::Update, Err(Refusal::Behind));
     Ok(())
 }
@@ -29,7 +30,7 @@ fn the_counter_wraps_between_two_commands(rt: HostRuntime) -> Result<(), Fail> {
     let desc = nanosecond_counter()?;
     let mut clock = Clock::open(desc, 4_294_967_290, time(1_700_000_000, 0))?;
     answers(&rt, &mut clock, 10, Command::Update, Ok(()));
-    reads(&rt, &clock, ClockId::Monotonic, 10, time(0, 16));
+    reads(&rt, &clock, Monotonic, 10, time(0, 16));
     Ok(())
 }
 
@@ -37,14 +38,10 @@ fn the_counter_wraps_between_two_commands(rt: HostRuntime) -> Result<(), Fail> {
 fn a_reading_behind_and_a_coarse_clock_get_the_last_value(rt: HostRuntime) -> Result<(), Fail> {
     let mut clock = opened()?;
     answers(&rt, &mut clock, 100, Command::Update, Ok(()));
-    for (id, reading, told) in [
-        (ClockId::Monotonic, 99, time(0, 100)),
-        (ClockId::MonotonicCoarse, 150, time(0, 100)),
-        (ClockId::RealtimeCoarse, 150, time(1_700_000_000, 100)),
-        (ClockId::Realtime, 150, time(1_700_000_000, 150)),
-    ] {
-        reads(&rt, &clock, id, reading, told);
-    }
+    reads(&rt, &clock, Monotonic, 99, time(0, 100));
+    reads(&rt, &clock, MonotonicCoarse, 150, time(0, 100));
+    reads(&rt, &clock, RealtimeCoarse, 150, time(1_700_000_000, 100));
+    reads(&rt, &clock, Realtime, 150, time(1_700_000_000, 150));
     Ok(())
 }
 
@@ -59,6 +56,6 @@ fn monotonic_ends_after_thirty_years(rt: HostRuntime) -> Result<(), Fail> {
         answers(&rt, &mut clock, reading, Command::Update, answer);
     }
     let last = time(946_079_999, 998_296_064);
-    reads(&rt, &clock, ClockId::Monotonic, 225_563_049_316, last);
+    reads(&rt, &clock, Monotonic, 225_563_049_316, last);
     Ok(())
 }

@@ -12,6 +12,25 @@ const SECOND_BELOW_END: u64 = 9_223_372_035_000_000_000;
 
 const BELOW_END: u64 = 9_223_372_035_999_999_999;
 
+/// The greatest value of each word after the first, in clocks of `nanosecond_counter`.
+const BOUNDS: [u64; 9] = [
+    // the last reading, up to the mask
+    4_294_967_295,
+    // the multiplier, up to 11 percent above the usual one
+    18_622_709,
+    // MONOTONIC: units below a second, and 30 years of seconds
+    16_777_215_999_999_999,
+    946_079_999,
+    // REALTIME and BOOTTIME
+    BELOW_END,
+    BELOW_END,
+    // a TAI offset of 100,000 seconds, asleep
+    200_001,
+    // MONOTONIC_RAW: units below a second, and seconds
+    16_777_215_999_999_999,
+    1_059_999_999,
+];
+
 /// Checks whether words make a snapshot. If they do, the snapshot must return the same words.
 fn is_taken(rt: &impl Abort, desc: CounterDesc, words: [u64; 10], taken: bool) {
     let back = Snapshot::from_words(desc, words).map(|snapshot| snapshot.words());
@@ -22,23 +41,7 @@ fn is_taken(rt: &impl Abort, desc: CounterDesc, words: [u64; 10], taken: bool) {
 #[test]
 fn a_word_is_taken_at_its_bound_and_not_past_it(rt: HostRuntime) -> Result<(), Fail> {
     let desc = nanosecond_counter()?;
-    for (place, most) in [
-        // the last reading, up to the mask
-        (1, 4_294_967_295),
-        // the multiplier, up to 11 percent above the usual one
-        (2, 18_622_709),
-        // MONOTONIC: units below a second, and 30 years of seconds
-        (3, 16_777_215_999_999_999),
-        (4, 946_079_999),
-        // REALTIME and BOOTTIME
-        (5, BELOW_END),
-        (6, BELOW_END),
-        // a TAI offset of 100,000 seconds, asleep
-        (7, 200_001),
-        // MONOTONIC_RAW: units below a second, and seconds
-        (8, 16_777_215_999_999_999),
-        (9, 1_059_999_999),
-    ] {
+    for (place, most) in (1..10).zip(BOUNDS) {
         let past = most.checked_add(1).ok_or("nothing is past the bound")?;
         for (word, taken) in [(most, true), (past, false), (u64::MAX, false)] {
             let mut words = OPENING;

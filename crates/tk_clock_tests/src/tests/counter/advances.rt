@@ -1,4 +1,5 @@
-use super::{nanosecond_counter, next_random, quick, slow};
+use super::{nanosecond_counter, quick, slow};
+use crate::tests::random::drawn;
 use std::test::Fail;
 use tk_counter::CounterDesc;
 
@@ -133,20 +134,19 @@ fn edges_agree_with_wide_integers(rt: HostRuntime) -> Result<(), Fail> {
 fn any_gap_agrees_with_wide_integers(rt: HostRuntime) -> Result<(), Fail> {
     let mut seed = 88_172_645_463_325_252;
     for _ in 0..10_000 {
-        seed = next_random(seed);
-        let desc = CounterDesc::new(64, 256, (seed % 33) as u32)?;
-        seed = next_random(seed);
-        let mult = (seed & 0xffff_ffff) as u32;
-        let frac = seed >> 2;
-        seed = next_random(seed);
-        assert!(rt; agrees(&desc, frac, seed, mult), "{frac} {seed} {mult}");
+        let desc = CounterDesc::new(64, 256, (drawn(&mut seed) % 33) as u32)?;
+        let number = drawn(&mut seed);
+        let mult = (number & 0xffff_ffff) as u32;
+        let frac = number >> 2;
+        let delta = drawn(&mut seed);
+        assert!(rt; agrees(&desc, frac, delta, mult), "{frac} {delta} {mult}");
         assert!(rt;
-            agrees(&desc, frac >> 24, seed >> 24, mult),
-            "{frac} {seed} {mult}"
+            agrees(&desc, frac >> 24, delta >> 24, mult),
+            "{frac} {delta} {mult}"
         );
         assert!(rt;
-            agrees(&desc, frac >> 32, seed >> 40, mult),
-            "{frac} {seed} {mult}"
+            agrees(&desc, frac >> 32, delta >> 40, mult),
+            "{frac} {delta} {mult}"
         );
     }
     Ok(())

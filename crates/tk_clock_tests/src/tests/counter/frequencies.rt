@@ -69,18 +69,13 @@ fn a_frequency_fixes_the_amounts(rt: HostRuntime) -> Result<(), Fail> {
 
 #[test]
 fn the_bits_are_told_before_the_rate(rt: HostRuntime) {
-    for (bits, hz, maxsec, fault) in [
-        (7, 0, 601, DescError::Bits),
-        (65, 24_000_000, 600, DescError::Bits),
-        (32, 0, 600, DescError::Rate),
-        (32, 24_000_000, 0, DescError::Rate),
-        (32, 24_000_000, 601, DescError::Rate),
-    ] {
-        assert_eq!(rt;
-            CounterDesc::from_hz(bits, hz, maxsec),
-            Err(fault),
-            "{bits} {hz} {maxsec}"
-        );
+    for (bits, hz, maxsec) in [(7, 0, 601), (65, 24_000_000, 600)] {
+        let answer = CounterDesc::from_hz(bits, hz, maxsec);
+        assert_eq!(rt; answer, Err(DescError::Bits), "{bits} {hz} {maxsec}");
+    }
+    for (hz, maxsec) in [(0, 600), (24_000_000, 0), (24_000_000, 601)] {
+        let answer = CounterDesc::from_hz(32, hz, maxsec);
+        assert_eq!(rt; answer, Err(DescError::Rate), "{hz} {maxsec}");
     }
 }
 

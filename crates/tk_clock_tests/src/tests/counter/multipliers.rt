@@ -1,4 +1,6 @@
-use super::{assert_same, nanosecond_counter, next_random};
+use super::{assert_same, nanosecond_counter};
+use crate::tests::random::drawn;
+use std::process::Abort;
 use std::test::Fail;
 use tk_counter::CounterDesc;
 
@@ -19,19 +21,21 @@ fn agrees(desc: &CounterDesc, freq: i64, tick: i64) -> bool {
     Some(u128::from(desc.mult_at(freq, tick))) == plain_mult_at(desc, freq, tick)
 }
 
+/// Checks the multiplier that both calls give for a frequency, at the usual tick.
+fn has_mult(rt: &impl Abort, desc: &CounterDesc, freq: i64, mult: u32) {
+    assert_eq!(rt; desc.mult_for(freq), mult, "at {freq}");
+    assert_eq!(rt; desc.mult_at(freq, 10_000), mult, "at {freq}");
+}
+
 #[test]
 fn a_frequency_is_followed_up_to_500_ppm(rt: HostRuntime) -> Result<(), Fail> {
     let desc = nanosecond_counter()?;
-    for (freq, mult) in [
-        (0, 16_777_216),
-        (32_768_000, 16_785_604),
-        (65_536_000, 16_785_604),
-        (i64::MAX, 16_785_604),
-        (-32_768_000, 16_768_827),
-        (i64::MIN, 16_768_827),
-    ] {
-        assert_eq!(rt; desc.mult_for(freq), mult, "at {freq}");
-        assert_eq!(rt; desc.mult_at(freq, 10_000), mult, "at {freq}");
+    has_mult(&rt, &desc, 0, 16_777_216);
+    for freq in [32_768_000, 65_536_000, i64::MAX] {
+        has_mult(&rt, &desc, freq, 16_785_604);
+    }
+    for freq in [-32_768_000, i64::MIN] {
+        has_mult(&rt, &desc, freq, 16_768_827);
     }
     Ok(())
 }
@@ -64,12 +68,11 @@ fn every_tick_agrees_with_wide_integers(rt: HostRuntime) -> Result<(), Fail> {
 fn any_frequency_agrees_with_wide_integers(rt: HostRuntime) -> Result<(), Fail> {
     let mut seed = 88_172_645_463_325_252;
     for _ in 0..10_000 {
-        seed = next_random(seed);
-        let mult = 256 + (seed % 3_869_339_651) as u32;
+        let mult = 256 + (drawn(&mut seed) % 3_869_339_651) as u32;
         let desc = CounterDesc::new(64, mult, 24)?;
-        seed = next_random(seed);
-        let freq = (seed & 0x7ff_ffff) as i64 - 0x400_0000;
-        let tick = 9_000 + (seed >> 32) as i64 % 2_001;
+        let number = drawn(&mut seed);
+        let freq = (number & 0x7ff_ffff) as i64 - 0x400_0000;
+        let tick = 9_000 + (number >> 32) as i64 % 2_001;
         assert!(rt; agrees(&desc, freq, tick), "{mult} {freq} {tick}");
     }
     Ok(())

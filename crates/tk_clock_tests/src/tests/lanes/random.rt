@@ -1,9 +1,9 @@
 //! Tests both calls on snapshots of random journals, which are the same in each run.
 
 use super::{agree, sevens};
-use crate::tests::random::clock_of;
+use crate::tests::random::{clock_of, drawn};
 use std::test::Fail;
-use tk_test_support::{CLOCKS, next_random};
+use tk_test_support::CLOCKS;
 
 /// Makes a stamp from a number. Most stamps are near the last command, and some are above the mask.
 fn stamp(number: u64, last: u64, mask: u64) -> u64 {
@@ -24,13 +24,11 @@ fn both_calls_agree_on_any_journal(rt: HostRuntime) -> Result<(), Fail> {
     let mut whole: u64 = 0;
     let mut refused: u64 = 0;
     for _ in 0..200u64 {
-        seed = next_random(seed);
-        let snapshot = clock_of(seed)?.snapshot(0);
+        let snapshot = clock_of(drawn(&mut seed))?.snapshot(0);
         let mask = snapshot.desc().mask();
         let mut stamps = sevens(alloc, 43)?;
         for stamp_at in stamps.iter_mut() {
-            seed = next_random(seed);
-            *stamp_at = stamp(seed, snapshot.last(), mask);
+            *stamp_at = stamp(drawn(&mut seed), snapshot.last(), mask);
         }
         for clock in CLOCKS {
             match agree(&rt, alloc, &snapshot, clock, stamps.as_slice())? {

@@ -45,47 +45,17 @@ fn a_stamp_above_the_mask_ends_a_list(rt: HostRuntime) -> Result<(), Fail> {
 fn a_value_at_the_limit_ends_a_list(rt: HostRuntime) -> Result<(), Fail> {
     let alloc = rt.alloc();
     let snapshot = wide()?.snapshot(0);
-    converts(
-        &rt,
-        alloc,
-        &snapshot,
-        ClockId::Monotonic,
-        &[1, 9_223_372_036_854_775_807],
-        Err(BatchError::Range { index: 1 }),
-        &[4_194_304, 7],
-    )?;
+    let clock = ClockId::Monotonic;
+    let (stamps, values) = ([1, 9_223_372_036_854_775_807], [4_194_304, 7]);
+    let answer = Err(BatchError::Range { index: 1 });
+    converts(&rt, alloc, &snapshot, clock, &stamps, answer, &values)?;
     // 225563049316 cycles are 946079999.998296064 seconds, and one more is past the limit
-    converts(
-        &rt,
-        alloc,
-        &snapshot,
-        ClockId::Monotonic,
-        &[
-            225_563_049_316,
-            1,
-            1,
-            1,
-            1,
-            1,
-            1,
-            1,
-            225_563_049_316,
-            225_563_049_317,
-        ],
-        Err(BatchError::Range { index: 9 }),
-        &[
-            946_079_999_998_296_064,
-            4_194_304,
-            4_194_304,
-            4_194_304,
-            4_194_304,
-            4_194_304,
-            4_194_304,
-            4_194_304,
-            946_079_999_998_296_064,
-            7,
-        ],
-    )
+    let (last, past) = (225_563_049_316, 225_563_049_317);
+    let stamps = [last, 1, 1, 1, 1, 1, 1, 1, last, past];
+    let (most, one) = (946_079_999_998_296_064, 4_194_304);
+    let values = [most, one, one, one, one, one, one, one, most, 7];
+    let answer = Err(BatchError::Range { index: 9 });
+    converts(&rt, alloc, &snapshot, clock, &stamps, answer, &values)
 }
 
 #[test]
