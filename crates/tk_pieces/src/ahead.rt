@@ -157,7 +157,6 @@ pub(crate) fn trace_ahead<
 >(rt: &R, size: usize, input: Input<'_, A>, values: Vec<u64, B>) -> Result<Vec<u64, B>, TraceError>
     requires size { 0 < size }
     requires named { of_input (IsNamed N.item N.count) input }
-    requires filled { 0 < length input.stamps.now }
     requires empty { values.items ≡ [] }
     ensures { MatchResult result
         (λ values. of_input IsConverted input.entry values.items)
