@@ -1,6 +1,6 @@
 -- The result of a command, in terms of the journal before it.
-use Rattle.std.proofs.Common.{◌≡◌, ◌∙◌, ℕ, sym, ap, false}
-use Rattle.std.specs.Prelude.{Option, Some, None, Result, Ok, Err, MatchResult, IfOk, IsErrOf}
+use Rattle.std.proofs.Common.{◌≡◌, ◌∙◌, ℕ, ◌+◌, List, [], ◌∷◌, ◌++◌, length, sym, ap, subst, false}
+use Rattle.std.specs.Prelude.{Some, None, Result, Ok, Err, MatchResult, IfOk, IsErrOf}
 use Rattle.tk_clock.specs.declared.command.Entry.{Entry}
 use Rattle.tk_clock.specs.declared.refusal.Refusal.{Refusal}
 use Rattle.tk_clock.specs.declared.refusal.Refusal.TheVariants.{Memory}
@@ -9,9 +9,11 @@ use Rattle.tk_clock.specs.Monotonic.{monotonic}
 use Rattle.tk_clock.specs.Refusal.{is_full, first_refusal, state_refusal, IsRefusal}
 use Rattle.tk_clock.specs.State.{State, state_of, effect}
 use Rattle.tk_clock.proofs.Monotone.{agrees}
-use Rattle.tk_clock.proofs.Legal.{state_of-followed_by}
+use Rattle.tk_clock.specs.Folding.{journal_from}
+use Rattle.tk_clock.proofs.Legal.{first_refusal-state, state_of-followed_by}
 use Rattle.tk_clock.proofs.Refusals.{IsRefusal-told}
-use Rattle.tk_keeper.specs.Keeper.{Keeper}
+use Rattle.tk_keeper.specs.Keeper.{Keeper, IsKept}
+use Rattle.tk_keeper.proofs.Room.{IsKept-followed_by}
 
 -- a journal accepted an entry, and became another
 abbrev pub IsAccepted : Journal → Journal → Entry → ℕ → Type 0
@@ -84,3 +86,34 @@ pub running-accepted : (journal : Journal) (before after : State) (entry : Entry
     after ≡ state_of (followed_by journal entry)
 running-accepted journal before after entry running told =
     told.1 ∙ state_of-followed_by journal before entry.who entry.reading entry.cmd running told.0
+
+-- a keeper whose clocks accepted a command: it has these parts, and `keeper` is what they show
+module _ (folded spare : ℕ) (start before after : State) (entries : List Entry) (entry : Entry)
+    (keeper : Keeper)
+    (shows : ◌≡◌ {A = Keeper}
+        (record { journal = journal_from folded start entries; spare = spare }) keeper)
+    (free : is_full keeper.journal ≡ false)
+    (held : IsKept (journal_from folded start entries) before)
+    (done : (state_refusal before entry.reading entry.cmd ≡ None)
+        × (after ≡ effect before entry.reading entry.cmd)) where
+  abbrev journal : Journal
+  journal = journal_from folded start entries
+
+  accepted : first_refusal journal entry ≡ None
+  accepted = first_refusal-state journal before entry.who entry.reading entry.cmd None held.running
+      (subst (λ (k : Keeper). is_full k.journal ≡ false) (sym shows) free) done.0
+
+  pub running_entered : after ≡ state_of (followed_by journal entry)
+  running_entered = running-accepted journal before after entry held.running done
+
+  pub kept_entered : IsKept (followed_by journal entry) after
+  kept_entered = IsKept-followed_by journal entry before after held accepted running_entered
+
+  pub answer_entered : (longer : List Entry) (number : ℕ) → longer ≡ entries ++ entry ∷ [] →
+      number ≡ folded + length longer →
+      IsAccepted keeper.journal (journal_from folded start longer) entry number
+  answer_entered longer number pushed counted = (
+    subst (λ (k : Keeper). first_refusal k.journal entry ≡ None) shows accepted,
+    ap (journal_from folded start) pushed ∙ ap (λ (k : Keeper). followed_by k.journal entry) shows,
+    counted,
+  )

@@ -1,13 +1,17 @@
--- The kept states of a journal, entry by entry.
-use Rattle.std.proofs.Common.{◌≡◌, ◌≢◌, ℕ, zero, suc, ◌+◌, ◌-◌, ◌*◌, ◌/◌, ◌%◌, ◌<◌, ◌≤◌, List, [], ◌∷◌, ◌++◌, length, drop, length-drop, refl, sym, ◌∙◌, ap, arith, inl, inr}
-use Rattle.std.specs.Prelude.{Some, slice_get}
+-- The kept clocks of a journal, entry by entry.
+use Rattle.std.proofs.Common.{◌≡◌, ◌≢◌, ℕ, ◌+◌, ◌-◌, ◌*◌, ◌/◌, ◌%◌, ◌<◌, ◌≤◌, List, [], ◌∷◌, ◌++◌, length, drop, length-drop, refl, sym, ◌∙◌, ap, subst, arith, inl, inr}
+use Rattle.std.specs.Prelude.{IsTrue, Some, slice_get}
 use Rattle.std.proofs.lemmas.List.{take_all, length_push}
 use Rattle.std.proofs.lemmas.Bool.{cases_lt}
+use Rattle.std.proofs.lemmas.Option.{slice_get_within}
 use Rattle.tk_clock.specs.declared.command.Entry.{Entry}
 use Rattle.tk_clock.specs.Journal.{Journal, prefix, followed_by, accepted_count}
 use Rattle.tk_clock.specs.Legal.{IsAccepted}
 use Rattle.tk_clock.specs.State.{State, state_of}
+use Rattle.tk_keeper.specs.declared.timekeeper.Kept.{Kept}
 use Rattle.tk_keeper.specs.Keeper.{HasKept}
+use Rattle.tk_keeper.specs.Runs.{AreRuns, IsKeptAt}
+use Rattle.tk_keeper.proofs.Runs.{AreRuns-followed_by, AreRuns-folded, slice_get-drop}
 use Rattle.tk_clock.proofs.Append.{slice_get-append, slice_get-push, prefix-followed_by}
 use Rattle.tk_clock.proofs.Folding.{state_of-folded}
 use Rattle.tk_clock.specs.Folding.{folded_by}
@@ -17,26 +21,32 @@ within : (kept count listed i place : ℕ) → kept + count / 256 ≡ (count + l
     count + place ≡ 256 * (count / 256 + 1 + i) → place ≤ listed
 within kept count listed i place all low here = omega arith
 
--- an earlier kept state is that of the longer journal too
-earlier : (journal : Journal) (entry : Entry) (start : State) (kept : List State) (i place : ℕ) →
-    HasKept journal start kept → i < length kept →
+-- earlier kept clocks are those of the longer journal too
+earlier : (journal : Journal) (entry : Entry) (start : State) (kept : List Kept) (i place : ℕ)
+    (there : Kept) →
+    HasKept journal start kept → slice_get kept i ≡ Some there →
     journal.opening.count + place ≡ 256 * (journal.opening.count / 256 + 1 + i) →
-    slice_get kept i ≡ Some (state_of (prefix place (followed_by journal entry)))
-earlier journal entry start kept i place held low here =
+    IsKeptAt (followed_by journal entry) place there
+earlier journal entry start kept i place there held found here =
     let inside = within (length kept) journal.opening.count (length journal.entries) i place
-    held.all low here in
+    held.all (slice_get_within kept i there found) here in
     let same = prefix-followed_by journal entry place inside in
-    held.told i place low here ∙ ap (λ (j : Journal). Some (state_of j)) (sym same)
+    let told = held.told i place there found here in
+    record {
+      clock = told.clock ∙ ap state_of (sym same);
+      run = λ long marked. AreRuns-followed_by journal entry (place - 256) (place - 1) (omega arith)
+          (told.run long marked);
+    }
 
 -- an entry whose number is not a multiple of 256 leaves the kept states unchanged
-pub HasKept-same : (journal : Journal) (entry : Entry) (start : State) (kept : List State) →
+pub HasKept-same : (journal : Journal) (entry : Entry) (start : State) (kept : List Kept) →
     HasKept journal start kept →
     accepted_count (followed_by journal entry) % 256 ≢ 0 →
     HasKept (followed_by journal entry) start kept
 HasKept-same journal entry start kept held odd = record {
   first = held.first;
   all = omega (arith, held.all, length_push journal.entries entry);
-  told = λ i place low here. earlier journal entry start kept i place held low here;
+  told = λ i place there found here. earlier journal entry start kept i place there held found here;
 }
 
 -- the place of the last state that is kept
@@ -45,58 +55,70 @@ last_place : (kept count listed i place : ℕ) → kept + count / 256 ≡ (count
     count + place ≡ 256 * (count / 256 + 1 + i) → place ≡ listed + 1
 last_place kept count listed i place all even last here = omega arith
 
-newest : (journal : Journal) (entry : Entry) (start : State) (kept : List State) (i place : ℕ) →
-    HasKept journal start kept →
+-- the mark of clocks that are kept next: the last 255 entries are a run
+abbrev pub EndsWithRun : Journal → Kept → Type 0
+EndsWithRun journal next =
+    let count = length journal.entries in
+    IsTrue next.after_run → (255 ≤ count) × AreRuns journal (count - 255) count
+
+newest : (journal : Journal) (entry : Entry) (start : State) (kept : List Kept) (next : Kept)
+    (i place : ℕ) →
+    HasKept journal start kept → next.clock ≡ state_of (followed_by journal entry) →
+    EndsWithRun journal next →
     (journal.opening.count + (length journal.entries + 1)) % 256 ≡ 0 → i ≡ length kept →
     journal.opening.count + place ≡ 256 * (journal.opening.count / 256 + 1 + i) →
-    slice_get (kept ++ state_of (followed_by journal entry) ∷ []) i
-    ≡ Some (state_of (prefix place (followed_by journal entry)))
-newest journal entry start kept i place held even last here =
-    let state = state_of (followed_by journal entry) in
-    let end = last_place (length kept) journal.opening.count (length journal.entries) i place
-    held.all even last here in
+    IsKeptAt (followed_by journal entry) place next
+newest journal entry start kept next i place held now marked even last here =
+    let count = length journal.entries in
+    let end = last_place (length kept) journal.opening.count count i place held.all even last here
+    in
     let whole : prefix place (followed_by journal entry) ≡ followed_by journal entry =
     ap (λ (es : List Entry). record journal { entries = es })
     (take_all place (journal.entries ++ entry
     ∷ []) (omega (arith, end, length_push journal.entries entry))) in
-    ap (slice_get (kept ++ state ∷ [])) last ∙ slice_get-push kept state
-    ∙ ap (λ (j : Journal). Some (state_of j)) (sym whole)
+    let first : place - 256 ≡ count - 255 = omega arith in
+    let final : place - 1 ≡ count = omega arith in
+    record {
+      clock = now ∙ ap state_of (sym whole);
+      run = λ long mark.
+          AreRuns-followed_by journal entry (place - 256) (place - 1) (omega arith)
+          (subst (λ n. AreRuns journal (place - 256) n) (sym final)
+          (subst (λ n. AreRuns journal n count) (sym first) (marked mark).1));
+    }
 
--- an entry whose number is a multiple of 256 adds its state
-pub HasKept-more : (journal : Journal) (entry : Entry) (start : State) (kept : List State) →
-    HasKept journal start kept →
+-- an entry whose number is a multiple of 256 adds its clocks
+pub HasKept-more : (journal : Journal) (entry : Entry) (start : State) (kept : List Kept)
+    (next : Kept) →
+    HasKept journal start kept → next.clock ≡ state_of (followed_by journal entry) →
+    EndsWithRun journal next →
     accepted_count (followed_by journal entry) % 256 ≡ 0 →
-    HasKept (followed_by journal entry) start (kept ++ state_of (followed_by journal entry) ∷ [])
-HasKept-more journal entry start kept held even =
-    let state = state_of (followed_by journal entry) in
+    HasKept (followed_by journal entry) start (kept ++ next ∷ [])
+HasKept-more journal entry start kept next held now marked even =
     let longer = length_push journal.entries entry in
     let there : (journal.opening.count + (length journal.entries + 1)) % 256 ≡ 0 =
     ap (λ n. (journal.opening.count + n) % 256) (sym longer) ∙ even in
     record {
       first = held.first;
-      all = omega (arith, held.all, there, longer, length_push kept state);
-      told = λ i place low here.
+      all = omega (arith, held.all, there, longer, length_push kept next);
+      told = λ i place any found here.
           elim (cases_lt i (length kept)) [
-            | inl earlier_one ↦ slice_get-append kept (state ∷ []) i earlier_one
-                ∙ earlier journal entry start kept i place held earlier_one here
-            | inr high ↦ newest journal entry start kept i place held there
-                (omega (arith, length_push kept state)) here
+            | inl earlier_one ↦ earlier journal entry start kept i place any held
+                (sym (slice_get-append kept (next ∷ []) i earlier_one) ∙ found) here
+            | inr high ↦
+                let within = slice_get_within (kept ++ next ∷ []) i any found in
+                let last : i ≡ length kept = omega (arith, length_push kept next) in
+                let same : next ≡ any = cc (sym (slice_get-push kept next)
+                    ∙ ap (slice_get (kept ++ next ∷ [])) (sym last) ∙ found) in
+                subst (λ (k : Kept). IsKeptAt (followed_by journal entry) place k) same
+                (newest journal entry start kept next i place held now marked there last here)
           ];
     }
 
-slice_get-drop : {X : Type 0} (m : ℕ) (xs : List X) (i j : ℕ) → j ≡ m + i →
-    slice_get (drop m xs) i ≡ slice_get xs j
-slice_get-drop zero xs i j e = let same : i ≡ j = omega arith in ap (slice_get xs) same
-slice_get-drop (suc m) [] i j e = refl
-slice_get-drop (suc m) (x ∷ xs) i zero e = absurd (omega arith)
-slice_get-drop (suc m) (x ∷ xs) i (suc j) e = slice_get-drop m xs i j (omega arith)
-
 -- a kept state of the folded journal is one of those before the fold
-kept_place : (count n kept i place dropped : ℕ) → dropped + count / 256 ≡ (count + n) / 256 →
-    i < kept - dropped →
+kept_place : (count n i place dropped : ℕ) → dropped + count / 256 ≡ (count + n) / 256 →
     count + n + place ≡ 256 * ((count + n) / 256 + 1 + i) →
-    (dropped + i < kept) × (count + (n + place) ≡ 256 * (count / 256 + 1 + (dropped + i)))
-kept_place count n kept i place dropped e low here = (omega arith, omega arith)
+    count + (n + place) ≡ 256 * (count / 256 + 1 + (dropped + i))
+kept_place count n i place dropped e here = omega arith
 
 kept_left : (count n listed kept dropped : ℕ) → dropped + count / 256 ≡ (count + n) / 256 →
     n ≤ listed →
@@ -105,7 +127,7 @@ kept_left : (count n listed kept dropped : ℕ) → dropped + count / 256 ≡ (c
 kept_left count n listed kept dropped e within all = omega arith
 
 -- folding drops the kept states up to the new opening, and keeps the later ones
-pub HasKept-folded : (journal : Journal) (n dropped : ℕ) (start : State) (kept : List State) →
+pub HasKept-folded : (journal : Journal) (n dropped : ℕ) (start : State) (kept : List Kept) →
     n ≤ length journal.entries →
     IsAccepted journal → dropped + journal.opening.count / 256 ≡ (journal.opening.count + n) / 256 →
     HasKept journal start kept →
@@ -121,10 +143,17 @@ HasKept-folded journal n dropped start kept inside accepted e held =
           ap (λ k. k + (count + n) / 256) (length-drop dropped kept)
           ∙ kept_left count n (length journal.entries) (length kept) dropped e inside held.all
           ∙ ap (λ k. (count + n + k) / 256) (sym (length-drop n journal.entries));
-      told = λ i place low here.
-          let fewer = length-drop dropped kept in
-          let there = kept_place count n (length kept) i place dropped e (omega arith) here in
-          slice_get-drop dropped kept i (dropped + i) refl
-          ∙ held.told (dropped + i) (n + place) there.0 there.1
-          ∙ ap (λ s. Some s) (sym (state_of-folded journal n place accepted));
+      told = λ i place any found here.
+          let older = sym (slice_get-drop dropped kept i (dropped + i) refl) ∙ found in
+          let there = kept_place count n i place dropped e here in
+          let told = held.told (dropped + i) (n + place) any older there in
+          record {
+            clock = told.clock ∙ sym (state_of-folded journal n place accepted);
+            run = λ long marked.
+                let first : n + place - 256 ≡ n + (place - 256) = omega arith in
+                let final : n + place - 1 ≡ n + (place - 1) = omega arith in
+                let runs = told.run (omega arith) marked in
+                AreRuns-folded journal n (place - 256) (place - 1) accepted
+                (rw (← first, ← final) runs);
+          };
     }

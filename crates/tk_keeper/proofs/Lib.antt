@@ -3,6 +3,7 @@ pub mod Items
 pub mod Kept
 pub mod Room
 pub mod Running
+pub mod Runs
 pub mod Steps
 pub mod Stretches
 pub mod Updates

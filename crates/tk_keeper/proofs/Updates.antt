@@ -1,7 +1,7 @@
 -- An update can be left out before another entry: that one leads to the same state alone.
-use Rattle.std.proofs.Common.{◌≡◌, ℕ, ◌+◌, ◌-◌, ◌*◌, ◌/◌, ◌%◌, ◌^◌, ◌<◌, ◌≤◌, get_or, length, refl, sym, ◌∙◌, ap, ap₂, subst, arith, Bool, true, false, Some, None}
+use Rattle.std.proofs.Common.{◌≡◌, ℕ, ◌+◌, ◌-◌, ◌*◌, ◌/◌, ◌%◌, ◌^◌, ◌<◌, ◌≤◌, get_or, length, refl, sym, ◌∙◌, ap, ap₂, subst, arith, inl, inr, Bool, true, false, Some, None}
 use Rattle.std.specs.Prelude.{pos, ◌+ℤ◌, ◌-ℤ◌, Option, nat_lt, int_lt, not, ◌&&◌, ◌||◌, if◌then◌else◌, slice_get}
-use Rattle.std.proofs.lemmas.Bool.{le-ltb}
+use Rattle.std.proofs.lemmas.Bool.{le-ltb, cases_lt}
 use Rattle.std.proofs.lemmas.Grind.{common_steps}
 use Rattle.std.proofs.lemmas.Nat.{pow_pos}
 use Rattle.std.proofs.lemmas.Option.{get_or_from_slice_get}
@@ -20,7 +20,7 @@ use Rattle.tk_clock.specs.Monotonic.{cycles_since}
 use Rattle.tk_clock.specs.Refusal.{first_of, state_refusal}
 use Rattle.tk_clock.specs.State.{ReadBase, State, base_monotonic, base_value, forwarded, state_of, effect}
 use Rattle.tk_clock.specs.Time.{nanoseconds}
-use Rattle.tk_keeper.specs.Past.{IsRun}
+use Rattle.tk_keeper.specs.Runs.{IsRun, AreRuns}
 use Rattle.tk_keeper.proofs.Steps.{passes, next_state, listed_item}
 
 -- two gaps that together are less than a round add up to the gap from the first to the last
@@ -222,14 +222,14 @@ alone state r r' cmd one two near =
     )
 
 -- one entry alone is a run
-pub IsRun-one : (journal : Journal) (from : ℕ) → IsAccepted journal → IsRun journal from (from + 1)
+IsRun-one : (journal : Journal) (from : ℕ) → IsAccepted journal → IsRun journal from (from + 1)
 IsRun-one journal from all entry here =
     let place : from + 1 - 1 ≡ from = omega arith in
     let there = subst (λ k. slice_get journal.entries k ≡ Some entry) place here in
     (passes journal from entry all there, next_state journal from entry all there)
 
 -- a run goes on after an update, with an entry that is not behind the run's beginning
-pub IsRun-more : (journal : Journal) (from next : ℕ) (entry later : Entry) → IsAccepted journal →
+IsRun-more : (journal : Journal) (from next : ℕ) (entry later : Entry) → IsAccepted journal →
     IsRun journal from next → next - 1 < length journal.entries →
     entry ≡ get_or journal.entries (next - 1) entry → entry.cmd ≡ Update →
     later ≡ get_or journal.entries next later →
@@ -254,3 +254,27 @@ IsRun-more journal from next entry later all held within e update e' near any he
       both.1 ∙ ap (λ s. effect s any.reading any.cmd) left
           ∙ next_state journal next any all there,
     )
+
+pub AreRuns-one : (journal : Journal) (from : ℕ) → IsAccepted journal →
+    AreRuns journal from (from + 1)
+AreRuns-one journal from all place later last =
+    let only : from + 1 ≡ place = omega arith in
+    subst (IsRun journal from) only (IsRun-one journal from all)
+
+pub AreRuns-more : (journal : Journal) (from next : ℕ) (entry later : Entry) → IsAccepted journal →
+    AreRuns journal from next → from < next → next - 1 < length journal.entries →
+    entry ≡ get_or journal.entries (next - 1) entry → entry.cmd ≡ Update →
+    later ≡ get_or journal.entries next later →
+    gap journal.opening.counter (state_of (prefix from journal)).base.last later.reading
+    ≤ half journal.opening.counter →
+    AreRuns journal from (next + 1)
+AreRuns-more journal from next entry later all held some within e update e' near place above last =
+    elim (cases_lt place (next + 1)) [
+      | inl low ↦ held place above (omega arith)
+      | inr high ↦
+          let end : next + 1 ≡ place = omega arith in
+          let far : next ≤ next = omega arith in
+          subst (IsRun journal from) end
+          (IsRun-more journal from next entry later all (held next some far) within e update e'
+          near)
+    ]

@@ -1,5 +1,5 @@
 -- What a timekeeper holds.
-use Rattle.std.specs.Prelude.{◌≡◌, ℕ, ◌+◌, ◌-◌, ◌*◌, ◌/◌, ◌%◌, ◌^◌, ◌<◌, ◌≤◌, min, List, length, Option, Some, None, nat_lt, if◌then◌else◌, slice_get}
+use Rattle.std.specs.Prelude.{◌≡◌, ℕ, ◌+◌, ◌-◌, ◌*◌, ◌/◌, ◌%◌, ◌≤◌, min, List, length, Option, Some, None, nat_lt, if◌then◌else◌, slice_get}
 use Rattle.tk_clock.specs.declared.command.Entry.{Entry}
 use Rattle.tk_clock.specs.declared.clock_id.ClockId.{ClockId}
 use Rattle.tk_clock.specs.Journal.{Journal, prefix, accepted_count}
@@ -9,6 +9,8 @@ use Rattle.tk_clock.specs.Honest.{IsHonest, counted_cycles}
 use Rattle.tk_clock.specs.Legal.{IsLegal}
 use Rattle.tk_clock.specs.Limits.{listed_most, counted_most}
 use Rattle.tk_clock.specs.State.{ReadBase, State, base_value, state_of}
+use Rattle.tk_keeper.specs.declared.timekeeper.Kept.{Kept}
+use Rattle.tk_keeper.specs.Runs.{IsKeptAt}
 
 -- its journal, and how many more accepted commands will take no memory
 pub record Keeper : Type 0 where
@@ -23,14 +25,14 @@ pub record IsKept (journal : Journal) (state : State) : Type 0 where
   pub room : length journal.entries ≤ listed_most
   pub counted : accepted_count journal ≤ counted_most
 
--- `start` is the state before all listed entries, and `kept` has the state after each listed entry
+-- `start` is the state before all listed entries, and `kept` has the clocks after each listed entry
 -- whose number is a multiple of 256
-pub record HasKept (journal : Journal) (start : State) (kept : List State) : Type 0 where
+pub record HasKept (journal : Journal) (start : State) (kept : List Kept) : Type 0 where
   pub first : start ≡ state_of (prefix 0 journal)
   pub all : length kept + journal.opening.count / 256 ≡ accepted_count journal / 256
-  pub told : (i place : ℕ) → i < length kept →
+  pub told : (i place : ℕ) (there : Kept) → slice_get kept i ≡ Some there →
       journal.opening.count + place ≡ 256 * (journal.opening.count / 256 + 1 + i) →
-      slice_get kept i ≡ Some (state_of (prefix place journal))
+      IsKeptAt journal place there
 
 -- how many more commands fit, with capacity for `places` more entries and `kept` more states, after
 -- `count` commands

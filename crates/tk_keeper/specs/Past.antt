@@ -1,12 +1,10 @@
 -- The past of a journal, and what folding keeps of it.
-use Rattle.std.specs.Prelude.{◌≡◌, ℕ, ◌-◌, ◌≤◌, drop, Option, Some, None, nat_lt, slice_get, if◌then◌else◌}
+use Rattle.std.specs.Prelude.{◌≡◌, ℕ, ◌-◌, ◌≤◌, drop, Option, Some, None, nat_lt, if◌then◌else◌}
 use Rattle.tk_clock.specs.declared.clock_id.ClockId.{ClockId}
 use Rattle.tk_clock.specs.Journal.{Journal, prefix, accepted_count}
 use Rattle.tk_clock.specs.Clocks.{clock_value}
 use Rattle.tk_clock.specs.Snapshot.{snapshot_of}
-use Rattle.tk_clock.specs.declared.command.Entry.{Entry}
-use Rattle.tk_clock.specs.Refusal.{state_refusal}
-use Rattle.tk_clock.specs.State.{state_of, effect}
+use Rattle.tk_clock.specs.State.{state_of}
 use Rattle.tk_keeper.specs.declared.front_error.FrontError.{FrontError}
 use Rattle.tk_keeper.specs.declared.front_error.FrontError.TheVariants.{Unknown, Folded}
 use Rattle.tk_keeper.specs.declared.timekeeper.past.Cursor.{Cursor}
@@ -19,14 +17,6 @@ at_front front journal = prefix (front - journal.opening.count) journal
 -- a cursor has the clocks of its place in the journal
 abbrev pub IsAt : Journal → Cursor → Type 0
 IsAt journal cursor = cursor.clock ≡ state_of (prefix cursor.place journal)
-
--- the last entry before a place leads there from an earlier place, without those in between
-abbrev pub IsRun : Journal → ℕ → ℕ → Type 0
-IsRun journal from place =
-    let state = state_of (prefix from journal) in
-    (entry : Entry) → slice_get journal.entries (place - 1) ≡ Some entry →
-    (state_refusal state entry.reading entry.cmd ≡ None)
-    × (effect state entry.reading entry.cmd ≡ state_of (prefix place journal))
 
 -- why a front is refused: it is not reached yet, or it is before the opening
 abbrev pub front_refusal : Journal → ℕ → Option FrontError

@@ -39,9 +39,19 @@ pub struct Timekeeper<A: Allocator = Global> {
     entries: Ring<Entry, A>,
     /// The clocks after each entry whose number is a multiple of 256. From these the states of past
     /// fronts are made.
-    kept: Ring<Clock, A>,
+    kept: Ring<Kept, A>,
     /// The clocks after the last accepted command.
     clock: Clock,
+}
+
+/// The clocks after an entry whose number is a multiple of `KEPT_EVERY`.
+#[derive(Clone, Copy)]
+struct Kept {
+    clock: Clock,
+    /// Whether the entries between the clocks kept before and this entry are a run: each of them
+    /// leads from those clocks to its own without the others. It is meant only if all of these
+    /// entries are listed.
+    after_run: bool,
 }
 
 impl<A: Allocator> Model for Timekeeper<A> {

@@ -7,7 +7,7 @@ ghost use Rattle.tk_clock.specs.Monotonic.{monotonic};
 ghost use Rattle.tk_clock.specs.Refusal.{first_refusal, is_full, IsRefusal};
 ghost use Rattle.tk_clock.specs.declared.command.Entry.{Entry};
 
-use super::{COUNTED_LIMIT, KEPT_EVERY, LISTED_LIMIT, Timekeeper};
+use super::{COUNTED_LIMIT, KEPT_EVERY, Kept, LISTED_LIMIT, Timekeeper};
 use std::alloc::Allocator;
 use tk_clock::{Command, Entry, Refusal};
 
@@ -103,11 +103,15 @@ impl<A: Allocator + Copy> Timekeeper<A> {
             × (self.new ≡ self.old)) }
         ensures spare { IfOk result (λ _. self.new.spare + 1 ≡ self.old.spare) }
     {
+        let after_run = self.is_after_run();
         self.clock.apply(entry.reading, entry.cmd)?;
         self.entries.push(entry);
         let number = self.folded + self.entries.len() as u64;
         if number % KEPT_EVERY as u64 == 0 {
-            self.kept.push(self.clock);
+            self.kept.push(Kept {
+                clock: self.clock,
+                after_run,
+            });
         }
         Ok(number)
     }

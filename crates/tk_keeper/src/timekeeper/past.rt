@@ -142,7 +142,7 @@ impl<A: Allocator + Copy> Timekeeper<A> {
         }
         let number = (folded + place) / KEPT_EVERY * KEPT_EVERY;
         Cursor {
-            clock: *self.kept.row(kept - 1),
+            clock: self.kept.row(kept - 1).clock,
             place: number - folded,
         }
     }

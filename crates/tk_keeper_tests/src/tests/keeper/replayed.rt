@@ -1,18 +1,55 @@
 //! Snapshots of past fronts, each compared with the snapshot of the time when the front was the
 //! latest. The gaps of neighbouring updates add up to half the mask, to more, and to whole rounds of
-//! the counter, for a counter of 64 bits too.
+//! the counter, for a counter of 64 bits too. A second journal has long runs of updates.
 
 use super::fronts::{COMMANDS, command};
 use super::{applied, assert_same};
 use std::alloc::Global;
 use std::process::Abort;
 use std::test::Fail;
+use tk_clock::Command;
 use tk_counter::CounterDesc;
 use tk_keeper::{FrontError, Timekeeper};
 use tk_test_support::OPENED_TIME;
 
-/// Returns the cycles from the command before this one, up to half the mask.
-fn gap(number: u64, half: u64) -> u64 {
+/// What a journal is filled with.
+#[derive(Clone, Copy)]
+enum Filling {
+    /// Settings and sleeps, with gaps of up to half the mask.
+    Varied,
+    /// Updates, mostly a cycle apart, and a setting among the last ones. Clocks are kept after
+    /// commands 256, 512, 768 and 1,024.
+    Calm,
+}
+
+impl Filling {
+    /// Returns the number of commands.
+    fn count(self) -> u64 {
+        match self {
+            Filling::Varied => COMMANDS,
+            Filling::Calm => 1_100,
+        }
+    }
+
+    /// Returns the command with a number.
+    fn command(self, number: u64) -> Command {
+        match self {
+            Filling::Varied => command(number),
+            Filling::Calm if number == 900 => Command::Tai(37),
+            Filling::Calm => Command::Update,
+        }
+    }
+
+    /// Returns the cycles from the command before this one, up to half the mask.
+    fn gap(self, number: u64, half: u64) -> u64 {
+        match self {
+            Filling::Varied => varied_gap(number, half),
+            Filling::Calm => calm_gap(number, half),
+        }
+    }
+}
+
+fn varied_gap(number: u64, half: u64) -> u64 {
     match number % 8 {
         0 | 4 | 5 => half,
         2 => half.wrapping_sub(1),
@@ -22,21 +59,36 @@ fn gap(number: u64, half: u64) -> u64 {
     }
 }
 
+/// Returns gaps that add up to half the mask from command 256 to 511, and to one cycle more from
+/// 512 to 767, if the counter has more than 8 bits.
+fn calm_gap(number: u64, half: u64) -> u64 {
+    match number {
+        257 => half.saturating_sub(254),
+        513 => half.saturating_sub(253),
+        _ => 1,
+    }
+}
+
 /// Fills a journal of this counter, and checks the snapshot of each front, before folds and after
 /// them.
-fn compared(rt: &impl Abort, alloc: Global, desc: CounterDesc) -> Result<(), Fail> {
+fn compared(
+    rt: &impl Abort,
+    alloc: Global,
+    desc: CounterDesc,
+    filling: Filling,
+) -> Result<(), Fail> {
     let mut keeper = Timekeeper::open(alloc, desc, 0, OPENED_TIME)?;
     let mut told = Vec::new(alloc);
     told.push(keeper.snapshot().words())?;
     let mut reading: u64 = 0;
-    for number in 1..=COMMANDS {
-        reading = reading.wrapping_add(gap(number, desc.half())) & desc.mask();
-        let answer = applied(rt, &mut keeper, reading, command(number));
+    for number in 1..=filling.count() {
+        reading = reading.wrapping_add(filling.gap(number, desc.half())) & desc.mask();
+        let answer = applied(rt, &mut keeper, reading, filling.command(number));
         assert_same(rt, &answer, &Ok(number));
         told.push(keeper.snapshot().words())?;
     }
-    for folded in [0, 100, 256, 300] {
-        keeper.fold(COMMANDS - folded);
+    for folded in [0, 100, 256, 300, 511, 512, 513] {
+        keeper.fold(filling.count().wrapping_sub(folded));
         assert_same(rt, &keeper.folded(), &folded);
         for (front, words) in told.iter().enumerate() {
             let answer = keeper.snapshot_at(front as u64);
@@ -54,7 +106,13 @@ fn compared(rt: &impl Abort, alloc: Global, desc: CounterDesc) -> Result<(), Fai
 fn each_past_front_has_the_words_that_it_had(rt: HostRuntime) -> Result<(), Fail> {
     let alloc = rt.alloc();
     // 1 ns a cycle twice, and 2^24 cycles a nanosecond: runs of more than 2^64 cycles
-    compared(&rt, alloc, CounterDesc::new(8, 256, 8)?)?;
-    compared(&rt, alloc, CounterDesc::new(32, 16_777_216, 24)?)?;
-    compared(&rt, alloc, CounterDesc::new(64, 256, 32)?)
+    for desc in [
+        CounterDesc::new(8, 256, 8)?,
+        CounterDesc::new(32, 16_777_216, 24)?,
+        CounterDesc::new(64, 256, 32)?,
+    ] {
+        compared(&rt, alloc, desc, Filling::Varied)?;
+        compared(&rt, alloc, desc, Filling::Calm)?;
+    }
+    Ok(())
 }

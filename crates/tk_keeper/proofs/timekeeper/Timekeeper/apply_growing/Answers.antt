@@ -1,5 +1,5 @@
-use Rattle.std.proofs.Common.{◌≡◌, refl, sym, ◌∙◌, ap, subst, false}
-use Rattle.std.specs.Prelude.{Some, None}
+use Rattle.std.proofs.Common.{◌≡◌, refl, sym, subst, false}
+use Rattle.std.specs.Prelude.{None}
 use Rattle.std.proofs.lemmas.Result.{err_from_is_err_and}
 use Rattle.tk_clock.specs.Journal.{Journal}
 use Rattle.tk_clock.specs.Refusal.{is_full, first_refusal}

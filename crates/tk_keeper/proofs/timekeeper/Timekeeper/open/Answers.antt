@@ -29,7 +29,7 @@ invariant_of-result g c =
     record {
       first = told.1;
       all = omega arith;
-      told = λ i place low here. absurd (omega arith);
+      told = λ i place there found here. absurd (cc found);
     } in (
       subst (λ (j : Journal). IsKept j clock) (sym same) kept,
       rw c.new-2.ensures.items (subst (λ (j : Journal). HasKept j clock []) (sym same) none),

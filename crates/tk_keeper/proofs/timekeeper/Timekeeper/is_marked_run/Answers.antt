@@ -1,0 +1,27 @@
+use Rattle.std.proofs.Common.{◌≡◌, ◌+◌, ◌-◌, ◌/◌, subst, arith}
+use Rattle.std.specs.Prelude.{Some, slice_get}
+use Rattle.tk_clock.specs.Folding.{journal_from}
+use Rattle.tk_clock.specs.Journal.{Journal}
+use Rattle.tk_keeper.specs.Keeper.{Keeper}
+use Rattle.tk_keeper.specs.Runs.{IsRun}
+use Rattle.tk_keeper.proofs.Steps.{listed_item}
+use Rattle.tk_keeper.proofs.timekeeper.Timekeeper.is_marked_run.Goals as goal
+
+pub returns-then-place-from-lt-KEPT_EVERY : goal.returns-then-place-from-lt-KEPT_EVERY
+returns-then-place-from-lt-KEPT_EVERY g c = λ marked.
+    let keeper = c.self.inside in
+    let journal : Journal = journal_from keeper.folded keeper.start keeper.entries.items in
+    let from = c.args.from in
+    let place = c.args.place in
+    let next = (keeper.folded + from) / 256 - keeper.folded / 256 in
+    let kept = c.row.result.now in
+    let found : slice_get keeper.kept.items next ≡ Some kept =
+    listed_item keeper.kept.items next kept (omega (arith, c.if-next-len.false, c.len.ensures))
+    c.row.ensures in
+    let told = c.self.invariant.1.told next (from + 256) kept found
+    (omega (arith, c.if-folded-from-ne0.false)) in
+    let run = told.run (omega arith) marked place (omega (arith, c.requires.before))
+    (omega (arith, c.if-place-from-lt-KEPT_EVERY.true)) in
+    let first : from + 256 - 256 ≡ from = omega arith in
+    subst (λ (k : Keeper). IsRun k.journal from place) c.self.view_is
+    (subst (λ n. IsRun journal n place) first run)
