@@ -13,7 +13,7 @@ use Rattle.tk_clock.specs.Limits.{listed_most}
 use Rattle.tk_clock.specs.Monotonic.{monotonic}
 use Rattle.tk_clock.specs.Refusal.{clock_refusal}
 use Rattle.tk_clock.specs.Snapshot.{snapshot_of}
-use Rattle.tk_page.specs.History.{Begins}
+use Rattle.tk_page.specs.History.{Begins, Sight}
 use Rattle.atomic_table.specs.Seated.{TableId}
 use Rattle.tk_now.specs.Life.{AreReadings}
 use Rattle.tk_now.specs.Moments.{AreInLife, AreInOrder}
@@ -31,6 +31,18 @@ pub record Known : Type 0 where
   pub seen : Journal
   pub learnt : Learnt
   pub watched : Watched
+
+-- a caller of this number with so many accepted commands, and its sight of the page, the latch and
+-- the notice
+abbrev pub known_of : ℕ → ℕ → Sight → Learnt → Watched → Known
+known_of id accepted sight learnt watched = record {
+  id = id;
+  accepted = accepted;
+  reads = sight.reads;
+  seen = sight.journal;
+  learnt = learnt;
+  watched = watched;
+}
 
 -- how many of these entries a caller made
 abbrev pub made_by : ℕ → List Entry → ℕ

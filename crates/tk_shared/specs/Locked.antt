@@ -26,6 +26,10 @@ pub record Held : Type 0 where
   pub mask : ℕ
   pub total : ℕ
 
+abbrev pub held_of : Journal → History → Published → ℕ → ℕ → Held
+held_of kept shown latched mask total =
+    record { kept = kept; shown = shown; latched = latched; mask = mask; total = total }
+
 -- the history that was published on the page is whole; the keeper's journal is what it keeps of
 -- that; on the latch, publication k is the snapshot of its first k entries; and the book counts
 -- each entry once

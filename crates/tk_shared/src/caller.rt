@@ -25,18 +25,11 @@ pub struct Caller<L: Named> {
 
 impl<L: Named> Model for Caller<L> {
     ghost use Rattle.std.specs.Prelude.{◌≡◌, ◌≤◌};
-    ghost use Rattle.tk_shared.specs.Callers.{Known, made_by};
+    ghost use Rattle.tk_shared.specs.Callers.{Known, known_of, made_by};
 
     ghost Value = { Known };
 
-    ghost view = { λ c. record {
-      id = c.id;
-      accepted = c.accepted;
-      reads = c.viewer.reads;
-      seen = c.viewer.journal;
-      learnt = c.reader;
-      watched = c.watcher;
-    } };
+    ghost view = { λ c. known_of c.id c.accepted c.viewer c.reader c.watcher };
 
     ghost invariant = { λ c.
         (c.viewer.page ≡ L.page) × (c.reader.latch ≡ L.latch) × (c.share.parts ≡ 1)

@@ -44,20 +44,15 @@ pub struct Locked<L: Named, C: Counter> {
 
 impl<L: Named, C: Counter> Model for Locked<L, C> {
     ghost use Rattle.std.specs.Prelude.{◌≡◌};
-    ghost use Rattle.tk_shared.specs.Locked.{Guarded, IsAtRest, IsHeld};
+    ghost use Rattle.tk_shared.specs.Locked.{Guarded, held_of, IsAtRest, IsHeld};
 
     ghost Value = { Guarded };
 
     ghost view = { λ c. record { history = c.publisher.journal; journal = c.keeper.journal } };
 
     ghost invariant = { λ c.
-        IsHeld L.page L.latch (record {
-          kept = c.keeper.journal;
-          shown = c.publisher;
-          latched = c.writer;
-          mask = c.mask;
-          total = c.book.total;
-        })
+        IsHeld L.page L.latch
+        (held_of c.keeper.journal c.publisher c.writer c.mask c.book.total)
         × (c.rest.parts ≡ 0) × (c.rest.amount ≡ 0)
         × IsAtRest L.notice c.publisher.journal c.announcer };
 }

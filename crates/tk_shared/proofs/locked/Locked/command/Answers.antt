@@ -4,11 +4,11 @@ use Rattle.tk_clock.specs.Journal.{Journal, followed_by, accepted_count}
 use Rattle.tk_clock.specs.Snapshot.{Snapshot, snapshot_of}
 use Rattle.tk_page.specs.History.{History, Sight}
 use Rattle.tk_latch.specs.Latch.{Learnt, Published, told_reader}
-use Rattle.tk_shared.specs.Callers.{Known, IsAccepted, IsRefused}
+use Rattle.tk_shared.specs.Callers.{Known, known_of, entry_of, IsAccepted, IsRefused}
 use Rattle.tk_now.specs.declared.rule.Taken.{Taken}
 use Rattle.tk_now.specs.Moments.{IsAcceptedAt}
 use Rattle.tk_now.specs.Views.{Announcing, moment_of}
-use Rattle.tk_shared.specs.Locked.{Guarded, Held, IsAtRest, IsHeld}
+use Rattle.tk_shared.specs.Locked.{Guarded, Held, held_of, IsAtRest, IsHeld}
 use Rattle.tk_shared.specs.Readings.{EndsAtReading, IsRefusedAtReading}
 use Rattle.tk_keeper.specs.Keeper.{Keeper}
 use Rattle.tk_shared.proofs.Announced.{accepted_at_rest, refused_at_rest}
@@ -21,21 +21,10 @@ pub returns-in-Err-clause-answer : goal.returns-in-Err-clause-answer
 returns-in-Err-clause-answer g c =
     let is = c.self.invariant.0 in
     let caller = c.caller.inside in
-    let old : Known = record {
-      id = caller.id;
-      accepted = caller.accepted;
-      reads = caller.viewer.reads;
-      seen = caller.viewer.journal;
-      learnt = caller.reader;
-      watched = caller.watcher;
-    } in
-    let held : Held = record {
-      kept = c.self.inside.keeper.journal;
-      shown = c.self.inside.publisher;
-      latched = c.self.inside.writer;
-      mask = c.self.inside.mask;
-      total = c.self.inside.book.total;
-    } in
+    let old = known_of caller.id caller.accepted caller.viewer caller.reader caller.watcher in
+    let inside = c.self.inside in
+    let held = held_of inside.keeper.journal inside.publisher inside.writer inside.mask
+    inside.book.total in
     let told = refused g.L.Named.page g.L.Named.latch held is old c.read_after.result c.args.cmd
     c.tell.ensures.begins c.in-Err.refusal c.in-Err.ensures.answer.0 in
     let new : Journal × ℕ → Known = λ p. record old { reads = p.1; seen = p.0 } in
@@ -54,21 +43,10 @@ pub returns-in-Err-clause-reading : goal.returns-in-Err-clause-reading
 returns-in-Err-clause-reading g c =
     let is = c.self.invariant.0 in
     let caller = c.caller.inside in
-    let old : Known = record {
-      id = caller.id;
-      accepted = caller.accepted;
-      reads = caller.viewer.reads;
-      seen = caller.viewer.journal;
-      learnt = caller.reader;
-      watched = caller.watcher;
-    } in
-    let held : Held = record {
-      kept = c.self.inside.keeper.journal;
-      shown = c.self.inside.publisher;
-      latched = c.self.inside.writer;
-      mask = c.self.inside.mask;
-      total = c.self.inside.book.total;
-    } in
+    let old = known_of caller.id caller.accepted caller.viewer caller.reader caller.watcher in
+    let inside = c.self.inside in
+    let held = held_of inside.keeper.journal inside.publisher inside.writer inside.mask
+    inside.book.total in
     let answer = c.read_after.result in
     let told = reason g.L.Named.page g.L.Named.latch held is old answer c.args.cmd
     c.tell.ensures.begins c.in-Err.refusal c.in-Err.ensures.answer.0 in
@@ -168,26 +146,11 @@ pub returns-clause-answer : goal.returns-clause-answer
 returns-clause-answer g c =
     let is = c.self.invariant.0 in
     let caller = c.caller.inside in
-    let old : Known = record {
-      id = caller.id;
-      accepted = caller.accepted;
-      reads = caller.viewer.reads;
-      seen = caller.viewer.journal;
-      learnt = caller.reader;
-      watched = caller.watcher;
-    } in
-    let entry : Entry = record {
-      who = caller.id;
-      reading = bit_and c.read_after.result c.self.inside.mask;
-      cmd = c.args.cmd;
-    } in
-    let held : Held = record {
-      kept = c.self.inside.keeper.journal;
-      shown = c.self.inside.publisher;
-      latched = c.self.inside.writer;
-      mask = c.self.inside.mask;
-      total = c.self.inside.book.total;
-    } in
+    let old = known_of caller.id caller.accepted caller.viewer caller.reader caller.watcher in
+    let entry = entry_of old (bit_and c.read_after.result c.self.inside.mask) c.args.cmd in
+    let inside = c.self.inside in
+    let held = held_of inside.keeper.journal inside.publisher inside.writer inside.mask
+    inside.book.total in
     let answer = c.in-Ok.ensures.answer in
     let now = held_accepted g.L.Named.page g.L.Named.latch held entry is answer.0 in
     let rest = accepted_at_rest g.L.Named.notice c.self.inside.publisher.journal
@@ -232,27 +195,12 @@ returns-clause-answer g c =
 pub returns-clause-reading : goal.returns-clause-reading
 returns-clause-reading g c =
     let caller = c.caller.inside in
-    let old : Known = record {
-      id = caller.id;
-      accepted = caller.accepted;
-      reads = caller.viewer.reads;
-      seen = caller.viewer.journal;
-      learnt = caller.reader;
-      watched = caller.watcher;
-    } in
-    let held : Held = record {
-      kept = c.self.inside.keeper.journal;
-      shown = c.self.inside.publisher;
-      latched = c.self.inside.writer;
-      mask = c.self.inside.mask;
-      total = c.self.inside.book.total;
-    } in
+    let old = known_of caller.id caller.accepted caller.viewer caller.reader caller.watcher in
+    let inside = c.self.inside in
+    let held = held_of inside.keeper.journal inside.publisher inside.writer inside.mask
+    inside.book.total in
     let answer = c.read_after.result in
-    let entry : Entry = record {
-      who = caller.id;
-      reading = bit_and answer held.mask;
-      cmd = c.args.cmd;
-    } in
+    let entry = entry_of old (bit_and answer held.mask) c.args.cmd in
     let low = low_bits g.L.Named.page g.L.Named.latch held c.self.invariant.0 old answer c.args.cmd
     c.tell.ensures.begins in
     let longer : History → History = λ h. record h { journal = followed_by h.journal entry } in

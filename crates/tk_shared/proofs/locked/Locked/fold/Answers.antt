@@ -1,6 +1,6 @@
 use Rattle.std.proofs.Common.{ℕ, ◌-◌, length, max, sym, ap, ◌∙◌, subst}
 use Rattle.tk_clock.specs.Journal.{Journal}
-use Rattle.tk_shared.specs.Locked.{Held, IsHeld}
+use Rattle.tk_shared.specs.Locked.{Held, held_of, IsHeld}
 use Rattle.tk_shared.proofs.Held.{held_folded, folds_few}
 use Rattle.tk_shared.proofs.Kept.{kept_count}
 use Rattle.tk_shared.proofs.locked.Locked.fold.Goals as goal
@@ -8,13 +8,8 @@ use Rattle.tk_shared.proofs.locked.Locked.fold.Goals as goal
 pub invariant_of-self : goal.invariant_of-self
 invariant_of-self g c =
     let inside = c.self.inside in
-    let held : Held = record {
-      kept = inside.keeper.journal;
-      shown = inside.publisher;
-      latched = inside.writer;
-      mask = inside.mask;
-      total = inside.book.total;
-    } in
+    let held = held_of inside.keeper.journal inside.publisher inside.writer inside.mask
+    inside.book.total in
     let kept = inside.keeper.journal in
     let more = c.fold.result - kept.opening.count in
     let few = folds_few kept.opening.count (length kept.entries) c.args.keep c.fold.result

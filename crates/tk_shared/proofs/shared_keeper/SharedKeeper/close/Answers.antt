@@ -1,20 +1,15 @@
 use Rattle.std.proofs.Common.{◌≡◌, ◌≤◌, rules, arith}
 use Rattle.std.specs.Prelude.{vec_len}
 use Rattle.tk_shared.specs.Closing.{accepted_by}
-use Rattle.tk_shared.specs.Locked.{Held}
+use Rattle.tk_shared.specs.Locked.{held_of}
 use Rattle.tk_shared.proofs.Ends.{closed}
 use Rattle.tk_shared.proofs.shared_keeper.SharedKeeper.close.Goals as goal
 
 pub returns : goal.returns
 returns g c =
     let inside = c.keeper.inside in
-    let held : Held = record {
-      kept = inside.keeper.journal;
-      shown = inside.publisher;
-      latched = inside.writer;
-      mask = inside.mask;
-      total = inside.book.total;
-    } in
+    let held = held_of inside.keeper.journal inside.publisher inside.writer inside.mask
+    inside.book.total in
     let enough : c.args.self ≤ vec_len c.args.callers = search rules in
     let here : c.take_all.new.all.parts ≡ g.L.Ledger.parts = search rules in
     let counted = c.audit.ensures.whole here in
