@@ -37,7 +37,18 @@ impl Counter for Answers {
 }
 
 /// What an Update answers, and the reading and MONOTONIC that the clocks then have.
-fn updated<L: Named, C: Counter, R: Wait + Abort>(
+fn updated<C: Counter, R: Wait + Abort>(
+    rt: &R,
+    alloc: Global,
+    prepared: Prepared<C>,
+    answer: Result<u64, Refusal>,
+    last: u64,
+    nanos: u32,
+) -> Result<(), Fail> {
+    updated_named::<Brand, C, R>(rt, alloc, prepared, answer, last, nanos)
+}
+
+fn updated_named<L: Named, C: Counter, R: Wait + Abort>(
     rt: &R,
     alloc: Global,
     prepared: Prepared<C>,
@@ -76,7 +87,7 @@ fn a_counter_that_runs_back_is_refused(rt: HostRuntime) -> Result<(), Fail> {
         others: 2_999,
     };
     let prepared = ready(&rt, rt.alloc(), counter, 1)?;
-    updated::<Brand, _, _>(&rt, rt.alloc(), prepared, Err(Refusal::Behind), 3_000, 0)
+    updated(&rt, rt.alloc(), prepared, Err(Refusal::Behind), 3_000, 0)
 }
 
 #[test]
@@ -86,7 +97,7 @@ fn answers_above_the_mask_are_masked(rt: HostRuntime) -> Result<(), Fail> {
         others: (1 << 63) + 7,
     };
     let prepared = ready(&rt, rt.alloc(), counter, 1)?;
-    updated::<Brand, _, _>(&rt, rt.alloc(), prepared, Ok(1), 7, 2)
+    updated(&rt, rt.alloc(), prepared, Ok(1), 7, 2)
 }
 
 #[test]
@@ -94,7 +105,7 @@ fn readings_of_48_bits_keep_their_upper_bits(rt: HostRuntime) -> Result<(), Fail
     let desc = CounterDesc::new(48, 16_777_216, 24)?;
     let start = (1 << 32) + 5;
     let prepared = ready_on(&rt, rt.alloc(), desc, Ticker::new(start, 1_000), 1)?;
-    updated::<Brand, _, _>(&rt, rt.alloc(), prepared, Ok(1), (1 << 32) + 1_005, 1_000)
+    updated(&rt, rt.alloc(), prepared, Ok(1), (1 << 32) + 1_005, 1_000)
 }
 
 #[test]
@@ -102,5 +113,5 @@ fn a_ticker_wraps_at_64_bits(rt: HostRuntime) -> Result<(), Fail> {
     let mut ticker = Ticker::new(u64::MAX - 999, 1_000);
     assert_same(&rt, &(ticker.read(), ticker.read()), &(u64::MAX - 999, 0));
     let prepared = ready(&rt, rt.alloc(), Ticker::new(u64::MAX - 999, 1_000), 1)?;
-    updated::<Brand, _, _>(&rt, rt.alloc(), prepared, Ok(1), 0, 1_000)
+    updated(&rt, rt.alloc(), prepared, Ok(1), 0, 1_000)
 }

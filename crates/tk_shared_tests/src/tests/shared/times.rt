@@ -69,7 +69,7 @@ fn the_time_now_is_exact(rt: HostRuntime) -> Result<(), Fail> {
     let desc = CounterDesc::from_hz(32, 1_000_000, 600)?;
     let counter = SharedReader::new(rt.alloc(), &ticker)?;
     let prepared = ready_on(&rt, rt.alloc(), desc, counter, 2)?;
-    all_turns::<Brand, _, _, _>(&rt, rt.alloc(), prepared, &ticker, &seconds())
+    all_turns(&rt, rt.alloc(), prepared, &ticker, &seconds())
 }
 
 /// A turn for each 500,000,000 s. MONOTONIC ends at 946,080,000 s, and BOOTTIME at 9,223,372,036 s.
@@ -89,10 +89,22 @@ fn a_clock_at_its_limit_has_no_time_now(rt: HostRuntime) -> Result<(), Fail> {
     let desc = CounterDesc::new(64, 16_777_216, 24)?;
     let counter = SharedReader::new(rt.alloc(), &ticker)?;
     let prepared = ready_on(&rt, rt.alloc(), desc, counter, 2)?;
-    all_turns::<Brand, _, _, _>(&rt, rt.alloc(), prepared, &ticker, &long_turns())
+    all_turns(&rt, rt.alloc(), prepared, &ticker, &long_turns())
 }
 
-fn all_turns<L: Named, C: Counter, S: SharedCounter, R: Wait + Abort>(
+fn all_turns<C: Counter, S: SharedCounter, R: Wait + Abort>(
+    rt: &R,
+    alloc: Global,
+    prepared: Prepared<C>,
+    counter: &S,
+    turns: &[Turn],
+) -> Result<(), Fail>
+    requires { prepared.callers ≡ 2 }
+{
+    all_turns_named::<Brand, C, S, R>(rt, alloc, prepared, counter, turns)
+}
+
+fn all_turns_named<L: Named, C: Counter, S: SharedCounter, R: Wait + Abort>(
     rt: &R,
     alloc: Global,
     prepared: Prepared<C>,

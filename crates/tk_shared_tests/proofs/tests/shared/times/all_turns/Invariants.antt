@@ -1,0 +1,13 @@
+use Rattle.tk_shared_tests.proofs.tests.shared.times.all_turns.Given as goal
+
+-- the names are those of what was prepared
+abbrev pub ghosts-all_turns_named-L-Named : goal.ghosts-all_turns_named-L-Named
+ghosts-all_turns_named-L-Named g a = record {
+  page = a.prepared.page;
+  latch = a.prepared.latch;
+  notice = a.prepared.notice;
+  callers = a.prepared.callers;
+}
+
+abbrev pub ghosts-all_turns_named-L-Ledger : goal.ghosts-all_turns_named-L-Ledger
+ghosts-all_turns_named-L-Ledger g a = record { name = a.prepared.ledger; parts = a.prepared.callers }
