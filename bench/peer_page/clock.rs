@@ -202,17 +202,18 @@ impl Clock {
 
 /// All ten words in one number. It is the same for every update, since each update is one step
 /// later than the one before. Words mixed from two snapshots mostly give another number.
+/// Neighbouring words get different operations, so that they aren't loaded two at once.
 pub fn weight(words: &Words) -> u64 {
     let [front, last, mult, frac, sec, real_offset, boot_offset, tai, raw_frac, raw_sec] = *words;
     let steps = last.wrapping_sub(front.wrapping_mul(STEP));
-    let parts = frac.wrapping_sub(raw_frac);
+    let parts = frac ^ raw_frac;
     let seconds = sec.wrapping_sub(raw_sec);
+    let offsets = real_offset ^ boot_offset;
     steps
         .wrapping_add(parts)
         .wrapping_add(seconds)
         .wrapping_add(mult)
-        .wrapping_add(real_offset)
-        .wrapping_add(boot_offset)
+        .wrapping_add(offsets)
         .wrapping_add(tai)
 }
 

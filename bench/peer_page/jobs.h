@@ -35,9 +35,10 @@ bool clock_update(struct clock *clock, uint64_t words[WORDS]);
 
 void clock_words(const struct clock *clock, uint64_t words[WORDS]);
 
-/* All ten words in one number, which is the same for every update. */
+/* All ten words in one number, which is the same for every update. Neighbouring words get different
+   operations, so that they aren't loaded two at once. */
 static inline uint64_t weight(const uint64_t w[WORDS]) {
-    return w[1] - w[0] * 1000 + w[2] + (w[3] - w[8]) + (w[4] - w[9]) + w[5] + w[6] + w[7];
+    return w[1] - w[0] * 1000 + w[2] + (w[3] ^ w[8]) + (w[4] - w[9]) + (w[5] ^ w[6]) + w[7];
 }
 
 double nanoseconds(void);

@@ -45,6 +45,7 @@ impl Viewer {
     ///
     /// It reads the page once, which clause `reads` states. It takes no keeper's lock and allocates
     /// nothing. If its first try fails, it waits for whoever holds the words.
+    #[inline(always)]
     pub fn read<R: Wait>(&mut self, rt: &R, page: &Page) -> Snapshot
         requires page { self.old.page ≡ page.now }
         ensures page { self.new.page ≡ self.old.page }

@@ -13,16 +13,20 @@ pub fn reading_of(number: u64) -> u64 {
 /// Returns a number computed from all ten words of a snapshot. It is the same after each update,
 /// because each update is a step later than the one before. Words mixed from two snapshots usually
 /// give another number.
+///
+/// Neighbouring words get different operations. Otherwise the compiler would load two of them at
+/// once, which waits until both have left the processor's store buffer.
+#[inline(always)]
 pub fn weight(snapshot: &Snapshot) -> u64 {
     let steps = snapshot.last().wrapping_sub(reading_of(snapshot.front()));
-    let parts = snapshot.frac().wrapping_sub(snapshot.raw_frac());
+    let parts = snapshot.frac() ^ snapshot.raw_frac();
     let seconds = snapshot.sec().wrapping_sub(snapshot.raw_sec());
+    let offsets = snapshot.real_offset() ^ snapshot.boot_offset();
     steps
         .wrapping_add(parts)
         .wrapping_add(seconds)
         .wrapping_add(u64::from(snapshot.mult()))
-        .wrapping_add(snapshot.real_offset())
-        .wrapping_add(snapshot.boot_offset())
+        .wrapping_add(offsets)
         .wrapping_add(u64::from(snapshot.tai()))
 }
 
