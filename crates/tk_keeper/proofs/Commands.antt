@@ -91,11 +91,11 @@ running-accepted journal before after entry running told =
 module _ (folded spare : ℕ) (start before after : State) (entries : List Entry) (entry : Entry)
     (keeper : Keeper)
     (shows : ◌≡◌ {A = Keeper}
-        (record { journal = journal_from folded start entries; spare = spare }) keeper)
+    (record { journal = journal_from folded start entries; spare = spare }) keeper)
     (free : is_full keeper.journal ≡ false)
     (held : IsKept (journal_from folded start entries) before)
     (done : (state_refusal before entry.reading entry.cmd ≡ None)
-        × (after ≡ effect before entry.reading entry.cmd)) where
+    × (after ≡ effect before entry.reading entry.cmd)) where
   abbrev journal : Journal
   journal = journal_from folded start entries
 

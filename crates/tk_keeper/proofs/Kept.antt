@@ -108,7 +108,7 @@ HasKept-more journal entry start kept next held now marked even =
                 let within = slice_get_within (kept ++ next ∷ []) i any found in
                 let last : i ≡ length kept = omega (arith, length_push kept next) in
                 let same : next ≡ any = cc (sym (slice_get-push kept next)
-                    ∙ ap (slice_get (kept ++ next ∷ [])) (sym last) ∙ found) in
+                ∙ ap (slice_get (kept ++ next ∷ [])) (sym last) ∙ found) in
                 subst (λ (k : Kept). IsKeptAt (followed_by journal entry) place k) same
                 (newest journal entry start kept next i place held now marked there last here)
           ];
