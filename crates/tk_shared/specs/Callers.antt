@@ -32,8 +32,8 @@ pub record Known : Type 0 where
   pub learnt : Learnt
   pub watched : Watched
 
--- a caller of this number with so many accepted commands, and its sight of the page, the latch and
--- the notice
+-- a caller, by its number, its count of accepted commands, and what it knows from the page, the
+-- latch and the notice
 abbrev pub known_of : ℕ → ℕ → Sight → Learnt → Watched → Known
 known_of id accepted sight learnt watched = record {
   id = id;
