@@ -3,7 +3,7 @@
 ghost use Rattle.std.specs.Prelude.{◌≡◌, ◌+◌, ◌-◌, ◌<◌, ◌≤◌, ◌↔◌, length, slice_get, IsTrue, Some};
 ghost use Rattle.tk_clock.specs.Journal.{prefix};
 ghost use Rattle.tk_clock.specs.State.{state_of};
-ghost use Rattle.tk_keeper.specs.Runs.{IsRun, AreRuns};
+ghost use Rattle.tk_keeper.specs.Runs.{AreRuns};
 
 use super::{KEPT_EVERY, Timekeeper};
 use std::alloc::Allocator;
@@ -51,19 +51,31 @@ impl<A: Allocator + Copy> Timekeeper<A> {
     }
 
     /// Returns where a run ends that begins after the first `from` entries, at the clocks `now`, at
-    /// most at `place`. A marked run needs no look at its entries.
+    /// most at `place`. A run is updates and one entry of any kind after them. It ends before an
+    /// entry that is behind the clocks: the cycles up to there exceed half the mask. A marked run
+    /// needs no look at its entries.
     fn run_end(&self, now: &Snapshot, from: usize, place: usize) -> usize
         requires base { now.now.base ≡ (state_of (prefix from self.now.journal)).base }
         requires before { from < place }
         requires listed { place ≤ length self.now.journal.entries }
         ensures further { from < result }
         ensures inside { result ≤ place }
-        ensures run { IsRun self.now.journal from result }
+        ensures runs { AreRuns self.now.journal from result }
     {
         if self.is_marked_run(from, place) {
             return place;
         }
-        self.looked_up_end(now, from, place)
+        let (desc, last) = (now.desc(), now.last());
+        let half = desc.half();
+        let mut entry = self.entries.row(from);
+        'run: for next in from + 1..place {
+            let later = self.entries.row(next);
+            if !is_update(entry.cmd) || desc.gap(last, later.reading) > half {
+                return next;
+            }
+            entry = later;
+        }
+        place
     }
 
     /// Returns whether a run from one place to another is marked: the clocks at the first place are
@@ -71,7 +83,7 @@ impl<A: Allocator + Copy> Timekeeper<A> {
     fn is_marked_run(&self, from: usize, place: usize) -> bool
         requires before { from < place }
         requires listed { place ≤ length self.now.journal.entries }
-        ensures { IsTrue result → IsRun self.now.journal from place }
+        ensures { IsTrue result → AreRuns self.now.journal from place }
     {
         let folded = self.folded as usize;
         let next = (folded + from) / KEPT_EVERY - folded / KEPT_EVERY;
@@ -103,31 +115,7 @@ impl<A: Allocator + Copy> Timekeeper<A> {
             return false;
         }
         let from = count + 1 - KEPT_EVERY;
-        self.looked_up_end(&self.clock_at(from).snapshot(0), from, count) == count
-    }
-
-    /// Returns where a run ends, as `run_end` does, by a look at each entry. A run is updates and one
-    /// entry of any kind after them. It ends before an entry that is behind the clocks: the cycles up
-    /// to there exceed half the mask.
-    fn looked_up_end(&self, now: &Snapshot, from: usize, place: usize) -> usize
-        requires base { now.now.base ≡ (state_of (prefix from self.now.journal)).base }
-        requires before { from < place }
-        requires listed { place ≤ length self.now.journal.entries }
-        ensures further { from < result }
-        ensures inside { result ≤ place }
-        ensures runs { AreRuns self.now.journal from result }
-    {
-        let (desc, last) = (now.desc(), now.last());
-        let half = desc.half();
-        let mut entry = self.entries.row(from);
-        'run: for next in from + 1..place {
-            let later = self.entries.row(next);
-            if !is_update(entry.cmd) || desc.gap(last, later.reading) > half {
-                return next;
-            }
-            entry = later;
-        }
-        place
+        self.run_end(&self.clock_at(from).snapshot(0), from, count) == count
     }
 }
 

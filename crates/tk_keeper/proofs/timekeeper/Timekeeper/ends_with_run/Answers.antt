@@ -14,5 +14,5 @@ returns g c = λ whole.
     let first : count + 1 - 256 ≡ length journal.entries - 255 = omega (arith, listed) in (
       omega (arith, listed, c.if-count.false),
       subst (λ n. AreRuns journal n (length journal.entries)) first
-          (subst (λ n. AreRuns journal (count + 1 - 256) n) end c.looked_up_end.ensures.runs),
+          (subst (λ n. AreRuns journal (count + 1 - 256) n) end c.run_end.ensures.runs),
     )

@@ -3,7 +3,7 @@ use Rattle.std.specs.Prelude.{Some, slice_get}
 use Rattle.tk_clock.specs.Folding.{journal_from}
 use Rattle.tk_clock.specs.Journal.{Journal}
 use Rattle.tk_keeper.specs.Keeper.{Keeper}
-use Rattle.tk_keeper.specs.Runs.{IsRun}
+use Rattle.tk_keeper.specs.Runs.{IsRun, AreRuns}
 use Rattle.tk_keeper.proofs.Steps.{listed_item}
 use Rattle.tk_keeper.proofs.timekeeper.Timekeeper.is_marked_run.Goals as goal
 
@@ -20,8 +20,8 @@ returns-then-place-from-lt-KEPT_EVERY g c = λ marked.
     c.row.ensures in
     let told = c.self.invariant.1.told next (from + 256) kept found
     (omega (arith, c.if-folded-from-ne0.false)) in
-    let run = told.run (omega arith) marked place (omega (arith, c.requires.before))
-    (omega (arith, c.if-place-from-lt-KEPT_EVERY.true)) in
+    let runs = told.run (omega arith) marked in
     let first : from + 256 - 256 ≡ from = omega arith in
-    subst (λ (k : Keeper). IsRun k.journal from place) c.self.view_is
-    (subst (λ n. IsRun journal n place) first run)
+    subst (λ (k : Keeper). AreRuns k.journal from place) c.self.view_is
+    (λ end low high. subst (λ n. IsRun journal n end) first (runs end (omega arith)
+    (omega (arith, high, c.if-place-from-lt-KEPT_EVERY.true))))

@@ -1,6 +1,6 @@
 use Rattle.std.proofs.Common.{◌≡◌, ◌-◌, get_or}
 use Rattle.tk_keeper.specs.Runs.{AreRuns}
-use Rattle.tk_keeper.proofs.timekeeper.Timekeeper.looked_up_end.Given as goal
+use Rattle.tk_keeper.proofs.timekeeper.Timekeeper.run_end.Given as goal
 
 abbrev pub invariant-run : goal.invariant-run
 invariant-run g l = record {
