@@ -3,7 +3,7 @@ use Rattle.std.proofs.Common.{◌≡◌, ℕ, ◌+◌, ◌*◌, ◌/◌, ◌^◌
 use Rattle.std.specs.Prelude.{ℤ, pos, int_lt, nat_lt, Some, None, not, ◌&&◌, ◌||◌, if◌then◌else◌}
 use Rattle.std.proofs.lemmas.Int.{ints}
 use Rattle.std.proofs.lemmas.Grind.{common_steps}
-use Rattle.tk_counter.specs.Counter.{Counter, mask, half, gap}
+use Rattle.tk_counter.specs.Counter.{Counter, mask, half, gap, multiplier}
 use Rattle.tk_clock.specs.declared.command.Command.{Command}
 use Rattle.tk_clock.specs.declared.command.Command.TheVariants.{Update, SetTime, Step, Freq, Tick, Tai, Suspend, Resume}
 use Rattle.tk_clock.specs.declared.clock_id.ClockId.{ClockId}
@@ -12,7 +12,7 @@ use Rattle.tk_clock.specs.declared.refusal.Refusal.{Refusal}
 use Rattle.tk_clock.specs.declared.refusal.Refusal.TheVariants.{Asleep, Awake, Invalid, Behind, Range}
 use Rattle.tk_clock.specs.Command.{is_resume}
 use Rattle.tk_clock.specs.Monotonic.{cycles_since}
-use Rattle.tk_clock.specs.State.{State, base_monotonic, base_value, forwarded, effect}
+use Rattle.tk_clock.specs.State.{ReadBase, State, base_monotonic, base_value, forwarded, effect}
 use Rattle.tk_clock.specs.Limits.{limit, is_well_formed, is_past_limit, is_bad_setting, sets_real, monotonic_end}
 use Rattle.tk_clock.specs.Refusal.{first_of, value_refusal, state_value_refusal}
 use Rattle.tk_clock.specs.Effect.{IsEarly, IsEffect, IsSettled, is_settled_past}
@@ -188,3 +188,22 @@ settled_effect state reading cmd after result plain e told =
     (ap (λ k. is_past_limit (λ clock. base_value (effect state reading cmd).base clock k) cmd)
     (effect-last state reading cmd))
     there
+
+-- the state of a base from which on this frequency and tick are in force
+abbrev pub steered : ℤ → ℤ → ReadBase → State
+steered frequency tick base =
+    record {
+      base = record base { mult = multiplier base.counter frequency tick };
+      frequency = frequency;
+      tick = tick;
+    }
+
+-- a command that sets the frequency or the tick settles that state
+pub steered_effect : (state : State) (now : ReadBase) (cmd : Command) (frequency tick : ℤ)
+    (result : Result State Refusal) → sets_real cmd ≡ false →
+    steered frequency tick (forwarded state.base now.last) ≡ effect state now.last cmd →
+    now ≡ forwarded state.base now.last → IsSettled (steered frequency tick now) cmd result →
+    IsEffect state now.last cmd result
+steered_effect state now cmd frequency tick result plain same e told =
+    settled_effect state now.last cmd (steered frequency tick now) result plain
+    (ap (steered frequency tick) e ∙ same) told

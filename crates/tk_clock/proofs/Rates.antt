@@ -1,5 +1,5 @@
 -- MONOTONIC_RAW is never far ahead of MONOTONIC.
-use Rattle.std.proofs.Common.{◌≡◌, ℕ, ◌+◌, ◌*◌, ◌/◌, ◌^◌, ◌<◌, ◌≤◌, ◌∙◌, refl, ap, arith}
+use Rattle.std.proofs.Common.{◌≡◌, ℕ, ◌+◌, ◌*◌, ◌/◌, ◌^◌, ◌<◌, ◌≤◌, refl, arith}
 use Rattle.std.proofs.lemmas.Nat.{pow_pos}
 use Rattle.std.proofs.Math.Nat.{mul-le-mul_left, mul-le-mul_right, lt_of_mul-lt-mul_left, mul-pos}
 use Rattle.tk_counter.specs.Counter.{IsCounter, second, gap}
@@ -25,12 +25,6 @@ IsRated-forwarded base reading slow rated =
     distribute base.raw_amount base.amount cycles base.counter.mult base.mult
     (slowest base.counter) rated
     (swapped cycles base.counter.mult base.mult (slowest base.counter) slow)
-
--- the units of a number of cycles are those of an equal gap
-pub grown_by : (units before gap grown : ℕ) {cycles mult : ℕ} →
-    units ≡ before + cycles * grown → cycles ≡ gap → grown ≡ mult → units ≡ before + gap * mult
-grown_by units before gap grown told same rate =
-    told ∙ ap (λ k. before + k * grown) same ∙ ap (λ m. before + gap * m) rate
 
 slow_enough : (mult slow : ℕ) → slow ≡ mult * 58949632000 / 65536000000 → 256 ≤ mult →
     mult * monotonic_end < slow * raw_end

@@ -7,32 +7,25 @@ use Rattle.std.proofs.lemmas.Nat.{pow_pos, div_below, le-div, and_mask}
 use Rattle.std.proofs.Math.Nat.{mod-mod, mod-mod_of_dvd, dvd-mul_right, div-mul-le_self}
 use Rattle.tk_counter.proofs.Gaps.{counted_gap, word_split}
 
--- the units that are missing are enough for the time
-pub enough_units : (nanos offset counted units shift : ℕ) →
-    (nanos - offset) * 2 ^ shift - counted ≤ units →
-    nanos ≤ (counted + units) / 2 ^ shift + offset
-enough_units nanos offset counted units shift enough =
+-- a clock that gains the units that are missing is at the time or later
+pub enough_units : (nanos offset counted missing units shift : ℕ) (time from : ℤ) →
+    pos nanos ≡ int_max (pos 0) time → pos offset ≡ from →
+    missing ≡ (nanos - offset) * 2 ^ shift - counted → missing ≤ units →
+    time ≤ℤ (pos ((counted + units) / 2 ^ shift) +ℤ from)
+enough_units nanos offset counted missing units shift time from e f told enough =
     let reached = le-div (nanos - offset) (counted + units) (2 ^ shift) (pow_pos shift)
-    (omega (arith, enough)) in
-    omega (arith, reached)
+    (omega (arith, told, enough)) in
+    omega (arith, ints, clamps, e, f, reached)
 
--- fewer units aren't
-pub needed_units : (nanos offset counted units shift : ℕ) →
-    units < (nanos - offset) * 2 ^ shift - counted →
-    (counted + units) / 2 ^ shift + offset < nanos
-needed_units nanos offset counted units shift few =
+-- with fewer units it is before the time
+pub needed_units : (nanos offset counted missing units shift : ℕ) (time from : ℤ) →
+    pos nanos ≡ int_max (pos 0) time → pos offset ≡ from →
+    missing ≡ (nanos - offset) * 2 ^ shift - counted → units < missing →
+    (pos ((counted + units) / 2 ^ shift) +ℤ from) <ℤ time
+needed_units nanos offset counted missing units shift time from e f told few =
     let early = div_below (counted + units) (2 ^ shift) (nanos - offset) (pow_pos shift)
-    (omega (arith, few)) in
-    omega (arith, early)
-
--- a value at a time or later, and one before it, as integers
-pub at_time : (nanos value offset : ℕ) (time from : ℤ) → pos nanos ≡ int_max (pos 0) time →
-    pos offset ≡ from → nanos ≤ value + offset → time ≤ℤ (pos value +ℤ from)
-at_time nanos value offset time from e f reached = omega (arith, ints, clamps, e, f, reached)
-
-pub before_time : (nanos value offset : ℕ) (time from : ℤ) → pos nanos ≡ int_max (pos 0) time →
-    pos offset ≡ from → value + offset < nanos → (pos value +ℤ from) <ℤ time
-before_time nanos value offset time from e f early = omega (arith, ints, clamps, e, f, early)
+    (omega (arith, told, few)) in
+    omega (arith, ints, clamps, e, f, early)
 
 -- a reading a number of cycles after another
 pub masked_sum : (b last cycles : ℕ) → b ≤ 64 →

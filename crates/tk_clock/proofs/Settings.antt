@@ -14,7 +14,7 @@ use Rattle.tk_clock.specs.Time.{nanoseconds}
 use Rattle.tk_clock.specs.State.{ReadBase, State, base_monotonic, base_value, forwarded, effect}
 use Rattle.tk_clock.specs.Limits.{limit, is_past_limit, is_bad_setting, sets_real, settable_end, greatest_tai}
 use Rattle.tk_clock.specs.Refusal.{state_value_refusal}
-use Rattle.tk_clock.specs.Effect.{IsEarly}
+use Rattle.tk_clock.specs.Effect.{IsEarly, IsForwarded}
 use Rattle.tk_clock.specs.Running.{IsRunning, IsRated}
 use Rattle.tk_clock.proofs.Values.{now_of, real-last, tai-last}
 use Rattle.tk_clock.proofs.Effects.{monotonic-before, told_range, told_invalid, told_none}
@@ -64,7 +64,24 @@ within_plain values cmd plain e =
     )
 
 -- a rated base with the counter and the multiplier of running clocks runs at their frequency and
--- tick, unless a clock is at its limit
+-- tick, if its clocks are below their limits
+IsRunning-within : (before base : ReadBase) (frequency tick : ℤ) →
+    IsRunning before frequency tick → base.counter ≡ before.counter → base.mult ≡ before.mult →
+    IsRated base → base_value base Realtime base.last <ℤ limit Realtime →
+    base_value base Boottime base.last <ℤ limit Boottime →
+    base_value base TaiClock base.last <ℤ limit TaiClock → IsRunning base frequency tick
+IsRunning-within before base frequency tick held counter mult rated real boot tai =
+    record {
+      steered = mult ∙ held.steered ∙ ap (λ k. multiplier k frequency tick) (sym counter);
+      frequency_low = held.frequency_low;
+      frequency_high = held.frequency_high;
+      tick_low = held.tick_low;
+      tick_high = held.tick_high;
+      rated = rated;
+      within = record { real_low = real; boot_low = boot; tai_low = tai };
+    }
+
+-- such a base runs if it passes the test of limits
 pub IsRunning-settled : (before base : ReadBase) (frequency tick : ℤ) (cmd : Command) →
     IsRunning before frequency tick → base.counter ≡ before.counter → base.mult ≡ before.mult →
     IsRated base → sets_real cmd ≡ false →
@@ -73,61 +90,38 @@ pub IsRunning-settled : (before base : ReadBase) (frequency tick : ℤ) (cmd : C
 IsRunning-settled before base frequency tick cmd held counter mult rated plain past =
     let values : ClockId → ℤ = λ clock. base_value base clock base.last in
     let low = within_plain values cmd plain past in
-    record {
-      steered = mult ∙ held.steered ∙ ap (λ k. multiplier k frequency tick) (sym counter);
-      frequency_low = held.frequency_low;
-      frequency_high = held.frequency_high;
-      tick_low = held.tick_low;
-      tick_high = held.tick_high;
-      rated = rated;
-      within = record {
-        real_low = low.0;
-        boot_low = within_boot values cmd past;
-        tai_low = low.1;
-      };
-    }
+    IsRunning-within before base frequency tick held counter mult rated low.0
+    (within_boot values cmd past) low.1
 
 -- a setting of REALTIME doesn't move the clocks that its test of limits reads
-set_past : (state : State) (now : ReadBase) (time : Timespec) (b : Bool) →
-    now ≡ forwarded state.base now.last →
-    is_past_limit (λ clock. base_value now clock now.last) (SetTime time) ≡ b →
-    is_past_limit (λ clock. base_value (effect state now.last (SetTime time)).base clock now.last)
-    (SetTime time) ≡ b
+setting_past : (state : State) (now : ReadBase) (cmd : Command) (b : Bool) → sets_real cmd ≡ true →
+    IsForwarded state now →
+    is_past_limit (λ clock. base_value now clock now.last) cmd ≡ b →
+    is_past_limit (λ clock. base_value (effect state now.last cmd).base clock now.last) cmd ≡ b
 unfolding is_past_limit
-set_past state now time b e past =
+setting_past state now (SetTime time) b sets e past =
     subst (λ (f : ReadBase). is_past_limit (λ clock. base_value f clock now.last) (SetTime time)
-    ≡ b) e past
-
-step_past : (state : State) (now : ReadBase) (by : Timespec) (b : Bool) →
-    now ≡ forwarded state.base now.last →
-    is_past_limit (λ clock. base_value now clock now.last) (Step by) ≡ b →
-    is_past_limit (λ clock. base_value (effect state now.last (Step by)).base clock now.last)
-    (Step by) ≡ b
-unfolding is_past_limit
-step_past state now by b e past =
+    ≡ b) e.told past
+setting_past state now (Step by) b sets e past =
     subst (λ (f : ReadBase). is_past_limit (λ clock. base_value f clock now.last) (Step by)
-    ≡ b) e past
+    ≡ b) e.told past
+setting_past state now _ b sets e past = absurd cc
 
-pub set_range : (state : State) (now : ReadBase) (time : Timespec) →
-    now ≡ forwarded state.base now.last →
-    is_past_limit (λ clock. base_value now clock now.last) (SetTime time) ≡ true →
-    state_value_refusal state now.last (SetTime time) ≡ Some Range
-set_range state now time e past = told_range _ _ _ (set_past state now time true e past)
-
-pub step_range : (state : State) (now : ReadBase) (by : Timespec) →
-    now ≡ forwarded state.base now.last →
-    is_past_limit (λ clock. base_value now clock now.last) (Step by) ≡ true →
-    state_value_refusal state now.last (Step by) ≡ Some Range
-step_range state now by e past = told_range _ _ _ (step_past state now by true e past)
+pub setting_range : {state : State} {now : ReadBase} (cmd : Command) → sets_real cmd ≡ true →
+    IsForwarded state now →
+    is_past_limit (λ clock. base_value now clock now.last) cmd ≡ true →
+    state_value_refusal state now.last cmd ≡ Some Range
+setting_range {state} {now} cmd sets e past =
+    told_range _ _ _ (setting_past state now cmd true sets e past)
 
 -- MONOTONIC before the command is that of the forwarded base
-same_now : (state : State) (now : ReadBase) (cmd : Command) → now ≡ forwarded state.base now.last →
+same_now : (state : State) (now : ReadBase) (cmd : Command) → IsForwarded state now →
     base_monotonic state.base now.last ≡ now_of (forwarded state.base now.last) →
     base_monotonic state.base now.last ≡ now_of now
-same_now state now cmd e before = before ∙ ap now_of (sym e)
+same_now state now cmd e before = before ∙ ap now_of (sym e.told)
 
 set_setting : (state : State) (now : ReadBase) (time : Timespec) (b : Bool) →
-    IsEarly state now.last (SetTime time) → now ≡ forwarded state.base now.last →
+    IsEarly state now.last (SetTime time) → IsForwarded state now →
     int_lt (nanoseconds time) (pos (now_of now)) ≡ b →
     is_bad_setting (λ clock. base_value state.base clock now.last) (SetTime time) ≡ b
 unfolding is_bad_setting
@@ -138,42 +132,50 @@ set_setting state now time b early e told =
     ∙ told
 
 pub set_invalid : (state : State) (now : ReadBase) (time : Timespec) →
-    IsEarly state now.last (SetTime time) → now ≡ forwarded state.base now.last →
+    IsEarly state now.last (SetTime time) → IsForwarded state now →
     is_past_limit (λ clock. base_value now clock now.last) (SetTime time) ≡ false →
     nanoseconds time <ℤ pos (now_of now) →
     state_value_refusal state now.last (SetTime time) ≡ Some Invalid
 set_invalid state now time early e past low =
-    told_invalid _ _ _ (set_past state now time false e past)
+    told_invalid _ _ _ (setting_past state now (SetTime time) false refl e past)
     (set_setting state now time true early e (is_below (nanoseconds time) (pos (now_of now)) low))
 
 pub set_none : (state : State) (now : ReadBase) (time : Timespec) →
-    IsEarly state now.last (SetTime time) → now ≡ forwarded state.base now.last →
+    IsEarly state now.last (SetTime time) → IsForwarded state now →
     is_past_limit (λ clock. base_value now clock now.last) (SetTime time) ≡ false →
     pos (now_of now) ≤ℤ nanoseconds time →
     state_value_refusal state now.last (SetTime time) ≡ None
 set_none state now time early e past high =
-    told_none _ _ _ (set_past state now time false e past)
+    told_none _ _ _ (setting_past state now (SetTime time) false refl e past)
     (set_setting state now time false early e
     (not_below (nanoseconds time) (pos (now_of now)) high))
 
--- the state after a setting of REALTIME
+-- the state with a base that has this offset of REALTIME
+abbrev with_real : State → ReadBase → ℤ → State
+with_real state base offset = record state { base = record base { real_offset = offset } }
+
+-- the state after a setting of REALTIME, where the offset is a function of the forwarded base
+setting_state : (state : State) (now : ReadBase) (offset : ℕ) (real : ReadBase → ℤ) →
+    IsForwarded state now → pos offset ≡ real now →
+    (let fwd = forwarded state.base now.last
+    in with_real state now (pos offset) ≡ with_real state fwd (real fwd))
+setting_state state now offset real e told =
+    ap (with_real state now) told ∙ ap (λ (b : ReadBase). with_real state b (real b)) e.told
+
 pub set_state : (state : State) (now : ReadBase) (time : Timespec) (offset : ℕ) →
-    now ≡ forwarded state.base now.last →
+    IsForwarded state now →
     pos offset ≡ nanoseconds time -ℤ pos (now_of now) →
     (let after : State = record state { base = record now { real_offset = pos offset } }
     in after ≡ effect state now.last (SetTime time))
 set_state state now time offset e told =
-    let fwd = forwarded state.base now.last in
-    let put : ReadBase → ℤ → State = λ b z. record state { base = record b { real_offset = z } } in
-    ap (λ (b : ReadBase). put b (pos offset)) e
-    ∙ ap (λ z. put fwd z) (told ∙ ap (λ (b : ReadBase). nanoseconds time -ℤ pos (now_of b)) e)
+    setting_state state now offset (λ base. nanoseconds time -ℤ pos (now_of base)) e told
 
 -- REALTIME after a step, in nanoseconds
 abbrev pub stepped : ReadBase → Timespec → ℤ
 stepped now by = pos (now_of now) +ℤ now.real_offset +ℤ nanoseconds by
 
 step_setting : (state : State) (now : ReadBase) (by : Timespec) (b : Bool) →
-    IsEarly state now.last (Step by) → now ≡ forwarded state.base now.last →
+    IsEarly state now.last (Step by) → IsForwarded state now →
     (int_lt (stepped now by) (pos (now_of now))
     || not (int_lt (stepped now by) (pos (settable_end * 10 ^ 9)))) ≡ b →
     is_bad_setting (λ clock. base_value state.base clock now.last) (Step by) ≡ b
@@ -184,7 +186,7 @@ step_setting state now by b early e told =
     || not (int_lt (pos n +ℤ offset +ℤ nanoseconds by) (pos (settable_end * 10 ^ 9))) in
     ap (λ n. test n state.base.real_offset)
     (same_now state now (Step by) e (monotonic-before state now.last (Step by) early refl))
-    ∙ ap (λ (f : ReadBase). test (now_of now) f.real_offset) (sym e)
+    ∙ ap (λ (f : ReadBase). test (now_of now) f.real_offset) (sym e.told)
     ∙ told
 
 bad_step : (x low high : ℤ) → (x <ℤ low) ⊎ (high ≤ℤ x) →
@@ -203,35 +205,32 @@ good_step x low high above below =
     ∙ ap (λ b. not b) (is_below x high below)
 
 pub step_invalid : (state : State) (now : ReadBase) (by : Timespec) →
-    IsEarly state now.last (Step by) → now ≡ forwarded state.base now.last →
+    IsEarly state now.last (Step by) → IsForwarded state now →
     is_past_limit (λ clock. base_value now clock now.last) (Step by) ≡ false →
     (stepped now by <ℤ pos (now_of now)) ⊎ (pos (settable_end * 10 ^ 9) ≤ℤ stepped now by) →
     state_value_refusal state now.last (Step by) ≡ Some Invalid
 step_invalid state now by early e past out =
-    told_invalid _ _ _ (step_past state now by false e past)
+    told_invalid _ _ _ (setting_past state now (Step by) false refl e past)
     (step_setting state now by true early e
     (bad_step (stepped now by) (pos (now_of now)) (pos (settable_end * 10 ^ 9)) out))
 
 pub step_none : (state : State) (now : ReadBase) (by : Timespec) →
-    IsEarly state now.last (Step by) → now ≡ forwarded state.base now.last →
+    IsEarly state now.last (Step by) → IsForwarded state now →
     is_past_limit (λ clock. base_value now clock now.last) (Step by) ≡ false →
     pos (now_of now) ≤ℤ stepped now by → stepped now by <ℤ pos (settable_end * 10 ^ 9) →
     state_value_refusal state now.last (Step by) ≡ None
 step_none state now by early e past above below =
-    told_none _ _ _ (step_past state now by false e past)
+    told_none _ _ _ (setting_past state now (Step by) false refl e past)
     (step_setting state now by false early e
     (good_step (stepped now by) (pos (now_of now)) (pos (settable_end * 10 ^ 9)) above below))
 
 pub step_state : (state : State) (now : ReadBase) (by : Timespec) (offset : ℕ) →
-    now ≡ forwarded state.base now.last →
+    IsForwarded state now →
     pos offset ≡ now.real_offset +ℤ nanoseconds by →
     (let after : State = record state { base = record now { real_offset = pos offset } }
     in after ≡ effect state now.last (Step by))
 step_state state now by offset e told =
-    let fwd = forwarded state.base now.last in
-    let put : ReadBase → ℤ → State = λ b z. record state { base = record b { real_offset = z } } in
-    ap (λ (b : ReadBase). put b (pos offset)) e
-    ∙ ap (λ z. put fwd z) (told ∙ ap (λ (b : ReadBase). b.real_offset +ℤ nanoseconds by) e)
+    setting_state state now offset (λ base. base.real_offset +ℤ nanoseconds by) e told
 
 -- clocks still run after REALTIME is set to a time to which it may be set
 pub IsRunning-set : (base now : ReadBase) (frequency tick : ℤ) (offset : ℕ) →
@@ -241,17 +240,6 @@ pub IsRunning-set : (base now : ReadBase) (frequency tick : ℤ) (offset : ℕ) 
     IsRunning (record now { real_offset = pos offset }) frequency tick
 IsRunning-set base now frequency tick offset held e rated low tai boot =
     let after : ReadBase = record now { real_offset = pos offset } in
-    record {
-      steered = ap (λ (b : ReadBase). b.mult) e ∙ held.steered
-          ∙ ap (λ (b : ReadBase). multiplier b.counter frequency tick) (sym e);
-      frequency_low = held.frequency_low;
-      frequency_high = held.frequency_high;
-      tick_low = held.tick_low;
-      tick_high = held.tick_high;
-      rated = rated;
-      within = record {
-        real_low = rw (real-last after) (omega (arith, ints));
-        boot_low = boot;
-        tai_low = rw (tai-last after) (omega (arith, ints, tai));
-      };
-    }
+    IsRunning-within base after frequency tick held (ap (λ (b : ReadBase). b.counter) e)
+    (ap (λ (b : ReadBase). b.mult) e) rated (rw (real-last after) (omega (arith, ints))) boot
+    (rw (tai-last after) (omega (arith, ints, tai)))

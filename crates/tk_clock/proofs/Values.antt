@@ -1,7 +1,8 @@
 -- The clocks of a read base at its own last reading.
-use Rattle.std.proofs.Common.{◌≡◌, ℕ, ◌+◌, ◌*◌, ◌/◌, ◌^◌, ◌<◌, ap, arith, false}
-use Rattle.std.specs.Prelude.{pos, ◌<ℤ◌, ◌+ℤ◌, ◌*ℤ◌}
+use Rattle.std.proofs.Common.{◌≡◌, ℕ, ◌+◌, ◌*◌, ◌/◌, ◌^◌, ◌<◌, ap, arith, w64, false}
+use Rattle.std.specs.Prelude.{ℤ, pos, ◌<ℤ◌, ◌+ℤ◌, ◌*ℤ◌}
 use Rattle.std.proofs.lemmas.Int.{ints}
+use mir.Val.{to_z, of_z}
 use Rattle.std.proofs.lemmas.Nat.{pow_pos, div_below}
 use Rattle.tk_counter.specs.Counter.{Counter, second, multiplier, usual_tick}
 use Rattle.tk_clock.specs.declared.clock_id.ClockId.TheVariants.{Realtime, Monotonic, Boottime, Tai as TaiClock}
@@ -78,6 +79,14 @@ IsRunning-opened counter reading mult real same low =
         tai_low = rw (tai-last base, none) (omega (arith, ints));
       };
     }
+
+-- the frequency and the tick of running clocks fit words
+pub running_words : {base : ReadBase} {frequency tick : ℤ} → IsRunning base frequency tick →
+    (to_z w64 (of_z w64 frequency) ≡ frequency) × (to_z w64 (of_z w64 tick) ≡ tick)
+running_words held = (
+  omega (arith, ints, held.frequency_low, held.frequency_high),
+  omega (arith, ints, held.tick_low, held.tick_high),
+)
 
 -- if REALTIME is below its limit, its offset from MONOTONIC is below that limit too
 pub real_offset_low : (base : ReadBase) (offset : ℕ) → base.real_offset ≡ pos offset →

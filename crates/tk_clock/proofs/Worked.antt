@@ -124,23 +124,15 @@ above_mask = refl
 abbrev faster : Journal
 faster = journal_of (at 0 (Freq (pos 65536000)) ∷ [])
 
-faster-mult : (base_of faster).mult ≡ 16785604
-faster-mult = refl
-
-faster-monotonic : monotonic faster 1000000000 ≡ 1000499963
-faster-monotonic = refl
+faster-values : ((base_of faster).mult ≡ 16785604) × (monotonic faster 1000000000 ≡ 1000499963)
+faster-values = (refl, refl)
 
 abbrev slower : Journal
 slower = journal_of (at 0 (Freq (pos 65536000)) ∷ at 1000000000 (Freq (neg_ℤ (pos 32768000))) ∷ [])
 
-slower-mult : (base_of slower).mult ≡ 16768827
-slower-mult = refl
-
-slower-monotonic : monotonic slower 1000000000 ≡ 1000499963
-slower-monotonic = refl
-
-slower-later : monotonic slower 1000000001 ≡ 1000499964
-slower-later = refl
+slower-values : ((base_of slower).mult ≡ 16768827) × (monotonic slower 1000000000 ≡ 1000499963)
+    × (monotonic slower 1000000001 ≡ 1000499964)
+slower-values = (refl, refl, refl)
 
 -- a snapshot that is used beyond its life may give more than a later one
 
@@ -229,26 +221,17 @@ awake-resume = refl
 abbrev ticked : Journal
 ticked = journal_of (at 0 (Tick (pos 11000)) ∷ [])
 
-ticked-mult : (base_of ticked).mult ≡ 18454937
-ticked-mult = refl
-
-ticked-monotonic : monotonic ticked 1000000000 ≡ 1099999964
-ticked-monotonic = refl
-
-ticked-raw : clock_value ticked MonotonicRaw 1000000000 ≡ pos 1000000000
-ticked-raw = refl
+ticked-values : ((base_of ticked).mult ≡ 18454937) × (monotonic ticked 1000000000 ≡ 1099999964)
+    × (clock_value ticked MonotonicRaw 1000000000 ≡ pos 1000000000)
+ticked-values = (refl, refl, refl)
 
 abbrev ticked_faster : Journal
 ticked_faster = journal_of (at 0 (Tick (pos 11000)) ∷ at 1000000000 (Freq (pos 32768000)) ∷ [])
 
-ticked_faster-mult : (base_of ticked_faster).mult ≡ 18463326
-ticked_faster-mult = refl
-
-ticked_faster-monotonic : monotonic ticked_faster 1000000001 ≡ 1099999965
-ticked_faster-monotonic = refl
-
-ticked_faster-raw : clock_value ticked_faster MonotonicRaw 1000000001 ≡ pos 1000000001
-ticked_faster-raw = refl
+ticked_faster-values : ((base_of ticked_faster).mult ≡ 18463326)
+    × (monotonic ticked_faster 1000000001 ≡ 1099999965)
+    × (clock_value ticked_faster MonotonicRaw 1000000001 ≡ pos 1000000001)
+ticked_faster-values = (refl, refl, refl)
 
 short_tick : first_refusal (journal_of []) (at 0 (Tick (pos 8999))) ≡ Some Invalid
 unfolding is_well_formed is_past_limit is_bad_setting

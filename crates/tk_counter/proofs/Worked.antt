@@ -72,23 +72,17 @@ bits_first : frequency_fault 65 0 601 ≡ Some Bits
 bits_first = refl
 
 -- ---- multipliers
-fastest_frequency : multiplier usual (pos 65536000) (pos 10000) ≡ 16785604
-fastest_frequency = refl
+-- at the least frequency, and at three beyond the bounds, which are clamped
+clamped_frequencies : (multiplier usual (pos 65536000) (pos 10000) ≡ 16785604)
+    × (multiplier usual (neg_ℤ (pos 32768000)) (pos 10000) ≡ 16768827)
+    × (multiplier usual (pos 9223372036854775807) (pos 10000) ≡ 16785604)
+    × (multiplier usual (neg_ℤ (pos 9223372036854775808)) (pos 10000) ≡ 16768827)
+clamped_frequencies = (refl, refl, refl, refl)
 
-slowest_frequency : multiplier usual (neg_ℤ (pos 32768000)) (pos 10000) ≡ 16768827
-slowest_frequency = refl
-
-long_tick : multiplier usual (pos 0) (pos 11000) ≡ 18454937
-long_tick = refl
-
-long_tick_fast : multiplier usual (pos 32768000) (pos 11000) ≡ 18463326
-long_tick_fast = refl
-
-least_frequency : multiplier usual (neg_ℤ (pos 9223372036854775808)) (pos 10000) ≡ 16768827
-least_frequency = refl
-
-most_frequency : multiplier usual (pos 9223372036854775807) (pos 10000) ≡ 16785604
-most_frequency = refl
+-- at the greatest tick, with the usual frequency and with the greatest one
+long_ticks : (multiplier usual (pos 0) (pos 11000) ≡ 18454937)
+    × (multiplier usual (pos 32768000) (pos 11000) ≡ 18463326)
+long_ticks = (refl, refl)
 
 -- ---- seconds, and the rest below a second
 below_second : ◌≡◌ {A = ℕ × ℕ} (

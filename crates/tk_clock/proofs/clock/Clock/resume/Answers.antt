@@ -3,23 +3,20 @@ use Rattle.std.specs.Prelude.{ℤ, pos, ◌+ℤ◌}
 use Rattle.tk_clock.specs.State.{ReadBase, State}
 use Rattle.tk_clock.specs.declared.command.Command.TheVariants.{Resume}
 use Rattle.tk_clock.proofs.Ranges.{resumed-below}
-use Rattle.tk_clock.proofs.Effects.{ready, settled_effect}
+use Rattle.tk_clock.proofs.Effects.{settled_effect}
 use Rattle.tk_clock.proofs.clock.Clock.resume.Goals as goal
 
 pub nanos_of-requires-clause-since : goal.nanos_of-requires-clause-since
 nanos_of-requires-clause-since c =
-    (resumed-below c.args.away
-    (ready c.args.self.now c.args.reading (Resume c.args.away) c.requires).well).since
+    (resumed-below c.args.self.now c.args.reading c.args.away c.requires).since
 
 pub nanos_of-requires-clause-until : goal.nanos_of-requires-clause-until
 nanos_of-requires-clause-until c =
-    (resumed-below c.args.away
-    (ready c.args.self.now c.args.reading (Resume c.args.away) c.requires).well).until
+    (resumed-below c.args.self.now c.args.reading c.args.away c.requires).until
 
 pub nanos_of-requires-clause-rest : goal.nanos_of-requires-clause-rest
 nanos_of-requires-clause-rest c =
-    (resumed-below c.args.away
-    (ready c.args.self.now c.args.reading (Resume c.args.away) c.requires).well).rest
+    (resumed-below c.args.self.now c.args.reading c.args.away c.requires).rest
 
 pub returns : goal.returns
 returns c =

@@ -5,7 +5,7 @@ use Rattle.tk_clock.specs.Limits.{greatest_tai}
 use Rattle.tk_clock.specs.State.{ReadBase, State}
 use Rattle.tk_clock.specs.declared.command.Command.TheVariants.{Tai}
 use Rattle.tk_clock.proofs.Ranges.{tai-between}
-use Rattle.tk_clock.proofs.Effects.{ready, settled_effect}
+use Rattle.tk_clock.proofs.Effects.{settled_effect}
 use Rattle.tk_clock.proofs.clock.Clock.set_tai.Goals as goal
 use Rattle.tk_clock.proofs.clock.Clock.set_tai.Goals.{After-unsigned_abs}
 
@@ -13,8 +13,7 @@ use Rattle.tk_clock.proofs.clock.Clock.set_tai.Goals.{After-unsigned_abs}
 fits : (c : After-unsigned_abs) →
     (pos c.unsigned_abs.result ≡ c.args.seconds) × (c.unsigned_abs.result ≤ greatest_tai)
 fits c =
-    let range = tai-between c.args.seconds
-    (ready c.args.self.now c.args.now.last (Tai c.args.seconds) c.requires.early).well in
+    let range = tai-between c.args.self.now c.args.now.last c.args.seconds c.requires.early in
     let told = c.unsigned_abs.ensures in
     let same = to_z-of_z w64 c.args.seconds c.ranges.seconds in (
       omega (arith, ints, told, same, range.0, range.1),

@@ -1,4 +1,4 @@
-use Rattle.std.proofs.Common.{◌≡◌, ℕ, ◌+◌, ◌-◌, ◌*◌, ◌^◌, ◌<◌, ◌∙◌, sym, ap, arith, inl, inr}
+use Rattle.std.proofs.Common.{◌≡◌, ℕ, ◌+◌, ◌-◌, ◌*◌, ◌^◌, ◌<◌, ◌∙◌, refl, sym, ap, arith, inl, inr}
 use Rattle.std.specs.Prelude.{pos, ◌+ℤ◌, ◌<ℤ◌, ◌≤ℤ◌}
 use Rattle.std.proofs.lemmas.Int.{ints}
 use Rattle.tk_clock.specs.Time.{nanoseconds}
@@ -8,21 +8,18 @@ use Rattle.tk_clock.proofs.Ranges.{step-rest}
 use Rattle.tk_clock.specs.declared.clock.Clock.TheInside.{Inside}
 use Rattle.tk_clock.specs.declared.timespec.Timespec.{Timespec}
 use Rattle.tk_clock.proofs.Values.{now_of, real_offset_low}
-use Rattle.tk_clock.proofs.Effects.{ready}
-use Rattle.tk_clock.proofs.Settings.{stepped, step_range, step_invalid, step_none, step_state, within_boot}
+use Rattle.tk_clock.proofs.Settings.{stepped, setting_range, step_invalid, step_none, step_state, within_boot}
 use Rattle.tk_clock.proofs.clock.Clock.step.Goals as goal
 use Rattle.tk_clock.proofs.clock.Clock.step.Goals.{After-self-inside, After-moved, then-real-monotonic-via-then-real-monotonic, then-real-monotonic-via-else-real-monotonic+then-real-settable_limit}
 use Rattle.tk_clock.specs.Limits.{clock_end, monotonic_end, settable_end}
 
 pub returns-then-is_past_limit : goal.returns-then-is_past_limit
 returns-then-is_past_limit c =
-    step_range c.args.self.now c.args.now c.args.by c.requires.forwarded.told
-    (sym c.if-is_past_limit.ensures)
+    setting_range (Step c.args.by) refl c.requires.forwarded (sym c.if-is_past_limit.ensures)
 
 pub moved-requires-clause-rest : goal.moved-requires-clause-rest
 moved-requires-clause-rest c =
-    step-rest c.args.by
-    (ready c.args.self.now c.args.now.last (Step c.args.by) c.requires.early).well
+    step-rest c.args.self.now c.args.now.last c.args.by c.requires.early
 
 pub set_to-requires-clause-boot : goal.set_to-requires-clause-boot
 set_to-requires-clause-boot c =
@@ -76,7 +73,7 @@ pub returns-in_default : goal.returns-in_default
 returns-in_default c =
     let now = c.args.now in
     let real = moved_is (goal.at.returns-in_default c).After-moved in
-    step_invalid c.args.self.now now c.args.by c.requires.early c.requires.forwarded.told
+    step_invalid c.args.self.now now c.args.by c.requires.early c.requires.forwarded
     (sym c.if-is_past_limit.ensures)
     (elim c.in_default.ensures [
       | inl under ↦ inl (omega (arith, ints, under, real))
@@ -90,7 +87,7 @@ returns-then-real-monotonic c =
     let real = moved_is (goal.at.returns-then-real-monotonic c).After-moved in
     let told = c.in-Some.ensures in
     let amount = c.monotonic_now-monotonic.ensures.amount in
-    step_invalid c.args.self.now now c.args.by c.requires.early c.requires.forwarded.told
+    step_invalid c.args.self.now now c.args.by c.requires.early c.requires.forwarded
     (sym c.if-is_past_limit.ensures)
     (elim c.then-real-monotonic.branch [
       | then-real-monotonic-via-then-real-monotonic w ↦ let low = w.if-real-monotonic.true
@@ -115,9 +112,9 @@ returns c =
     let offset : pos (c.in-Some.real - c.monotonic_now-monotonic.result)
     ≡ now.real_offset +ℤ nanoseconds c.args.by =
     let high = c.if-real-monotonic.false in omega (arith, ints, told, real, amount, high) in (
-      step_none c.args.self.now now c.args.by c.requires.early c.requires.forwarded.told
+      step_none c.args.self.now now c.args.by c.requires.early c.requires.forwarded
           (sym c.if-is_past_limit.ensures) above below,
       c.set_to.ensures
           ∙ step_state c.args.self.now now c.args.by
-          (c.in-Some.real - c.monotonic_now-monotonic.result) c.requires.forwarded.told offset,
+          (c.in-Some.real - c.monotonic_now-monotonic.result) c.requires.forwarded offset,
     )

@@ -1,4 +1,4 @@
-use Rattle.std.proofs.Common.{◌+◌, ◌*◌, ◌≤◌, ap, refl, arith, inl, inr}
+use Rattle.std.proofs.Common.{◌+◌, ◌*◌, ◌≤◌, ap, arith, inl, inr}
 use Rattle.std.proofs.lemmas.Bool.{cases_lt}
 use Rattle.tk_counter.specs.Counter.{gap, second}
 use Rattle.tk_clock.specs.Amount.{units_of}
@@ -6,7 +6,7 @@ use Rattle.tk_clock.specs.State.{forwarded}
 use Rattle.tk_clock.specs.Limits.{monotonic_end}
 use Rattle.tk_clock.specs.contracts.read_base.ReadBase.{the_view}
 use Rattle.tk_clock.proofs.Units.{end_nanos}
-use Rattle.tk_clock.proofs.Rates.{IsRated-forwarded, raw_low, grown_by}
+use Rattle.tk_clock.proofs.Rates.{IsRated-forwarded, raw_low}
 use Rattle.tk_clock.proofs.read_base.ReadBase.forwarded.Goals as goal
 
 pub returns-in_err-monotonic : goal.returns-in_err-monotonic
@@ -39,22 +39,3 @@ returns-in_err-raw c =
       | inr far ↦ rw (← c.self.view_is, c.from_residual-in_err-raw.ensures)
           (end_nanos monotonic_end _ base.desc.shift far)
     ]
-
-pub with_amounts-requires-clause-monotonic : goal.with_amounts-requires-clause-monotonic
-with_amounts-requires-clause-monotonic c =
-    let base = c.self.inside in
-    let told = c.in_ok-monotonic.ensures in
-    rw (← c.self.view_is) (
-      grown_by _ (units_of base.desc base.monotonic) _ _ told.0 c.gap-cycles.ensures.value refl,
-      told.1,
-    )
-
-pub with_amounts-requires-clause-raw : goal.with_amounts-requires-clause-raw
-with_amounts-requires-clause-raw c =
-    let base = c.self.inside in
-    let told = c.in_ok-raw.ensures in
-    rw (← c.self.view_is) (
-      grown_by _ (units_of base.desc base.raw) _ _ told.0 c.gap-cycles.ensures.value
-          c.mult.ensures.value,
-      told.1,
-    )

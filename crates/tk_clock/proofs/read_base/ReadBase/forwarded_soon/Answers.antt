@@ -1,9 +1,8 @@
-use Rattle.std.proofs.Common.{◌*◌, ap, arith, inl, inr, refl}
+use Rattle.std.proofs.Common.{◌*◌, ap, arith, inl, inr}
 use Rattle.std.proofs.lemmas.Nat.{mod-mul-add}
 use Rattle.tk_counter.specs.Counter.{gap, second}
 use Rattle.tk_clock.specs.Amount.{units_of}
 use Rattle.tk_clock.specs.Running.{IsTwoSeconds}
-use Rattle.tk_clock.proofs.Rates.{grown_by}
 use Rattle.tk_clock.proofs.read_base.ReadBase.forwarded_soon.Goals as goal
 
 pub returns-in_err-monotonic : goal.returns-in_err-monotonic
@@ -29,22 +28,3 @@ returns-in_err-raw c =
     (gap base.desc base.last c.args.reading) base.desc.mult =
     omega (arith, below, cycles, mult, c.in_err-raw.ensures) in
     rw (← c.self.view_is, c.from_residual-in_err-raw.ensures) (inr (inr (inl full)))
-
-pub with_amounts-requires-clause-monotonic : goal.with_amounts-requires-clause-monotonic
-with_amounts-requires-clause-monotonic c =
-    let base = c.self.inside in
-    let told = c.in_ok-monotonic.ensures in
-    rw (← c.self.view_is) (
-      grown_by _ (units_of base.desc base.monotonic) _ _ told.0 c.gap-cycles.ensures.value refl,
-      told.1,
-    )
-
-pub with_amounts-requires-clause-raw : goal.with_amounts-requires-clause-raw
-with_amounts-requires-clause-raw c =
-    let base = c.self.inside in
-    let told = c.in_ok-raw.ensures in
-    rw (← c.self.view_is) (
-      grown_by _ (units_of base.desc base.raw) _ _ told.0 c.gap-cycles.ensures.value
-          c.mult.ensures.value,
-      told.1,
-    )

@@ -1,8 +1,8 @@
-use Rattle.std.proofs.Common.{◌≡◌, ◌+◌, ◌-◌, ◌*◌, ◌%◌, ◌^◌, ◌<◌, ◌≤◌, ap, ◌∙◌, subst, arith}
+use Rattle.std.proofs.Common.{◌≡◌, ◌+◌, ◌-◌, ◌*◌, ◌%◌, ◌^◌, ◌<◌, ◌≤◌, ap, ◌∙◌, arith}
 use Rattle.std.proofs.lemmas.Nat.{shl_whole}
 use Rattle.tk_clock.specs.State.{ReadBase}
-use Rattle.tk_clock.specs.Origin.{units_at_last, mult_of, offset_of}
-use Rattle.tk_clock.proofs.Reaching.{enough_units, needed_units, at_time, before_time}
+use Rattle.tk_clock.specs.Origin.{units_at_last}
+use Rattle.tk_clock.proofs.Reaching.{enough_units, needed_units}
 use Rattle.tk_clock.proofs.read_base.ReadBase.units_until.Goals as goal
 
 -- the result, in the numbers of the base
@@ -29,22 +29,12 @@ missing c =
 
 pub returns-clause-enough : goal.returns-clause-enough
 returns-clause-enough c =
-    let base = c.args.self.now in
-    let clock = c.args.clock in
     λ cycles many.
-    at_time c.nanos_from_zero.result _ c.offset.result _ (offset_of base clock)
-    c.nanos_from_zero.ensures.value c.offset.ensures
-    (enough_units c.nanos_from_zero.result c.offset.result (units_at_last base clock)
-    (cycles * mult_of base clock) base.counter.shift
-    (subst (λ n. n ≤ cycles * mult_of base clock) (missing c) many))
+    enough_units _ _ (units_at_last c.args.self.now c.args.clock) _ _ c.args.self.now.counter.shift _ _
+    c.nanos_from_zero.ensures.value c.offset.ensures (missing c) many
 
 pub returns-clause-needed : goal.returns-clause-needed
 returns-clause-needed c =
-    let base = c.args.self.now in
-    let clock = c.args.clock in
     λ cycles few.
-    before_time c.nanos_from_zero.result _ c.offset.result _ (offset_of base clock)
-    c.nanos_from_zero.ensures.value c.offset.ensures
-    (needed_units c.nanos_from_zero.result c.offset.result (units_at_last base clock)
-    (cycles * mult_of base clock) base.counter.shift
-    (subst (λ n. cycles * mult_of base clock < n) (missing c) few))
+    needed_units _ _ (units_at_last c.args.self.now c.args.clock) _ _ c.args.self.now.counter.shift _ _
+    c.nanos_from_zero.ensures.value c.offset.ensures (missing c) few
