@@ -247,13 +247,13 @@ struct tkc_counter {
 /* The running clocks of a counter, with the number of commands that they have accepted. That number
  * is the front (struct timekeeper in include/linux/timekeeper_internal.h). */
 struct tkc_clock {
-	uint64_t tkc_private[14];
+	uint64_t tkc_private[13];
 };
 
 /* A snapshot of the clocks for a reader (struct tk_read_base in
  * include/linux/timekeeper_internal.h, struct vdso_data). */
 struct tkc_snapshot {
-	uint64_t tkc_private[12];
+	uint64_t tkc_private[11];
 };
 
 /* A clock's time: sec * 10^9 + nsec nanoseconds, where sec is not negative and nsec is 0 to

@@ -36,10 +36,12 @@ pub struct CounterStorage {
 pub struct BaseStorage {
     /// The counter.
     pub counter: CounterStorage,
-    /// The reading of the last accepted command, or of the opening.
-    pub last: u64,
     /// What a cycle adds to MONOTONIC, in `2^-shift` ns.
     pub mult: u32,
+    /// The reading of the last accepted command, or of the opening.
+    pub last: u64,
+    /// REALTIME minus MONOTONIC, in ns.
+    pub real_offset: u64,
     /// MONOTONIC at `last`, whole seconds.
     pub sec: u64,
     /// MONOTONIC at `last`, the part below a second in `2^-shift` ns.
@@ -48,8 +50,6 @@ pub struct BaseStorage {
     pub raw_sec: u64,
     /// MONOTONIC_RAW at `last`, the part below a second in `2^-shift` ns.
     pub raw_frac: u64,
-    /// REALTIME minus MONOTONIC, in ns.
-    pub real_offset: u64,
     /// BOOTTIME minus MONOTONIC, in ns.
     pub boot_offset: u64,
     /// TAI minus REALTIME, in seconds.

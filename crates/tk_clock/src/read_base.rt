@@ -17,16 +17,16 @@ use tk_counter::CounterDesc;
 pub(crate) struct ReadBase {
     /// The counter.
     pub desc: CounterDesc,
+    /// What a cycle after the last reading adds, in `2^-shift` ns.
+    pub mult: u32,
     /// The last reading, in cycles.
     pub last: u64,
-    /// What a cycle after it adds, in `2^-shift` ns.
-    pub mult: u32,
+    /// REALTIME less MONOTONIC, in ns.
+    pub real_offset: u64,
     /// MONOTONIC at the last reading.
     pub monotonic: Amount,
     /// MONOTONIC_RAW at the last reading.
     pub raw: Amount,
-    /// REALTIME less MONOTONIC, in ns.
-    pub real_offset: u64,
     /// BOOTTIME less MONOTONIC, in ns.
     pub boot_offset: u64,
     /// TAI less REALTIME, in seconds.
