@@ -24,3 +24,4 @@ pub mod Words
 pub mod Reaching
 pub mod Origin
 pub mod Reach
+pub mod Lists

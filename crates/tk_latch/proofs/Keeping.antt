@@ -1,10 +1,10 @@
 -- What every step of a latch must keep.
-use Rattle.std.proofs.Common.{◌≡◌, ◌≢◌, ℕ, ◌≤◌, List, get_or, set, sym, ◌∙◌, subst, ⊎_elim, arith, length-set}
+use Rattle.std.proofs.Common.{◌≡◌, ◌≢◌, ℕ, ◌≤◌, List, get_or, set, sym, ◌∙◌, subst, arith, length-set}
 use Rattle.std.proofs.lemmas.List.{set-get_or}
 use mathlib.Core.Option.{some}
 use lib.ListN.{get_elem?}
 use Rattle.atomic_table.specs.Table.{State, keeps, stepped}
-use Rattle.atomic_table.proofs.Lists.{at_set}
+use Rattle.tk_clock.proofs.Lists.{each_after}
 use Rattle.tk_clock.specs.Snapshot.{Snapshot}
 use Rattle.tk_latch.specs.declared.rule.History.{History}
 use Rattle.tk_latch.specs.declared.rule.View.{View}
@@ -40,16 +40,6 @@ others_know n n' h h' role role' writer seat apart le more known (Copying count)
 others_know n n' h h' role role' writer seat apart le more known (Noting note) k =
     absurd (apart k.0)
 
--- what holds of each seat after one of them has changed
-pub seats_after : (P : ℕ → View → Type 0) (views : List View) (id : ℕ) (view : View) → P id view →
-    ((seat : ℕ) (v : View) → seat ≢ id → get_elem? views seat ≡ some v → P seat v) →
-    (seat : ℕ) (v : View) → get_elem? (set views id view) seat ≡ some v → P seat v
-seats_after P views id view mine others seat v at =
-    ⊎_elim (λ (t : (seat ≡ id) × (view ≡ v)). subst (λ (x : ℕ × View). P x.0 x.1)
-    (λ i. (sym t.0 i, t.1 i)) mine)
-    (λ (t : (seat ≢ id) × (get_elem? views seat ≡ some v)). others seat v t.0 t.1)
-    (at_set views id seat view v at)
-
 -- what the rule says that this seat knows
 abbrev pub IsKnown : (s : Words) → Latched s → ℕ → View → Type 0
 IsKnown s r seat view = Knows (word s 0) r.history r.role r.writer seat view.history view.role
@@ -83,7 +73,7 @@ writes s r i n id cs history role own le more numbered copies mine = record {
   wide = length-set s.words i n ∙ r.wide;
   numbered = numbered;
   copies = copies;
-  each = seats_after (λ seat v. Knows
+  each = each_after (λ seat v. Knows
       (get_or (set s.words i n) 0 0) history role r.writer seat v.history v.role) s.views id
       (record { history = history; role = role }) mine
       (λ seat v apart at. others_know (word s 0)
@@ -102,7 +92,7 @@ unmoved s r i id cs view mine =
     } in
     subst (λ ws. Latched (after ws)) (sym (set-get_or s.words i 0))
     (with_views s r (set s.views id view)
-    (seats_after (IsKnown s r) s.views id view mine (λ seat v apart at. r.each seat v at)))
+    (each_after (IsKnown s r) s.views id view mine (λ seat v apart at. r.each seat v at)))
 
 -- what the rule knows of one seat
 pub known_of : (s : Words) (r : Latched s) (id : ℕ) (view is : View) →

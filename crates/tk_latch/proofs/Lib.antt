@@ -1,4 +1,3 @@
-pub mod Prefixes
 pub mod Publications
 pub mod Pushing
 pub mod Keeping

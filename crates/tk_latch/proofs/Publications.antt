@@ -5,11 +5,11 @@ use Rattle.std.proofs.lemmas.Option.{same_Some}
 use Rattle.tk_counter.specs.Counter.{Counter}
 use Rattle.tk_clock.specs.Snapshot.{Snapshot}
 use Rattle.tk_clock.specs.Words.{words_of, restored, snapshot_told}
+use Rattle.tk_clock.proofs.Lists.{prefix_self, prefix_trans, prefix_whole}
 use Rattle.tk_clock.proofs.Words.{told-restored, restored-told}
 use Rattle.tk_latch.specs.declared.rule.History.{History}
 use Rattle.tk_latch.specs.Publications.{latest_words, IsPublication, AreNumbered, IsBeginning}
 use Rattle.tk_latch.specs.Look.{AreLatest}
-use Rattle.tk_latch.proofs.Prefixes.{prefix_self, prefix_trans, prefix_whole}
 
 -- the snapshot that words encode is the one that they restore
 pub snapshot_is : (counter : Counter) (words : List ℕ) (snapshot : Snapshot) →

@@ -9,6 +9,7 @@ use Rattle.atomic_table.specs.Table.{step, keeps, Allows}
 use Rattle.atomic_table.specs.Seated.{TableId}
 use Rattle.tk_clock.specs.Snapshot.{Snapshot}
 use Rattle.tk_clock.specs.Words.{restored}
+use Rattle.tk_clock.proofs.Lists.{prefix_length}
 use Rattle.tk_latch.specs.declared.rule.History.{History}
 use Rattle.tk_latch.specs.declared.rule.View.{View}
 use Rattle.tk_latch.specs.declared.rule.Role.{Role}
@@ -19,7 +20,6 @@ use Rattle.tk_latch.specs.Rule.{Copies, Counts, Latched}
 use Rattle.tk_latch.specs.Steps.{Seated, began, loaded, ended}
 use Rattle.tk_latch.specs.Views.{resting, reading, found_by}
 use Rattle.tk_latch.specs.Look.{Gathered, AreLatest, IsLook}
-use Rattle.tk_latch.proofs.Prefixes.{prefix_length}
 use Rattle.tk_latch.proofs.Publications.{snapshot_is, begins_self, begins_trans, begins_whole, are_latest, latest_long}
 use Rattle.tk_latch.proofs.Keeping.{word, history_of, known_of, unmoved, counted}
 

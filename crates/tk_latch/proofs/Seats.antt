@@ -1,10 +1,11 @@
 -- A reader may get what the writer knows, and the writer may note what a reader knew: both keep the
 -- rule.
-use Rattle.std.proofs.Common.{◌≡◌, ◌≢◌, ℕ, List, [], ◌∷◌, ◌++◌, set, refl, sym, ap, ◌∙◌, subst, ⊎_elim}
+use Rattle.std.proofs.Common.{◌≡◌, ℕ, List, [], ◌∷◌, ◌++◌, set, refl, sym, ap, ◌∙◌, subst, ⊎_elim}
 use mathlib.Core.Option.{some, none}
 use lib.ListN.{get_elem?}
 use Rattle.atomic_table.specs.Table.{step, keeps, Allows, Splits, Joins}
-use Rattle.atomic_table.proofs.Lists.{at_set, at_snoc, set_again}
+use Rattle.atomic_table.proofs.Lists.{at_snoc, set_again, set_else}
+use Rattle.tk_clock.proofs.Lists.{each_after}
 use Rattle.tk_latch.specs.declared.rule.History.{History}
 use Rattle.tk_latch.specs.declared.rule.View.{View}
 use Rattle.tk_latch.specs.declared.rule.Role.{Role}
@@ -14,7 +15,7 @@ use Rattle.tk_latch.specs.Rule.{Latched}
 use Rattle.tk_latch.specs.Steps.{Seated, compared}
 use Rattle.tk_latch.specs.Views.{resting, copying, noting, spent}
 use Rattle.tk_latch.proofs.Publications.{begins_self}
-use Rattle.tk_latch.proofs.Keeping.{IsKnown, history_of, known_of, seats_after, unmoved, with_views}
+use Rattle.tk_latch.proofs.Keeping.{IsKnown, history_of, known_of, unmoved, with_views}
 
 -- the writer's seat can be split into itself and a reader's seat
 pub hands : (id : ℕ) (view : View) (history : History) → view ≡ copying history 10 →
@@ -37,9 +38,7 @@ pub notes : (id : ℕ) (view : View) (other : ℕ) (reader : View) (history note
 notes id view other reader history note found is there s r at apart from =
     let known = known_of s r id view (copying history 10) at is in
     let w = noting view.history reader.history in
-    let here = ⊎_elim (λ (t : (other ≡ id) × (w ≡ reader)). absurd (apart t.0))
-    (λ (t : (other ≢ id) × (get_elem? s.views other ≡ some reader)). t.1)
-    (at_set s.views id other w reader from) in
+    let here = sym (set_else s.views id other w apart) ∙ from in
     let begins = known_of s r other reader (resting note found) here there in
     let mine : IsKnown s r id w = (
       known.0,
@@ -50,8 +49,8 @@ notes id view other reader history note found is there s r at apart from =
           (sym (ap history_of there)) begins,
     ) in
     with_views s r (set (set s.views id w) other spent)
-    (seats_after (IsKnown s r) (set s.views id w) other spent tt
-    (λ seat x _ e. seats_after (IsKnown s r) s.views id w mine (λ i y _ e'. r.each i y e') seat x e))
+    (each_after (IsKnown s r) (set s.views id w) other spent tt
+    (λ seat x _ e. each_after (IsKnown s r) s.views id w mine (λ i y _ e'. r.each i y e') seat x e))
 
 abbrev note_by : Role → History
 note_by (Noting note) = note

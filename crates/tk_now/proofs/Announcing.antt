@@ -1,11 +1,11 @@
 -- Each step of the announcer keeps the rule, as do a new watcher and a new notice.
-use Rattle.std.proofs.Common.{◌≡◌, ℕ, zero, suc, ◌+◌, ◌*◌, ◌≤◌, List, [], ◌∷◌, ◌++◌, length, Some, None, IsSome, true, false, true≢false, slice_get, get_or, set, refl, sym, ap, ◌∙◌, subst, ⊎_elim, arith, length-append, length-set, get_or-set_same}
+use Rattle.std.proofs.Common.{◌≡◌, ℕ, zero, suc, ◌+◌, ◌*◌, ◌≤◌, List, [], ◌∷◌, ◌++◌, length, Some, None, IsSome, true, false, true≢false, slice_get, get_or, set, refl, sym, ap, ◌∙◌, subst, arith, length-append, length-set, get_or-set_same}
 use Rattle.std.proofs.lemmas.Option.{same_Some}
 use mathlib.Core.List.{IsPrefix}
 use mathlib.Core.Option.{some, none, some-ne-none, some-injective}
 use lib.ListN.{get_elem?}
-use Rattle.atomic_table.specs.Table.{step, keeps, Allows, Splits, opening}
-use Rattle.atomic_table.proofs.Lists.{at_snoc, set_again}
+use Rattle.atomic_table.specs.Table.{step, keeps, stepped, Allows, Splits, opening}
+use Rattle.tk_clock.proofs.Lists.{prefix_self}
 use Rattle.tk_now.specs.declared.rule.Taken.{Taken}
 use Rattle.tk_now.specs.declared.rule.View.{View}
 use Rattle.tk_now.specs.declared.rule.Role.{Role}
@@ -14,8 +14,8 @@ use Rattle.tk_now.specs.Moments.{AreBefore, AreAnswered}
 use Rattle.tk_now.specs.Rule.{started, limit, Stands, Knows, Kept}
 use Rattle.tk_now.specs.Steps.{Seated, announced, accepted, withdrawn}
 use Rattle.tk_now.specs.Views.{view_of, taken, from_by, since_by, announcing, IsIdle, IsAnnounced}
-use Rattle.tk_now.proofs.Lists.{prefix_self, prefix_push, before_more, before_push, answered_more, ordered_push, life_command}
-use Rattle.tk_now.proofs.Keeping.{Words, word, kept_with, known_of}
+use Rattle.tk_now.proofs.Lists.{prefix_push, before_more, before_push, answered_more, ordered_push, life_command}
+use Rattle.tk_now.proofs.Keeping.{Words, word, kept_with, parted, known_of, limited}
 
 none_given : false ≡ true → ⊥
 none_given e = true≢false (sym e)
@@ -48,27 +48,36 @@ answered_at : (s : Words) (r : Kept s) (role : Role) → r.role ≡ role →
 answered_at s r role is =
     subst (λ w. AreAnswered (length r.commands) (limit w r.moment) r.log) is r.answered
 
+-- the announcer stores a word and takes up this role, with no new command
+stores : (s : Words) (r : Kept s) (id n : ℕ) (me : View) (role : Role) → id ≡ r.announcer →
+    limit role (r.moment + 1) ≡ r.moment + 1 → Stands n (r.moment + 1) r.commands role →
+    Knows (r.moment + 1) r.commands r.log role r.announcer id me.commands me.log role →
+    Kept (stepped s 0 n id [] (view_of me.commands me.log role) keeps)
+stores s r id n me role own last stands mine =
+    let wide = r.wide in
+    let now = r.moment + 1 in
+    let old = limit r.role r.moment in
+    let least = limited (word s) r.moment r.commands r.role r.stands in
+    let v0 : get_or (set s.words 0 n) 0 0 ≡ n = get_or-set_same s.words 0 n 0 (omega arith) in
+    kept_with s r (set s.words 0 n) id (view_of me.commands me.log role) now r.commands r.log role
+    (length-set s.words 0 n ∙ wide) (omega arith) (prefix_self r.commands) (prefix_self r.log)
+    (subst (λ w. Stands w now r.commands role) (sym v0) stands)
+    (before_more old (limit role now) r.commands (omega arith) r.before)
+    (answered_more (length r.commands) (length r.commands) old (limit role now) r.log (omega arith)
+    (omega arith) r.answered)
+    r.ordered r.alive (λ seat apart e. absurd (apart (e ∙ sym own))) mine
+
 pub announces : (slots id : ℕ) (me : Seated) (odd : ℕ) → IsIdle me.0 →
     odd + 1 ≡ 2 * length me.0.commands →
     Allows Kept slots id me 0 (λ _. odd) (λ _. announced (step slots 0 odd 0 none) me odd)
 announces slots id me odd is up s r _ at _ =
     let known = known_of s r id me.0 Idle at is in
-    let wide = r.wide in
     let now = r.moment + 1 in
-    let long = ap length known.1 in
-    let ws = set s.words 0 odd in
-    let v0 : get_or ws 0 0 ≡ odd = get_or-set_same s.words 0 odd 0 (omega arith) in
-    let v = view_of me.0.commands me.0.log (Announced now) in (
-      v,
+    let long = ap length known.1 in (
+      view_of me.0.commands me.0.log (Announced now),
       keeps,
       tt,
-      kept_with s r ws id v now r.commands r.log (Announced now)
-          (length-set s.words 0 odd ∙ wide) (omega arith) (prefix_self r.commands)
-          (prefix_self r.log) (omega arith, omega arith)
-          (before_more r.moment now r.commands (omega arith) (before_at s r Idle known.2))
-          (answered_more (length r.commands) (length r.commands) r.moment now r.log (omega arith)
-          (omega arith) (answered_at s r Idle known.2))
-          r.ordered r.alive (λ seat apart own. absurd (apart (own ∙ sym known.0)))
+      stores s r id odd me.0 (Announced now) known.0 refl (omega arith, omega arith)
           (known.0, known.1, refl),
       (refl, refl),
     )
@@ -111,26 +120,12 @@ pub withdraws : (slots id : ℕ) (me : Seated) (even : ℕ) → IsAnnounced me.0
     even + 2 ≡ 2 * length me.0.commands →
     Allows Kept slots id me 0 (λ _. even) (λ _. withdrawn (step slots 0 even 0 none) me even)
 withdraws slots id me even is up s r _ at _ =
-    let from = from_by me.0.role in
-    let known = known_of s r id me.0 (Announced from) at is in
-    let wide = r.wide in
-    let h = stands_at s r (Announced from) known.2 in
-    let low = h.1 in
-    let now = r.moment + 1 in
-    let long = ap length known.1 in
-    let ws = set s.words 0 even in
-    let v0 : get_or ws 0 0 ≡ even = get_or-set_same s.words 0 even 0 (omega arith) in
-    let v = view_of me.0.commands me.0.log Idle in (
-      v,
+    let known = known_of s r id me.0 (Announced (from_by me.0.role)) at is in
+    let long = ap length known.1 in (
+      view_of me.0.commands me.0.log Idle,
       keeps,
       tt,
-      kept_with s r ws id v now r.commands r.log Idle (length-set s.words 0 even ∙ wide)
-          (omega arith) (prefix_self r.commands) (prefix_self r.log) (omega arith)
-          (before_more from now r.commands (omega arith) (before_at s r (Announced from) known.2))
-          (answered_more (length r.commands) (length r.commands) from now r.log (omega arith)
-          (omega arith) (answered_at s r (Announced from) known.2))
-          r.ordered r.alive (λ seat apart own. absurd (apart (own ∙ sym known.0)))
-          (known.0, known.1, refl),
+      stores s r id even me.0 Idle known.0 refl (omega arith) (known.0, known.1, refl),
       (refl, refl),
     )
 
@@ -139,30 +134,8 @@ pub hands : (id : ℕ) (view : View) → IsIdle view →
     Splits Kept id view view (view_of view.commands [] (Resting []))
 hands id view is s r at =
     let known = known_of s r id view Idle at is in
-    let new = view_of view.commands [] (Resting []) in
-    record {
-      moment = r.moment;
-      commands = r.commands;
-      log = r.log;
-      role = r.role;
-      announcer = r.announcer;
-      wide = r.wide;
-      stands = r.stands;
-      before = r.before;
-      answered = r.answered;
-      ordered = r.ordered;
-      alive = r.alive;
-      each = λ seat u e. ⊎_elim
-          (λ h. r.each seat u (subst (λ l. get_elem? l seat ≡ some u)
-          (set_again s.views id view at) h))
-          (λ (t : new ≡ u). subst
-          (λ (x : View). Knows r.moment r.commands r.log r.role r.announcer seat x.commands x.log
-          x.role) t (
-            subst (λ (l : List Taken). IsPrefix l r.commands) (sym known.1) (prefix_self r.commands),
-            (r.log, refl),
-          ))
-          (at_snoc (set s.views id view) new u seat e);
-    }
+    parted s r id view (view_of view.commands [] (Resting [])) (r.each id view at)
+    (λ seat. (subst (IsPrefix view.commands) known.1 (prefix_self view.commands), (r.log, refl)))
 
 -- only the opening
 only_opening : (reading place : ℕ) (t : Taken) → slice_get (taken 0 0 reading ∷ []) place ≡ Some t →

@@ -1,11 +1,12 @@
 -- What every step of a notice must keep.
-use Rattle.std.proofs.Common.{◌≡◌, ◌≢◌, ℕ, ◌%◌, ◌≤◌, List, length, get_or, set, sym, refl, ◌∙◌, subst, ⊎_elim, arith}
+use Rattle.std.proofs.Common.{◌≡◌, ◌≢◌, ℕ, ◌%◌, ◌≤◌, List, [], ◌∷◌, ◌++◌, length, get_or, set, sym, refl, ◌∙◌, subst, ⊎_elim, arith}
 use Rattle.std.proofs.lemmas.List.{set-get_or}
 use mathlib.Core.List.{IsPrefix}
 use mathlib.Core.Option.{some}
 use lib.ListN.{get_elem?}
 use Rattle.atomic_table.specs.Table.{State, keeps, stepped}
-use Rattle.atomic_table.proofs.Lists.{at_set}
+use Rattle.atomic_table.proofs.Lists.{at_snoc}
+use Rattle.tk_clock.proofs.Lists.{each_after, prefix_self, prefix_trans}
 use Rattle.tk_now.specs.declared.rule.Taken.{Taken}
 use Rattle.tk_now.specs.declared.rule.Answer.{Answer}
 use Rattle.tk_now.specs.declared.rule.View.{View}
@@ -13,7 +14,6 @@ use Rattle.tk_now.specs.declared.rule.Role.{Role}
 use Rattle.tk_now.specs.declared.rule.Role.TheVariants.{Spent, Resting, Watching, Idle, Announced, Noting}
 use Rattle.tk_now.specs.Moments.{AreBefore, AreAnswered, AreInOrder, AreInLife}
 use Rattle.tk_now.specs.Rule.{limit, Stands, Counts, Knows, Kept}
-use Rattle.tk_now.proofs.Lists.{prefix_self, prefix_trans}
 
 abbrev pub Words : Type 0
 Words = State (Unit {0}) View
@@ -46,15 +46,10 @@ others_know m m' cs cs' lg lg' role role' by seat le p q same mine told Idle k =
 others_know m m' cs cs' lg lg' role role' by seat le p q same mine told (Announced from) k =
     (k.0, k.1 ∙ (same k.0).0, sym (same k.0).1 ∙ k.2)
 
--- what holds of each seat after one of them has changed
-pub seats_after : (P : ℕ → View → Type 0) (views : List View) (id : ℕ) (view : View) → P id view →
-    ((seat : ℕ) (v : View) → seat ≢ id → get_elem? views seat ≡ some v → P seat v) →
-    (seat : ℕ) (v : View) → get_elem? (set views id view) seat ≡ some v → P seat v
-seats_after P views id view mine others seat v at =
-    ⊎_elim (λ (t : (seat ≡ id) × (view ≡ v)). subst (λ (x : ℕ × View). P x.0 x.1)
-    (λ i. (sym t.0 i, t.1 i)) mine)
-    (λ (t : (seat ≢ id) × (get_elem? views seat ≡ some v)). others seat v t.0 t.1)
-    (at_set views id seat view v at)
+-- what the rule says that this seat knows
+abbrev pub IsKnown : (s : Words) → Kept s → ℕ → View → Type 0
+IsKnown s r seat view =
+    Knows r.moment r.commands r.log r.role r.announcer seat view.commands view.log view.role
 
 -- the rule after a step
 pub kept_with : (s : Words) (r : Kept s) (ws : List ℕ) (id : ℕ) (v : View) (m : ℕ)
@@ -78,13 +73,42 @@ kept_with s r ws id v m commands log role wide le p q stands before answered ord
   answered = answered;
   ordered = ordered;
   alive = alive;
-  each = seats_after (λ seat u. Knows m commands log role r.announcer seat u.commands u.log u.role)
+  each = each_after (λ seat u. Knows m commands log role r.announcer seat u.commands u.log u.role)
       s.views id v mine
       (λ seat u apart at. others_know r.moment m r.commands commands r.log log r.role role
       r.announcer seat le p q (same seat apart) u.commands u.log u.role (r.each seat u at));
 }
 
--- the same where the step is a load
+-- one seat knows something else
+pub reseated : (s : Words) (r : Kept s) (id : ℕ) (view : View) → IsKnown s r id view →
+    Kept (record { words = s.words; homes = s.homes; views = set s.views id view })
+reseated s r id view mine = kept_with s r s.words id view r.moment r.commands r.log r.role r.wide
+    (omega arith) (prefix_self r.commands) (prefix_self r.log) r.stands r.before r.answered
+    r.ordered r.alive (λ seat apart own. (refl, refl)) mine
+
+-- one seat knows something else, and there is one more seat
+pub parted : (s : Words) (r : Kept s) (id : ℕ) (left right : View) → IsKnown s r id left →
+    ((seat : ℕ) → IsKnown s r seat right) →
+    Kept (record { words = s.words; homes = s.homes; views = set s.views id left ++ right ∷ [] })
+parted s r id left right mine theirs = record {
+  moment = r.moment;
+  commands = r.commands;
+  log = r.log;
+  role = r.role;
+  announcer = r.announcer;
+  wide = r.wide;
+  stands = r.stands;
+  before = r.before;
+  answered = r.answered;
+  ordered = r.ordered;
+  alive = r.alive;
+  each = λ seat u e. ⊎_elim
+      (each_after (IsKnown s r) s.views id left mine (λ i y _ at. r.each i y at) seat u)
+      (λ (t : right ≡ u). subst (λ x. IsKnown s r seat x) t (theirs seat))
+      (at_snoc (set s.views id left) right u seat e);
+}
+
+-- the rule after a load
 pub loads : (s : Words) (r : Kept s) (id : ℕ) (cs : List (ℕ × Unit {0})) (v : View) (m : ℕ)
     (log : List Answer) → r.moment ≤ m → IsPrefix r.log log →
     Stands (word s) m r.commands r.role → AreBefore (limit r.role m) r.commands →
@@ -100,7 +124,7 @@ loads s r id cs v m log le q stands before answered alive mine =
 
 -- a load at which no moment passes and nothing is listed
 pub loads_as : (s : Words) (r : Kept s) (id : ℕ) (cs : List (ℕ × Unit {0})) (v : View) →
-    Knows r.moment r.commands r.log r.role r.announcer id v.commands v.log v.role →
+    IsKnown s r id v →
     Kept (stepped s 0 (word s) id cs v keeps)
 loads_as s r id cs v mine = loads s r id cs v r.moment r.log (omega arith) (prefix_self r.log)
     r.stands r.before r.answered r.alive mine

@@ -1,6 +1,5 @@
 -- Lists of commands and of answers, and one more of them.
-use Rattle.std.proofs.Common.{◌≡◌, ℕ, zero, suc, ◌+◌, ◌<◌, ◌≤◌, ◌⊎◌, List, [], ◌∷◌, ◌++◌, length, Some, slice_get, refl, ap, sym, ◌∙◌, subst, ⊎_elim, inl, inr, arith, append_assoc, length-append}
-use Rattle.std.proofs.lemmas.List.{append-nil}
+use Rattle.std.proofs.Common.{◌≡◌, ℕ, zero, suc, ◌+◌, ◌<◌, ◌≤◌, ◌⊎◌, List, [], ◌∷◌, ◌++◌, length, Some, slice_get, refl, ap, subst, ⊎_elim, inl, inr, arith}
 use Rattle.std.proofs.lemmas.Option.{same_Some, slice_get_within}
 use mathlib.Core.List.{IsPrefix}
 use Rattle.tk_now.specs.declared.rule.Taken.{Taken}
@@ -8,26 +7,8 @@ use Rattle.tk_now.specs.declared.rule.Answer.{Answer}
 use Rattle.tk_now.specs.Moments.{AreBefore, AreAnswered, AreInOrder, AreInLife}
 
 module _ {A : Type 0} where
-  pub prefix_self : (xs : List A) → IsPrefix xs xs
-  prefix_self xs = ([], append-nil xs)
-
-  pub prefix_trans : (xs ys zs : List A) → IsPrefix xs ys → IsPrefix ys zs → IsPrefix xs zs
-  prefix_trans xs ys zs p q =
-      (p.0 ++ q.0, sym (append_assoc xs p.0 q.0) ∙ (ap (λ w. w ++ q.0) p.1 ∙ q.1))
-
-  -- a beginning as long as the whole is the whole
-  pub prefix_whole : (xs ys : List A) → IsPrefix xs ys → length ys ≤ length xs → xs ≡ ys
-  prefix_whole [] [] p le = refl
-  prefix_whole [] (y ∷ ys) p le = absurd (omega arith)
-  prefix_whole (x ∷ xs) [] p le = absurd (cc (p.1))
-  prefix_whole (x ∷ xs) (y ∷ ys) p le =
-      let rest = prefix_whole xs ys (p.0, cc (p.1)) (omega arith) in cc (p.1, rest)
-
   pub prefix_push : (xs : List A) (x : A) → IsPrefix xs (xs ++ x ∷ [])
   prefix_push xs x = (x ∷ [], refl)
-
-  pub prefix_length : (xs ys : List A) → IsPrefix xs ys → length xs ≤ length ys
-  prefix_length xs ys p = omega (arith, sym (ap length p.1) ∙ length-append xs p.0)
 
   -- an item of a list with one more item is an old one or the new one
   pub get_push : (xs : List A) (x : A) (i : ℕ) (y : A) → slice_get (xs ++ x ∷ []) i ≡ Some y →

@@ -1,21 +1,20 @@
 -- The announcer may take in what a watcher knew, and compare it with all commands: both keep the
 -- rule.
-use Rattle.std.proofs.Common.{◌≡◌, ◌≢◌, ℕ, List, [], refl, sym, subst, ⊎_elim, set}
+use Rattle.std.proofs.Common.{ℕ, List, [], refl, sym, ◌∙◌, subst}
 use mathlib.Core.List.{IsPrefix}
-use mathlib.Core.Option.{some, none}
-use lib.ListN.{get_elem?}
+use mathlib.Core.Option.{none}
 use Rattle.atomic_table.specs.Table.{step, keeps, Allows, Joins, Splits}
-use Rattle.atomic_table.proofs.Lists.{at_set, at_snoc}
+use Rattle.atomic_table.proofs.Lists.{set_else}
+use Rattle.tk_clock.proofs.Lists.{prefix_self}
 use Rattle.tk_now.specs.declared.rule.Taken.{Taken}
 use Rattle.tk_now.specs.declared.rule.View.{View}
 use Rattle.tk_now.specs.declared.rule.Role.TheVariants.{Resting, Idle, Noting}
-use Rattle.tk_now.specs.declared.rule.Answer.{Answer}
 use Rattle.tk_now.specs.Moments.{AreInOrder, AreInLife}
-use Rattle.tk_now.specs.Rule.{Knows, Kept}
+use Rattle.tk_now.specs.Rule.{Kept}
 use Rattle.tk_now.specs.Steps.{Seated, compared, recounted}
 use Rattle.tk_now.specs.Views.{view_of, noting, spent, found_by, noted_commands, noted_log, IsIdle, IsResting, IsNoting}
-use Rattle.tk_now.proofs.Lists.{life_first, prefix_self}
-use Rattle.tk_now.proofs.Keeping.{known_of, seats_after, loads_as}
+use Rattle.tk_now.proofs.Lists.{life_first}
+use Rattle.tk_now.proofs.Keeping.{known_of, reseated, parted, loads_as}
 
 -- the announcer takes in what a watcher knew
 pub notes : (id : ℕ) (view : View) (other : ℕ) (watcher : View) → IsIdle view →
@@ -23,28 +22,10 @@ pub notes : (id : ℕ) (view : View) (other : ℕ) (watcher : View) → IsIdle v
 notes id view other watcher is there s r at apart from =
     let known = known_of s r id view Idle at is in
     let w = noting view watcher in
-    let here = ⊎_elim (λ (t : (other ≡ id) × (w ≡ watcher)). absurd (apart t.0))
-    (λ (t : (other ≢ id) × (get_elem? s.views other ≡ some watcher)). t.1)
-    (at_set s.views id other w watcher from) in
+    let here = sym (set_else s.views id other w apart) ∙ from in
     let begins = known_of s r other watcher (Resting (found_by watcher.role)) here there in
-    let P : ℕ → View → Type 0 = λ seat x. Knows
-    r.moment r.commands r.log r.role r.announcer seat x.commands x.log x.role in
-    let mine : P id w = (known.0, known.1, known.2, begins.0, begins.1) in
-    record {
-      moment = r.moment;
-      commands = r.commands;
-      log = r.log;
-      role = r.role;
-      announcer = r.announcer;
-      wide = r.wide;
-      stands = r.stands;
-      before = r.before;
-      answered = r.answered;
-      ordered = r.ordered;
-      alive = r.alive;
-      each = seats_after P (set s.views id w) other spent tt
-          (λ seat x _ e. seats_after P s.views id w mine (λ i y _ e'. r.each i y e') seat x e);
-    }
+    let noted = reseated s r id w (known.0, known.1, known.2, begins.0, begins.1) in
+    reseated _ noted other spent tt
 
 -- the announcer compares its note with all commands and answers
 pub compares : (slots id : ℕ) (me : Seated) → IsNoting me.0 →
@@ -106,25 +87,5 @@ returns id view is s r at =
     in
     let left = view_of view.commands view.log Idle in
     let right = view_of view.commands (noted_log view.role) (Resting []) in
-    let P : ℕ → View → Type 0 = λ seat x. Knows
-    r.moment r.commands r.log r.role r.announcer seat x.commands x.log x.role in
-    let mine : P id left = (known.0, known.1, known.2) in
-    let theirs : (seat : ℕ) → P seat right =
-    λ seat. (subst (IsPrefix view.commands) known.1 (prefix_self view.commands), known.4) in
-    record {
-      moment = r.moment;
-      commands = r.commands;
-      log = r.log;
-      role = r.role;
-      announcer = r.announcer;
-      wide = r.wide;
-      stands = r.stands;
-      before = r.before;
-      answered = r.answered;
-      ordered = r.ordered;
-      alive = r.alive;
-      each = λ seat u e. ⊎_elim
-          (λ h. seats_after P s.views id left mine (λ i y _ e'. r.each i y e') seat u h)
-          (λ (t : right ≡ u). subst (P seat) t (theirs seat))
-          (at_snoc (set s.views id left) right u seat e);
-    }
+    parted s r id left right (known.0, known.1, known.2)
+    (λ seat. (subst (IsPrefix view.commands) known.1 (prefix_self view.commands), known.4))

@@ -6,16 +6,39 @@ use mathlib.Core.Option.{none}
 use native.Mathlib.Decide.{ℕ_discrete}
 use Rattle.atomic_table.specs.Table.{step, keeps, stepped, Allows}
 use Rattle.atomic_table.specs.Seated.{TableId}
+use Rattle.tk_clock.proofs.Lists.{prefix_self, prefix_trans, prefix_whole, prefix_length}
 use Rattle.tk_now.specs.declared.rule.Taken.{Taken}
 use Rattle.tk_now.specs.declared.rule.Answer.{Answer}
 use Rattle.tk_now.specs.declared.rule.View.{View}
 use Rattle.tk_now.specs.declared.rule.Role.TheVariants.{Resting, Watching}
-use Rattle.tk_now.specs.Moments.{AreBefore, AreAnswered, IsTimed, IsBusy}
+use Rattle.tk_now.specs.Moments.{AreBefore, AreAnswered, AreInLife, IsTimed, IsBusy}
 use Rattle.tk_now.specs.Rule.{limit, Knows, Kept}
-use Rattle.tk_now.specs.Steps.{Seated, began, ended, IsBegun, IsEnd, answer_of}
+use Rattle.tk_now.specs.Steps.{Seated, began, ended, IsBegun, IsEnd, IsListed, answer_of}
 use Rattle.tk_now.specs.Views.{Watched, view_of, found_by, first_by, from_by, IsResting, IsWatching}
-use Rattle.tk_now.proofs.Lists.{prefix_self, prefix_trans, prefix_push, prefix_whole, prefix_length, before_more, answered_more, answered_push, life_answer}
+use Rattle.tk_now.proofs.Lists.{prefix_push, before_more, answered_more, answered_push, life_answer}
 use Rattle.tk_now.proofs.Keeping.{Words, word, loads, known_of, counted, at_rest, stands_on, limit_on, limited}
+
+-- one moment later, with no new answer
+answered_on : (s : Words) (r : Kept s) →
+    AreAnswered (length r.commands) (limit r.role (r.moment + 1)) r.log
+answered_on s r =
+    let count = length r.commands in
+    answered_more count count (limit r.role r.moment) (limit r.role (r.moment + 1)) r.log
+    (omega arith) (limit_on r.role r.moment (r.moment + 1) (omega arith)) r.answered
+
+-- one moment passes at a look
+looks : (s : Words) (r : Kept s) (id : ℕ) (cs : List (ℕ × Unit {0})) (v : View)
+    (log : List Answer) → IsPrefix r.log log →
+    AreAnswered (length r.commands) (limit r.role (r.moment + 1)) log → AreInLife r.commands log →
+    Knows (r.moment + 1) r.commands log r.role r.announcer id v.commands v.log v.role →
+    Kept (stepped s 0 (word s) id cs v keeps)
+looks s r id cs v log more answered alive mine =
+    let now = r.moment + 1 in
+    loads s r id cs v now log (omega arith) more
+    (stands_on (word s) r.moment now r.commands r.role (omega arith) r.stands)
+    (before_more (limit r.role r.moment) (limit r.role now) r.commands
+    (limit_on r.role r.moment now (omega arith)) r.before)
+    answered alive mine
 
 -- the first look
 pub begins : (slots id : ℕ) (me : Seated) → IsResting me.0 →
@@ -32,13 +55,8 @@ begins slots id me is s r _ at _ =
       v,
       keeps,
       tt,
-      loads s r id me.1 v now r.log (omega arith) (prefix_self r.log)
-          (stands_on n r.moment now r.commands r.role (omega arith) r.stands)
-          (before_more old (limit r.role now) r.commands
-          (limit_on r.role r.moment now (omega arith)) r.before)
-          (answered_more (length r.commands) (length r.commands) old (limit r.role now) r.log
-          (omega arith) (limit_on r.role r.moment now (omega arith)) r.answered)
-          r.alive (prefix_self r.commands, prefix_self r.log, counts, omega arith),
+      looks s r id me.1 v r.log (prefix_self r.log) (answered_on s r) r.alive
+          (prefix_self r.commands, prefix_self r.log, counts, omega arith),
       (
         refl,
         refl,
@@ -65,6 +83,32 @@ abbrev Held : ℕ → Seated → (s : Words) → Kept s → Type 0
 Held id me s r = Knows r.moment r.commands r.log r.role r.announcer id me.0.commands me.0.log
     (Watching (found_by me.0.role) (first_by me.0.role) (from_by me.0.role))
 
+-- the second look, after which this is the log
+rested : (reading slots id : ℕ) (me : Seated) (s : Words) (r : Kept s) (log : List Answer) →
+    Held id me s r → IsPrefix r.log log →
+    AreAnswered (length r.commands) (limit r.role (r.moment + 1)) log → AreInLife r.commands log →
+    (let new = view_of r.commands log (Resting (found_by me.0.role ++ word s ∷ [])) in
+    word s ≡ first_by me.0.role → word s % 2 ≡ 0 → IsListed reading me.0 new) →
+    Ends reading slots id me s
+rested reading slots id me s r log known more answered alive answer =
+    let w = view_of r.commands log (Resting (found_by me.0.role ++ word s ∷ [])) in (
+      w,
+      looks s r id me.1 w log more answered alive (prefix_self r.commands, prefix_self log),
+      (
+        refl,
+        refl,
+        record {
+          resting = refl;
+          found_is = refl;
+          commands = known.0;
+          log = prefix_trans me.0.log r.log log known.1 more;
+          ordered = r.ordered;
+          alive = alive;
+          answer = answer;
+        },
+      ),
+    )
+
 -- the second look finds the first one's word, which is even: the reading is listed
 listed : (reading slots id : ℕ) (me : Seated) (s : Words) (r : Kept s) →
     AreBefore (from_by me.0.role) me.0.commands → Held id me s r → word s ≡ first_by me.0.role →
@@ -73,9 +117,7 @@ listed reading slots id me s r before known here even =
     let n = word s in
     let first = first_by me.0.role in
     let from = from_by me.0.role in
-    let found = found_by me.0.role in
     let now = r.moment + 1 in
-    let old = limit r.role r.moment in
     let mine = known.2 in
     let low = mine.0 in
     let high = mine.1 in
@@ -87,75 +129,30 @@ listed reading slots id me s r before known here even =
     prefix_whole me.0.commands r.commands known.0 (omega arith) in
     let stands = stands_on n r.moment now r.commands r.role (omega arith) r.stands in
     let rest = at_rest n now r.commands r.role stands even in
-    let grows = limit_on r.role r.moment now (omega arith) in
     let a = answer_of first from now reading in
-    let log = r.log ++ a ∷ [] in
     let place : length me.0.commands ≡ first / 2 + 1 = omega arith in
     let long : length r.commands ≡ first / 2 + 1 = sym (ap length all) ∙ place in
     let alive = life_answer r.commands r.log a
     (subst (AreBefore from) all before) (omega arith) r.alive in
-    let w = view_of r.commands log (Resting (found ++ n ∷ [])) in (
-      w,
-      loads s r id me.1 w now log (omega arith) (prefix_push r.log a) stands
-          (before_more old (limit r.role now) r.commands grows r.before)
-          (answered_push (length r.commands) (limit r.role now) r.log a (omega arith) (omega arith)
-          (answered_more (length r.commands) (length r.commands) old (limit r.role now) r.log
-          (omega arith) grows r.answered))
-          alive (prefix_self r.commands, prefix_self log),
-      (
-        refl,
-        refl,
-        record {
-          resting = refl;
-          found_is = refl;
-          commands = known.0;
-          log = prefix_trans me.0.log r.log log known.1 (prefix_push r.log a);
-          ordered = r.ordered;
-          alive = alive;
-          answer = λ _ _. record {
-            same = sym all;
-            place = place;
-            to = now;
-            span = omega arith;
-            between = r.log;
-            extends = known.1;
-            listed = refl;
-          };
-        },
-      ),
-    )
+    rested reading slots id me s r (r.log ++ a ∷ []) known (prefix_push r.log a)
+    (answered_push (length r.commands) (limit r.role now) r.log a (omega arith) (omega arith)
+    (answered_on s r)) alive
+    (λ _ _. record {
+      same = sym all;
+      place = place;
+      to = now;
+      span = omega arith;
+      between = r.log;
+      extends = known.1;
+      listed = refl;
+    })
 
 -- it does not
 unlisted : (reading slots id : ℕ) (me : Seated) (s : Words) (r : Kept s) → Held id me s r →
     (word s ≡ first_by me.0.role → ¬ (word s % 2 ≡ 0)) → Ends reading slots id me s
 unlisted reading slots id me s r known moved =
-    let n = word s in
-    let found = found_by me.0.role in
-    let now = r.moment + 1 in
-    let old = limit r.role r.moment in
-    let grows = limit_on r.role r.moment now (omega arith) in
-    let w = view_of r.commands r.log (Resting (found ++ n ∷ [])) in (
-      w,
-      loads s r id me.1 w now r.log (omega arith) (prefix_self r.log)
-          (stands_on n r.moment now r.commands r.role (omega arith) r.stands)
-          (before_more old (limit r.role now) r.commands grows r.before)
-          (answered_more (length r.commands) (length r.commands) old (limit r.role now) r.log
-          (omega arith) grows r.answered)
-          r.alive (prefix_self r.commands, prefix_self r.log),
-      (
-        refl,
-        refl,
-        record {
-          resting = refl;
-          found_is = refl;
-          commands = known.0;
-          log = known.1;
-          ordered = r.ordered;
-          alive = r.alive;
-          answer = λ here even. absurd (moved here even);
-        },
-      ),
-    )
+    rested reading slots id me s r r.log known (prefix_self r.log) (answered_on s r) r.alive
+    (λ here even. absurd (moved here even))
 
 -- the second look
 pub ends : (reading slots id : ℕ) (me : Seated) → IsWatching me.0 →

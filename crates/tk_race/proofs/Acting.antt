@@ -6,7 +6,7 @@ use Rattle.tk_clock.specs.Journal.{Journal}
 use Rattle.tk_now.specs.declared.rule.Taken.{Taken}
 use Rattle.tk_now.proofs.Lists.{life_first}
 use Rattle.tk_shared.specs.Callers.{Known}
-use Rattle.tk_shared.proofs.Prefixes.{prefix_trans}
+use Rattle.tk_clock.proofs.Lists.{prefix_trans}
 use Rattle.tk_shared.proofs.Snapshots.{snapshots_prefix}
 use Rattle.tk_race.specs.declared.action.Action.{Action}
 use Rattle.tk_race.specs.declared.action.RaceReply.{RaceReply}

@@ -14,7 +14,7 @@ use Rattle.tk_latch.specs.Latch.{Learnt, mark_of}
 use Rattle.tk_now.specs.Views.{Watched}
 use Rattle.tk_shared.specs.Callers.{Known, IsAccepted, IsRefused, IsSameCaller, IsRefusalAfter, entry_of}
 use Rattle.tk_shared.proofs.Kept.{whole_count}
-use Rattle.tk_shared.proofs.Prefixes.{prefix_self, prefix_trans, prefix_length}
+use Rattle.tk_clock.proofs.Lists.{prefix_self, prefix_trans, prefix_length}
 use Rattle.tk_race.specs.declared.action.Action.TheVariants.{Order}
 use Rattle.tk_race.specs.declared.action.RaceReply.TheVariants.{Done, Refused}
 use Rattle.tk_race.specs.Actor.{IsAnswer}

@@ -15,6 +15,7 @@ use Rattle.tk_now.specs.Views.{taken}
 use Rattle.tk_shared.specs.Callers.{Known}
 use Rattle.tk_shared.specs.Now.{IsResultAt, IsSeenBy, KnowsMore}
 use Rattle.tk_race.specs.declared.action.Action.TheVariants.{Now}
+use Rattle.tk_race.specs.declared.action.RaceReply.{RaceReply}
 use Rattle.tk_race.specs.declared.action.RaceReply.TheVariants.{Timed, Untimed}
 use Rattle.tk_race.specs.Actor.{IsAnswer, IsHistoryOf, IsLater, Knows}
 use Rattle.tk_race.specs.Replies.{IsTimedIn}
@@ -92,27 +93,26 @@ module _ {S : Type 0} (answers : S → ℕ → ℕ → Type 0) (counter : S) (ol
       let learnt = ap (λ (l : Learnt). mark_of l.publications) asked.learnt in
       (omega (arith, here), omega (arith, high, learnt))
 
+  right_by : (history : Journal) (commands : List Taken) → IsHistoryOf new history commands →
+      (front mark : ℕ) → Knows old front mark →
+      IsTimedIn history commands front clock read result × Knows new read mark
+  right_by history commands is front mark known =
+      (timed_in history commands front is known.0, knows_by front mark known)
+
+abbrev pub reply_of : Result Timespec ReadError → ℕ → RaceReply
+reply_of (Ok time) read = Timed read time
+reply_of (Err refusal) read = Untimed read refusal
+
 -- the reply to a time now is right, be it a time or a refusal
 pub timed : {S : Type 0} (answers : S → ℕ → ℕ → Type 0) (counter : S) (old new : Known)
-    (clock : ClockId) (time : Timespec) (read : ℕ) →
-    IsAsked answers counter old new clock (Ok time) read →
-    IsAnswer old new (Now clock) (Timed read time)
-timed answers counter old new clock time read asked = record {
+    (clock : ClockId) (result : Result Timespec ReadError) (read : ℕ) →
+    IsAsked answers counter old new clock result read →
+    IsAnswer old new (Now clock) (reply_of result read)
+timed answers counter old new clock (Ok time) read asked = record {
   later = later_by answers counter old new clock (Ok time) read asked;
-  right = λ history commands is front mark known. (
-    timed_in answers counter old new clock (Ok time) read asked history commands front is known.0,
-    knows_by answers counter old new clock (Ok time) read asked front mark known,
-  );
+  right = right_by answers counter old new clock (Ok time) read asked;
 }
-
-pub untimed : {S : Type 0} (answers : S → ℕ → ℕ → Type 0) (counter : S) (old new : Known)
-    (clock : ClockId) (refusal : ReadError) (read : ℕ) →
-    IsAsked answers counter old new clock (Err refusal) read →
-    IsAnswer old new (Now clock) (Untimed read refusal)
-untimed answers counter old new clock refusal read asked = record {
+timed answers counter old new clock (Err refusal) read asked = record {
   later = later_by answers counter old new clock (Err refusal) read asked;
-  right = λ history commands is front mark known. (
-    timed_in answers counter old new clock (Err refusal) read asked history commands front is known.0,
-    knows_by answers counter old new clock (Err refusal) read asked front mark known,
-  );
+  right = right_by answers counter old new clock (Err refusal) read asked;
 }

@@ -1,4 +1,3 @@
-pub mod Prefixes
 pub mod Kept
 pub mod Snapshots
 pub mod Refused

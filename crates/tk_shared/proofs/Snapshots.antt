@@ -9,7 +9,7 @@ use Rattle.tk_clock.specs.Journal.{Journal, prefix, followed_by}
 use Rattle.tk_clock.specs.Snapshot.{Snapshot, snapshot_of}
 use Rattle.tk_shared.specs.History.{AreSnapshots}
 use Rattle.tk_clock.proofs.Append.{slice_get-append, slice_get-push, prefix-followed_by}
-use Rattle.tk_shared.proofs.Prefixes.{prefix_length}
+use Rattle.tk_clock.proofs.Lists.{prefix_length}
 
 prefix-whole : (history : Journal) (k : ℕ) → length history.entries ≤ k → prefix k history ≡ history
 prefix-whole history k within =

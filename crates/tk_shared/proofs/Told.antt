@@ -21,7 +21,7 @@ use Rattle.tk_now.specs.Views.{Announcing, Watched}
 use Rattle.tk_shared.specs.Locked.{Held, IsAtRest, IsHeld}
 use Rattle.tk_shared.proofs.Held.{with_entry, held_accepted}
 use Rattle.tk_shared.proofs.Kept.{kept_count, kept_monotonic}
-use Rattle.tk_shared.proofs.Prefixes.{prefix_trans, prefix_length}
+use Rattle.tk_clock.proofs.Lists.{prefix_trans, prefix_length}
 use Rattle.tk_shared.proofs.Refused.{refused_after}
 
 module _ (page : TableId) (latch : LatchId) (held : Held) (is : IsHeld page latch held) (old : Known)

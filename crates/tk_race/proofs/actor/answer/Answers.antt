@@ -4,7 +4,7 @@ use Rattle.tk_race.specs.declared.action.Action.{Action}
 use Rattle.tk_race.specs.declared.action.RaceReply.TheVariants.{Done, Refused, Timed, Untimed}
 use Rattle.tk_race.specs.Actor.{IsAnswer}
 use Rattle.tk_race.proofs.Answering.{done, refused}
-use Rattle.tk_race.proofs.Timing.{IsAsked, timed, untimed}
+use Rattle.tk_race.proofs.Timing.{IsAsked, timed}
 use Rattle.tk_race.proofs.actor.answer.Goals as goal
 
 pub returns-in-Ok : goal.returns-in-Ok
@@ -40,7 +40,7 @@ returns-in-Ok-now g c =
       front = c.front-in-Ok-now.ensures;
     } in
     subst (λ (a : Action). IsAnswer old new a (Timed read time)) (sym c.in-Now.is)
-    (timed _ c.args.counter.now old new clock time read asked)
+    (timed _ c.args.counter.now old new clock (Ok time) read asked)
 
 pub returns-in-Err-now : goal.returns-in-Err-now
 returns-in-Err-now g c =
@@ -59,4 +59,4 @@ returns-in-Err-now g c =
       front = c.front-in-Err-now.ensures;
     } in
     subst (λ (a : Action). IsAnswer old new a (Untimed read refusal)) (sym c.in-Now.is)
-    (untimed _ c.args.counter.now old new clock refusal read asked)
+    (timed _ c.args.counter.now old new clock (Err refusal) read asked)

@@ -1,4 +1,4 @@
-use Rattle.std.proofs.Common.{ℕ, ◌+◌, ◌++◌, ◌∷◌, [], sym, ap, ◌∙◌, subst, refl, bit_and, List}
+use Rattle.std.proofs.Common.{◌≡◌, ℕ, ◌+◌, ◌++◌, ◌∷◌, [], sym, ap, ◌∙◌, subst, refl, bit_and, List}
 use Rattle.tk_clock.specs.declared.command.Entry.{Entry}
 use Rattle.tk_clock.specs.Journal.{Journal, followed_by, accepted_count}
 use Rattle.tk_clock.specs.Snapshot.{Snapshot, snapshot_of}
@@ -12,21 +12,85 @@ use Rattle.tk_shared.specs.Locked.{Guarded, Held, held_of, IsAtRest, IsHeld}
 use Rattle.tk_shared.specs.Readings.{EndsAtReading, IsRefusedAtReading}
 use Rattle.tk_keeper.specs.Keeper.{Keeper}
 use Rattle.tk_shared.proofs.Announced.{accepted_at_rest, refused_at_rest}
-use Rattle.tk_shared.proofs.Held.{held_accepted}
+use Rattle.tk_shared.proofs.Held.{with_entry, held_accepted}
 use Rattle.tk_shared.proofs.Kept.{kept_snapshot}
 use Rattle.tk_shared.proofs.Told.{refused, accepted, reason, low_bits}
+use Rattle.tk_shared.proofs.locked.Locked.command.Given.{Over}
 use Rattle.tk_shared.proofs.locked.Locked.command.Goals as goal
+
+-- the caller, and what lies under the lock, before a command that was refused
+abbrev refused_caller : (g : Over) → goal.After-withdraw g → Known
+refused_caller g c =
+    let caller = c.caller.inside in
+    known_of caller.id caller.accepted caller.viewer caller.reader caller.watcher
+
+abbrev refused_by : (g : Over) → goal.After-withdraw g → Held
+refused_by g c =
+    let inside = c.self.inside in
+    held_of inside.keeper.journal inside.publisher inside.writer inside.mask inside.book.total
+
+-- the same before a command that was accepted
+abbrev caller_of : (g : Over) → goal.After-caller-1 g → Known
+caller_of g c =
+    let caller = c.caller.inside in
+    known_of caller.id caller.accepted caller.viewer caller.reader caller.watcher
+
+abbrev held_by : (g : Over) → goal.After-caller-1 g → Held
+held_by g c =
+    let inside = c.self.inside in
+    held_of inside.keeper.journal inside.publisher inside.writer inside.mask inside.book.total
+
+-- the command's entry
+abbrev entry_by : (g : Over) → goal.After-caller-1 g → Entry
+entry_by g c =
+    entry_of (caller_of g c) (bit_and c.read_after.result c.self.inside.mask) c.args.cmd
+
+now_held : (g : Over) (c : goal.After-caller-1 g) →
+    IsHeld g.L.Named.page g.L.Named.latch (with_entry (held_by g c) (entry_by g c))
+now_held g c = held_accepted g.L.Named.page g.L.Named.latch (held_by g c) (entry_by g c)
+    c.self.invariant.0 c.in-Ok.ensures.answer.0
+
+next_is : (g : Over) (c : goal.After-caller-1 g) →
+    c.snapshot-snapshot.result
+    ≡ snapshot_of (followed_by c.self.inside.publisher.journal (entry_by g c))
+next_is g c =
+    let now = now_held g c in
+    c.snapshot-snapshot.ensures.value
+    ∙ ap snapshot_of c.in-Ok.ensures.answer.1
+    ∙ kept_snapshot _ _ now.whole now.kept
+
+shown : (g : Over) (c : goal.After-caller-1 g) →
+    c.publish.new.self ≡ (with_entry (held_by g c) (entry_by g c)).shown
+shown g c =
+    let longer : History → History =
+    λ h. record h { journal = followed_by h.journal (entry_by g c) } in
+    c.publish.ensures ∙ ap longer c.tell.ensures.publisher
+
+latched : (g : Over) (c : goal.After-caller-1 g) →
+    c.show_on_latch.new.writer ≡ (with_entry (held_by g c) (entry_by g c)).latched
+latched g c =
+    let pushed : Published × Snapshot → Published =
+    λ p. record p.0 { publications = p.0.publications ++ p.1 ∷ [] } in
+    c.show_on_latch.ensures ∙ ap pushed (λ i. (c.tell-2.ensures.writer i, next_is g c i))
+
+at_rest : (g : Over) (c : goal.After-caller-1 g) →
+    IsAtRest g.L.Named.notice (followed_by c.self.inside.publisher.journal (entry_by g c))
+    c.accept.new.self
+at_rest g c =
+    let entry = entry_by g c in
+    accepted_at_rest g.L.Named.notice c.self.inside.publisher.journal c.self.inside.announcer
+    c.accept.new.self entry c.announce.new.self.since entry.reading c.self.invariant.3
+    (c.accept.ensures.notice ∙ c.announce.ensures.same.0) c.accept.ensures.idle refl
+    (subst (λ (l : List Taken). IsAcceptedAt c.announce.new.self.since l entry.reading
+    c.accept.new.self.commands) c.announce.ensures.same.1 c.accept.ensures.accepted)
+    c.tell-5.ensures.told.order
 
 pub returns-in-Err-clause-answer : goal.returns-in-Err-clause-answer
 returns-in-Err-clause-answer g c =
-    let is = c.self.invariant.0 in
-    let caller = c.caller.inside in
-    let old = known_of caller.id caller.accepted caller.viewer caller.reader caller.watcher in
-    let inside = c.self.inside in
-    let held = held_of inside.keeper.journal inside.publisher inside.writer inside.mask
-    inside.book.total in
-    let told = refused g.L.Named.page g.L.Named.latch held is old c.read_after.result c.args.cmd
-    c.tell.ensures.begins c.in-Err.refusal c.in-Err.ensures.answer.0 in
+    let old = refused_caller g c in
+    let told = refused g.L.Named.page g.L.Named.latch (refused_by g c) c.self.invariant.0 old
+    c.read_after.result c.args.cmd c.tell.ensures.begins c.in-Err.refusal
+    c.in-Err.ensures.answer.0 in
     let new : Journal × ℕ → Known = λ p. record old { reads = p.1; seen = p.0 } in
     let sight : Sight → Journal × ℕ = λ s. (s.journal, s.reads) in
     let seen = ap sight c.tell.ensures.viewer in
@@ -41,16 +105,12 @@ returns-in-Err-clause-answer g c =
 
 pub returns-in-Err-clause-reading : goal.returns-in-Err-clause-reading
 returns-in-Err-clause-reading g c =
-    let is = c.self.invariant.0 in
-    let caller = c.caller.inside in
-    let old = known_of caller.id caller.accepted caller.viewer caller.reader caller.watcher in
-    let inside = c.self.inside in
-    let held = held_of inside.keeper.journal inside.publisher inside.writer inside.mask
-    inside.book.total in
+    let old = refused_caller g c in
+    let held = refused_by g c in
     let answer = c.read_after.result in
-    let told = reason g.L.Named.page g.L.Named.latch held is old answer c.args.cmd
+    let told = reason g.L.Named.page g.L.Named.latch held c.self.invariant.0 old answer c.args.cmd
     c.tell.ensures.begins c.in-Err.refusal c.in-Err.ensures.answer.0 in
-    let low = low_bits g.L.Named.page g.L.Named.latch held is old answer c.args.cmd
+    let low = low_bits g.L.Named.page g.L.Named.latch held c.self.invariant.0 old answer c.args.cmd
     c.tell.ensures.begins in
     let seen = ap (λ (s : Sight). s.journal) c.tell.ensures.viewer in
     let found : IsRefusedAtReading g.C.Counter.answers_after old held.shown.journal c.args.cmd
@@ -104,81 +164,40 @@ invariant_of-self g c =
 
 pub invariant_of-self-2 : goal.invariant_of-self-2
 invariant_of-self-2 g c =
-    let entry : Entry = record {
-      who = c.caller.inside.id;
-      reading = bit_and c.read_after.result c.self.inside.mask;
-      cmd = c.args.cmd;
-    } in
-    let now = held_accepted g.L.Named.page g.L.Named.latch _ entry c.self.invariant.0
-    c.in-Ok.ensures.answer.0 in
-    let rest = accepted_at_rest g.L.Named.notice c.self.inside.publisher.journal
-    c.self.inside.announcer c.accept.new.self entry c.announce.new.self.since entry.reading
-    c.self.invariant.3 (c.accept.ensures.notice ∙ c.announce.ensures.same.0) c.accept.ensures.idle
-    refl
-    (subst (λ (l : List Taken). IsAcceptedAt c.announce.new.self.since l entry.reading
-    c.accept.new.self.commands) c.announce.ensures.same.1 c.accept.ensures.accepted)
-    c.tell-5.ensures.told.order in
-    let longer : History → History = λ h. record h { journal = followed_by h.journal entry } in
-    let shown = c.tell-3.ensures.publisher ∙ c.publish.ensures ∙ ap longer c.tell.ensures.publisher in
-    let snapshot = c.snapshot-snapshot.ensures.value ∙ ap snapshot_of c.in-Ok.ensures.answer.1
-    ∙ kept_snapshot _ _ now.whole now.kept in
-    let pushed : Published × Snapshot → Published =
-    λ p. record p.0 { publications = p.0.publications ++ p.1 ∷ [] } in
-    let latched = c.tell-4.ensures.writer ∙ c.show_on_latch.ensures
-    ∙ ap pushed (λ i. (c.tell-2.ensures.writer i, snapshot i)) in (
+    let published = c.tell-3.ensures.publisher ∙ shown g c in
+    let told = c.tell-4.ensures.writer ∙ latched g c in (
       subst (IsHeld g.L.Named.page g.L.Named.latch)
           (λ i. record {
             kept = sym c.in-Ok.ensures.answer.1 i;
-            shown = sym shown i;
-            latched = sym latched i;
+            shown = sym published i;
+            latched = sym told i;
             mask = c.self.inside.mask;
             total = sym c.add.ensures.total i;
           })
-          now,
+          (now_held g c),
       c.self.invariant.1,
       c.self.invariant.2,
       subst (λ (t : Journal × Announcing). IsAtRest g.L.Named.notice t.0 t.1)
-          (λ i. (ap (λ (h : History). h.journal) (sym shown) i, sym c.tell-5.ensures.same i))
-          rest,
+          (λ i. (ap (λ (h : History). h.journal) (sym published) i, sym c.tell-5.ensures.same i))
+          (at_rest g c),
     )
 
 pub returns-clause-answer : goal.returns-clause-answer
 returns-clause-answer g c =
-    let is = c.self.invariant.0 in
-    let caller = c.caller.inside in
-    let old = known_of caller.id caller.accepted caller.viewer caller.reader caller.watcher in
-    let entry = entry_of old (bit_and c.read_after.result c.self.inside.mask) c.args.cmd in
-    let inside = c.self.inside in
-    let held = held_of inside.keeper.journal inside.publisher inside.writer inside.mask
-    inside.book.total in
+    let old = caller_of g c in
     let answer = c.in-Ok.ensures.answer in
-    let now = held_accepted g.L.Named.page g.L.Named.latch held entry is answer.0 in
-    let rest = accepted_at_rest g.L.Named.notice c.self.inside.publisher.journal
-    c.self.inside.announcer c.accept.new.self entry c.announce.new.self.since entry.reading
-    c.self.invariant.3 (c.accept.ensures.notice ∙ c.announce.ensures.same.0) c.accept.ensures.idle
-    refl
-    (subst (λ (l : List Taken). IsAcceptedAt c.announce.new.self.since l entry.reading
-    c.accept.new.self.commands) c.announce.ensures.same.1 c.accept.ensures.accepted)
-    c.tell-5.ensures.told.order in
-    let told = accepted g.L.Named.page g.L.Named.latch held is old c.read_after.result c.args.cmd
-    c.tell.ensures.begins c.in-Ok.number c.tell-2.ensures.extends answer.0
-    (answer.2 ∙ ap accepted_count answer.1) g.L.Named.notice c.accept.new.self c.tell-5.new.watcher
-    rest c.tell-5.ensures.told in
-    let longer : History → History = λ h. record h { journal = followed_by h.journal entry } in
+    let told = accepted g.L.Named.page g.L.Named.latch (held_by g c) c.self.invariant.0 old
+    c.read_after.result c.args.cmd c.tell.ensures.begins c.in-Ok.number c.tell-2.ensures.extends
+    answer.0 (answer.2 ∙ ap accepted_count answer.1) g.L.Named.notice c.accept.new.self
+    c.tell-5.new.watcher (at_rest g c) c.tell-5.ensures.told in
     let seen = ap (λ (s : Sight). s.journal) c.tell-3.ensures.viewer
-    ∙ ap (λ (h : History). h.journal) (c.publish.ensures ∙ ap longer c.tell.ensures.publisher) in
+    ∙ ap (λ (h : History). h.journal) (shown g c) in
     let reads = ap (λ (s : Sight). s.reads) c.tell-3.ensures.viewer
     ∙ ap (λ (s : Sight). s.reads) c.tell.ensures.viewer in
-    let snapshot = c.snapshot-snapshot.ensures.value ∙ ap snapshot_of answer.1
-    ∙ kept_snapshot _ _ now.whole now.kept in
-    let pushed : Published × Snapshot → Published =
-    λ p. record p.0 { publications = p.0.publications ++ p.1 ∷ [] } in
-    let learnt = c.tell-4.ensures.reader
-    ∙ ap told_reader (c.show_on_latch.ensures
-    ∙ ap pushed (λ i. (c.tell-2.ensures.writer i, snapshot i))) in
+    let learnt = c.tell-4.ensures.reader ∙ ap told_reader (latched g c) in
     let new : ℕ × Journal × Learnt → Known = λ p. record {
-      id = caller.id;
-      accepted = caller.accepted + 1;
+      id = old.id;
+      accepted = old.accepted + 1;
       reads = p.0;
       seen = p.1;
       learnt = p.2;
@@ -194,24 +213,19 @@ returns-clause-answer g c =
 
 pub returns-clause-reading : goal.returns-clause-reading
 returns-clause-reading g c =
-    let caller = c.caller.inside in
-    let old = known_of caller.id caller.accepted caller.viewer caller.reader caller.watcher in
-    let inside = c.self.inside in
-    let held = held_of inside.keeper.journal inside.publisher inside.writer inside.mask
-    inside.book.total in
+    let held = held_by g c in
     let answer = c.read_after.result in
-    let entry = entry_of old (bit_and answer held.mask) c.args.cmd in
-    let low = low_bits g.L.Named.page g.L.Named.latch held c.self.invariant.0 old answer c.args.cmd
-    c.tell.ensures.begins in
-    let longer : History → History = λ h. record h { journal = followed_by h.journal entry } in
+    let low = low_bits g.L.Named.page g.L.Named.latch held c.self.invariant.0 (caller_of g c) answer
+    c.args.cmd c.tell.ensures.begins in
     let seen = ap (λ (s : Sight). s.journal) c.tell-3.ensures.viewer
-    ∙ ap (λ (h : History). h.journal) (c.publish.ensures ∙ ap longer c.tell.ensures.publisher) in
-    let found : EndsAtReading g.C.Counter.answers_after (followed_by held.shown.journal entry) =
+    ∙ ap (λ (h : History). h.journal) (shown g c) in
+    let found : EndsAtReading g.C.Counter.answers_after
+    (followed_by held.shown.journal (entry_by g c)) =
     record {
       counter = c.self.inside.counter;
       from = moment_of c.look.result.now;
       before = held.shown.journal;
-      entry = entry;
+      entry = entry_by g c;
       last = refl;
       read = record { answer = answer; given = c.read_after.ensures.given; kept = low };
     } in
