@@ -1,6 +1,6 @@
 -- The result of a command, in terms of the journal before it.
 use Rattle.std.proofs.Common.{◌≡◌, ◌∙◌, ℕ, ◌+◌, List, [], ◌∷◌, ◌++◌, length, sym, ap, subst, false}
-use Rattle.std.specs.Prelude.{Some, None, Result, Ok, Err, MatchResult, IfOk, IsErrOf}
+use Rattle.std.specs.Prelude.{Option, Some, None, Result, Ok, Err, MatchResult, IfOk, IsErrOf}
 use Rattle.tk_clock.specs.declared.command.Entry.{Entry}
 use Rattle.tk_clock.specs.declared.refusal.Refusal.{Refusal}
 use Rattle.tk_clock.specs.declared.refusal.Refusal.TheVariants.{Memory}
@@ -87,6 +87,18 @@ pub running-accepted : (journal : Journal) (before after : State) (entry : Entry
 running-accepted journal before after entry running told =
     told.1 ∙ state_of-followed_by journal before entry.who entry.reading entry.cmd running told.0
 
+-- a keeper's journal refuses what its clocks refuse
+pub first_refusal-clocks : (folded spare : ℕ) (start clock : State) (entries : List Entry)
+    (keeper : Keeper) (entry : Entry) (refusal : Option Refusal) →
+    record { journal = journal_from folded start entries; spare = spare } ≡ keeper →
+    is_full keeper.journal ≡ false → IsKept (journal_from folded start entries) clock →
+    state_refusal clock entry.reading entry.cmd ≡ refusal → first_refusal keeper.journal entry ≡ refusal
+first_refusal-clocks folded spare start clock entries keeper entry refusal shows free held answer =
+    subst (λ (k : Keeper). is_full k.journal ≡ false → first_refusal k.journal entry ≡ refusal) shows
+    (λ room. first_refusal-state (journal_from folded start entries) clock entry.who entry.reading
+    entry.cmd refusal held.running room answer)
+    free
+
 -- a keeper whose clocks accepted a command: it has these parts, and `keeper` is what they show
 module _ (folded spare : ℕ) (start before after : State) (entries : List Entry) (entry : Entry)
     (keeper : Keeper)
@@ -99,21 +111,23 @@ module _ (folded spare : ℕ) (start before after : State) (entries : List Entry
   abbrev journal : Journal
   journal = journal_from folded start entries
 
-  accepted : first_refusal journal entry ≡ None
-  accepted = first_refusal-state journal before entry.who entry.reading entry.cmd None held.running
-      (subst (λ (k : Keeper). is_full k.journal ≡ false) (sym shows) free) done.0
+  accepted : first_refusal keeper.journal entry ≡ None
+  accepted = first_refusal-clocks folded spare start before entries keeper entry None shows free held
+      done.0
 
   pub running_entered : after ≡ state_of (followed_by journal entry)
   running_entered = running-accepted journal before after entry held.running done
 
   pub kept_entered : IsKept (followed_by journal entry) after
-  kept_entered = IsKept-followed_by journal entry before after held accepted running_entered
+  kept_entered = IsKept-followed_by journal entry before after held
+      (subst (λ (k : Keeper). first_refusal k.journal entry ≡ None) (sym shows) accepted)
+      running_entered
 
   pub answer_entered : (longer : List Entry) (number : ℕ) → longer ≡ entries ++ entry ∷ [] →
       number ≡ folded + length longer →
       IsAccepted keeper.journal (journal_from folded start longer) entry number
   answer_entered longer number pushed counted = (
-    subst (λ (k : Keeper). first_refusal k.journal entry ≡ None) shows accepted,
+    accepted,
     ap (journal_from folded start) pushed ∙ ap (λ (k : Keeper). followed_by k.journal entry) shows,
     counted,
   )

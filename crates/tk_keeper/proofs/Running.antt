@@ -23,14 +23,17 @@ IsAnswer before entry result after =
     × (number ≡ accepted_count after.journal))
     (λ refusal. IsRefusal before.journal entry refusal × (after ≡ before))
 
-refused : (before after : Keeper) (entry : Entry) (refusal : Refusal) →
-    first_refusal before.journal entry ≡ Some refusal →
-    after ≡ before →
-    reply_to before.journal entry ≡ record { answer = Err refusal; journal = after.journal }
-refused before after entry refusal told same =
-    ap (reply_if before.journal entry) told
-    ∙ ap (λ (k : Keeper). let reply : Reply = record { answer = Err refusal; journal = k.journal }
-    in reply) (sym same)
+-- a refusal other than `Memory` is that of the first test to fail
+first_refusal-is : (journal : Journal) (entry : Entry) (refusal : Refusal) →
+    IsRefusal journal entry refusal → (refusal ≡ Memory → ⊥) →
+    first_refusal journal entry ≡ Some refusal
+first_refusal-is journal entry Full told other = told
+first_refusal-is journal entry Asleep told other = told
+first_refusal-is journal entry Awake told other = told
+first_refusal-is journal entry Invalid told other = told
+first_refusal-is journal entry Behind told other = told
+first_refusal-is journal entry Range told other = told
+first_refusal-is journal entry Memory told other = absurd (other refl)
 
 -- unless memory was refused, this is the definition's reply
 pub reply-answer : (before after : Keeper) (entry : Entry) (result : Result ℕ Refusal) →
@@ -44,19 +47,11 @@ reply-answer before after entry (Ok number) told enough =
     ap (reply_if before.journal entry) told.0
     ∙ ap (λ n. put n (followed_by before.journal entry)) next
     ∙ ap (put number) (sym told.1)
-reply-answer before after entry (Err Full) told enough =
-    refused before after entry Full told.0 told.1
-reply-answer before after entry (Err Asleep) told enough =
-    refused before after entry Asleep told.0 told.1
-reply-answer before after entry (Err Awake) told enough =
-    refused before after entry Awake told.0 told.1
-reply-answer before after entry (Err Invalid) told enough =
-    refused before after entry Invalid told.0 told.1
-reply-answer before after entry (Err Behind) told enough =
-    refused before after entry Behind told.0 told.1
-reply-answer before after entry (Err Range) told enough =
-    refused before after entry Range told.0 told.1
-reply-answer before after entry (Err Memory) told enough = absurd (enough refl)
+reply-answer before after entry (Err refusal) told enough =
+    ap (reply_if before.journal entry)
+    (first_refusal-is before.journal entry refusal told.0 (λ e. enough (ap Err e)))
+    ∙ ap (λ (k : Keeper). let reply : Reply = record { answer = Err refusal; journal = k.journal }
+    in reply) (sym told.1)
 
 -- if there is room for the events that are left, there is room for an accepted one
 some_room : (left listed spare : ℕ) → 0 < left → listed < listed_most →
@@ -75,16 +70,10 @@ pub never_short : (before after : Keeper) (entry : Entry) (result : Result ℕ R
     (result ≡ Err Memory → before.spare ≡ 0) → 0 < left →
     min left (listed_most - length before.journal.entries) ≤ before.spare →
     result ≡ Err Memory → ⊥
-never_short before after entry (Ok number) left told short some enough e = cc e
-never_short before after entry (Err Full) left told short some enough e = cc e
-never_short before after entry (Err Asleep) left told short some enough e = cc e
-never_short before after entry (Err Awake) left told short some enough e = cc e
-never_short before after entry (Err Invalid) left told short some enough e = cc e
-never_short before after entry (Err Behind) left told short some enough e = cc e
-never_short before after entry (Err Range) left told short some enough e = cc e
-never_short before after entry (Err Memory) left told short some enough e =
-    let more = finds_room before.journal entry left before.spare some enough told.0 in
-    let none = short refl in
+never_short before after entry result left told short some enough e =
+    let accepted = (subst (λ r. IsAnswer before entry r after) e told).0 in
+    let more = finds_room before.journal entry left before.spare some enough accepted in
+    let none = short e in
     omega arith
 
 -- an accepted event leaves room for those after it

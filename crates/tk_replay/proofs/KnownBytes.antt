@@ -1,5 +1,6 @@
 -- Known bytes over several reads or writes.
-use Rattle.std.proofs.Common.{◌≡◌, ◌∙◌, ◌+◌, ◌-◌, ◌++◌, ℕ, List, take, drop, length, Option, Some, None, sym, append_assoc, arith}
+use Rattle.std.proofs.Common.{◌≡◌, ◌+◌, ◌-◌, ◌++◌, ℕ, List, take, drop, length, Option, arith}
+use Rattle.std.proofs.KnownBytes.{Appends-trans, Consumes-trans}
 use Rattle.std.proofs.Math.Seq.{take-add, take-append_seam}
 use Rattle.std.proofs.lemmas.List.{length-drop, take_all}
 use Rattle.std.specs.Io.KnownBytes.{Appends, Consumes}
@@ -8,29 +9,9 @@ use Rattle.std.specs.Io.KnownBytes.{Appends, Consumes}
 pub appends-more : (old mid new : Option (List ℕ)) (text : List ℕ) (written count : ℕ) →
     Appends old mid (take written text) → Appends mid new (take count (drop written text)) →
     Appends old new (take (written + count) text)
-appends-more None mid new text written count before piece = tt
-appends-more (Some xs) None new text written count before piece = absurd before
-appends-more (Some xs) (Some ys) None text written count before piece = absurd piece
-appends-more (Some xs) (Some ys) (Some zs) text written count before piece =
-    piece ∙ rw (
-      before,
-      take-add written count text,
-    )
-    (append_assoc xs (take written text) (take count (drop written text)))
-
--- one more piece of an input was read
-pub consumes-more : (old mid new : Option (List ℕ)) (bytes : List ℕ) (filled count : ℕ) →
-    Consumes old mid (take filled bytes) → Consumes mid new (take count (drop filled bytes)) →
-    Consumes old new (take (filled + count) bytes)
-consumes-more None mid new bytes filled count before piece = tt
-consumes-more (Some xs) None new bytes filled count before piece = absurd before
-consumes-more (Some xs) (Some ys) None bytes filled count before piece = absurd piece
-consumes-more (Some xs) (Some ys) (Some zs) bytes filled count before piece =
-    before ∙ rw (
-      piece,
-      take-add filled count bytes,
-    )
-    (sym (append_assoc (take filled bytes) (take count (drop filled bytes)) zs))
+appends-more old mid new text written count before piece =
+    rw (take-add written count text)
+    (Appends-trans old mid new (take written text) (take count (drop written text)) before piece)
 
 -- one more piece of an input was read into a buffer whose front did not change
 pub consumes-next : (old mid new : Option (List ℕ)) (before room rest : List ℕ)
@@ -40,7 +21,8 @@ pub consumes-next : (old mid new : Option (List ℕ)) (before room rest : List �
     Consumes old new (take (filled + count) (take len (room ++ rest)))
 consumes-next old mid new before room rest filled count len same front first piece =
     let whole : take len (room ++ rest) ≡ room = rw (← same) (take-append_seam room rest) in
-    rw whole (consumes-more old mid new room filled count (rw front first) piece)
+    rw (whole, take-add filled count room, front)
+    (Consumes-trans old mid new (take filled before) (take count (drop filled room)) first piece)
 
 -- all bytes after a place
 pub take-rest : (text : List ℕ) (place : ℕ) →

@@ -1,6 +1,6 @@
 -- The result for a whole script, from the results for its parts.
-use Rattle.std.proofs.Common.{◌≡◌, ◌<◌, ◌≤◌, ℕ, List, [], ◌∷◌, length, nat_lt, Result, Err, true, false, refl, arith}
-use Rattle.std.proofs.lemmas.Grind.{common_steps}
+use Rattle.std.proofs.Common.{◌≡◌, ◌<◌, ◌≤◌, ℕ, List, [], ◌∷◌, length, Result, Err, refl}
+use Rattle.std.proofs.lemmas.Bool.{lt-ltb, le-ltb}
 use Rattle.tk_script.specs.Opening.{start_of}
 use Rattle.tk_script.specs.Records.{records_of, most_bytes}
 use Rattle.tk_script.specs.Grammar.{parse_of, parse_records, Fails}
@@ -21,15 +21,13 @@ fails-from (errors.Number row) read h = h
 -- a script with too many bytes
 pub parse-large : (bytes : List ℕ) → most_bytes < length bytes → parse_of bytes ≡ Err errors.TooLarge
 unfolding parse_of
-parse-large bytes h = let big : nat_lt most_bytes (length bytes) ≡ true = grind (arith, common_steps)
-    in rw big refl
+parse-large bytes h = rw (lt-ltb most_bytes (length bytes) h) refl
 
 -- a script with at most 16,777,216 bytes
 pub parse-small : (bytes : List ℕ) → length bytes ≤ most_bytes →
     parse_of bytes ≡ parse_records (records_of bytes)
 unfolding parse_of
-parse-small bytes h = let small : nat_lt most_bytes (length bytes) ≡ false =
-    grind (arith, common_steps) in rw small refl
+parse-small bytes h = rw (le-ltb most_bytes (length bytes) h) refl
 
 -- a script without a record
 pub parse-none : (records : List (List (List ℕ))) → records ≡ [] →

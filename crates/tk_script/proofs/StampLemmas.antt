@@ -1,13 +1,11 @@
 -- The items of a stamp file, read one after the other.
-use Rattle.std.proofs.Common.{◌≡◌, ◌<◌, ◌≤◌, ◌∙◌, ◌+◌, ◌++◌, ℕ, List, [], ◌∷◌, length, map, nat_lt, Ok, Err, true, false, inl, inr, refl, sym, ap, arith}
-use Rattle.std.proofs.lemmas.Grind.{common_steps}
+use Rattle.std.proofs.Common.{◌≡◌, ◌∙◌, ◌+◌, ◌++◌, ℕ, List, [], ◌∷◌, length, map, Ok, Err, inl, inr, refl, sym, ap}
 use Rattle.std.proofs.lemmas.List.{map_push, length_push}
 use Rattle.tk_script.specs.Cursor.{NextFails}
 use Rattle.tk_script.specs.Grammar.{Fails}
-use Rattle.tk_script.specs.Records.{each, records_of, most_bytes}
-use Rattle.tk_script.specs.Stamps.{Items, items_of, stamp_of, stamps_of, items_in}
+use Rattle.tk_script.specs.Records.{each}
+use Rattle.tk_script.specs.Stamps.{Items, items_of, stamp_of, items_in}
 use Rattle.tk_script.specs.declared.script_error.ScriptError.{ScriptError}
-use Rattle.tk_script.specs.declared.script_error.ScriptError.TheVariants as errors
 use Rattle.tk_script.proofs.EachLemmas.{Goes, goes-fault}
 use Rattle.tk_script.proofs.GrammarLemmas.{fails-from}
 
@@ -50,16 +48,3 @@ items-fails records left before n fault goes (inl memory) = rw memory tt
 items-fails records left before n fault goes (inr (first, later, split, e)) =
     fails-from fault (items_in 1 records) (items-fault records fault
     (goes-fault stamp_of (each stamp_of 1 records) before n left first later fault goes split e))
-
--- a file with too many bytes
-pub stamps-large : (bytes : List ℕ) → most_bytes < length bytes → stamps_of bytes ≡ Err errors.TooLarge
-unfolding stamps_of
-stamps-large bytes h = let big : nat_lt most_bytes (length bytes) ≡ true = grind (arith, common_steps)
-    in rw big refl
-
--- a file with at most 16,777,216 bytes
-pub stamps-small : (bytes : List ℕ) → length bytes ≤ most_bytes →
-    stamps_of bytes ≡ items_in 1 (records_of bytes)
-unfolding stamps_of
-stamps-small bytes h = let small : nat_lt most_bytes (length bytes) ≡ false =
-    grind (arith, common_steps) in rw small refl

@@ -1,27 +1,25 @@
-use Rattle.std.proofs.Common.{◌≡◌, ◌≢◌, ◌+◌, ◌%◌, length, refl, sym, ap, subst, arith, false}
+use Rattle.std.proofs.Common.{◌≡◌, ◌≢◌, ◌+◌, ◌%◌, length, sym, ap, subst, arith}
 use Rattle.std.proofs.lemmas.List.{length_push}
 use Rattle.std.proofs.lemmas.Result.{err_from_is_err_and}
 use Rattle.tk_clock.specs.Journal.{Journal, followed_by, accepted_count}
-use Rattle.tk_clock.specs.Refusal.{is_full}
-use Rattle.tk_clock.proofs.Legal.{first_refusal-state}
 use Rattle.tk_keeper.specs.Keeper.{Keeper}
 use Rattle.tk_keeper.specs.declared.timekeeper.Kept.{Kept}
-use Rattle.tk_keeper.proofs.Commands.{running_entered, kept_entered, answer_entered}
+use Rattle.tk_keeper.proofs.Commands.{IsAccepted, first_refusal-clocks, running_entered, kept_entered, answer_entered}
 use Rattle.tk_keeper.proofs.Kept.{EndsWithRun, HasKept-same, HasKept-more}
+use Rattle.tk_keeper.proofs.timekeeper.Timekeeper.enter.Given.{Over}
+use Rattle.tk_keeper.proofs.timekeeper.Timekeeper.enter.Goals.{After-len}
 use Rattle.tk_keeper.proofs.timekeeper.Timekeeper.enter.Goals as goal
 use Rattle.tk_clock.specs.Folding.{journal_from}
 
 pub returns-in_err-apply-clause-answer : goal.returns-in_err-apply-clause-answer
 returns-in_err-apply-clause-answer g c =
     let keeper = c.self.inside in
-    let entry = c.args.entry in
-    let journal : Journal = journal_from keeper.folded keeper.start keeper.entries.items in
-    let free : is_full journal ≡ false =
-    subst (λ (k : Keeper). is_full k.journal ≡ false) (sym c.self.view_is) c.requires.free in
     let p = err_from_is_err_and c.from_residual.result c.from_residual.ensures.1 in
-    let told = first_refusal-state journal keeper.clock entry.who entry.reading entry.cmd _
-    c.self.invariant.0.running free c.in_err-apply.ensures.0 in
-    rw (p.1, p.2, ← c.self.view_is) (told, refl)
+    rw (p.1, p.2) (
+      first_refusal-clocks keeper.folded _ keeper.start keeper.clock keeper.entries.items c.args.self.now
+          c.args.entry _ c.self.view_is c.requires.free c.self.invariant.0 c.in_err-apply.ensures.0,
+      c.self.view_is,
+    )
 
 pub invariant_of-self-then-number-eq0 : goal.invariant_of-self-then-number-eq0
 invariant_of-self-then-number-eq0 g c =
@@ -60,16 +58,21 @@ invariant_of-self-else-number-eq0 g c =
     rw c.push.ensures.items
     (kept, HasKept-same journal c.args.entry keeper.start keeper.kept.items c.self.invariant.1 odd)
 
-pub returns-then-number-eq0-clause-answer : goal.returns-then-number-eq0-clause-answer
-returns-then-number-eq0-clause-answer g c =
+-- the command was accepted as the entry that the length counts
+answer : (g : Over) (c : After-len g) →
+    IsAccepted c.args.self.now.journal
+    (journal_from c.self.inside.folded c.self.inside.start c.push.new.self.items) c.args.entry
+    (c.self.inside.folded + c.len.result)
+answer g c =
     let keeper = c.self.inside in
     answer_entered keeper.folded _ keeper.start keeper.clock _ keeper.entries.items c.args.entry
     c.args.self.now c.self.view_is c.requires.free c.self.invariant.0 c.in_ok-apply.ensures
     c.push.new.self.items _ c.push.ensures.items (ap (λ n. keeper.folded + n) c.len.ensures)
 
+pub returns-then-number-eq0-clause-answer : goal.returns-then-number-eq0-clause-answer
+returns-then-number-eq0-clause-answer g c =
+    answer g (goal.at.returns-then-number-eq0-clause-answer g c).After-len
+
 pub returns-else-number-eq0-clause-answer : goal.returns-else-number-eq0-clause-answer
 returns-else-number-eq0-clause-answer g c =
-    let keeper = c.self.inside in
-    answer_entered keeper.folded _ keeper.start keeper.clock _ keeper.entries.items c.args.entry
-    c.args.self.now c.self.view_is c.requires.free c.self.invariant.0 c.in_ok-apply.ensures
-    c.push.new.self.items _ c.push.ensures.items (ap (λ n. keeper.folded + n) c.len.ensures)
+    answer g (goal.at.returns-else-number-eq0-clause-answer g c).After-len
