@@ -3,6 +3,7 @@ ghost use Rattle.std.specs.Prelude.{◌≡◌, [], ◌∷◌, IfOk};
 ghost use Rattle.tk_shared.specs.Callers.{newcomers};
 ghost use Rattle.tk_shared.specs.Opening.{IsNamed};
 
+mod deeds;
 mod folding;
 mod locked;
 mod many;

@@ -1,39 +1,25 @@
 //! Folding under the lock.
 ghost use Rattle.std.specs.Prelude.{◌≡◌};
-ghost use Rattle.tk_shared.specs.Opening.{IsNamed};
 
-use super::{assert_same, both, commanded, glanced, open_two, opened, read_by, ready};
+use super::{assert_same, both, commanded, deeds, glanced, read_by, ready};
 use std::alloc::Global;
-use std::marker::Brand;
 use std::process::Abort;
 use std::sync::Wait;
 use std::test::Fail;
 use tk_clock::{Command, Refusal};
-use tk_shared::{Caller, Named, Prepared, SharedKeeper, Ticker};
+use tk_shared::{Caller, Named, SharedKeeper, Ticker};
 
 #[test]
 fn a_fold_makes_room_again(rt: HostRuntime) -> Result<(), Fail> {
     let prepared = ready(&rt, rt.alloc(), Ticker::new(0, 0), 1)?;
-    fills::<Brand, _>(&rt, rt.alloc(), prepared)
+    deeds::alone_does(&rt, rt.alloc(), prepared, deeds::Alone::Fills)
 }
 
-fn fills<L: Named, R: Wait + Abort>(
-    rt: &R,
-    alloc: Global,
-    prepared: Prepared<Ticker>,
-) -> Result<(), Fail>
-    requires named { IsNamed prepared L.page L.latch L.notice L.name L.parts L.callers }
-{
-    let (keeper, mut callers) = opened::<L, Ticker>(alloc, prepared)?;
-    fills_with(rt, &keeper, callers.as_mut_slice())
-}
-
-fn fills_with<L: Named, R: Wait + Abort>(
+pub(super) fn fills<L: Named, R: Wait + Abort>(
     rt: &R,
     keeper: &SharedKeeper<L, Ticker>,
-    callers: &mut [Caller<L>],
+    caller: &mut Caller<L>,
 ) -> Result<(), Fail> {
-    let caller = callers.first_mut().ok_or("a caller")?;
     let mut is_good = true;
     for number in 1..=1_048_576 {
         let answer = commanded(rt, keeper, caller, Command::Update);
@@ -53,26 +39,14 @@ fn fills_with<L: Named, R: Wait + Abort>(
 #[test]
 fn a_fold_keeps_as_many_entries_as_asked(rt: HostRuntime) -> Result<(), Fail> {
     let prepared = ready(&rt, rt.alloc(), Ticker::new(0, 1_000), 1)?;
-    keeps::<Brand, _>(&rt, rt.alloc(), prepared)
+    deeds::alone_does(&rt, rt.alloc(), prepared, deeds::Alone::Keeps)
 }
 
-fn keeps<L: Named, R: Wait + Abort>(
-    rt: &R,
-    alloc: Global,
-    prepared: Prepared<Ticker>,
-) -> Result<(), Fail>
-    requires named { IsNamed prepared L.page L.latch L.notice L.name L.parts L.callers }
-{
-    let (keeper, mut callers) = opened::<L, Ticker>(alloc, prepared)?;
-    keeps_of_five(rt, &keeper, callers.as_mut_slice())
-}
-
-fn keeps_of_five<L: Named, R: Wait + Abort>(
+pub(super) fn keeps_of_five<L: Named, R: Wait + Abort>(
     rt: &R,
     keeper: &SharedKeeper<L, Ticker>,
-    callers: &mut [Caller<L>],
+    caller: &mut Caller<L>,
 ) -> Result<(), Fail> {
-    let caller = callers.first_mut().ok_or("a caller")?;
     for number in 1..=5 {
         let answer = commanded(rt, keeper, caller, Command::Update);
         assert_same(rt, &answer, &Ok(number));
@@ -87,18 +61,18 @@ fn keeps_of_five<L: Named, R: Wait + Abort>(
 #[test]
 fn numbers_and_fronts_go_on_after_a_fold(rt: HostRuntime) -> Result<(), Fail> {
     let prepared = ready(&rt, rt.alloc(), Ticker::new(0, 1_000), 2)?;
-    folds::<Brand, _>(&rt, rt.alloc(), prepared)
+    deeds::both_do(&rt, rt.alloc(), prepared, deeds::Both::Fold)
 }
 
-fn folds<L: Named, R: Wait + Abort>(
+pub(super) fn folds<L: Named, R: Wait + Abort>(
     rt: &R,
     alloc: Global,
-    prepared: Prepared<Ticker>,
+    keeper: SharedKeeper<L, Ticker>,
+    mut one: Caller<L>,
+    mut two: Caller<L>,
 ) -> Result<(), Fail>
-    requires named { IsNamed prepared L.page L.latch L.notice L.name L.parts L.callers }
-    requires two { prepared.callers ≡ 2 }
+    requires callers { (one.id ≡ 0) × (two.id ≡ 1) }
 {
-    let (keeper, mut one, mut two) = open_two::<L, Ticker>(alloc, prepared)?;
     let first = commanded(rt, &keeper, &mut one, Command::Update);
     let second = commanded(rt, &keeper, &mut two, Command::Update);
     let third = commanded(rt, &keeper, &mut one, Command::Update);

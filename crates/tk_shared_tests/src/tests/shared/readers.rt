@@ -18,7 +18,7 @@ const COMMANDS: u64 = 100_000;
 
 const STEP: u64 = 1_000;
 
-/// Is this the snapshot of so many Updates?
+/// Is this the snapshot of this number of Updates?
 fn is_whole(seen: &Snapshot) -> bool {
     seen.last() == seen.front().wrapping_mul(STEP) & 0xffff_ffff
 }
@@ -80,10 +80,10 @@ fn sees_all<L: Named, R: Wait>(
 #[test]
 fn fast_reads_are_whole_while_commands_are_given(rt: HostRuntime) -> Result<(), Fail> {
     let prepared = ready(&rt, rt.alloc(), Ticker::new(0, STEP), 2)?;
-    beside::<Brand, _>(&rt, rt.alloc(), prepared)
+    glances_beside::<Brand, _>(&rt, rt.alloc(), prepared)
 }
 
-fn beside<L: Named + Send + Sync, R: Threads + Wait + Abort + Sync>(
+fn glances_beside<L: Named + Send + Sync, R: Threads + Wait + Abort + Sync>(
     rt: &R,
     alloc: Global,
     prepared: Prepared<Ticker>,

@@ -37,39 +37,55 @@ impl Counter for Answers {
 }
 
 /// What an Update answers, and the reading and MONOTONIC that the clocks then have.
-fn updated<C: Counter, R: Wait + Abort>(
-    rt: &R,
-    alloc: Global,
-    prepared: Prepared<C>,
+#[derive(Clone, Copy)]
+struct Updated {
     answer: Result<u64, Refusal>,
     last: u64,
     nanos: u32,
-) -> Result<(), Fail> {
-    updated_named::<Brand, C, R>(rt, alloc, prepared, answer, last, nanos)
 }
 
-fn updated_named<L: Named, C: Counter, R: Wait + Abort>(
+/// The same of the first Update, if it is accepted.
+fn accepted(last: u64, nanos: u32) -> Updated {
+    Updated {
+        answer: Ok(1),
+        last,
+        nanos,
+    }
+}
+
+/// Opens what was prepared, and compares an Update of its first caller with what is wanted.
+fn updates<C: Counter, R: Wait + Abort>(
     rt: &R,
     alloc: Global,
     prepared: Prepared<C>,
-    answer: Result<u64, Refusal>,
-    last: u64,
-    nanos: u32,
+    wanted: Updated,
+) -> Result<(), Fail> {
+    updates_named::<Brand, C, R>(rt, alloc, prepared, wanted)
+}
+
+fn updates_named<L: Named, C: Counter, R: Wait + Abort>(
+    rt: &R,
+    alloc: Global,
+    prepared: Prepared<C>,
+    wanted: Updated,
 ) -> Result<(), Fail>
     requires named { IsNamed prepared L.page L.latch L.notice L.name L.parts L.callers }
 {
     let (keeper, mut callers) = opened::<L, C>(alloc, prepared)?;
-    updated_by(rt, &keeper, callers.as_mut_slice(), answer, last, nanos)
+    updates_by(rt, &keeper, callers.as_mut_slice(), wanted)
 }
 
-fn updated_by<L: Named, C: Counter, R: Wait + Abort>(
+fn updates_by<L: Named, C: Counter, R: Wait + Abort>(
     rt: &R,
     keeper: &SharedKeeper<L, C>,
     callers: &mut [Caller<L>],
-    answer: Result<u64, Refusal>,
-    last: u64,
-    nanos: u32,
+    wanted: Updated,
 ) -> Result<(), Fail> {
+    let Updated {
+        answer,
+        last,
+        nanos,
+    } = wanted;
     let caller = callers.first_mut().ok_or("a caller")?;
     assert_same(rt, &commanded(rt, keeper, caller, Command::Update), &answer);
     let seen = read_by(rt, keeper, caller);
@@ -87,7 +103,12 @@ fn a_counter_that_runs_back_is_refused(rt: HostRuntime) -> Result<(), Fail> {
         others: 2_999,
     };
     let prepared = ready(&rt, rt.alloc(), counter, 1)?;
-    updated(&rt, rt.alloc(), prepared, Err(Refusal::Behind), 3_000, 0)
+    let refused = Updated {
+        answer: Err(Refusal::Behind),
+        last: 3_000,
+        nanos: 0,
+    };
+    updates(&rt, rt.alloc(), prepared, refused)
 }
 
 #[test]
@@ -97,7 +118,7 @@ fn answers_above_the_mask_are_masked(rt: HostRuntime) -> Result<(), Fail> {
         others: (1 << 63) + 7,
     };
     let prepared = ready(&rt, rt.alloc(), counter, 1)?;
-    updated(&rt, rt.alloc(), prepared, Ok(1), 7, 2)
+    updates(&rt, rt.alloc(), prepared, accepted(7, 2))
 }
 
 #[test]
@@ -105,7 +126,8 @@ fn readings_of_48_bits_keep_their_upper_bits(rt: HostRuntime) -> Result<(), Fail
     let desc = CounterDesc::new(48, 16_777_216, 24)?;
     let start = (1 << 32) + 5;
     let prepared = ready_on(&rt, rt.alloc(), desc, Ticker::new(start, 1_000), 1)?;
-    updated(&rt, rt.alloc(), prepared, Ok(1), (1 << 32) + 1_005, 1_000)
+    let wanted = accepted((1 << 32) + 1_005, 1_000);
+    updates(&rt, rt.alloc(), prepared, wanted)
 }
 
 #[test]
@@ -113,5 +135,5 @@ fn a_ticker_wraps_at_64_bits(rt: HostRuntime) -> Result<(), Fail> {
     let mut ticker = Ticker::new(u64::MAX - 999, 1_000);
     assert_same(&rt, &(ticker.read(), ticker.read()), &(u64::MAX - 999, 0));
     let prepared = ready(&rt, rt.alloc(), Ticker::new(u64::MAX - 999, 1_000), 1)?;
-    updated(&rt, rt.alloc(), prepared, Ok(1), 0, 1_000)
+    updates(&rt, rt.alloc(), prepared, accepted(0, 1_000))
 }

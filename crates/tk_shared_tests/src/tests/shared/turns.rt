@@ -1,16 +1,14 @@
 //! Two callers take turns in one thread.
 ghost use Rattle.std.specs.Prelude.{◌≡◌, [], ◌∷◌, IfOk};
-ghost use Rattle.tk_shared.specs.Opening.{IsNamed};
 
-use super::{assert_same, commanded, glanced, open_two, read_by, ready, time};
+use super::{assert_same, commanded, deeds, glanced, read_by, ready, time};
 use std::alloc::Global;
-use std::marker::Brand;
 use std::process::Abort;
 use std::sync::Wait;
 use std::test::Fail;
 use tk_clock::{ClockId, Command, Timespec};
 use tk_keeper::Timekeeper;
-use tk_shared::{Caller, Closed, Counter, Missing, Named, Prepared, SharedKeeper, Ticker};
+use tk_shared::{Caller, Closed, Counter, Missing, Named, SharedKeeper, Ticker};
 
 /// What the first caller sets REALTIME to.
 const SET: Command = Command::SetTime(Timespec {
@@ -21,18 +19,18 @@ const SET: Command = Command::SetTime(Timespec {
 #[test]
 fn a_command_is_read_by_both_and_all_callers_close(rt: HostRuntime) -> Result<(), Fail> {
     let prepared = ready(&rt, rt.alloc(), Ticker::new(0, 1_000), 2)?;
-    reads::<Brand, _>(&rt, rt.alloc(), prepared)
+    deeds::both_do(&rt, rt.alloc(), prepared, deeds::Both::Read)
 }
 
-fn reads<L: Named, R: Wait + Abort>(
+pub(super) fn reads<L: Named, R: Wait + Abort>(
     rt: &R,
     alloc: Global,
-    prepared: Prepared<Ticker>,
+    keeper: SharedKeeper<L, Ticker>,
+    mut one: Caller<L>,
+    mut two: Caller<L>,
 ) -> Result<(), Fail>
-    requires named { IsNamed prepared L.page L.latch L.notice L.name L.parts L.callers }
-    requires two { prepared.callers ≡ 2 }
+    requires callers { (one.id ≡ 0) × (two.id ≡ 1) }
 {
-    let (keeper, mut one, mut two) = open_two::<L, Ticker>(alloc, prepared)?;
     both_read(rt, &keeper, &mut one, &mut two);
     let Closed {
         keeper,
@@ -120,22 +118,10 @@ fn is_journal<R: Abort>(rt: &R, keeper: &Timekeeper) -> Result<(), Fail> {
 #[test]
 fn a_fast_read_finds_what_another_caller_did(rt: HostRuntime) -> Result<(), Fail> {
     let prepared = ready(&rt, rt.alloc(), Ticker::new(0, 1_000), 2)?;
-    fast_reads::<Brand, _>(&rt, rt.alloc(), prepared)
+    deeds::both_do(&rt, rt.alloc(), prepared, deeds::Both::ReadFast)
 }
 
-fn fast_reads<L: Named, R: Wait + Abort>(
-    rt: &R,
-    alloc: Global,
-    prepared: Prepared<Ticker>,
-) -> Result<(), Fail>
-    requires named { IsNamed prepared L.page L.latch L.notice L.name L.parts L.callers }
-    requires two { prepared.callers ≡ 2 }
-{
-    let (keeper, mut one, mut two) = open_two::<L, Ticker>(alloc, prepared)?;
-    fast_reads_of(rt, &keeper, &mut one, &mut two)
-}
-
-fn fast_reads_of<L: Named, R: Wait + Abort>(
+pub(super) fn fast_reads<L: Named, R: Wait + Abort>(
     rt: &R,
     keeper: &SharedKeeper<L, Ticker>,
     one: &mut Caller<L>,
