@@ -137,10 +137,10 @@ pub extern "C" fn tkc_clock_snapshot(out: &mut SnapshotStorage, clock: &CountedC
     out.base.mult = snapshot.mult();
     out.base.sec = snapshot.sec();
     out.base.raw_sec = snapshot.raw_sec();
+    out.base.boot_offset = snapshot.boot_offset();
     out.base.real_offset = snapshot.real_offset();
     out.base.frac = snapshot.frac();
     out.base.raw_frac = snapshot.raw_frac();
-    out.base.boot_offset = snapshot.boot_offset();
     out.base.tai = snapshot.tai();
     out.base.asleep = u8::from(snapshot.asleep());
 }
