@@ -20,10 +20,12 @@
 //!    loads the words, and restores the version. That last store is the read.
 //! 5. Split: a second pass gets what a pass knows. The first one keeps it too, or gives it up.
 //! 6. Join: a pass takes in what another pass knows. The other one is then spent.
-//! 7. Tell: the viewer's pass gives a copy of what it knows, and then all of it (5). The publisher's
-//!    pass gives a copy (5), and takes in the viewer's copy as a note (6). A read by the publisher (3
-//!    or 4) then shows that the noted journal begins the publisher's. At last the viewer's count is
-//!    joined to the publisher's copy (6).
+//! 7. Tell: the viewer's pass gives a copy of what it knows (5), and the publisher's pass takes it in
+//!    as a note (6). A read by the publisher (3 or 4) then shows that the noted journal begins the
+//!    publisher's.
+//! 8. Extend, at the end of 7, or alone if it is known that the viewer's journal begins the
+//!    publisher's: the viewer's pass gives all that it knows (5). The publisher's pass gives a copy
+//!    (5), which takes in what the viewer gave (6) and becomes the viewer's pass.
 //!
 //! A viewer's pass counts its reads: steps 3 and 4 add one, and no other step adds any. A copy (5)
 //! starts at 0. A join (6) adds both counts and keeps the longer journal, so no step can keep the
@@ -34,11 +36,11 @@
 //! - `publish` waits for a viewer that holds the cell in step 4.
 //! - `read` and `tell` wait, after a failed first try, for the pass that holds the cell.
 //! - `open` waits for nobody: no other pass exists yet.
-//! - `front`, `split` and `join` never wait.
+//! - `front`, `extend`, `split` and `join` never wait.
 //!
 //! No call takes the lock of a keeper, and only `open` allocates. The version has room for
 //! 2^63 - 1 stores of the words. Step 1 uses one, so there can be 2^63 - 2 publications.
-ghost use Rattle.std.specs.Prelude.{◌≡◌, IfOk};
+ghost use Rattle.std.specs.Prelude.{◌≡◌, IfOk, length};
 ghost use Rattle.crossbeam_utils.specs.Seq.{cell_view};
 ghost use Rattle.tk_page.specs.declared.view.View.TheVariants.{Fresh, Publishing};
 ghost use Rattle.tk_page.specs.History.{Begins, IsOpening, opened_by};
@@ -115,13 +117,30 @@ impl Page {
     {
         // Step 7.
         let noted = self.cell.split_pass::<Copies>(&mut viewer.pass);
-        let whole = self.cell.split_pass::<Leaves>(&mut viewer.pass);
-        let mut told = self.cell.split_pass::<Copies>(&mut publisher.pass);
         self.cell.join_pass::<Notes>(&mut publisher.pass, noted);
         let words = self.cell.load_as::<Compares, R>(rt, &mut publisher.pass);
-        self.cell.join_pass::<KeepsLonger>(&mut told, whole);
-        viewer.pass = told;
-        viewer.front = words[0];
+        self.extend(publisher, viewer, words[0]);
+    }
+
+    /// Gives a viewer all that was published, if its journal is known to begin the publisher's.
+    /// `front` is the number of entries of the publisher's journal.
+    ///
+    /// It touches no word of the page, never waits and allocates nothing.
+    #[inline]
+    pub fn extend(&self, publisher: &mut Publisher, viewer: &mut Viewer, front: u64)
+        requires publisher { publisher.old.page ≡ self.now }
+        requires viewer { viewer.old.page ≡ self.now }
+        requires begins { Begins viewer.old.journal publisher.old.journal }
+        requires front { front ≡ length publisher.old.journal.entries }
+        ensures publisher { publisher.new ≡ publisher.old }
+        ensures viewer { viewer.new ≡ record viewer.old { journal = publisher.old.journal } }
+    {
+        // Step 8.
+        let known = self.cell.split_pass::<Leaves>(&mut viewer.pass);
+        let mut whole = self.cell.split_pass::<Copies>(&mut publisher.pass);
+        self.cell.join_pass::<KeepsLonger>(&mut whole, known);
+        viewer.pass = whole;
+        viewer.front = front;
     }
 }
 

@@ -1,5 +1,6 @@
 -- Where the callers have different numbers, none has more entries than were accepted.
 use Rattle.std.proofs.Common.{◌≡◌, ◌≢◌, ℕ, zero, suc, ◌+◌, ◌≤◌, ◌==◌, Bool, true, false, cond, List, [], ◌∷◌, ◌++◌, All, length, ap, sym, ◌∙◌, arith, refl, ne_eqb}
+use Rattle.std.proofs.lemmas.Bool.{eq-eqb}
 use Rattle.std.proofs.lemmas.List.Sums.{sum_by-append}
 use mathlib.Core.List.{IsPrefix}
 use mathlib.Core.Logic.{dite}
@@ -19,6 +20,20 @@ made_by-prefix id xs ys p =
     let parts = made_by-append id xs p.0 in
     let whole = ap (made_by id) p.1 in
     omega (arith, parts, whole)
+
+-- an entry of its own counts once
+own_once : (id : ℕ) (entry : Entry) → entry.who ≡ id → made_by id (entry ∷ []) ≡ 1
+own_once id entry own = ap (λ (b : Bool). 0 + cond b 1 0) (eq-eqb entry.who id own)
+
+-- a caller has no more accepted commands than the history has entries of it, also with one more
+pub own_more : (id accepted : ℕ) (seen history : List Entry) (entry : Entry) → entry.who ≡ id →
+    IsPrefix seen history → accepted ≤ made_by id seen →
+    accepted + 1 ≤ made_by id (history ++ entry ∷ [])
+own_more id accepted seen history entry own begins few =
+    let once = own_once id entry own in
+    let longer = made_by-prefix id seen history begins in
+    let parts = made_by-append id history (entry ∷ []) in
+    omega (arith, once, longer, parts, few)
 
 made_at_most : (id : ℕ) (entry : Entry) → made_by id (entry ∷ []) ≤ 1
 made_at_most id entry = go (entry.who == id)

@@ -103,8 +103,8 @@ impl<L: Named, C: Counter> Locked<L, C> {
         self.publisher.publish(rt, page, entry, snapshot);
         show_on_latch(latch, &mut self.writer, snapshot);
         self.announcer.accept(notice, reading);
-        // This call may wait, so it comes after both publications.
-        page.tell(rt, &mut self.publisher, &mut caller.viewer);
+        // The caller has seen all entries but this one, so it need not read the page again.
+        page.extend(&mut self.publisher, &mut caller.viewer, snapshot.front());
         latch.tell(&mut self.writer, &mut caller.reader);
         self.announcer.tell(notice, &mut caller.watcher);
         self.book.add(&mut caller.share, 1);

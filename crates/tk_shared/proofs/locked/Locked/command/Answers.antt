@@ -1,10 +1,11 @@
-use Rattle.std.proofs.Common.{◌≡◌, ℕ, ◌+◌, ◌++◌, ◌∷◌, [], sym, ap, ◌∙◌, subst, refl, bit_and, List}
+use Rattle.std.proofs.Common.{◌≡◌, ℕ, ◌+◌, ◌≤◌, ◌++◌, ◌∷◌, [], sym, ap, ◌∙◌, subst, refl, bit_and, List, rules}
 use Rattle.tk_clock.specs.declared.command.Entry.{Entry}
 use Rattle.tk_clock.specs.Journal.{Journal, followed_by, accepted_count}
 use Rattle.tk_clock.specs.Snapshot.{Snapshot, snapshot_of}
-use Rattle.tk_page.specs.History.{History, Sight}
+use Rattle.tk_page.specs.History.{Begins, History, Sight}
+use Rattle.tk_page.proofs.Beginnings.{begins-followed_by, begins-self}
 use Rattle.tk_latch.specs.Latch.{Learnt, Published, told_reader}
-use Rattle.tk_shared.specs.Callers.{Known, known_of, entry_of, IsAccepted, IsRefused}
+use Rattle.tk_shared.specs.Callers.{Known, known_of, entry_of, made_by, IsAccepted, IsRefused}
 use Rattle.tk_now.specs.declared.rule.Taken.{Taken}
 use Rattle.tk_now.specs.Moments.{IsAcceptedAt}
 use Rattle.tk_now.specs.Views.{Announcing, moment_of}
@@ -12,6 +13,7 @@ use Rattle.tk_shared.specs.Locked.{Guarded, Held, held_of, IsAtRest, IsHeld}
 use Rattle.tk_shared.specs.Readings.{EndsAtReading, IsRefusedAtReading}
 use Rattle.tk_keeper.specs.Keeper.{Keeper}
 use Rattle.tk_shared.proofs.Announced.{accepted_at_rest, refused_at_rest}
+use Rattle.tk_shared.proofs.Counts.{own_more}
 use Rattle.tk_shared.proofs.Held.{with_entry, held_accepted}
 use Rattle.tk_shared.proofs.Kept.{kept_snapshot}
 use Rattle.tk_shared.proofs.Told.{refused, accepted, reason, low_bits}
@@ -83,7 +85,7 @@ at_rest g c =
     (c.accept.ensures.notice ∙ c.announce.ensures.same.0) c.accept.ensures.idle refl
     (subst (λ (l : List Taken). IsAcceptedAt c.announce.new.self.since l entry.reading
     c.accept.new.self.commands) c.announce.ensures.same.1 c.accept.ensures.accepted)
-    c.tell-5.ensures.told.order
+    c.tell-4.ensures.told.order
 
 pub returns-in-Err-clause-answer : goal.returns-in-Err-clause-answer
 returns-in-Err-clause-answer g c =
@@ -141,6 +143,21 @@ publish-requires-clause-snapshot g c =
     ∙ kept_snapshot _ _ now.whole now.kept
     ∙ ap (λ (h : History). snapshot_of (followed_by h.journal entry)) (sym c.tell.ensures.publisher)
 
+pub extend-requires-clause-begins : goal.extend-requires-clause-begins
+extend-requires-clause-begins g c =
+    let history = c.self.inside.publisher.journal in
+    let entry : Entry = record {
+      who = c.caller.inside.id;
+      reading = bit_and c.read_after.result c.self.inside.mask;
+      cmd = c.args.cmd;
+    } in
+    let seen = ap (λ (s : Sight). s.journal) c.tell.ensures.viewer in
+    let longer : History → Journal = λ h. followed_by h.journal entry in
+    let published = ap (λ (h : History). h.journal) c.publish.ensures
+    ∙ ap longer c.tell.ensures.publisher in
+    subst (λ (t : Journal × Journal). Begins t.0 t.1) (λ i. (sym seen i, sym published i))
+    (begins-followed_by history history entry (begins-self history))
+
 pub invariant_of-self : goal.invariant_of-self
 invariant_of-self g c =
     let held : Journal × History → Held = λ t. record {
@@ -164,8 +181,8 @@ invariant_of-self g c =
 
 pub invariant_of-self-2 : goal.invariant_of-self-2
 invariant_of-self-2 g c =
-    let published = c.tell-3.ensures.publisher ∙ shown g c in
-    let told = c.tell-4.ensures.writer ∙ latched g c in (
+    let published = c.extend.ensures.publisher ∙ shown g c in
+    let told = c.tell-3.ensures.writer ∙ latched g c in (
       subst (IsHeld g.L.Named.page g.L.Named.latch)
           (λ i. record {
             kept = sym c.in-Ok.ensures.answer.1 i;
@@ -178,8 +195,24 @@ invariant_of-self-2 g c =
       c.self.invariant.1,
       c.self.invariant.2,
       subst (λ (t : Journal × Announcing). IsAtRest g.L.Named.notice t.0 t.1)
-          (λ i. (ap (λ (h : History). h.journal) (sym published) i, sym c.tell-5.ensures.same i))
+          (λ i. (ap (λ (h : History). h.journal) (sym published) i, sym c.tell-4.ensures.same i))
           (at_rest g c),
+    )
+
+pub invariant_of-caller-2 : goal.invariant_of-caller-2
+invariant_of-caller-2 g c =
+    let old = caller_of g c in
+    let history = c.self.inside.publisher.journal in
+    let seen = ap (λ (s : Sight). s.journal) c.extend.ensures.viewer
+    ∙ ap (λ (h : History). h.journal) (shown g c) in (
+      search rules,
+      search rules,
+      search rules,
+      search rules,
+      subst (λ (j : Journal). old.accepted + 1 ≤ made_by old.id j.entries) (sym seen)
+          (own_more old.id old.accepted old.seen.entries history.entries (entry_by g c) refl
+          c.tell.ensures.begins.1 c.caller.invariant.4),
+      search rules,
     )
 
 pub returns-clause-answer : goal.returns-clause-answer
@@ -189,23 +222,23 @@ returns-clause-answer g c =
     let told = accepted g.L.Named.page g.L.Named.latch (held_by g c) c.self.invariant.0 old
     c.read_after.result c.args.cmd c.tell.ensures.begins c.in-Ok.number c.tell-2.ensures.extends
     answer.0 (answer.2 ∙ ap accepted_count answer.1) g.L.Named.notice c.accept.new.self
-    c.tell-5.new.watcher (at_rest g c) c.tell-5.ensures.told in
-    let seen = ap (λ (s : Sight). s.journal) c.tell-3.ensures.viewer
+    c.tell-4.new.watcher (at_rest g c) c.tell-4.ensures.told in
+    let seen = ap (λ (s : Sight). s.journal) c.extend.ensures.viewer
     ∙ ap (λ (h : History). h.journal) (shown g c) in
-    let reads = ap (λ (s : Sight). s.reads) c.tell-3.ensures.viewer
+    let reads = ap (λ (s : Sight). s.reads) c.extend.ensures.viewer
     ∙ ap (λ (s : Sight). s.reads) c.tell.ensures.viewer in
-    let learnt = c.tell-4.ensures.reader ∙ ap told_reader (latched g c) in
+    let learnt = c.tell-3.ensures.reader ∙ ap told_reader (latched g c) in
     let new : ℕ × Journal × Learnt → Known = λ p. record {
       id = old.id;
       accepted = old.accepted + 1;
       reads = p.0;
       seen = p.1;
       learnt = p.2;
-      watched = c.tell-5.new.watcher;
+      watched = c.tell-4.new.watcher;
     } in
     subst
     (λ (k : Known).
-    IsAccepted k (new (c.tell-3.new.viewer.reads, c.tell-3.new.viewer.journal, c.tell-4.new.reader))
+    IsAccepted k (new (c.extend.new.viewer.reads, c.extend.new.viewer.journal, c.tell-3.new.reader))
     c.args.cmd c.in-Ok.number)
     c.caller.view_is
     (subst (λ (p : ℕ × Journal × Learnt). IsAccepted old (new p) c.args.cmd c.in-Ok.number)
@@ -217,7 +250,7 @@ returns-clause-reading g c =
     let answer = c.read_after.result in
     let low = low_bits g.L.Named.page g.L.Named.latch held c.self.invariant.0 (caller_of g c) answer
     c.args.cmd c.tell.ensures.begins in
-    let seen = ap (λ (s : Sight). s.journal) c.tell-3.ensures.viewer
+    let seen = ap (λ (s : Sight). s.journal) c.extend.ensures.viewer
     ∙ ap (λ (h : History). h.journal) (shown g c) in
     let found : EndsAtReading g.C.Counter.answers_after
     (followed_by held.shown.journal (entry_by g c)) =
