@@ -1,6 +1,6 @@
 -- A trace that is converted up to a place, and a stretch of items with one more front.
 use Rattle.std.proofs.Common.{◌≡◌, ℕ, ◌+◌, ◌-◌, ◌<◌, ◌≤◌, List, ◌++◌, length, get_or, take, drop, Ok, Err, Result, refl, sym, ap, ◌∙◌, subst, arith, rules, inl, inr}
-use Rattle.std.specs.Prelude.{ℤ, pos, IsOk}
+use Rattle.std.specs.Prelude.{ℤ, ⊤, pos, IsOk}
 use Rattle.std.proofs.lemmas.Bool.{cases_lt}
 use Rattle.std.proofs.lemmas.List.{get_or-take, get_or-drop, length-take-le, length-drop, places}
 use borrow.Rule.Slice.PartMut.{put_mid}
@@ -37,7 +37,7 @@ part_at from n i xs low high =
     get_or-take n (drop from xs) (i - from) 0 high
     ∙ get_or-drop from xs (i - from) 0 ∙ ap (λ j. get_or xs j 0) e
 
-pub part_long : (from n : ℕ) (xs : List ℕ) → from + n ≤ length xs →
+part_long : (from n : ℕ) (xs : List ℕ) → from + n ≤ length xs →
     length (take n (drop from xs)) ≡ n
 part_long from n xs inside =
     length-take-le n (drop from xs) (omega (arith, length-drop from xs))
@@ -83,6 +83,15 @@ abbrev pub StopsFrom : Journal → ClockId → List ℕ → List ℕ → ℕ →
 StopsFrom journal clock fronts stamps first old new error =
     (index : ℕ) × (first ≤ index) × IsFirstFault journal clock fronts stamps index error
     × IsWritten journal clock fronts stamps index old new
+
+-- the items from `first` up to `end` are traced by a batch over them: all are written, or the trace
+-- stops at the first one that the batch refuses
+abbrev pub IsStretchTraced : Journal → ClockId → List ℕ → List ℕ → ℕ → ℕ → List ℕ → List ℕ →
+    Result ⊤ BatchError → Type 0
+IsStretchTraced journal clock fronts stamps first end old new (Ok done) =
+    IsWritten journal clock fronts stamps end old new
+IsStretchTraced journal clock fronts stamps first end old new (Err error) =
+    StopsFrom journal clock fronts stamps first old new (fault_of_batch first error)
 
 pub place_low : (base : ReadBase) (clock : ClockId) (stamps old new : List ℕ)
     (error : BatchError) → IsBatch base clock stamps old new (Err error) →
@@ -158,21 +167,40 @@ module _ (journal : Journal) (clock : ClockId) (fronts stamps out : List ℕ) (f
         more,
       )
 
-  -- the first stamp of the stretch that is refused
-  pub batch_refused : (part new : List ℕ) (error : BatchError) →
+  -- a batch over the stretch traces it
+  batch_traced : (part new : List ℕ) (answer : Result ⊤ BatchError) →
       length new ≡ n → part ≡ take n (drop first out) →
-      IsBatch base clock stretch part new (Err error) →
-      StopsFrom journal clock fronts stamps first out (put_mid first n out new)
-      (fault_of_batch first error)
-  batch_refused part new (batch.Invalid index) long is_part back =
-      refused_at part new index _ _ long is_part back refl
-  batch_refused part new (batch.Range index) long is_part back =
-      refused_at part new index _ _ long is_part back refl
-
-  pub batch_written : (part new : List ℕ) → length new ≡ n → part ≡ take n (drop first out) →
-      IsFilled base clock stretch 0 (length stretch) part new →
-      IsWritten journal clock fronts stamps (first + n) out (put_mid first n out new)
-  batch_written part new long is_part filled =
+      IsBatch base clock stretch part new answer →
+      IsStretchTraced journal clock fronts stamps first (first + n) out (put_mid first n out new)
+      answer
+  batch_traced part new (Ok done) long is_part filled =
       more_written n part new (omega arith) long is_part
       (subst (λ m. IsFilled base clock stretch 0 m part new) (part_long first n stamps inside)
       filled)
+  batch_traced part new (Err (batch.Invalid index)) long is_part back =
+      refused_at part new index _ _ long is_part back refl
+  batch_traced part new (Err (batch.Range index)) long is_part back =
+      refused_at part new index _ _ long is_part back refl
+
+-- a batch over the items from `first` up to `end` traces them, if they have one front, whose
+-- snapshot has this base
+pub stretch_traced : (journal : Journal) (clock : ClockId) (fronts stamps out : List ℕ)
+    {first end : ℕ} (base : ReadBase) (new : List ℕ) (answer : Result ⊤ BatchError) →
+    AreValues journal clock fronts stamps first out →
+    TellsItems journal (get_or fronts first 0) base →
+    first < end → end ≤ length out → length out ≤ length stamps →
+    ((k : ℕ) → first ≤ k → k < end → get_or fronts k 0 ≡ get_or fronts first 0) →
+    length new ≡ length (take (end - first) (drop first out)) →
+    IsBatch base clock (take (end - first) (drop first stamps))
+    (take (end - first) (drop first out)) new answer →
+    IsStretchTraced journal clock fronts stamps first end out
+    (put_mid first (end - first) out new) answer
+stretch_traced journal clock fronts stamps out {first} {end} base new answer so_far tells
+    further inside within same long is_batch =
+    let n = end - first in
+    let e : first + n ≡ end = omega arith in
+    subst (λ m. IsStretchTraced journal clock fronts stamps first m out
+    (put_mid first n out new) answer) e
+    (batch_traced journal clock fronts stamps out first n base so_far (omega arith) (omega arith)
+    (λ k low high. same k low (omega arith)) tells _ new answer
+    (long ∙ part_long first n out (omega arith)) refl is_batch)

@@ -14,7 +14,7 @@ use Rattle.tk_keeper.specs.declared.trace_error.TraceError.{TraceError}
 use Rattle.tk_keeper.specs.Item.{item, item_at, item_unless}
 use Rattle.tk_keeper.specs.Past.{at_front, front_refusal}
 use Rattle.tk_keeper.specs.Read.{read_fault}
-use Rattle.tk_keeper.specs.Trace.{item_of, AreValues, IsWritten, IsTraced}
+use Rattle.tk_keeper.specs.Trace.{item_of, AreValues, IsTraced}
 use Rattle.tk_keeper.proofs.Stretches.{part_at}
 use Rattle.tk_pieces.specs.Pieces.{ArePieces, IsFaultFrom, IsPiece, IsTracedInPieces, further_on, refused_mark}
 
@@ -34,7 +34,8 @@ value_anywhere journal clock index place front stamp v e =
     same_value index place (clock_value there clock stamp) v (read_fault there clock stamp)
     (front_refusal journal front) e
 
-abbrev moved_by : ℕ → Result ℤ TraceError → Result ℤ TraceError
+-- the same result, with its fault `by` places later
+abbrev pub moved_by : {V : Type 0} → ℕ → Result V TraceError → Result V TraceError
 moved_by by (Ok v) = Ok v
 moved_by by (Err error) = Err (further_on error by)
 
@@ -141,25 +142,20 @@ module _ (journal : Journal) (clock : ClockId) (fronts stamps : List ℕ) where
         ∙ ap (λ l. get_or ys (k - l) 0) long))
   ]
 
-  -- the rest of the list is converted
-  pub rest_done : (m : ℕ) (out xs ys old : List ℕ) → m ≤ length stamps → length xs ≡ m →
-      xs ≡ take m out → AreValues journal clock fronts stamps m out →
-      IsWritten journal clock (drop m fronts) (drop m stamps) (length (drop m stamps)) old ys →
-      AreValues journal clock fronts stamps (length stamps) (xs ++ ys)
-  rest_done m out xs ys old inside long is_front before written =
-      let e : m + length (drop m stamps) ≡ length stamps = omega (arith, length-drop m stamps) in
-      subst (λ n. AreValues journal clock fronts stamps n (xs ++ ys)) e
-      (late_values m (length (drop m stamps)) out xs ys long is_front before written.values)
-
   ok_is : {v : ℤ} (r : Result ℤ TraceError) → r ≡ Ok v → IsOk r
   ok_is r e = subst IsOk (sym e) refl
 
-  -- the first fault of the rest is that of the list
-  pub rest_refused : (m : ℕ) (out xs ys old : List ℕ) (error : TraceError) → m ≤ length stamps →
-      length xs ≡ m → xs ≡ take m out → AreValues journal clock fronts stamps m out →
-      IsTraced journal clock (drop m fronts) (drop m stamps) old ys (Err error) →
-      IsTracedInPieces journal clock fronts stamps (xs ++ ys) (Err (further_on error m))
-  rest_refused m out xs ys old error inside long is_front before (index, fault, written) =
+  -- the rest of the list is converted, or its first fault is that of the list
+  rest_traced : (m : ℕ) (out xs ys old : List ℕ) (result : Result ⊤ TraceError) →
+      m ≤ length stamps → length xs ≡ m → xs ≡ take m out →
+      AreValues journal clock fronts stamps m out →
+      IsTraced journal clock (drop m fronts) (drop m stamps) old ys result →
+      IsTracedInPieces journal clock fronts stamps (xs ++ ys) (moved_by m result)
+  rest_traced m out xs ys old (Ok done) inside long is_front before written =
+      let e : m + length (drop m stamps) ≡ length stamps = omega (arith, length-drop m stamps) in
+      subst (λ n. AreValues journal clock fronts stamps n (xs ++ ys)) e
+      (late_values m (length (drop m stamps)) out xs ys long is_front before written.values)
+  rest_traced m out xs ys old (Err error) inside long is_front before (index, fault, written) =
       let values = late_values m index out xs ys long is_front before written.values in (
         m + index,
         record {
@@ -170,6 +166,19 @@ module _ (journal : Journal) (clock : ClockId) (fronts stamps : List ℕ) where
         },
         values,
       )
+
+  -- the same, where the fronts and the stamps of the rest have names of their own
+  pub traced_from : {late_fronts late_stamps xs : List ℕ} (m : ℕ) (out ys old : List ℕ)
+      (result : Result ⊤ TraceError) → m ≤ length stamps → length xs ≡ m → xs ≡ take m out →
+      AreValues journal clock fronts stamps m out →
+      late_fronts ≡ drop m fronts → late_stamps ≡ drop m stamps →
+      IsTraced journal clock late_fronts late_stamps old ys result →
+      IsTracedInPieces journal clock fronts stamps (xs ++ ys) (moved_by m result)
+  traced_from {late_fronts} {late_stamps} {xs} m out ys old result inside long is_front before
+      fronts_are stamps_are traced =
+      rest_traced m out xs ys old result inside long is_front before
+      (subst (λ ss. IsTraced journal clock (drop m fronts) ss old ys result) stamps_are
+      (subst (λ fs. IsTraced journal clock fs late_stamps old ys result) fronts_are traced))
 
   -- an item of a part, by its number in the part
   item_in : (m n k place : ℕ) → k < n →
