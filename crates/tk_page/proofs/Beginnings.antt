@@ -55,7 +55,7 @@ longer-begun one other begins =
     low = subst (λ (l : List Entry). length other.entries ≤ length l) begins.1.1
         (within other.entries begins.1.0)
 
--- clocks that were just opened have an opening, which tells their journal
+-- the snapshot of clocks that were just opened gives their journal
 pub opened_by-opened : (counter : Counter) (reading : ℕ) (real : Timespec) →
     opened_by (snapshot_of (opened counter reading real)) ≡ opened counter reading real
 opened_by-opened counter reading real =

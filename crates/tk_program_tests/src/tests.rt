@@ -71,7 +71,7 @@ fn told(
 }
 
 #[test]
-fn tells_the_fault_of_a_script(rt: HostRuntime) -> Result<(), Fail> {
+fn reports_the_fault_of_a_script(rt: HostRuntime) -> Result<(), Fail> {
     let faults: [(&[u8], &[u8]); 6] = [
         (b"\n\r\n", b"tkcore: script: no record\n"),
         (
@@ -112,7 +112,7 @@ fn refused_words_leave_the_script_and_the_report(rt: HostRuntime) -> Result<(), 
 }
 
 #[test]
-fn tells_each_ending(rt: HostRuntime) -> Result<(), Fail> {
+fn states_each_ending(rt: HostRuntime) -> Result<(), Fail> {
     let endings: [(Ending, u8, &[u8]); 10] = [
         (Ending::Done, 0, b""),
         (Ending::Faulty, 1, b""),

@@ -15,7 +15,7 @@ use Rattle.tk_shared.proofs.Counts.{all_counted}
 use Rattle.tk_shared.proofs.Kept.{kept_count}
 use Rattle.tk_shared.proofs.Snapshots.{snapshots_prefix}
 
--- a caller's part, told by page and latch
+-- a caller's part, as page and latch show it
 pub part_of : (history : Journal) (publications : List Snapshot) (caller : Known) →
     AreSnapshots history publications → Begins caller.seen history →
     IsPrefix caller.learnt.publications publications →

@@ -59,7 +59,7 @@ kept_refusal history kept whole is entry =
     ap (λ (j : Journal). clock_refusal j entry) is.folded
     ∙ clock_refusal-folded history kept.opening.count is.within whole.accepted entry
 
--- MONOTONIC tells the same
+-- MONOTONIC is the same
 pub kept_monotonic : (history kept : Journal) → IsWhole history → IsKeptOf history kept →
     (reading : ℕ) → monotonic kept reading ≡ monotonic history reading
 kept_monotonic history kept whole is reading =

@@ -1,4 +1,4 @@
--- What a command tells its caller.
+-- What a command shows its caller.
 use Rattle.std.proofs.Common.{◌≡◌, ℕ, ◌+◌, ◌%◌, ◌^◌, List, [], ◌∷◌, length, refl, ◌∙◌, ap, arith, bit_and, subst, sym}
 use Rattle.std.specs.Prelude.{None}
 use Rattle.std.proofs.lemmas.List.{length_push}

@@ -1,4 +1,4 @@
--- What a caller knows, and what a command tells it.
+-- What a caller knows, and what a command adds to that.
 use Rattle.std.specs.Prelude.{◌≡◌, ℕ, zero, suc, ◌+◌, ◌<◌, ◌≤◌, ◌==◌, List, [], ◌∷◌, ◌++◌, length, count_by, Some, None}
 use mathlib.Core.List.{IsPrefix}
 use Rattle.tk_counter.specs.Counter.{mask}
@@ -68,7 +68,7 @@ pub record IsAccepted (old new : Known) (cmd : Command) (answer : ℕ) : Type 0 
   pub whole : IsWhole new.seen
   pub counted : new.accepted ≡ old.accepted + 1
   -- MONOTONIC at the reading is the same before and after, and no shorter history, read in its
-  -- life, tells more than this one does at any reading
+  -- life, gives more than this one does at any reading
   pub agrees : monotonic before reading ≡ monotonic new.seen reading
   pub rises : NeverFalls new.seen
   -- the number is how many entries there are, more than it knew of from page or latch

@@ -1,4 +1,4 @@
--- What closing tells, once all callers are back.
+-- What closing guarantees, once all callers are back.
 use Rattle.std.specs.Prelude.{◌≡◌, ◌≢◌, ℕ, ◌≤◌, List, [], ◌∷◌, All, sum_by}
 use Rattle.tk_clock.specs.Journal.{Journal, accepted_count}
 use Rattle.tk_clock.specs.Legal.{IsWhole}

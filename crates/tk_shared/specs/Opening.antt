@@ -50,7 +50,7 @@ opening_fault callers real =
     else if not (is_settable real) then Some Invalid
     else None
 
--- is this the fault? Memory is told only where nothing else is wrong
+-- is this the fault? It is Memory only if nothing else is wrong
 abbrev pub IsOpenFault : ℕ → Timespec → OpenError → Type 0
 IsOpenFault callers real Memory = opening_fault callers real ≡ None
 IsOpenFault callers real error = opening_fault callers real ≡ Some error

@@ -14,7 +14,7 @@ fn refuses_the_request_of_a_number_alone(rt: HostRuntime) -> Result<(), Fail> {
 }
 
 #[test]
-fn tells_whether_a_request_was_still_to_be_refused(rt: HostRuntime) -> Result<(), Fail> {
+fn reports_whether_a_request_was_still_to_be_refused(rt: HostRuntime) -> Result<(), Fail> {
     let heap = Heap::new(rt.alloc());
     heap.refuse(2);
     let first = Vec::from_elem(&heap, 1u8, 9)?;

@@ -25,7 +25,7 @@ fn each_command_does_what_it_says(rt: HostRuntime) -> Result<(), Fail> {
 }
 
 #[test]
-fn a_refused_command_is_told_by_its_code(rt: HostRuntime) -> Result<(), Fail> {
+fn a_refused_command_returns_its_code(rt: HostRuntime) -> Result<(), Fail> {
     let mut clock = opened(nanosecond_counter()?)?;
     answers(&rt, &mut clock, 1_000, UPDATE, 0, 0, 0);
     for (reading, command, number, nsec, code) in [

@@ -14,7 +14,7 @@ const COUNTER: CounterStorage = CounterStorage {
 };
 
 #[test]
-fn a_counter_is_written_or_its_first_fault_told(rt: HostRuntime) {
+fn a_counter_is_written_or_its_first_fault_returned(rt: HostRuntime) {
     for (bits, mult, shift, code) in [
         (32, 16_777_216, 24, 0),
         (7, 255, 33, 32),
@@ -68,7 +68,7 @@ fn the_highest_rate_has_32_bits(rt: HostRuntime) {
 }
 
 #[test]
-fn a_counter_tells_its_numbers(rt: HostRuntime) -> Result<(), Fail> {
+fn a_counter_returns_its_numbers(rt: HostRuntime) -> Result<(), Fail> {
     for (counter, numbers) in [
         (CounterDesc::new(32, 16_777_216, 24)?, (32, 16_777_216, 24)),
         (CounterDesc::new(8, 256, 0)?, (8, 256, 0)),

@@ -61,7 +61,7 @@ fn each_clock_reaches_a_time_by_its_number(rt: HostRuntime) -> Result<(), Fail> 
 }
 
 #[test]
-fn a_time_that_is_not_reached_is_told_by_its_code(rt: HostRuntime) -> Result<(), Fail> {
+fn a_time_that_is_not_reached_returns_its_code(rt: HostRuntime) -> Result<(), Fail> {
     let mut clock = commanded(&rt)?;
     let snapshot = clock.clock.snapshot(clock.front);
     let wide = opened(wide_counter()?)?.clock.snapshot(0);

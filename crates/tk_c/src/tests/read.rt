@@ -42,7 +42,7 @@ fn each_clock_is_read_by_its_number(rt: HostRuntime) -> Result<(), Fail> {
 }
 
 #[test]
-fn a_refused_read_is_told_by_its_code(rt: HostRuntime) -> Result<(), Fail> {
+fn a_refused_read_returns_its_code(rt: HostRuntime) -> Result<(), Fail> {
     let clock = commanded(&rt)?;
     let snapshot = clock.clock.snapshot(clock.front);
     let wide = opened(wide_counter()?)?.clock.snapshot(0);

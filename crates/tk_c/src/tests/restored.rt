@@ -39,7 +39,7 @@ fn clocks_come_back_from_their_words(rt: HostRuntime) -> Result<(), Fail> {
 }
 
 #[test]
-fn words_out_of_range_tell_nothing(rt: HostRuntime) -> Result<(), Fail> {
+fn words_out_of_range_give_no_snapshot(rt: HostRuntime) -> Result<(), Fail> {
     let counter = nanosecond_counter()?;
     for (place, word) in [
         (1, 4_294_967_296),

@@ -187,7 +187,7 @@ fn the_first_fault_of_all_pieces_decides(rt: HostRuntime) -> Result<(), Fail> {
 }
 
 #[test]
-fn fronts_up_and_down_are_told_as_by_one_thread(rt: HostRuntime) -> Result<(), Fail> {
+fn fronts_up_and_down_are_converted_as_by_one_thread(rt: HostRuntime) -> Result<(), Fail> {
     let alloc = rt.alloc();
     let (keeper, mut lists) = kept(alloc, UNEVEN)?;
     let mut seed: u64 = 88_172_645_463_325_252;

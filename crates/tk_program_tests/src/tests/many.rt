@@ -26,7 +26,7 @@ fn makes_reports_in_the_order_of_the_words(rt: HostRuntime) -> Result<(), Fail> 
 }
 
 #[test]
-fn tells_the_fault_of_a_script_in_its_place(rt: HostRuntime) -> Result<(), Fail> {
+fn reports_the_fault_of_a_script_in_its_place(rt: HostRuntime) -> Result<(), Fail> {
     let words = ["tkcore", "many", "2", "b", "a", "c"];
     let files: [(&str, &[u8]); 3] = [("a", GOOD), ("b", BAD), ("c", b"")];
     let (ending, text) = outcome(&rt, &words, &files)?;

@@ -55,7 +55,7 @@ fn text_of(alloc: Global, error: ScriptError) -> Result<Vec<u8>, Fault> {
 }
 
 #[test]
-fn faults_are_told_in_their_own_words(rt: HostRuntime) -> Result<(), Fail> {
+fn faults_are_stated_in_their_own_words(rt: HostRuntime) -> Result<(), Fail> {
     let errors = [
         ScriptError::TooLarge,
         ScriptError::Empty,

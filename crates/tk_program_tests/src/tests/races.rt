@@ -232,7 +232,7 @@ impl Write for Narrow {
 }
 
 #[test]
-fn a_full_writer_is_told_with_what_went_out(rt: HostRuntime) -> Result<(), Fail> {
+fn a_full_writer_is_reported_with_what_went_out(rt: HostRuntime) -> Result<(), Fail> {
     let words = line(rt.alloc(), &["tkcore", "race", "1", "a"])?;
     let folder = Shelf {
         files: &[("a", UPDATES)],
@@ -254,7 +254,7 @@ fn a_full_writer_is_told_with_what_went_out(rt: HostRuntime) -> Result<(), Fail>
 }
 
 #[test]
-fn tells_why_there_is_no_race(rt: HostRuntime) -> Result<(), Fail> {
+fn states_why_there_is_no_race(rt: HostRuntime) -> Result<(), Fail> {
     let file = |error| Ending::File { index: 12, error };
     let endings: [(Ending, &[u8]); 9] = [
         (Ending::Openings, b"tkcore: openings differ\n"),

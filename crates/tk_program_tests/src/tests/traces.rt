@@ -39,7 +39,7 @@ fn an_empty_stamp_file_writes_nothing(rt: HostRuntime) -> Result<(), Fail> {
 }
 
 #[test]
-fn tells_the_fault_of_a_trace(rt: HostRuntime) -> Result<(), Fail> {
+fn reports_the_fault_of_a_trace(rt: HostRuntime) -> Result<(), Fail> {
     let row = Fault::Stamps(ScriptError::Fields { row: 1 });
     let faults: [(&[u8], &[u8], Fault); 6] = [
         (b"", b"x", Fault::Script(ScriptError::Empty)),

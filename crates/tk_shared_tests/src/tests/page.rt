@@ -18,7 +18,7 @@ fn a_fault_has_a_text(rt: HostRuntime) -> Result<(), Fail> {
 
 /// Also passes under `rt try --test --fail-alloc N`, for each N.
 #[test]
-fn a_page_opens_or_tells_of_memory(rt: HostRuntime) -> Result<(), Fail> {
+fn a_page_opens_or_returns_memory(rt: HostRuntime) -> Result<(), Fail> {
     let clock = Clock::open(nanosecond_counter()?, 0, OPENED_TIME)?;
     if let Err(fault) = Page::open(rt.alloc(), &rt, clock.snapshot(0)) {
         assert_same(&rt, &fault, &PageError::Memory);

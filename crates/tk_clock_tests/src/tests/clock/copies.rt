@@ -94,7 +94,7 @@ fn varied() -> Result<Clock, Fail> {
 }
 
 #[test]
-fn a_clone_of_the_clocks_tells_and_goes_on_as_they_do(rt: HostRuntime) -> Result<(), Fail> {
+fn a_clone_of_the_clocks_reads_and_goes_on_as_they_do(rt: HostRuntime) -> Result<(), Fail> {
     let clock = varied()?;
     for (reading, cmd) in [
         (9_000, Command::Freq(65_536)),

@@ -22,7 +22,7 @@ fn the_clocks_open_awake_at_their_usual_rate(rt: HostRuntime) -> Result<(), Fail
 }
 
 #[test]
-fn the_readers_tell_the_words(rt: HostRuntime) -> Result<(), Fail> {
+fn the_getters_return_the_words(rt: HostRuntime) -> Result<(), Fail> {
     let snapshot = opened()?.snapshot(0);
     assert_same(&rt, &snapshot.desc(), &nanosecond_counter()?);
     assert!(rt; !snapshot.asleep());

@@ -4,7 +4,7 @@ use tk_clock::{Clock, ClockId, Command, ReadError, Refusal};
 use tk_test_support::CLOCKS;
 
 #[test]
-fn the_first_failed_test_is_told(rt: HostRuntime) -> Result<(), Fail> {
+fn the_first_failed_test_is_returned(rt: HostRuntime) -> Result<(), Fail> {
     let mut clock = opened()?;
     for (reading, cmd, answer) in [
         (4_294_967_296, Command::Update, Err(Refusal::Invalid)),

@@ -35,7 +35,7 @@ fn any_frequency_is_held_to_500_ppm(rt: HostRuntime) -> Result<(), Fail> {
 }
 
 #[test]
-fn a_snapshot_used_beyond_its_life_may_tell_more(rt: HostRuntime) -> Result<(), Fail> {
+fn a_snapshot_used_beyond_its_life_may_give_more(rt: HostRuntime) -> Result<(), Fail> {
     let mut clock = opened()?;
     answers(&rt, &mut clock, 0, Freq(32_768_000), Ok(()));
     let first = clock.snapshot(1);

@@ -3,7 +3,7 @@ use std::test::Fail;
 use tk_counter::{CounterDesc, DescError};
 
 #[test]
-fn the_first_fault_is_told(rt: HostRuntime) {
+fn the_first_fault_is_returned(rt: HostRuntime) {
     for (bits, mult, shift, fault) in [
         (7, 16_777_216, 24, DescError::Bits),
         (65, 255, 33, DescError::Bits),

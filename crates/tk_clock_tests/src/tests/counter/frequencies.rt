@@ -68,7 +68,7 @@ fn a_frequency_fixes_the_amounts(rt: HostRuntime) -> Result<(), Fail> {
 }
 
 #[test]
-fn the_bits_are_told_before_the_rate(rt: HostRuntime) {
+fn the_bits_are_refused_before_the_rate(rt: HostRuntime) {
     for (bits, hz, maxsec) in [(7, 0, 601), (65, 24_000_000, 600)] {
         let answer = CounterDesc::from_hz(bits, hz, maxsec);
         assert_eq!(rt; answer, Err(DescError::Bits), "{bits} {hz} {maxsec}");

@@ -83,7 +83,7 @@ fn the_place_of_a_refused_stamp_is_that_in_the_list(rt: HostRuntime) -> Result<(
 }
 
 #[test]
-fn a_fault_is_told_in_words(rt: HostRuntime) -> Result<(), Fail> {
+fn a_fault_is_stated_in_words(rt: HostRuntime) -> Result<(), Fail> {
     let alloc = rt.alloc();
     for (fault, text) in [
         (

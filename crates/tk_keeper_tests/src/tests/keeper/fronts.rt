@@ -108,7 +108,7 @@ fn compared(
 }
 
 #[test]
-fn fronts_in_each_order_are_told_by_their_own_clocks(rt: HostRuntime) -> Result<(), Fail> {
+fn fronts_in_each_order_are_converted_by_their_own_clocks(rt: HostRuntime) -> Result<(), Fail> {
     let alloc = rt.alloc();
     let mut keeper = busy(&rt, alloc)?;
     // unfolded, folded at a kept state, and folded 44 commands after it

@@ -75,7 +75,7 @@ fn fronts_round_a_kept_state_are_exact(rt: HostRuntime) -> Result<(), Fail> {
 }
 
 #[test]
-fn the_entries_are_told_by_their_numbers(rt: HostRuntime) -> Result<(), Fail> {
+fn the_entries_are_found_by_their_numbers(rt: HostRuntime) -> Result<(), Fail> {
     let mut keeper = opened(rt.alloc())?;
     assert_same(&rt, &applied(&rt, &mut keeper, 7, Command::Tai(37)), &Ok(1));
     let entry = keeper.entry(1).ok_or("no entry")?;

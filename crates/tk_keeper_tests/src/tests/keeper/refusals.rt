@@ -29,7 +29,7 @@ fn readings_wrap_at_the_counters_end(rt: HostRuntime) -> Result<(), Fail> {
 }
 
 #[test]
-fn the_first_test_that_fails_is_told(rt: HostRuntime) -> Result<(), Fail> {
+fn the_first_failing_test_is_returned(rt: HostRuntime) -> Result<(), Fail> {
     let late = Command::SetTime(time(8_277_292_036, 0));
     let early = Command::SetTime(time(0, 0));
     answers_and_reads(

@@ -29,7 +29,7 @@ fn reads_are_the_journals_own(rt: HostRuntime) -> Result<(), Fail> {
 }
 
 #[test]
-fn a_reading_above_the_mask_is_told_first(rt: HostRuntime) -> Result<(), Fail> {
+fn a_reading_above_the_mask_is_refused_first(rt: HostRuntime) -> Result<(), Fail> {
     let mut keeper = opened(rt.alloc())?;
     assert_same(
         &rt,

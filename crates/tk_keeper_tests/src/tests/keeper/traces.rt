@@ -75,7 +75,7 @@ fn all_traced(
 }
 
 #[test]
-fn each_stamp_is_told_as_of_its_front(rt: HostRuntime) -> Result<(), Fail> {
+fn each_stamp_is_converted_as_of_its_front(rt: HostRuntime) -> Result<(), Fail> {
     let keeper = steered(rt.alloc())?;
     let at = 1_000_000_000;
     let rows: [Row<'_>; 2] = [
@@ -127,7 +127,7 @@ fn the_first_fault_decides_by_its_place(rt: HostRuntime) -> Result<(), Fail> {
 }
 
 #[test]
-fn a_clock_past_its_limit_is_told(rt: HostRuntime) -> Result<(), Fail> {
+fn a_clock_past_its_limit_is_reported(rt: HostRuntime) -> Result<(), Fail> {
     let mut keeper = opened(rt.alloc())?;
     let set = Command::SetTime(time(8_277_292_035, 999_999_999));
     let wake = Command::Resume(time(946_079_999, 999_999_999));
@@ -154,7 +154,7 @@ fn a_clock_past_its_limit_is_told(rt: HostRuntime) -> Result<(), Fail> {
 }
 
 #[test]
-fn a_long_trace_tells_the_place_in_the_whole_list(rt: HostRuntime) -> Result<(), Fail> {
+fn a_long_trace_returns_the_place_in_the_whole_list(rt: HostRuntime) -> Result<(), Fail> {
     let alloc = rt.alloc();
     let keeper = opened(alloc)?;
     let (mut fronts, mut stamps) = counted(alloc, 100_000)?;
@@ -171,7 +171,7 @@ fn a_long_trace_tells_the_place_in_the_whole_list(rt: HostRuntime) -> Result<(),
 }
 
 #[test]
-fn a_fault_in_any_part_of_a_new_list_is_told(rt: HostRuntime) -> Result<(), Fail> {
+fn a_fault_in_any_part_of_a_new_list_is_returned(rt: HostRuntime) -> Result<(), Fail> {
     let alloc = rt.alloc();
     let keeper = opened(alloc)?;
     let (mut fronts, mut stamps) = counted(alloc, 1_000)?;
@@ -202,7 +202,7 @@ fn is_second(place: usize, length: usize) -> bool {
 }
 
 #[test]
-fn stretches_of_any_length_are_told_by_their_own_front(rt: HostRuntime) -> Result<(), Fail> {
+fn stretches_of_any_length_are_converted_by_their_own_front(rt: HostRuntime) -> Result<(), Fail> {
     let alloc = rt.alloc();
     let keeper = steered(alloc)?;
     let at = 1_000_000_000;
@@ -266,7 +266,7 @@ fn no_stamps_are_no_values(rt: HostRuntime) -> Result<(), Fail> {
 }
 
 #[test]
-fn each_request_refused_in_turn_is_told_first(rt: HostRuntime) -> Result<(), Fail> {
+fn each_request_refused_in_turn_is_returned_first(rt: HostRuntime) -> Result<(), Fail> {
     let heap = Heap::new(rt.alloc());
     let keeper = steered(&heap)?;
     let at = 1_000_000_000;

@@ -12,7 +12,7 @@ use tk_test_support::Heap;
 pub(crate) const LONG: usize = 4_194_305;
 
 #[test]
-fn a_long_list_is_told_as_by_one_thread(rt: HostRuntime) -> Result<(), Fail> {
+fn a_long_list_is_converted_as_by_one_thread(rt: HostRuntime) -> Result<(), Fail> {
     let alloc = rt.alloc();
     let (keeper, mut lists) = kept(alloc, LONG)?;
     for place in 0..LONG as u64 {
@@ -38,7 +38,9 @@ fn the_first_fault_of_a_long_list_decides(rt: HostRuntime) -> Result<(), Fail> {
 }
 
 #[test]
-fn a_long_list_is_told_where_its_keepers_memory_is_refused(rt: HostRuntime) -> Result<(), Fail> {
+fn a_long_list_is_converted_where_its_keepers_memory_is_refused(
+    rt: HostRuntime,
+) -> Result<(), Fail> {
     let heap = Heap::new(rt.alloc());
     let keeper = steered(&heap)?;
     let lists = counted(rt.alloc(), LONG)?;

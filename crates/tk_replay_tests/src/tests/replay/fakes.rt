@@ -1,4 +1,4 @@
-//! Readers and writers that fail once, when they are told to, and then go on.
+//! Readers and writers that fail once, at a chosen call, and then go on.
 
 use super::assert_same;
 use std::io::{self, Error, ErrorKind, Read, Write};

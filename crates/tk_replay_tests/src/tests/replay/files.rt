@@ -60,7 +60,7 @@ fn traces_two_files_into_a_third(rt: HostRuntime) -> Result<(), Fail> {
 }
 
 #[test]
-fn tells_a_file_that_gives_or_takes_nothing(rt: HostRuntime) -> Result<(), Fail> {
+fn reports_a_file_that_gives_or_takes_nothing(rt: HostRuntime) -> Result<(), Fail> {
     let mut closed = File::create(&rt, "tk_replay_closed")?;
     let mut report = Vec::new(rt.alloc());
     let unread = replay(rt.alloc(), &mut closed, &mut report);

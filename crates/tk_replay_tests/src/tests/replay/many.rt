@@ -186,8 +186,8 @@ impl Gate for Counts {
     }
 }
 
-/// Each piece up to `count` was told of once before and once after it, and no other.
-fn assert_told_once(rt: &impl Abort, gate: &Counts, count: usize) {
+/// The gate was called once before and once after each piece up to `count`, and for no other.
+fn assert_called_once(rt: &impl Abort, gate: &Counts, count: usize) {
     assert_same(rt, &gate.wrong.load(Ordering::SeqCst), &0);
     for piece in 0..40usize {
         let times = u64::from(piece < count);
@@ -197,13 +197,13 @@ fn assert_told_once(rt: &impl Abort, gate: &Counts, count: usize) {
 }
 
 #[test]
-fn the_gate_is_told_of_each_piece_once(rt: HostRuntime) -> Result<(), Fail> {
+fn the_gate_is_called_for_each_piece_once(rt: HostRuntime) -> Result<(), Fail> {
     let alloc = rt.alloc();
     for (count, workers) in [(0, 4), (1, 4), (3, 64), (40, 1), (40, 4)] {
         let scripts = uneven(alloc, count)?;
         let gate = Counts::new(alloc)?;
         replay_all(alloc, &rt, scripts.as_slice(), workers, &gate)?;
-        assert_told_once(&rt, &gate, count);
+        assert_called_once(&rt, &gate, count);
     }
     Ok(())
 }
@@ -242,7 +242,7 @@ fn no_more_at_work_than_there_are_workers(rt: HostRuntime) -> Result<(), Fail> {
     Ok(())
 }
 
-/// Notes whether it was told of anything.
+/// Notes whether it was ever called.
 #[derive(Drop)]
 struct Bell {
     rung: AtomicU64,
@@ -288,7 +288,7 @@ fn many_reports_or_want_of_them(rt: HostRuntime) -> Result<(), Fail> {
 }
 
 #[test]
-fn tells_why_there_are_no_reports(rt: HostRuntime) -> Result<(), Fail> {
+fn states_why_there_are_no_reports(rt: HostRuntime) -> Result<(), Fail> {
     let errors = [ManyError::Count, ManyError::Memory, ManyError::Threads];
     let texts = "count out of range\nout of memory\ncannot start a thread\n";
     assert_lines(&rt, errors.as_slice(), texts)

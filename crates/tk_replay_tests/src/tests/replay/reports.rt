@@ -27,7 +27,7 @@ fn assert_fault(rt: &impl Abort, alloc: Global, script: &[u8], fault: ScriptErro
 }
 
 #[test]
-fn tells_each_record_in_a_line(rt: HostRuntime) {
+fn reports_each_record_in_a_line(rt: HostRuntime) {
     assert_report(&rt, rt.alloc(), SCRIPT, REPORT);
 }
 
@@ -66,7 +66,7 @@ fn takes_a_last_record_without_its_end(rt: HostRuntime) {
 }
 
 #[test]
-fn tells_the_first_fault_of_a_script(rt: HostRuntime) {
+fn returns_the_first_fault_of_a_script(rt: HostRuntime) {
     let alloc = rt.alloc();
     let faults: [(&[u8], ScriptError); 6] = [
         (b"", ScriptError::Empty),

@@ -1,7 +1,7 @@
 use super::reports::assert_report;
 
 #[test]
-fn every_clock_tells_a_suspension(rt: HostRuntime) {
+fn every_clock_shows_a_suspension(rt: HostRuntime) {
     let script = b"openhz,32,24000000,600,0,1700000000,0\n\
 get,24000000,monotonic\n\
 tai,24000000,37\n\

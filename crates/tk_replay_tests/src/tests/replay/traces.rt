@@ -62,7 +62,7 @@ fn assert_fault(
 }
 
 #[test]
-fn tells_each_stamp_as_of_its_front(rt: HostRuntime) {
+fn converts_each_stamp_as_of_its_front(rt: HostRuntime) {
     assert_trace(&rt, STEERED, ClockId::Monotonic, STAMPS, TRACE);
 }
 
@@ -84,7 +84,7 @@ freq,1000000000,-32768000\n";
 }
 
 #[test]
-fn tells_the_clock_that_is_asked_for(rt: HostRuntime) {
+fn reads_the_clock_that_is_asked_for(rt: HostRuntime) {
     let script = b"open,32,16777216,24,0,1700000000,0\n\
 tai,1000,37\nsuspend,1000\nresume,5,5,500000000\n";
     let stamps = b"0,1000\n1,1000\n2,2000\n3,15\n";
@@ -232,7 +232,7 @@ fn assert_unread<R: Read, S: Read>(
 }
 
 #[test]
-fn a_read_that_fails_is_told_before_all_other_faults(rt: HostRuntime) {
+fn a_read_that_fails_is_reported_before_all_other_faults(rt: HostRuntime) {
     // of each there are eight reads, and one that finds the end
     let faulty = b"a script with a fault in its first record, and as many reads as the other\n";
     let scripts: [&[u8]; 2] = [STEERED, faulty];
@@ -277,7 +277,7 @@ fn a_write_that_fails_ends_it(rt: HostRuntime) {
 }
 
 #[test]
-fn a_flush_that_fails_is_told_behind_the_text(rt: HostRuntime) {
+fn a_flush_that_fails_is_reported_after_the_text(rt: HostRuntime) {
     for fault in FAULTS {
         let mut writer = Writer::willing();
         writer.flush_fault = Some(fault);

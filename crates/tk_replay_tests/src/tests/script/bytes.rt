@@ -11,7 +11,7 @@ fn fault(alloc: Global, bytes: &[u8]) -> Result<ScriptError, Fail> {
 const FIRST: &[u8] = b"open,32,16777216,24,0,1700000000,0";
 
 #[test]
-fn tells_where_the_first_record_is_cut(rt: HostRuntime) -> Result<(), Fail> {
+fn finds_where_the_first_record_is_cut(rt: HostRuntime) -> Result<(), Fail> {
     for len in 0..34 {
         let want = match len {
             0 => ScriptError::Empty,
@@ -126,7 +126,7 @@ fn repeated(alloc: Global, text: &[u8]) -> Result<Vec<u8>, Fail> {
 }
 
 #[test]
-fn tells_the_fault_of_records_of_one_byte(rt: HostRuntime) -> Result<(), Fail> {
+fn returns_the_fault_of_records_of_one_byte(rt: HostRuntime) -> Result<(), Fail> {
     let bytes = repeated(rt.alloc(), b"x\n")?;
     assert_same(&rt, &bytes.len(), &16_777_216);
     let opening = ScriptError::Opening { row: 1 };

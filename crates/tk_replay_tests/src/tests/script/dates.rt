@@ -3,7 +3,7 @@ use std::test::Fail;
 use tk_script::utc;
 
 #[test]
-fn tells_the_date_of_a_second(rt: HostRuntime) -> Result<(), Fail> {
+fn writes_the_date_of_a_second(rt: HostRuntime) -> Result<(), Fail> {
     for (sec, nsec, want) in [
         (0, 0, "1970-01-01T00:00:00.000000000Z"),
         (86_399, 999_999_999, "1970-01-01T23:59:59.999999999Z"),

@@ -16,7 +16,7 @@ fn fault_after_opening(alloc: Global, records: &[u8]) -> Result<ScriptError, Fai
 const NO_OPENING: ScriptError = ScriptError::Opening { row: 1 };
 
 #[test]
-fn tells_the_fault_of_the_first_record(rt: HostRuntime) -> Result<(), Fail> {
+fn returns_the_fault_of_the_first_record(rt: HostRuntime) -> Result<(), Fail> {
     let fields = ScriptError::Fields { row: 1 };
     let number = ScriptError::Number { row: 1 };
     for (bytes, want) in [
@@ -48,7 +48,7 @@ fn tells_the_fault_of_the_first_record(rt: HostRuntime) -> Result<(), Fail> {
 }
 
 #[test]
-fn tells_the_fault_of_a_later_record(rt: HostRuntime) -> Result<(), Fail> {
+fn returns_the_fault_of_a_later_record(rt: HostRuntime) -> Result<(), Fail> {
     let word = ScriptError::Word { row: 2 };
     let fields = ScriptError::Fields { row: 2 };
     let number = ScriptError::Number { row: 2 };

@@ -35,7 +35,7 @@ fn writes_each_line(rt: HostRuntime) -> Result<(), Fail> {
 }
 
 #[test]
-fn tells_the_last_second_in_utc(rt: HostRuntime) -> Result<(), Fail> {
+fn writes_the_last_second_in_utc(rt: HostRuntime) -> Result<(), Fail> {
     let text = utc(rt.alloc(), 9_223_372_035, 999_999_999)?;
     assert_same(&rt, &text.as_str(), &"2262-04-11T23:47:15.999999999Z");
     Ok(())

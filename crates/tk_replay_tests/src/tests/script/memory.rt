@@ -15,7 +15,7 @@ const TIME: Timespec = Timespec {
 };
 
 #[test]
-fn tells_utc_or_nothing(rt: HostRuntime) -> Result<(), Fail> {
+fn writes_utc_or_nothing(rt: HostRuntime) -> Result<(), Fail> {
     let heap = Heap::new(rt.alloc());
     for request in 1..=100 {
         heap.refuse(request);

@@ -3,7 +3,7 @@ use tk_clock::ClockId;
 use tk_script::{clock_word, number};
 
 #[test]
-fn tells_numbers(rt: HostRuntime) {
+fn parses_numbers(rt: HostRuntime) {
     for (field, want) in [
         (b"007".as_slice(), Some(7)),
         (b"0", Some(0)),
@@ -29,7 +29,7 @@ fn tells_numbers(rt: HostRuntime) {
 }
 
 #[test]
-fn tells_clock_words(rt: HostRuntime) {
+fn parses_clock_words(rt: HostRuntime) {
     for (word, want) in [
         (b"realtime".as_slice(), Some(ClockId::Realtime)),
         (b"monotonic", Some(ClockId::Monotonic)),

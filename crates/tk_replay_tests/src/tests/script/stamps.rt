@@ -30,7 +30,7 @@ fn reads_a_file_without_a_record_as_no_stamps(rt: HostRuntime) -> Result<(), Fai
 }
 
 #[test]
-fn tells_the_first_fault_of_a_stamp_file(rt: HostRuntime) -> Result<(), Fail> {
+fn returns_the_first_fault_of_a_stamp_file(rt: HostRuntime) -> Result<(), Fail> {
     for (bytes, want) in [
         (b"1".as_slice(), ScriptError::Fields { row: 1 }),
         (b"x".as_slice(), ScriptError::Fields { row: 1 }),

@@ -63,7 +63,7 @@ get,000000000000000000000003,realtime\n"
 const FIRST: &[u8] = b"open,8,256,0,0,0,0";
 
 #[test]
-fn both_ways_tell_the_same_fault(rt: HostRuntime) -> Result<(), Fail> {
+fn both_ways_return_the_same_fault(rt: HostRuntime) -> Result<(), Fail> {
     let fields = ScriptError::Fields { row: 2 };
     let number = ScriptError::Number { row: 2 };
     let word = ScriptError::Word { row: 2 };

@@ -27,7 +27,7 @@ fn the_opening_is_read_by_each_of_1_to_64_readers(rt: HostRuntime) -> Result<(),
 }
 
 #[test]
-fn a_wrong_count_is_told_before_want_of_memory(rt: HostRuntime) -> Result<(), Fail> {
+fn a_wrong_count_is_returned_before_memory(rt: HostRuntime) -> Result<(), Fail> {
     let clock = opened()?;
     let heap = Heap::new(rt.alloc());
     heap.refuse_all();
@@ -46,7 +46,7 @@ fn a_wrong_count_is_told_before_want_of_memory(rt: HostRuntime) -> Result<(), Fa
 }
 
 #[test]
-fn each_request_refused_in_turn_is_told_as_memory(rt: HostRuntime) -> Result<(), Fail> {
+fn each_request_refused_in_turn_returns_memory(rt: HostRuntime) -> Result<(), Fail> {
     let clock = opened()?;
     let heap = Heap::new(rt.alloc());
     for request in 1..=100 {

@@ -5,7 +5,7 @@ use tk_clock::Command;
 use tk_test_support::opened_page;
 
 #[test]
-fn an_update_is_told_and_read(rt: HostRuntime) -> Result<(), Fail> {
+fn an_update_is_passed_on_and_read(rt: HostRuntime) -> Result<(), Fail> {
     let (page, mut desk, mut viewer) = opened_page(&rt, rt.alloc()).ok_or("no page")?;
     let words = [0, 0, 16_777_216, 0, 0, OPENED_REAL, 0, 0, 0, 0];
     assert_same(&rt, &viewer.read(&rt, &page).words(), &words);

@@ -174,7 +174,7 @@ impl Gate for InTurn {
 }
 
 #[test]
-fn a_gate_is_told_round_all_actions_of_an_actor(rt: HostRuntime) -> Result<(), Fail> {
+fn a_gate_is_called_round_all_actions_of_an_actor(rt: HostRuntime) -> Result<(), Fail> {
     let desc = nanosecond_counter()?;
     let actors = alike(rt.alloc(), 2, UPDATE, 20_000)?;
     let gate = InTurn {

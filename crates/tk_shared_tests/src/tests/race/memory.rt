@@ -22,7 +22,7 @@ impl Gate for Begun {
 /// refused in turn, the race gives the usual result, or it returns `Memory` before any actor has
 /// begun, or it returns `Threads`.
 #[test]
-fn refused_requests_are_told_before_any_actor_begins(rt: HostRuntime) -> Result<(), Fail> {
+fn refused_requests_are_returned_before_any_actor_begins(rt: HostRuntime) -> Result<(), Fail> {
     let desc = nanosecond_counter()?;
     let Ok(actors) = alike(rt.alloc(), 3, UPDATE, 600) else {
         return Ok(());

@@ -17,7 +17,7 @@ use tk_shared::{Caller, Counter, Named, Prepared, SharedKeeper};
 /// How often a thread looks for the other before it gives up.
 const TURNS: u32 = 50_000_000;
 
-/// Waits, in a command, until reads were answered. Its reading tells whether they were.
+/// Waits, in a command, until reads were answered. Its reading shows whether they were.
 #[derive(Drop)]
 struct Waits<'a> {
     inside: &'a AtomicU64,
