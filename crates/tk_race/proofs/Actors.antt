@@ -29,6 +29,11 @@ module _ {A B : Type 0} (R : A → B → Type 0) where
   zip_last (w ∷ ws) x (z ∷ zs) y all =
       let rest = zip_last ws x zs y all.1 in ((all.0, rest.0), rest.1)
 
+-- a list's items mapped: first all but the last, and then the last one
+pub map_last : {A B : Type 0} (f : A → B) (whole rest : List A) (last : A) →
+    whole ≡ rest ++ last ∷ [] → map f whole ≡ map f rest ++ f last ∷ []
+map_last f whole rest last is = ap (map f) is ∙ map-append f rest (last ∷ [])
+
 -- all actors except the last, and the last one
 pub ready_last : (whole rest : List (List Action)) (last : List Action) (actors others : List Actor)
     (actor : Actor) → AreReady whole actors → whole ≡ rest ++ last ∷ [] →

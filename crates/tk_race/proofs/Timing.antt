@@ -37,7 +37,7 @@ life_last commands log between b listed all i place a t at_a at_t =
     ∙ get_after between (b ∷ []) i ∙ at_a) at_t
 
 -- a caller asked for a clock's time now, and has seen this number of entries
-pub record IsAsked {S : Type 0} (answers : S → ℕ → ℕ → Type 0) (counter : S) (old new : Known)
+record IsAsked {S : Type 0} (answers : S → ℕ → ℕ → Type 0) (counter : S) (old new : Known)
     (clock : ClockId) (result : Result Timespec ReadError) (read : ℕ) : Type 0 where
   pub seen : Begins old.seen new.seen
   pub more : KnowsMore old new
@@ -103,16 +103,34 @@ abbrev pub reply_of : Result Timespec ReadError → ℕ → RaceReply
 reply_of (Ok time) read = Timed read time
 reply_of (Err refusal) read = Untimed read refusal
 
--- the reply to a time now is right, be it a time or a refusal
-pub timed : {S : Type 0} (answers : S → ℕ → ℕ → Type 0) (counter : S) (old new : Known)
+-- the reply with such a result and such a number of entries is right
+answered : {S : Type 0} (answers : S → ℕ → ℕ → Type 0) (counter : S) (old new : Known)
     (clock : ClockId) (result : Result Timespec ReadError) (read : ℕ) →
     IsAsked answers counter old new clock result read →
     IsAnswer old new (Now clock) (reply_of result read)
-timed answers counter old new clock (Ok time) read asked = record {
+answered answers counter old new clock (Ok time) read asked = record {
   later = later_by answers counter old new clock (Ok time) read asked;
   right = right_by answers counter old new clock (Ok time) read asked;
 }
-timed answers counter old new clock (Err refusal) read asked = record {
+answered answers counter old new clock (Err refusal) read asked = record {
   later = later_by answers counter old new clock (Err refusal) read asked;
   right = right_by answers counter old new clock (Err refusal) read asked;
 }
+
+-- the reply to a time now is right, be it a time or a refusal
+pub timed : {S : Type 0} (answers : S → ℕ → ℕ → Type 0) (counter : S) (old new : Known)
+    (clock : ClockId) (result : Result Timespec ReadError) (read : ℕ) → Begins old.seen new.seen →
+    KnowsMore old new →
+    IsSeenBy answers counter clock new.seen old.watched new.watched result →
+    (new.id ≡ old.id) × (new.accepted ≡ old.accepted) × (new.learnt ≡ old.learnt) →
+    read ≡ length new.seen.entries → IsAnswer old new (Now clock) (reply_of result read)
+timed answers counter old new clock result read seen more is same front =
+    answered answers counter old new clock result read (record {
+      seen = seen;
+      more = more;
+      is = is;
+      id = same.0;
+      accepted = same.1;
+      learnt = same.2;
+      front = front;
+    })
