@@ -8,7 +8,7 @@ use Rattle.tk_clock.specs.Journal.{Journal, followed_by}
 use Rattle.tk_page.specs.declared.view.View.{View}
 use Rattle.tk_page.specs.declared.view.View.TheVariants.{Fresh, Spent, Viewing, Publishing, Comparing}
 use Rattle.tk_page.specs.History.{Begins, longer}
-use Rattle.tk_page.specs.Views.{journal_of, reads_of, is_fresh, Shows, Fits, Kept, Opened, Published, Seen, Compared, copy_of, longer_of, with_note}
+use Rattle.tk_page.specs.Views.{journal_of, noted_of, reads_of, is_fresh, Shows, Fits, Kept, Opened, Published, Seen, Compared, copy_of, longer_of, with_note}
 use Rattle.tk_page.proofs.Beginnings.{begins-self, longer-begins}
 use Rattle.tk_page.proofs.Views.{not_fresh, only_one, after_set, fits_longer, changed, cut, merged}
 
@@ -49,19 +49,19 @@ opens by journal new shown words views kept at =
     )
 
 -- step 2: the publisher publishes one more entry
-publishes : (by : ℕ) (own : Journal) (entry : Entry) (new : List ℕ) →
+publishes : (by : ℕ) (own noted : Journal) (entry : Entry) (new : List ℕ) →
     Shows new (followed_by own entry) →
-    Turns Kept by (Publishing own) (λ _. new) (Published entry)
-publishes by own entry new shown words views kept at =
+    Turns Kept by (Comparing own noted) (λ _. new) (Published entry)
+publishes by own noted entry new shown words views kept at =
     let view = Publishing (followed_by own entry) in
-    let mine = kept.each by (Publishing own) at in
+    let mine = kept.each by (Comparing own noted) at in
     let each = subst (λ (t : Journal × ℕ). (j : ℕ) (u : View) → get_elem? views j ≡ some u →
     Fits t.0 t.1 j u) (λ i. (sym mine.1 i, sym mine.0 i)) kept.each in (
       view,
-      changed words new views by (Publishing own) view (followed_by own entry) by kept at refl refl
-          shown (λ j u apart there. fits_longer own entry by j u apart (each j u there))
+      changed words new views by (Comparing own noted) view (followed_by own entry) by kept at refl
+          refl shown (λ j u apart there. fits_longer own entry by j u apart (each j u there))
           (refl, refl),
-      refl,
+      (refl, subst (Begins noted) (sym mine.1) mine.2),
     )
 
 -- steps 3 and 4, of a viewer
@@ -132,12 +132,12 @@ opens_as by view journal new is shown =
     (opens by journal new shown)
 
 pub publishes_as : (by : ℕ) (view : View) (entry : Entry) (new : List ℕ) →
-    view ≡ Publishing (journal_of view) →
+    view ≡ Comparing (journal_of view) (noted_of view) →
     Shows new (followed_by (journal_of view) entry) →
     Turns Kept by view (λ _. new) (Published entry)
 publishes_as by view entry new is shown =
     subst (λ (v : View). Turns Kept by v (λ _. new) (Published entry)) (sym is)
-    (publishes by (journal_of view) entry new shown)
+    (publishes by (journal_of view) (noted_of view) entry new shown)
 
 pub reads_as : (by : ℕ) (view : View) → view ≡ Viewing (reads_of view) (journal_of view) →
     Turns Kept by view (λ x. x) Seen

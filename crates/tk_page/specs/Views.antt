@@ -70,9 +70,11 @@ pub record Kept (words : List ℕ) (views : List View) : Type 0 where
 abbrev pub Opened : Journal → View → List ℕ → List ℕ → View → Type 0
 Opened journal view before after view' = view' ≡ Publishing journal
 
--- the publisher's journal has one more entry
+-- the publisher's journal has one more entry, and the noted journal begins what it was before
 abbrev pub Published : Entry → View → List ℕ → List ℕ → View → Type 0
-Published entry view before after view' = view' ≡ Publishing (followed_by (journal_of view) entry)
+Published entry view before after view' =
+    (view' ≡ Publishing (followed_by (journal_of view) entry))
+    × Begins (noted_of view) (journal_of view)
 
 -- one read more: the journal published so far is seen, and the words are those of its snapshot
 abbrev pub Seen : View → List ℕ → List ℕ → View → Type 0

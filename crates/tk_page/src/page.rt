@@ -12,8 +12,10 @@
 //!
 //! 1. Open: the cell is made with the words of the opening. Its first pass stores the same words
 //!    again. From then on it is the publisher's pass, of a journal without entries.
-//! 2. Publish: the publisher makes the version odd, writes the words, and makes the version even, 2
-//!    above its former value. That last store is the publication: the journal has one more entry.
+//! 2. Publish: the publisher's pass takes in a copy as a note (5 and 6). It makes the version odd,
+//!    writes the words, and makes the version even, 2 above its former value. That last store is the
+//!    publication: the journal has one more entry. It shows that the noted journal begins the
+//!    journal before the publication.
 //! 3. Read: the viewer loads an even version, loads the words, and loads the same version again.
 //!    That last load is the read: the viewer has then seen the whole journal published so far.
 //! 4. Read after a failed try: if the version was odd or changed, the viewer makes it odd itself,
@@ -22,10 +24,9 @@
 //! 6. Join: a pass takes in what another pass knows. The other one is then spent.
 //! 7. Tell: the viewer's pass gives a copy of what it knows (5), and the publisher's pass takes it in
 //!    as a note (6). A read by the publisher (3 or 4) then shows that the noted journal begins the
-//!    publisher's.
-//! 8. Extend, at the end of 7, or alone if it is known that the viewer's journal begins the
-//!    publisher's: the viewer's pass gives all that it knows (5). The publisher's pass gives a copy
-//!    (5), which takes in what the viewer gave (6) and becomes the viewer's pass.
+//!    publisher's. So the viewer's pass gives all that it knows (5), and the publisher's a copy (5),
+//!    which takes in what the viewer gave (6) and becomes the viewer's pass.
+//! 8. Publish for a viewer: as 7, with a publication (2) instead of the read.
 //!
 //! A viewer's pass counts its reads: steps 3 and 4 add one, and no other step adds any. A copy (5)
 //! starts at 0. A join (6) adds both counts and keeps the longer journal, so no step can keep the
@@ -33,10 +34,10 @@
 //!
 //! Who waits for whom:
 //!
-//! - `publish` waits for a viewer that holds the cell in step 4.
+//! - `publish` and `publish_for` wait for a viewer that holds the cell in step 4.
 //! - `read` and `tell` wait, after a failed first try, for the pass that holds the cell.
 //! - `open` waits for nobody: no other pass exists yet.
-//! - `front`, `extend`, `split` and `join` never wait.
+//! - `front`, `split` and `join` never wait.
 //!
 //! No call takes the lock of a keeper, and only `open` allocates. The version has room for
 //! 2^63 - 1 stores of the words. Step 1 uses one, so there can be 2^63 - 2 publications.
@@ -122,12 +123,10 @@ impl Page {
         self.extend(publisher, viewer, words[0]);
     }
 
-    /// Gives a viewer all that was published, if its journal is known to begin the publisher's.
-    /// `front` is the number of entries of the publisher's journal.
-    ///
-    /// It touches no word of the page, never waits and allocates nothing.
+    /// Gives a viewer the publisher's journal, which the viewer's begins and which has `front`
+    /// entries. It touches no word of the page.
     #[inline]
-    pub fn extend(&self, publisher: &mut Publisher, viewer: &mut Viewer, front: u64)
+    pub(crate) fn extend(&self, publisher: &mut Publisher, viewer: &mut Viewer, front: u64)
         requires publisher { publisher.old.page ≡ self.now }
         requires viewer { viewer.old.page ≡ self.now }
         requires begins { Begins viewer.old.journal publisher.old.journal }
@@ -135,7 +134,6 @@ impl Page {
         ensures publisher { publisher.new ≡ publisher.old }
         ensures viewer { viewer.new ≡ record viewer.old { journal = publisher.old.journal } }
     {
-        // Step 8.
         let known = self.cell.split_pass::<Leaves>(&mut viewer.pass);
         let mut whole = self.cell.split_pass::<Copies>(&mut publisher.pass);
         self.cell.join_pass::<KeepsLonger>(&mut whole, known);

@@ -2,11 +2,13 @@ ghost use Rattle.std.specs.Prelude.{◌≡◌};
 ghost use Rattle.crossbeam_utils.specs.Seq.{cell_view};
 ghost use Rattle.tk_clock.specs.Journal.{followed_by};
 ghost use Rattle.tk_clock.specs.Snapshot.{snapshot_of};
-ghost use Rattle.tk_page.specs.declared.view.View.TheVariants.{Publishing};
-ghost use Rattle.tk_page.specs.Views.{journal_of};
+ghost use Rattle.tk_page.specs.declared.view.View.TheVariants.{Comparing, Publishing};
+ghost use Rattle.tk_page.specs.History.{Begins};
+ghost use Rattle.tk_page.specs.Views.{journal_of, noted_of};
 
 use crate::page::Page;
-use crate::rule::{Cell, NamesEntry, Pass, Publishes};
+use crate::rule::{Cell, Copies, NamesEntry, Notes, Pass, Publishes};
+use crate::viewer::Viewer;
 use std::marker::{Brand, Model};
 use std::sync::Wait;
 use tk_clock::{Entry, Snapshot};
@@ -46,11 +48,40 @@ impl Publisher {
         requires snapshot { snapshot ≡ snapshot_of (followed_by self.old.journal entry) }
         ensures { self.new ≡ record self.old { journal = followed_by self.old.journal entry } }
     {
+        let own = page.cell.split_pass::<Copies>(&mut self.pass);
+        page.cell.join_pass::<Notes>(&mut self.pass, own);
         publish_entry::<Brand, R>(rt, &page.cell, &mut self.pass, entry, snapshot);
+    }
+
+    /// Does what `publish` does, and gives a viewer the longer journal. The viewer's former journal
+    /// begins the publisher's. This is no read of the viewer's.
+    ///
+    /// It allocates nothing, and waits as `publish` does.
+    pub fn publish_for<R: Wait>(
+        &mut self,
+        rt: &R,
+        page: &Page,
+        entry: Entry,
+        snapshot: Snapshot,
+        viewer: &mut Viewer,
+    )
+        requires page { self.old.page ≡ page.now }
+        requires viewer { viewer.old.page ≡ page.now }
+        requires snapshot { snapshot ≡ snapshot_of (followed_by self.old.journal entry) }
+        ensures journal { self.new ≡ record self.old { journal = followed_by self.old.journal entry } }
+        ensures viewer { viewer.new
+            ≡ record viewer.old { journal = followed_by self.old.journal entry } }
+        ensures begins { Begins viewer.old.journal self.old.journal }
+    {
+        let noted = page.cell.split_pass::<Copies>(&mut viewer.pass);
+        page.cell.join_pass::<Notes>(&mut self.pass, noted);
+        publish_entry::<Brand, R>(rt, &page.cell, &mut self.pass, entry, snapshot);
+        page.extend(self, viewer, snapshot.front());
     }
 }
 
-/// Publishes an entry that the type `E` names, so that the step's outcome can name it too.
+/// Publishes an entry, when a viewer's journal is noted. The type `E` names the entry, so that the
+/// step's outcome can name it too.
 fn publish_entry<E: NamesEntry, R: Wait>(
     rt: &R,
     cell: &Cell,
@@ -59,13 +90,15 @@ fn publish_entry<E: NamesEntry, R: Wait>(
     snapshot: Snapshot,
 )
     requires cell { pass.old.table_id ≡ cell.now.table.shared.table_id }
-    requires view { cell_view pass.old ≡ Publishing (journal_of (cell_view pass.old)) }
+    requires view { cell_view pass.old
+        ≡ Comparing (journal_of (cell_view pass.old)) (noted_of (cell_view pass.old)) }
     requires entry { E.entry ≡ entry }
     requires snapshot { snapshot
         ≡ snapshot_of (followed_by (journal_of (cell_view pass.old)) entry) }
     ensures cell { pass.new.table_id ≡ pass.old.table_id }
     ensures view { cell_view pass.new
         ≡ Publishing (followed_by (journal_of (cell_view pass.old)) entry) }
+    ensures begins { Begins (noted_of (cell_view pass.old)) (journal_of (cell_view pass.old)) }
 {
     // Step 2.
     cell.swap_as::<Publishes<E>, R>(rt, pass, snapshot.words());

@@ -86,7 +86,6 @@ impl<L: Named, C: Counter> Locked<L, C> {
         ensures folded { self.new.journal.opening ≡ self.old.journal.opening }
         ensures same { IsSameCaller caller.old caller.new }
     {
-        page.tell(rt, &mut self.publisher, &mut caller.viewer);
         self.announcer.announce(notice);
         let reading = self.counter.read_after(self.announcer.look()) & self.mask;
         let who = caller.id;
@@ -94,17 +93,17 @@ impl<L: Named, C: Counter> Locked<L, C> {
             Ok(number) => number,
             Err(refusal) => {
                 self.announcer.withdraw(notice);
+                page.tell(rt, &mut self.publisher, &mut caller.viewer);
                 return Err(refusal);
             }
         };
         latch.tell(&mut self.writer, &mut caller.reader);
         let entry = Entry { who, reading, cmd };
         let snapshot = self.keeper.snapshot();
-        self.publisher.publish(rt, page, entry, snapshot);
+        let (publisher, viewer) = (&mut self.publisher, &mut caller.viewer);
+        publisher.publish_for(rt, page, entry, snapshot, viewer);
         show_on_latch(latch, &mut self.writer, snapshot);
         self.announcer.accept(notice, reading);
-        // The caller has seen all entries but this one, so it need not read the page again.
-        page.extend(&mut self.publisher, &mut caller.viewer, snapshot.front());
         latch.tell(&mut self.writer, &mut caller.reader);
         self.announcer.tell(notice, &mut caller.watcher);
         self.book.add(&mut caller.share, 1);

@@ -2,8 +2,7 @@ use Rattle.std.proofs.Common.{◌≡◌, ℕ, ◌+◌, ◌≤◌, ◌++◌, ◌�
 use Rattle.tk_clock.specs.declared.command.Entry.{Entry}
 use Rattle.tk_clock.specs.Journal.{Journal, followed_by, accepted_count}
 use Rattle.tk_clock.specs.Snapshot.{Snapshot, snapshot_of}
-use Rattle.tk_page.specs.History.{Begins, History, Sight}
-use Rattle.tk_page.proofs.Beginnings.{begins-followed_by, begins-self}
+use Rattle.tk_page.specs.History.{History, Sight}
 use Rattle.tk_latch.specs.Latch.{Learnt, Published, told_reader}
 use Rattle.tk_shared.specs.Callers.{Known, known_of, entry_of, made_by, IsAccepted, IsRefused}
 use Rattle.tk_now.specs.declared.rule.Taken.{Taken}
@@ -21,12 +20,12 @@ use Rattle.tk_shared.proofs.locked.Locked.command.Given.{Over}
 use Rattle.tk_shared.proofs.locked.Locked.command.Goals as goal
 
 -- the caller, and what lies under the lock, before a command that was refused
-abbrev refused_caller : (g : Over) → goal.After-withdraw g → Known
+abbrev refused_caller : (g : Over) → goal.After-tell g → Known
 refused_caller g c =
     let caller = c.caller.inside in
     known_of caller.id caller.accepted caller.viewer caller.reader caller.watcher
 
-abbrev refused_by : (g : Over) → goal.After-withdraw g → Held
+abbrev refused_by : (g : Over) → goal.After-tell g → Held
 refused_by g c =
     let inside = c.self.inside in
     held_of inside.keeper.journal inside.publisher inside.writer inside.mask inside.book.total
@@ -62,11 +61,8 @@ next_is g c =
     ∙ kept_snapshot _ _ now.whole now.kept
 
 shown : (g : Over) (c : goal.After-caller-1 g) →
-    c.publish.new.self ≡ (with_entry (held_by g c) (entry_by g c)).shown
-shown g c =
-    let longer : History → History =
-    λ h. record h { journal = followed_by h.journal (entry_by g c) } in
-    c.publish.ensures ∙ ap longer c.tell.ensures.publisher
+    c.publish_for.new.self ≡ (with_entry (held_by g c) (entry_by g c)).shown
+shown g c = c.publish_for.ensures.journal
 
 latched : (g : Over) (c : goal.After-caller-1 g) →
     c.show_on_latch.new.writer ≡ (with_entry (held_by g c) (entry_by g c)).latched
@@ -129,8 +125,8 @@ returns-in-Err-clause-reading g c =
     IsRefusedAtReading g.C.Counter.answers_after p.0 p.1 c.args.cmd c.in-Err.refusal)
     (λ i. (c.caller.view_is i, sym seen i)) found
 
-pub publish-requires-clause-snapshot : goal.publish-requires-clause-snapshot
-publish-requires-clause-snapshot g c =
+pub publish_for-requires-clause-snapshot : goal.publish_for-requires-clause-snapshot
+publish_for-requires-clause-snapshot g c =
     let entry : Entry = record {
       who = c.caller.inside.id;
       reading = bit_and c.read_after.result c.self.inside.mask;
@@ -141,22 +137,6 @@ publish-requires-clause-snapshot g c =
     c.snapshot-snapshot.ensures.value
     ∙ ap snapshot_of c.in-Ok.ensures.answer.1
     ∙ kept_snapshot _ _ now.whole now.kept
-    ∙ ap (λ (h : History). snapshot_of (followed_by h.journal entry)) (sym c.tell.ensures.publisher)
-
-pub extend-requires-clause-begins : goal.extend-requires-clause-begins
-extend-requires-clause-begins g c =
-    let history = c.self.inside.publisher.journal in
-    let entry : Entry = record {
-      who = c.caller.inside.id;
-      reading = bit_and c.read_after.result c.self.inside.mask;
-      cmd = c.args.cmd;
-    } in
-    let seen = ap (λ (s : Sight). s.journal) c.tell.ensures.viewer in
-    let longer : History → Journal = λ h. followed_by h.journal entry in
-    let published = ap (λ (h : History). h.journal) c.publish.ensures
-    ∙ ap longer c.tell.ensures.publisher in
-    subst (λ (t : Journal × Journal). Begins t.0 t.1) (λ i. (sym seen i, sym published i))
-    (begins-followed_by history history entry (begins-self history))
 
 pub invariant_of-self : goal.invariant_of-self
 invariant_of-self g c =
@@ -181,7 +161,7 @@ invariant_of-self g c =
 
 pub invariant_of-self-2 : goal.invariant_of-self-2
 invariant_of-self-2 g c =
-    let published = c.extend.ensures.publisher ∙ shown g c in
+    let published = shown g c in
     let told = c.tell-3.ensures.writer ∙ latched g c in (
       subst (IsHeld g.L.Named.page g.L.Named.latch)
           (λ i. record {
@@ -203,15 +183,14 @@ pub invariant_of-caller-2 : goal.invariant_of-caller-2
 invariant_of-caller-2 g c =
     let old = caller_of g c in
     let history = c.self.inside.publisher.journal in
-    let seen = ap (λ (s : Sight). s.journal) c.extend.ensures.viewer
-    ∙ ap (λ (h : History). h.journal) (shown g c) in (
+    let seen = ap (λ (s : Sight). s.journal) c.publish_for.ensures.viewer in (
       search rules,
       search rules,
       search rules,
       search rules,
       subst (λ (j : Journal). old.accepted + 1 ≤ made_by old.id j.entries) (sym seen)
           (own_more old.id old.accepted old.seen.entries history.entries (entry_by g c) refl
-          c.tell.ensures.begins.1 c.caller.invariant.4),
+          c.publish_for.ensures.begins.1 c.caller.invariant.4),
       search rules,
     )
 
@@ -220,13 +199,11 @@ returns-clause-answer g c =
     let old = caller_of g c in
     let answer = c.in-Ok.ensures.answer in
     let told = accepted g.L.Named.page g.L.Named.latch (held_by g c) c.self.invariant.0 old
-    c.read_after.result c.args.cmd c.tell.ensures.begins c.in-Ok.number c.tell-2.ensures.extends
+    c.read_after.result c.args.cmd c.publish_for.ensures.begins c.in-Ok.number c.tell-2.ensures.extends
     answer.0 (answer.2 ∙ ap accepted_count answer.1) g.L.Named.notice c.accept.new.self
     c.tell-4.new.watcher (at_rest g c) c.tell-4.ensures.told in
-    let seen = ap (λ (s : Sight). s.journal) c.extend.ensures.viewer
-    ∙ ap (λ (h : History). h.journal) (shown g c) in
-    let reads = ap (λ (s : Sight). s.reads) c.extend.ensures.viewer
-    ∙ ap (λ (s : Sight). s.reads) c.tell.ensures.viewer in
+    let seen = ap (λ (s : Sight). s.journal) c.publish_for.ensures.viewer in
+    let reads = ap (λ (s : Sight). s.reads) c.publish_for.ensures.viewer in
     let learnt = c.tell-3.ensures.reader ∙ ap told_reader (latched g c) in
     let new : ℕ × Journal × Learnt → Known = λ p. record {
       id = old.id;
@@ -238,7 +215,7 @@ returns-clause-answer g c =
     } in
     subst
     (λ (k : Known).
-    IsAccepted k (new (c.extend.new.viewer.reads, c.extend.new.viewer.journal, c.tell-3.new.reader))
+    IsAccepted k (new (c.publish_for.new.viewer.reads, c.publish_for.new.viewer.journal, c.tell-3.new.reader))
     c.args.cmd c.in-Ok.number)
     c.caller.view_is
     (subst (λ (p : ℕ × Journal × Learnt). IsAccepted old (new p) c.args.cmd c.in-Ok.number)
@@ -249,9 +226,8 @@ returns-clause-reading g c =
     let held = held_by g c in
     let answer = c.read_after.result in
     let low = low_bits g.L.Named.page g.L.Named.latch held c.self.invariant.0 (caller_of g c) answer
-    c.args.cmd c.tell.ensures.begins in
-    let seen = ap (λ (s : Sight). s.journal) c.extend.ensures.viewer
-    ∙ ap (λ (h : History). h.journal) (shown g c) in
+    c.args.cmd c.publish_for.ensures.begins in
+    let seen = ap (λ (s : Sight). s.journal) c.publish_for.ensures.viewer in
     let found : EndsAtReading g.C.Counter.answers_after
     (followed_by held.shown.journal (entry_by g c)) =
     record {
