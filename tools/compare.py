@@ -163,10 +163,10 @@ def stamps(rng, journal):
 def wanted(make, *given):
     """The status, the output and the fault that the definitions have."""
     try:
-        told = make(*given)
+        answer = make(*given)
     except model.Fault as fault:
         return 1, "", f"tkcore: {fault}\n"
-    status, lines = told if isinstance(told, tuple) else (0, told)
+    status, lines = answer if isinstance(answer, tuple) else (0, answer)
     return status, "".join(line + "\n" for line in lines), ""
 
 
@@ -194,10 +194,10 @@ class Comparison:
         self.rng = random.Random(seed)
         self.counts = {}
 
-    def check(self, kind, told, right, *texts):
-        if told != right:
+    def check(self, kind, actual, expected, *texts):
+        if actual != expected:
             shown = "\n---\n".join(text.decode() for text in texts)
-            print(f"{kind} of seed {self.seed} differs:\n{shown}\nprogram: {told}\nmodel: {right}")
+            print(f"{kind} of seed {self.seed} differs:\n{shown}\nprogram: {actual}\nmodel: {expected}")
             sys.exit(1)
         self.counts[kind] = self.counts.get(kind, 0) + 1
 
@@ -219,23 +219,23 @@ class Comparison:
         marks = stamps(self.rng, journal) if journal else b"0,0\n"
         clock = self.rng.choice(model.CLOCKS)
         names = [file_of(self.folder, "script", text), file_of(self.folder, "stamps", marks)]
-        told = ran(self.program, ["trace", clock] + names)
-        self.check("trace", told, wanted(model.trace, clock, text, marks), clock.encode(), text, marks)
+        actual = ran(self.program, ["trace", clock] + names)
+        self.check("trace", actual, wanted(model.trace, clock, text, marks), clock.encode(), text, marks)
 
     def many(self, texts):
         names = [file_of(self.folder, f"script{i}", text) for i, text in enumerate(texts)]
         workers = self.rng.choice([1, 2, 3, 4, 64])
-        told = ran(self.program, ["many", str(workers)] + names)
-        self.check("many", told, wanted(model.many, texts), *texts)
+        actual = ran(self.program, ["many", str(workers)] + names)
+        self.check("many", actual, wanted(model.many, texts), *texts)
 
     def race(self, text):
         """One actor exactly, and then the same script as three actors, whose sums must agree."""
         name = file_of(self.folder, "racer", text)
         step = self.rng.choice([0, 1, 1_000, 2**31, self.rng.randrange(2**64)])
-        told = ran(self.program, ["race", str(step), name])
-        self.check("race", told, wanted(model.race, step, text), str(step).encode(), text)
-        if told[0] == 0:
-            self.race_together(step, name, text, sum(map(int, told[1].split("\n")[1].split(",")[2:])))
+        actual = ran(self.program, ["race", str(step), name])
+        self.check("race", actual, wanted(model.race, step, text), str(step).encode(), text)
+        if actual[0] == 0:
+            self.race_together(step, name, text, sum(map(int, actual[1].split("\n")[1].split(",")[2:])))
 
     def race_together(self, step, name, text, orders):
         status, lines, fault = ran(self.program, ["race", str(step)] + [name] * 3)

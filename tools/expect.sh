@@ -12,11 +12,11 @@ trap 'rm -rf "$work"' EXIT
 # NAME STATUS FAULT LINES LAST COMMAND: the command must exit with STATUS, write FAULT (or nothing)
 # to standard error, and LINES lines to standard output, of which LAST is the last
 expect() {
-    local told=${3:+tkcore: $3} got
+    local fault=${3:+tkcore: $3} got
     (ulimit -v 800000 && exec timeout 20 bash -c "$6") >"$work/out" 2>"$work/err"
     got="$? '$(cat "$work/err")' $(wc -l <"$work/out") '$(tail -n 1 "$work/out")'"
-    if [ "$got" != "$2 '$told' $4 '$5'" ]; then
-        printf 'differs: %s\n  wanted: %s\n  got:    %s\n' "$1" "$2 '$told' $4 '$5'" "$got"
+    if [ "$got" != "$2 '$fault' $4 '$5'" ]; then
+        printf 'differs: %s\n  wanted: %s\n  got:    %s\n' "$1" "$2 '$fault' $4 '$5'" "$got"
         exit 1
     fi
     echo "as it should be: $1"

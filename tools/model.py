@@ -99,8 +99,8 @@ class Journal:
                    for k in range(1, place + 1) if not self.is_asleep_at(k - 1))
 
     def in_force(self, word, place, opening):
-        told = [value for name, _, value in self.entries[:place] if name == word]
-        return told[-1] if told else opening
+        settings = [value for name, _, value in self.entries[:place] if name == word]
+        return settings[-1] if settings else opening
 
     def multiplier(self, place):
         return self.counter.multiplier(self.in_force("freq", place, 0), self.in_force("tick", place, 10_000))

@@ -10,9 +10,9 @@ use std::process::ExitCode;
 
 /// Writes the report of the script on standard input.
 pub fn replay() -> ExitCode {
-    let told = whole(io::stdin().lock()).map_err(|_| "cannot read".to_string());
+    let script = whole(io::stdin().lock()).map_err(|_| "cannot read".to_string());
     finish(
-        told.and_then(|script| report::report(&script).map_err(|error| format!("script: {error}"))),
+        script.and_then(|script| report::report(&script).map_err(|error| format!("script: {error}"))),
     )
 }
 
@@ -22,8 +22,8 @@ pub fn trace(clock: &str, script: &str, stamps: &str) -> ExitCode {
         return refused();
     };
     let inputs = (|| io::Result::Ok((whole(File::open(script)?)?, whole(File::open(stamps)?)?)))();
-    let told = inputs.map_err(|_| "cannot read".to_string());
-    finish(told.and_then(|(script, stamps)| {
+    let inputs = inputs.map_err(|_| "cannot read".to_string());
+    finish(inputs.and_then(|(script, stamps)| {
         trace::trace(&script, &stamps, clock).map_err(|error| error.to_string())
     }))
 }
@@ -41,8 +41,8 @@ fn whole(reader: impl Read) -> io::Result<Vec<u8>> {
     Ok(bytes)
 }
 
-fn finish(told: Result<Vec<u8>, impl Display>) -> ExitCode {
-    match told {
+fn finish(text: Result<Vec<u8>, impl Display>) -> ExitCode {
+    match text {
         Ok(text) if io::stdout().write_all(&text).is_ok() => ExitCode::SUCCESS,
         Ok(_) => ExitCode::FAILURE,
         Err(fault) => {

@@ -220,16 +220,16 @@ fn beside(
     let (keeper, mut callers, mut caller) = opened();
     let usual = weight(&keeper.read(&mut caller));
     let ended = AtomicU64::new(0);
-    let (shared, told, each) = (&*keeper, &ended, effort.of(COMMANDS) / 4);
+    let (shared, flag, each) = (&*keeper, &ended, effort.of(COMMANDS) / 4);
     let start = Instant::now();
     let (count, off) = thread::scope(|scope| {
         for one in callers.iter_mut() {
             scope.spawn(move || {
                 gives(shared, one, each);
-                told.fetch_add(1, Ordering::SeqCst)
+                flag.fetch_add(1, Ordering::SeqCst)
             });
         }
-        read(shared, &mut caller, usual, told)
+        read(shared, &mut caller, usual, flag)
     });
     let time = start.elapsed();
     let check = weighed(&keeper.read(&mut caller)).wrapping_add(off);

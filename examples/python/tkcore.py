@@ -44,9 +44,9 @@ def enum(header, name, prefix):
 
 def value(header, name):
     """Returns a ctypes structure for a value whose contents only the library reads."""
-    told = re.search(rf"struct {name} {{\s*uint(\d+)_t tkc_private\[(\d+)\]", header)
-    word = {"32": U32, "64": U64}[told.group(1)]
-    fields = [("tkc_private", word * int(told.group(2)))]
+    private = re.search(rf"struct {name} {{\s*uint(\d+)_t tkc_private\[(\d+)\]", header)
+    word = {"32": U32, "64": U64}[private.group(1)]
+    fields = [("tkc_private", word * int(private.group(2)))]
     return type(name, (ctypes.Structure,), {"_fields_": fields})
 
 

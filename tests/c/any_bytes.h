@@ -39,9 +39,9 @@ bool is_same_snapshot(const struct tkc_snapshot *snapshot,
 
 /* Make the snapshot or the clocks that words represent. */
 void try_snapshot_words(const struct tkc_counter *of,
-			const uint64_t told[TKC_WORDS]);
+			const uint64_t given[TKC_WORDS]);
 uint32_t try_clock_words(struct tkc_clock *clock, const struct tkc_counter *of,
-			 const uint64_t told[TKC_WORDS], int64_t frequency,
+			 const uint64_t given[TKC_WORDS], int64_t frequency,
 			 int64_t tick);
 
 /* Checks that the words of a clock give it back, and tries changed words. */

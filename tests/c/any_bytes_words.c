@@ -8,10 +8,10 @@
 bool is_same_snapshot(const struct tkc_snapshot *snapshot,
 		      const uint64_t words[TKC_WORDS])
 {
-	uint64_t told[TKC_WORDS];
+	uint64_t found[TKC_WORDS];
 
-	tkc_snapshot_words(told, snapshot);
-	return !memcmp(told, words, sizeof(told));
+	tkc_snapshot_words(found, snapshot);
+	return !memcmp(found, words, sizeof(found));
 }
 
 static void spoil(uint64_t words[TKC_WORDS])
@@ -24,21 +24,21 @@ static void spoil(uint64_t words[TKC_WORDS])
 }
 
 void try_snapshot_words(const struct tkc_counter *of,
-			const uint64_t told[TKC_WORDS])
+			const uint64_t given[TKC_WORDS])
 {
 	const struct tkc_counter *counter = put(rooms.counter, of, sizeof(*of));
-	uint64_t *words = put(rooms.words, told, TKC_WORDS * sizeof(*words));
+	uint64_t *words = put(rooms.words, given, TKC_WORDS * sizeof(*words));
 	struct tkc_snapshot before;
 	struct tkc_snapshot *out = fill(rooms.other, &before, sizeof(before));
 	uint32_t code = saw(tkc_snapshot_from_words(out, counter, words));
 
 	check(code == TKC_OK || code == TKC_BAD_WORDS);
-	check(!memcmp(words, told, TKC_WORDS * sizeof(*words)));
+	check(!memcmp(words, given, TKC_WORDS * sizeof(*words)));
 	if (code) {
 		check(!memcmp(out, &before, sizeof(before)));
 		return;
 	}
-	check(is_same_snapshot(out, told));
+	check(is_same_snapshot(out, given));
 	try_reads(out);
 }
 
@@ -46,21 +46,21 @@ static void check_clock_words(const struct tkc_clock *clock,
 			      const uint64_t words[TKC_WORDS], int64_t frequency,
 			      int64_t tick)
 {
-	uint64_t *told = place(rooms.words, TKC_WORDS * sizeof(*told));
-	int64_t *frequency_told = place(rooms.frequency, sizeof(frequency));
-	int64_t *tick_told = place(rooms.tick, sizeof(tick));
+	uint64_t *found = place(rooms.words, TKC_WORDS * sizeof(*found));
+	int64_t *found_frequency = place(rooms.frequency, sizeof(frequency));
+	int64_t *found_tick = place(rooms.tick, sizeof(tick));
 
-	tkc_clock_words(told, frequency_told, tick_told, clock);
-	check(!memcmp(told, words, TKC_WORDS * sizeof(*told)));
-	check(*frequency_told == frequency && *tick_told == tick);
+	tkc_clock_words(found, found_frequency, found_tick, clock);
+	check(!memcmp(found, words, TKC_WORDS * sizeof(*found)));
+	check(*found_frequency == frequency && *found_tick == tick);
 }
 
 uint32_t try_clock_words(struct tkc_clock *clock, const struct tkc_counter *of,
-			 const uint64_t told[TKC_WORDS], int64_t frequency,
+			 const uint64_t given[TKC_WORDS], int64_t frequency,
 			 int64_t tick)
 {
 	const struct tkc_counter *counter = put(rooms.counter, of, sizeof(*of));
-	uint64_t *words = put(rooms.words, told, TKC_WORDS * sizeof(*words));
+	uint64_t *words = put(rooms.words, given, TKC_WORDS * sizeof(*words));
 	struct tkc_clock before;
 	struct tkc_clock *out = fill(rooms.clock, &before, sizeof(before));
 	uint32_t code = saw(tkc_clock_from_words(out, counter, words, frequency,
@@ -70,7 +70,7 @@ uint32_t try_clock_words(struct tkc_clock *clock, const struct tkc_counter *of,
 	if (code)
 		check(!memcmp(out, &before, sizeof(before)));
 	else
-		check_clock_words(out, told, frequency, tick);
+		check_clock_words(out, given, frequency, tick);
 	*clock = *out;
 	return code;
 }

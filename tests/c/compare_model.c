@@ -34,7 +34,7 @@ static bool make_counter(struct tkc_counter *counter, struct model *model)
 	uint32_t mult = (uint32_t)(any() >> below(64)), shift = (uint32_t)below(34);
 	uint32_t code, maxsec = (uint32_t)below(602);
 	uint64_t hz = any() >> below(64);
-	uint32_t told[3];
+	uint32_t found[3];
 
 	if (below(2)) {
 		code = model_counter(bits, mult, shift);
@@ -47,8 +47,8 @@ static bool make_counter(struct tkc_counter *counter, struct model *model)
 	}
 	if (code)
 		return false;
-	tkc_counter_numbers(&told[0], &told[1], &told[2], counter);
-	CHECK(told[0] == bits && told[1] == mult && told[2] == shift);
+	tkc_counter_numbers(&found[0], &found[1], &found[2], counter);
+	CHECK(found[0] == bits && found[1] == mult && found[2] == shift);
 	model_open(model, bits, mult, shift);
 	return true;
 }
@@ -155,7 +155,7 @@ static void try_readings(const struct tkc_clock *clock, const struct model *mode
 static void try_words(const struct tkc_counter *counter, const struct tkc_clock *clock,
 		      const struct model *model)
 {
-	uint64_t words[TKC_WORDS], told[TKC_WORDS];
+	uint64_t words[TKC_WORDS], found[TKC_WORDS];
 	struct model restored = *model;
 	struct tkc_snapshot snapshot;
 	struct tkc_clock other;
@@ -174,8 +174,8 @@ static void try_words(const struct tkc_counter *counter, const struct tkc_clock 
 	CHECK(tkc_snapshot_from_words(&snapshot, counter, words) ==
 	      (is_snapshot ? TKC_OK : TKC_BAD_WORDS));
 	if (is_snapshot) {
-		tkc_snapshot_words(told, &snapshot);
-		CHECK(!memcmp(told, words, sizeof(words)));
+		tkc_snapshot_words(found, &snapshot);
+		CHECK(!memcmp(found, words, sizeof(words)));
 	}
 	is_snapshot = is_snapshot && model_is_running(&restored, words);
 	CHECK(tkc_clock_from_words(&other, counter, words, restored.frequency, restored.tick) ==

@@ -24,7 +24,7 @@ def wanted(text):
         return 1, "", f"tkcore: script: {fault}\n"
 
 
-def told(program, text):
+def written(program, text):
     """Returns the status, the report and the fault that the program gives for a script."""
     ran = subprocess.run([program], input=text, capture_output=True, check=False)
     return ran.returncode, ran.stdout.decode(), ran.stderr.decode()
@@ -36,9 +36,9 @@ def main():
     rng = random.Random(seed)
     for number in range(count):
         text = compare.unquoted_script(rng)
-        if told(program, text) != wanted(text):
+        if written(program, text) != wanted(text):
             print(f"script {number} of seed {seed} differs:\n{text.decode()}")
-            print(f"program: {told(program, text)}\nmodel: {wanted(text)}")
+            print(f"program: {written(program, text)}\nmodel: {wanted(text)}")
             sys.exit(1)
     print(f"{count} scripts of seed {seed}: each report is as the definitions have it")
 

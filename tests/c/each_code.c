@@ -102,7 +102,7 @@ static void empty_lists(const struct tkc_snapshot *snapshot, uint64_t out[3],
 	     tkc_snapshot_convert(NULL, 0, &done, snapshot, 2, NULL, 0));
 	MEET(TKC_BAD_ROOM, tkc_snapshot_convert(NULL, 0, &done, snapshot,
 						TKC_CLOCK_TAI, stamps, 3));
-	need(done == 9, "how many is not told where there is no room");
+	need(done == 9, "the number of results is stored without room for it");
 	MEET(TKC_OK, tkc_snapshot_convert(NULL, 0, &done, snapshot, TKC_CLOCK_TAI,
 					  NULL, 0));
 	need(done == 0, "no stamp is converted of NULL into NULL");
