@@ -1,6 +1,6 @@
 //! Publications of which each changes some of the words: the front alone, the front and each single
 //! other word, and all words.
-ghost use Rattle.std.specs.Prelude.{◌≡◌, ◌≤◌, length, slice_index, IfSome};
+ghost use Rattle.std.specs.Prelude.{◌≡◌, ◌≤◌, length, slice_index, suc, true, IfOk, IfSome};
 
 use super::{OPENED_REAL, nanosecond_counter};
 use std::test::Fail;
@@ -55,6 +55,16 @@ pub(super) fn publication(desc: CounterDesc, number: u64) -> Option<Snapshot>
     Snapshot::from_words(desc, words_at(number))
 }
 
+/// Returns the counter, and the publication at the opening.
+pub(super) fn opening() -> Result<(CounterDesc, Snapshot), Fail>
+    ensures { IfOk result (λ opening.
+        (opening.1.front ≡ 0) × (opening.1.base.counter ≡ opening.0)) }
+{
+    let desc = nanosecond_counter()?;
+    let snapshot = publication(desc, 0).ok_or("the opening")?;
+    Ok((desc, snapshot))
+}
+
 /// Returns the number of words in which the publication with a number differs from the one before.
 fn differences(number: u64) -> usize
     requires before { 1 ≤ number }
@@ -82,6 +92,26 @@ fn reads(latch: &Latch, reader: &mut LatchReader, number: u64) -> bool
     }
 }
 
+/// Publishes the publication with a number, and returns whether it was published.
+pub(super) fn publishes(
+    latch: &Latch,
+    writer: &mut LatchWriter,
+    desc: CounterDesc,
+    number: u64,
+) -> bool
+    requires latch { writer.old.latch ≡ latch.now }
+    requires counter { desc ≡ latch.now.counter }
+    requires next { length writer.old.publications ≡ number }
+    requires listed { number ≤ PUBLICATIONS }
+    ensures latch { writer.new.latch ≡ writer.old.latch }
+    ensures next { result ≡ true → length writer.new.publications ≡ suc number }
+{
+    match publication(desc, number) {
+        Some(snapshot) => writer.publish(latch, snapshot).is_ok(),
+        None => false,
+    }
+}
+
 /// Publishes all publications in order, and reads each one. Returns whether each read found the
 /// publication's words.
 fn reads_each(
@@ -96,13 +126,7 @@ fn reads_each(
     requires opened { length writer.publications ≡ 1 }
 {
     for number in 1..=PUBLICATIONS {
-        let Some(snapshot) = publication(desc, number) else {
-            return false;
-        };
-        if writer.publish(latch, snapshot).is_err() {
-            return false;
-        }
-        if !reads(latch, &mut reader, number) {
+        if !publishes(latch, &mut writer, desc, number) || !reads(latch, &mut reader, number) {
             return false;
         }
     }
@@ -111,8 +135,7 @@ fn reads_each(
 
 #[test]
 fn each_changed_word_is_published(rt: HostRuntime) -> Result<(), Fail> {
-    let desc = nanosecond_counter()?;
-    let opening = publication(desc, 0).ok_or("the opening")?;
+    let (desc, opening) = opening()?;
     let (latch, writer, mut readers) = Latch::open(rt.alloc(), opening, 1)?;
     let reader = readers.pop().ok_or("a reader")?;
     assert!(rt; reads_each(&latch, writer, reader, desc));

@@ -1,8 +1,7 @@
 ghost use Rattle.std.specs.Prelude.{◌≡◌, length};
 ghost use Rattle.std.specs.Thread.{IsSync};
 
-use super::changes::{PUBLICATIONS, publication, words_at};
-use super::nanosecond_counter;
+use super::changes::{PUBLICATIONS, opening, publishes, words_at};
 use std::test::Fail;
 use std::thread::{Threads, join};
 use tk_counter::CounterDesc;
@@ -15,10 +14,7 @@ fn publishes_all(latch: &Latch, mut writer: LatchWriter, desc: CounterDesc) -> b
     requires opened { length writer.publications ≡ 1 }
 {
     for number in 1..=PUBLICATIONS {
-        let Some(snapshot) = publication(desc, number) else {
-            return false;
-        };
-        if writer.publish(latch, snapshot).is_err() {
+        if !publishes(latch, &mut writer, desc, number) {
             return false;
         }
     }
@@ -54,12 +50,11 @@ fn reads_all(latch: &Latch, mut reader: LatchReader) -> bool
 fn read_beside<R: Threads + Sync>(
     rt: &R,
     latch: &Latch,
-    one: LatchReader,
-    other: LatchReader,
+    readers: (LatchReader, LatchReader),
 ) -> bool
-    requires one { one.latch ≡ latch.now }
-    requires other { other.latch ≡ latch.now }
+    requires { (readers.0.latch ≡ latch.now) × (readers.1.latch ≡ latch.now) }
 {
+    let (one, other) = readers;
     let (this, that) = join(
         rt,
         move || -> bool
@@ -121,15 +116,14 @@ fn race<R: Threads + Sync>(
         { publish_beside(rt, latch, writer, desc, one) },
         move || -> bool
             requires { IsSync R.row × (two.latch ≡ latch.now) × (three.latch ≡ latch.now) }
-        { read_beside(rt, latch, two, three) },
+        { read_beside(rt, latch, (two, three)) },
     );
     published && read
 }
 
 #[test]
 fn three_readers_beside_a_writer_read_whole_publications(rt: HostRuntime) -> Result<(), Fail> {
-    let desc = nanosecond_counter()?;
-    let opening = publication(desc, 0).ok_or("the opening")?;
+    let (desc, opening) = opening()?;
     let (latch, writer, mut readers) = Latch::open(rt.alloc(), opening, 3)?;
     let one = readers.pop().ok_or("a reader")?;
     let two = readers.pop().ok_or("a reader")?;

@@ -146,24 +146,37 @@ fn each_piece_begins_and_ends_once_even_without_actions(rt: HostRuntime) -> Resu
     Ok(())
 }
 
-/// Holds piece 1 in `before` until piece 0 arrives in `after`, and piece 0 there until piece 1
-/// arrives.
+/// Holds the second of two pieces in `before` until the first arrives in `after`, and the first
+/// there until the second arrives.
 #[derive(Drop)]
 struct InTurn {
+    /// The piece that is second.
+    held: usize,
     first: Flag,
     second: Flag,
     late: Flag,
 }
 
+impl InTurn {
+    fn holding(piece: usize) -> InTurn {
+        InTurn {
+            held: piece,
+            first: Flag::new(),
+            second: Flag::new(),
+            late: Flag::new(),
+        }
+    }
+}
+
 impl Gate for InTurn {
     fn before(&self, piece: usize) {
-        if piece == 1 && !self.first.is_seen() {
+        if piece == self.held && !self.first.is_seen() {
             self.late.set();
         }
     }
 
     fn after(&self, piece: usize) {
-        if piece == 1 {
+        if piece == self.held {
             return self.second.set();
         }
         self.first.set();
@@ -177,11 +190,7 @@ impl Gate for InTurn {
 fn a_gate_is_called_round_all_actions_of_an_actor(rt: HostRuntime) -> Result<(), Fail> {
     let desc = nanosecond_counter()?;
     let actors = alike(rt.alloc(), 2, UPDATE, 20_000)?;
-    let gate = InTurn {
-        first: Flag::new(),
-        second: Flag::new(),
-        late: Flag::new(),
-    };
+    let gate = InTurn::holding(1);
     let report = raced(&rt, rt.alloc(), desc, (0, 1), actors.as_slice(), &gate)?;
     assert!(&rt; !gate.late.0.load(Ordering::SeqCst));
     // all entries of actor 0 precede all entries of actor 1
@@ -196,37 +205,13 @@ fn a_gate_is_called_round_all_actions_of_an_actor(rt: HostRuntime) -> Result<(),
     Ok(())
 }
 
-/// Holds piece 0 before its first action until piece 1 is done.
-#[derive(Drop)]
-struct OtherFirst {
-    done: Flag,
-    late: Flag,
-}
-
-impl Gate for OtherFirst {
-    fn before(&self, piece: usize) {
-        if piece == 0 && !self.done.is_seen() {
-            self.late.set();
-        }
-    }
-
-    fn after(&self, piece: usize) {
-        if piece == 1 {
-            self.done.set();
-        }
-    }
-}
-
 #[test]
 fn an_actor_reads_what_another_did_before_it_began(rt: HostRuntime) -> Result<(), Fail> {
     let desc = nanosecond_counter()?;
     let reads = vec![in rt.alloc(); Action::Glance, Action::Look]?;
     let orders = vec![in rt.alloc(); UPDATE; 4]?;
     let actors = vec![in rt.alloc(); reads, orders]?;
-    let gate = OtherFirst {
-        done: Flag::new(),
-        late: Flag::new(),
-    };
+    let gate = InTurn::holding(0);
     let report = raced(&rt, rt.alloc(), desc, (0, 1), actors.as_slice(), &gate)?;
     assert!(&rt; !gate.late.0.load(Ordering::SeqCst));
     let replies = report.replies.first().ok_or("replies")?;

@@ -3,7 +3,7 @@
 ghost use Rattle.std.specs.Prelude.{◌≡◌};
 ghost use Rattle.tk_shared.specs.Opening.{IsNamed};
 
-use super::{folding, open_two, opened, turns};
+use super::{folding, open_two, opened, ready, turns};
 use std::alloc::Global;
 use std::marker::Brand;
 use std::process::Abort;
@@ -26,13 +26,14 @@ pub(super) enum Both {
     ReadFast,
 }
 
-/// Opens what was prepared, and its first caller does this.
+/// The only caller of a keeper on this counter does this.
 pub(super) fn alone_does<R: Wait + Abort>(
     rt: &R,
     alloc: Global,
-    prepared: Prepared<Ticker>,
+    ticker: Ticker,
     deed: Alone,
 ) -> Result<(), Fail> {
+    let prepared = ready(rt, alloc, ticker, 1)?;
     one_caller::<Brand, R>(rt, alloc, prepared, deed)
 }
 
@@ -52,15 +53,9 @@ fn one_caller<L: Named, R: Wait + Abort>(
     }
 }
 
-/// Opens what was prepared, and its two callers do this.
-pub(super) fn both_do<R: Wait + Abort>(
-    rt: &R,
-    alloc: Global,
-    prepared: Prepared<Ticker>,
-    deed: Both,
-) -> Result<(), Fail>
-    requires two { prepared.callers ≡ 2 }
-{
+/// The two callers of a keeper do this. Its counter is 1,000 ns further at each reading.
+pub(super) fn both_do<R: Wait + Abort>(rt: &R, alloc: Global, deed: Both) -> Result<(), Fail> {
+    let prepared = ready(rt, alloc, Ticker::new(0, 1_000), 2)?;
     two_callers::<Brand, R>(rt, alloc, prepared, deed)
 }
 

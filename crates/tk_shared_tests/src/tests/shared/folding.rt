@@ -1,7 +1,7 @@
 //! Folding under the lock.
 ghost use Rattle.std.specs.Prelude.{◌≡◌};
 
-use super::{assert_same, both, commanded, deeds, glanced, read_by, ready};
+use super::{assert_same, both, commanded, deeds, glanced, read_by};
 use std::alloc::Global;
 use std::process::Abort;
 use std::sync::Wait;
@@ -11,8 +11,7 @@ use tk_shared::{Caller, Named, SharedKeeper, Ticker};
 
 #[test]
 fn a_fold_makes_room_again(rt: HostRuntime) -> Result<(), Fail> {
-    let prepared = ready(&rt, rt.alloc(), Ticker::new(0, 0), 1)?;
-    deeds::alone_does(&rt, rt.alloc(), prepared, deeds::Alone::Fills)
+    deeds::alone_does(&rt, rt.alloc(), Ticker::new(0, 0), deeds::Alone::Fills)
 }
 
 pub(super) fn fills<L: Named, R: Wait + Abort>(
@@ -38,8 +37,7 @@ pub(super) fn fills<L: Named, R: Wait + Abort>(
 
 #[test]
 fn a_fold_keeps_as_many_entries_as_asked(rt: HostRuntime) -> Result<(), Fail> {
-    let prepared = ready(&rt, rt.alloc(), Ticker::new(0, 1_000), 1)?;
-    deeds::alone_does(&rt, rt.alloc(), prepared, deeds::Alone::Keeps)
+    deeds::alone_does(&rt, rt.alloc(), Ticker::new(0, 1_000), deeds::Alone::Keeps)
 }
 
 pub(super) fn keeps_of_five<L: Named, R: Wait + Abort>(
@@ -60,8 +58,7 @@ pub(super) fn keeps_of_five<L: Named, R: Wait + Abort>(
 
 #[test]
 fn numbers_and_fronts_go_on_after_a_fold(rt: HostRuntime) -> Result<(), Fail> {
-    let prepared = ready(&rt, rt.alloc(), Ticker::new(0, 1_000), 2)?;
-    deeds::both_do(&rt, rt.alloc(), prepared, deeds::Both::Fold)
+    deeds::both_do(&rt, rt.alloc(), deeds::Both::Fold)
 }
 
 pub(super) fn folds<L: Named, R: Wait + Abort>(

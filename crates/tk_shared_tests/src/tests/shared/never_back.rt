@@ -40,6 +40,20 @@ struct Board {
     faults: AtomicU64,
 }
 
+impl Board {
+    fn fails(&self) {
+        self.faults.fetch_add(1, Ordering::SeqCst);
+    }
+
+    /// Notes an answer, and whether it is below one that some thread had when the call began.
+    fn notes(&self, before: u64, answer: u64) {
+        if answer < before {
+            self.fails();
+        }
+        self.greatest.fetch_max(answer, Ordering::SeqCst);
+    }
+}
+
 /// The callers 0 and 1 ask by the page, 2 and 3 by the latch, and 4 and 5 give commands.
 fn plays<L: Named, C: Counter, R: Wait>(
     rt: &R,
@@ -47,15 +61,14 @@ fn plays<L: Named, C: Counter, R: Wait>(
     caller: &mut Caller<L>,
     board: &Board,
 ) {
-    if caller.id() >= 4 {
+    if caller.id() < 4 {
+        asks(rt, keeper, caller, board);
+    } else {
         gives_commands(rt, keeper, caller, board);
-        return;
     }
-    asks(rt, keeper, caller, board);
-    board.asking.fetch_sub(1, Ordering::SeqCst);
 }
 
-/// Asks until all answers are there.
+/// Asks until all answers are there, and is then no more among those that ask.
 fn asks<L: Named, C: Counter, R: Wait>(
     rt: &R,
     keeper: &SharedKeeper<L, C>,
@@ -66,15 +79,16 @@ fn asks<L: Named, C: Counter, R: Wait>(
     for _ in rt.forever() {
         let before = board.greatest.load(Ordering::SeqCst);
         match asked(rt, keeper, caller, &board.counter) {
-            Ok(Some(time)) => compares(board, before, nanoseconds(time)),
+            Ok(Some(time)) => board.notes(before, nanoseconds(time)),
             Ok(None) => continue,
-            Err(_) => fails(board),
+            Err(_) => board.fails(),
         }
         answers = answers.wrapping_add(1);
         if answers == ANSWERS {
-            return;
+            break;
         }
     }
+    board.asking.fetch_sub(1, Ordering::SeqCst);
 }
 
 /// MONOTONIC now. `None` means that a command came between.
@@ -95,18 +109,6 @@ fn asked<L: Named, C: Counter, R: Wait>(
     }
 }
 
-/// Notes an answer, and whether it is below one that some thread had when the call began.
-fn compares(board: &Board, before: u64, answer: u64) {
-    if answer < before {
-        fails(board);
-    }
-    board.greatest.fetch_max(answer, Ordering::SeqCst);
-}
-
-fn fails(board: &Board) {
-    board.faults.fetch_add(1, Ordering::SeqCst);
-}
-
 /// Gives commands until no thread asks any more, and now and then folds.
 fn gives_commands<L: Named, C: Counter, R: Wait>(
     rt: &R,
@@ -121,7 +123,7 @@ fn gives_commands<L: Named, C: Counter, R: Wait>(
         let cmd = command_of(turn);
         if let Err(refusal) = commanded(rt, keeper, caller, cmd) {
             if !matches!(refusal, Refusal::Asleep | Refusal::Awake) {
-                fails(board);
+                board.fails();
             }
         }
         if turn % 1_024 == 0 {
@@ -187,7 +189,7 @@ fn four_play<L: Named + Send + Sync, C: Counter, R: Threads + Wait + Sync>(
         callers.pop(),
         callers.pop(),
     ) else {
-        fails(board);
+        board.fails();
         return;
     };
     let _ = thread::join(

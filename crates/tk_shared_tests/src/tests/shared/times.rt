@@ -65,11 +65,14 @@ fn seconds() -> [Turn; 17] {
 #[test]
 fn the_time_now_is_exact(rt: HostRuntime) -> Result<(), Fail> {
     // 32 bits: the greatest reading is 4,294,967,295
-    let ticker = SharedTicker::new(4_293_500_000, 1_000_000);
     let desc = CounterDesc::from_hz(32, 1_000_000, 600)?;
-    let counter = SharedReader::new(rt.alloc(), &ticker)?;
-    let prepared = ready_on(&rt, rt.alloc(), desc, counter, 2)?;
-    all_turns(&rt, rt.alloc(), prepared, &ticker, &seconds())
+    all_turns(
+        &rt,
+        rt.alloc(),
+        desc,
+        (4_293_500_000, 1_000_000),
+        &seconds(),
+    )
 }
 
 /// A turn for each 500,000,000 s. MONOTONIC ends at 946,080,000 s, and BOOTTIME at 9,223,372,036 s.
@@ -85,23 +88,25 @@ fn long_turns() -> [Turn; 5] {
 
 #[test]
 fn a_clock_at_its_limit_has_no_time_now(rt: HostRuntime) -> Result<(), Fail> {
-    let ticker = SharedTicker::new(0, 500_000_000_000_000_000);
     let desc = CounterDesc::new(64, 16_777_216, 24)?;
-    let counter = SharedReader::new(rt.alloc(), &ticker)?;
-    let prepared = ready_on(&rt, rt.alloc(), desc, counter, 2)?;
-    all_turns(&rt, rt.alloc(), prepared, &ticker, &long_turns())
+    let readings = (0, 500_000_000_000_000_000);
+    all_turns(&rt, rt.alloc(), desc, readings, &long_turns())
 }
 
-fn all_turns<C: Counter, S: SharedCounter, R: Wait + Abort>(
+/// Takes these turns on a counter that begins with the first of `readings`, and adds the second to
+/// each reading.
+fn all_turns<R: Wait + Abort>(
     rt: &R,
     alloc: Global,
-    prepared: Prepared<C>,
-    counter: &S,
+    desc: CounterDesc,
+    readings: (u64, u64),
     turns: &[Turn],
-) -> Result<(), Fail>
-    requires { prepared.callers ≡ 2 }
-{
-    all_turns_named::<Brand, C, S, R>(rt, alloc, prepared, counter, turns)
+) -> Result<(), Fail> {
+    let (first, step) = readings;
+    let ticker = SharedTicker::new(first, step);
+    let counter = SharedReader::new(alloc, &ticker)?;
+    let prepared = ready_on(rt, alloc, desc, counter, 2)?;
+    all_turns_named::<Brand, _, _, R>(rt, alloc, prepared, &ticker, turns)
 }
 
 fn all_turns_named<L: Named, C: Counter, S: SharedCounter, R: Wait + Abort>(

@@ -1,12 +1,12 @@
 //! Two callers take turns in one thread.
 ghost use Rattle.std.specs.Prelude.{◌≡◌, [], ◌∷◌, IfOk};
 
-use super::{assert_same, commanded, deeds, glanced, read_by, ready, time};
+use super::{assert_same, commanded, deeds, glanced, read_by, time};
 use std::alloc::Global;
 use std::process::Abort;
 use std::sync::Wait;
 use std::test::Fail;
-use tk_clock::{ClockId, Command, Timespec};
+use tk_clock::{ClockId, Command, Refusal, Snapshot, Timespec};
 use tk_keeper::Timekeeper;
 use tk_shared::{Caller, Closed, Counter, Missing, Named, SharedKeeper, Ticker};
 
@@ -18,8 +18,7 @@ const SET: Command = Command::SetTime(Timespec {
 
 #[test]
 fn a_command_is_read_by_both_and_all_callers_close(rt: HostRuntime) -> Result<(), Fail> {
-    let prepared = ready(&rt, rt.alloc(), Ticker::new(0, 1_000), 2)?;
-    deeds::both_do(&rt, rt.alloc(), prepared, deeds::Both::Read)
+    deeds::both_do(&rt, rt.alloc(), deeds::Both::Read)
 }
 
 pub(super) fn reads<L: Named, R: Wait + Abort>(
@@ -58,11 +57,18 @@ fn both_read<L: Named, R: Wait + Abort>(
     let second = commanded(rt, keeper, two, Command::Update);
     let counts = (one.accepted(), two.accepted());
     assert_same(rt, &(opened, counts), &((0, 0, 0), (1, 1)));
-    assert_same(
-        rt,
-        &(first, own.front(), others, second),
-        &(Ok(1), 1, 1, Ok(2)),
-    );
+    is_set_between(rt, (first, second), &own, others);
+}
+
+/// Both commands were accepted, and each caller read between them that REALTIME is set.
+fn is_set_between<R: Abort>(
+    rt: &R,
+    answers: (Result<u64, Refusal>, Result<u64, Refusal>),
+    own: &Snapshot,
+    others: u64,
+) {
+    let fronts = (own.front(), others);
+    assert_same(rt, &(answers, fronts), &((Ok(1), Ok(2)), (1, 1)));
     assert_same(
         rt,
         &own.get(ClockId::Realtime, 1_000),
@@ -117,8 +123,7 @@ fn is_journal<R: Abort>(rt: &R, keeper: &Timekeeper) -> Result<(), Fail> {
 
 #[test]
 fn a_fast_read_finds_what_another_caller_did(rt: HostRuntime) -> Result<(), Fail> {
-    let prepared = ready(&rt, rt.alloc(), Ticker::new(0, 1_000), 2)?;
-    deeds::both_do(&rt, rt.alloc(), prepared, deeds::Both::ReadFast)
+    deeds::both_do(&rt, rt.alloc(), deeds::Both::ReadFast)
 }
 
 pub(super) fn fast_reads<L: Named, R: Wait + Abort>(
@@ -133,16 +138,7 @@ pub(super) fn fast_reads<L: Named, R: Wait + Abort>(
     let known = (one.front(), two.front(), two.mark());
     let second = commanded(rt, keeper, two, Command::Update);
     let marks = (one.mark(), two.mark());
-    assert_same(
-        rt,
-        &(first, own.front(), others, second),
-        &(Ok(1), 1, 1, Ok(2)),
-    );
-    assert_same(
-        rt,
-        &own.get(ClockId::Realtime, 1_000),
-        &Ok(time(2_000_000_000, 0)),
-    );
+    is_set_between(rt, (first, second), &own, others);
     assert_same(rt, &(known, marks), &((1, 0, 1), (1, 2)));
     Ok(())
 }
