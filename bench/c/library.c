@@ -52,16 +52,16 @@ void update_each(struct list *list)
 {
 	struct tkc_clock running = clock;
 	struct tkc_snapshot updated;
-	uint64_t reading = OPENED_AT, words[TKC_WORDS];
+	uint64_t reading = OPENED_AT, after[TKC_WORDS];
 
 	for (size_t i = 0; i < list->count; i++)
 		need(tkc_clock_apply(&running, reading += HZ / 1000000, TKC_CMD_UPDATE, 0, 0));
 	tkc_clock_snapshot(&updated, &running);
-	tkc_snapshot_words(words, &updated);
+	tkc_snapshot_words(after, &updated);
 	for (size_t i = 0; i < 5; i++)
-		list->out[i] = words[i];
-	list->out[5] = words[8];
-	list->out[6] = words[9];
+		list->out[i] = after[i];
+	list->out[5] = after[8];
+	list->out[6] = after[9];
 }
 
 void convert_all(struct list *list)
