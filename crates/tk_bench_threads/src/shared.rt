@@ -200,15 +200,15 @@ fn beside<L: Named + Send + Sync, R: Threads + Wait + Sync>(
     is_fast: bool,
 ) -> Done {
     let ended = AtomicU64::new(0);
-    let told = &ended;
+    let ended = &ended;
     let (_, done) = thread::join(
         rt,
-        move || quarters(rt, keeper, others, commands, told),
+        move || quarters(rt, keeper, others, commands, ended),
         move || {
             if is_fast {
-                fast_reads(keeper, caller, told)
+                fast_reads(keeper, caller, ended)
             } else {
-                reads(rt, keeper, caller, told)
+                reads(rt, keeper, caller, ended)
             }
         },
     );

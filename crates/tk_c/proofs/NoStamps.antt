@@ -18,15 +18,15 @@ module _ (base : ReadBase) (out : List ℕ) (before after code : ℕ) where
       after = λ k high. refl;
     };
     count = none;
-    told = done;
+    stated = done;
   }
 
   none_of : (named : Option ClockId)
       → MatchOption named ((code ≡ number_of BadClock) × (after ≡ before)) (λ clock. (code ≡ number_of Done) × (after ≡ 0))
       → MatchOption named ((code ≡ number_of BadClock) × (out ≡ out) × (after ≡ before))
       (λ clock. ((length out < 0) × (code ≡ number_of BadRoom) × (out ≡ out) × (after ≡ before)) ⊎ ((0 ≤ length out) × IsConverted base clock [] out out after code))
-  none_of None told = (told.0, refl, told.1)
-  none_of (Some clock) told = inr (zero-le, none_converted clock told.0 told.1)
+  none_of None stated = (stated.0, refl, stated.1)
+  none_of (Some clock) stated = inr (zero-le, none_converted clock stated.0 stated.1)
 
 pub none_answered : (base : ReadBase) (clock : ℕ) (out : List ℕ) (before after code : ℕ)
     → MatchOption (clock_named clock) ((code ≡ number_of BadClock) × (after ≡ before)) (λ named. (code ≡ number_of Done) × (after ≡ 0))

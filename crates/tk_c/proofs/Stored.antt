@@ -40,11 +40,11 @@ loaded (a ∷ []) all = absurd (omega arith)
 loaded [] all = absurd (omega arith)
 
 -- ten words that are stored over ten others are those words
-pub stored : (words told : List ℕ) → length words ≡ 10 → length told ≡ 10 →
+pub stored : (words stated : List ℕ) → length words ≡ 10 → length stated ≡ 10 →
     slice_set (slice_set (slice_set (slice_set (slice_set (slice_set (slice_set (slice_set
-    (slice_set (slice_set words 0 (slice_index_or told 0 0)) 2 (slice_index_or told 2 0))
-    4 (slice_index_or told 4 0)) 6 (slice_index_or told 6 0)) 8 (slice_index_or told 8 0))
-    1 (slice_index_or told 1 0)) 3 (slice_index_or told 3 0)) 5 (slice_index_or told 5 0))
-    7 (slice_index_or told 7 0)) 9 (slice_index_or told 9 0) ≡ told
-stored words told ten all =
-    set_each words _ _ _ _ _ _ _ _ _ _ ten ∙ loaded told all
+    (slice_set (slice_set words 0 (slice_index_or stated 0 0)) 2 (slice_index_or stated 2 0))
+    4 (slice_index_or stated 4 0)) 6 (slice_index_or stated 6 0)) 8 (slice_index_or stated 8 0))
+    1 (slice_index_or stated 1 0)) 3 (slice_index_or stated 3 0)) 5 (slice_index_or stated 5 0))
+    7 (slice_index_or stated 7 0)) 9 (slice_index_or stated 9 0) ≡ stated
+stored words stated ten all =
+    set_each words _ _ _ _ _ _ _ _ _ _ ten ∙ loaded stated all

@@ -29,7 +29,7 @@ pub record IsConverted (base : ReadBase) (clock : ClockId) (stamps old new : Lis
   pub answer : Result ⊤ BatchError
   pub batch : IsBatch base clock stamps old new answer
   pub count : converted ≡ converted_of (length stamps) answer
-  pub told : code ≡ number_of (code_of_answer answer)
+  pub stated : code ≡ number_of (code_of_answer answer)
 
 -- the answer for a clock's number, an output list and a list of stamps. For an unknown clock, or if
 -- the output list is shorter than the stamps, that list and the number of converted stamps are

@@ -137,10 +137,10 @@ fn computed(number: u64) -> u64
 ///
 /// The rattle backend would copy two neighbours by an SSE register, which an interrupt in a kernel
 /// must not use.
-fn store(words: &mut [u64; 10], told: &[u64; 10])
-    ensures { words.new ≡ told.now }
+fn store(words: &mut [u64; 10], source: &[u64; 10])
+    ensures { words.new ≡ source.now }
 {
-    let &[t0, t1, t2, t3, t4, t5, t6, t7, t8, t9] = told;
+    let &[t0, t1, t2, t3, t4, t5, t6, t7, t8, t9] = source;
     words[0] = t0;
     words[2] = t2;
     words[4] = t4;

@@ -73,6 +73,6 @@ IsAlike-followed_by journal other alike entry accepted = record {
 pub snapshot_of-alike : (journal other : Journal) → IsAlike journal other →
     snapshot_of journal ≡ snapshot_of other
 snapshot_of-alike journal other alike =
-    let told : ℕ → ReadBase → Snapshot = λ k b. record { front = k; base = b } in
-    ap (λ k. told k (state_of journal).base) alike.count
-    ∙ ap (λ (s : State). told (accepted_count other) s.base) alike.state
+    let stated : ℕ → ReadBase → Snapshot = λ k b. record { front = k; base = b } in
+    ap (λ k. stated k (state_of journal).base) alike.count
+    ∙ ap (λ (s : State). stated (accepted_count other) s.base) alike.state

@@ -110,24 +110,24 @@ monotonic-after state reading Suspend awake =
 monotonic-after state reading (Resume away) awake = absurd cc
 
 -- the refusal by the tests of values, from the result of each test
-pub told_range : (before after : ClockId → ℤ) (cmd : Command) → is_past_limit after cmd ≡ true →
+pub stated_range : (before after : ClockId → ℤ) (cmd : Command) → is_past_limit after cmd ≡ true →
     value_refusal before after cmd ≡ Some Range
-told_range before after cmd past =
+stated_range before after cmd past =
     ap (λ (b : Bool). if b then Some Range else if is_bad_setting before cmd then Some Invalid
     else None) past
 
-pub told_invalid : (before after : ClockId → ℤ) (cmd : Command) → is_past_limit after cmd ≡ false →
+pub stated_invalid : (before after : ClockId → ℤ) (cmd : Command) → is_past_limit after cmd ≡ false →
     is_bad_setting before cmd ≡ true →
     value_refusal before after cmd ≡ Some Invalid
-told_invalid before after cmd past bad =
+stated_invalid before after cmd past bad =
     ap (λ (b : Bool). if b then Some Range else if is_bad_setting before cmd then Some Invalid
     else None) past
     ∙ ap (λ (b : Bool). if b then Some Invalid else None) bad
 
-pub told_none : (before after : ClockId → ℤ) (cmd : Command) → is_past_limit after cmd ≡ false →
+pub stated_none : (before after : ClockId → ℤ) (cmd : Command) → is_past_limit after cmd ≡ false →
     is_bad_setting before cmd ≡ false →
     value_refusal before after cmd ≡ None
-told_none before after cmd past good =
+stated_none before after cmd past good =
     ap (λ (b : Bool). if b then Some Range else if is_bad_setting before cmd then Some Invalid
     else None) past
     ∙ ap (λ (b : Bool). if b then Some Invalid else None) good
@@ -145,7 +145,7 @@ pub past_effect : (state : State) (reading : ℕ) (cmd : Command) → is_resume 
     state_value_refusal state reading cmd ≡ Some Range
 past_effect state reading cmd awake far =
     let after : ClockId → ℤ = λ clock. base_value (effect state reading cmd).base clock reading in
-    told_range (λ clock. base_value state.base clock reading) after cmd
+    stated_range (λ clock. base_value state.base clock reading) after cmd
     (past_monotonic after cmd (now_of (forwarded state.base reading))
     (ap pos (monotonic-after state reading cmd awake)) far)
 
@@ -168,22 +168,22 @@ settled_result : (state : State) (reading : ℕ) (cmd : Command) (result : Resul
     is_settled_past (effect state reading cmd) cmd
     ≡ is_past_limit (λ clock. base_value (effect state reading cmd).base clock reading) cmd →
     IsSettled (effect state reading cmd) cmd result → IsEffect state reading cmd result
-settled_result state reading cmd (Ok after) plain same told =
+settled_result state reading cmd (Ok after) plain same stated =
     let before : ClockId → ℤ = λ clock. base_value state.base clock reading in
     let then_ : ClockId → ℤ = λ clock. base_value (effect state reading cmd).base clock reading in
-    (told_none before then_ cmd (sym same ∙ told.0) (plain_good before cmd plain), told.1)
-settled_result state reading cmd (Err refusal) plain same told =
+    (stated_none before then_ cmd (sym same ∙ stated.0) (plain_good before cmd plain), stated.1)
+settled_result state reading cmd (Err refusal) plain same stated =
     let before : ClockId → ℤ = λ clock. base_value state.base clock reading in
     let then_ : ClockId → ℤ = λ clock. base_value (effect state reading cmd).base clock reading in
-    told_range before then_ cmd (sym same ∙ told.0) ∙ ap (λ (r : Refusal). Some r) (sym told.1)
+    stated_range before then_ cmd (sym same ∙ stated.0) ∙ ap (λ (r : Refusal). Some r) (sym stated.1)
 
 pub settled_effect : (state : State) (reading : ℕ) (cmd : Command) (after : State)
     (result : Result State Refusal) → sets_real cmd ≡ false →
     after ≡ effect state reading cmd → IsSettled after cmd result →
     IsEffect state reading cmd result
-settled_effect state reading cmd after result plain e told =
+settled_effect state reading cmd after result plain e stated =
     let there : IsSettled (effect state reading cmd) cmd result =
-    subst (λ (s : State). IsSettled s cmd result) e told in
+    subst (λ (s : State). IsSettled s cmd result) e stated in
     settled_result state reading cmd result plain
     (ap (λ k. is_past_limit (λ clock. base_value (effect state reading cmd).base clock k) cmd)
     (effect-last state reading cmd))
@@ -204,6 +204,6 @@ pub steered_effect : (state : State) (now : ReadBase) (cmd : Command) (frequency
     steered frequency tick (forwarded state.base now.last) ≡ effect state now.last cmd →
     now ≡ forwarded state.base now.last → IsSettled (steered frequency tick now) cmd result →
     IsEffect state now.last cmd result
-steered_effect state now cmd frequency tick result plain same e told =
+steered_effect state now cmd frequency tick result plain same e stated =
     settled_effect state now.last cmd (steered frequency tick now) result plain
-    (ap (steered frequency tick) e ∙ same) told
+    (ap (steered frequency tick) e ∙ same) stated

@@ -51,7 +51,7 @@ same_parts counter last last' mult mult' amount amount' raw raw' real real' boot
     o p q r s t u v w x = cc
 
 -- the state of a journal with one more entry, by its parts
-told_state : (journal : Journal) (entry : Entry) (last' mult' amount' raw' : ℕ)
+stated_state : (journal : Journal) (entry : Entry) (last' mult' amount' raw' : ℕ)
     (real' boot' tai' : ℤ) (asleep' : Bool) (frequency' tick' : ℤ) →
     last_reading (followed_by journal entry) ≡ last' →
     current_multiplier (followed_by journal entry) ≡ mult' →
@@ -66,7 +66,7 @@ told_state : (journal : Journal) (entry : Entry) (last' mult' amount' raw' : ℕ
     state_of (followed_by journal entry)
     ≡ state journal.opening.counter last' mult' amount' raw' real' boot' tai' asleep' frequency'
     tick'
-told_state journal entry last' mult' amount' raw' real' boot' tai' asleep' frequency' tick' o p q r
+stated_state journal entry last' mult' amount' raw' real' boot' tai' asleep' frequency' tick' o p q r
     s t u v w x =
     same_parts journal.opening.counter _ _ _ _ _ _ _ _ _ _ _ _ _ _ _ _ _ _ _ _ o p q r s t u v w x
 
@@ -137,7 +137,7 @@ forward : (journal : Journal) (entry : Entry) (real' : ℤ) (asleep' : Bool) →
     asleep'
     (frequency_left journal entry.cmd) (tick_left journal entry.cmd)
 forward journal entry real' asleep' awake boot real sleep =
-    told_state journal entry _ _ _ _ _ _ _ _ _ _ (last_reading-followed_by journal entry)
+    stated_state journal entry _ _ _ _ _ _ _ _ _ _ (last_reading-followed_by journal entry)
     (current_multiplier-followed_by journal entry) (grown journal entry awake)
     (raw_grown journal entry awake) real
     (boot_offset-followed_by journal entry ∙ ap (λ z. boot_offset journal +ℤ z) boot
@@ -186,7 +186,7 @@ ledger journal who reading Suspend awake =
     (is_asleep-followed_by journal entry)
 ledger journal who reading (Resume away) asleep =
     let entry : Entry = record { who = who; reading = reading; cmd = Resume away } in
-    told_state journal entry _ _ _ _ _ _ _ _ _ _ (last_reading-followed_by journal entry)
+    stated_state journal entry _ _ _ _ _ _ _ _ _ _ (last_reading-followed_by journal entry)
     (current_multiplier-followed_by journal entry)
     (monotonic_units-followed_by journal entry
     ∙ ap (λ k. monotonic_units journal + k * current_multiplier journal)

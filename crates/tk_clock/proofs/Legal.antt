@@ -27,10 +27,10 @@ early_none (Some refusal) later e = e
 
 -- a journal that has room refuses an entry for the reason that its state gives
 pub first_refusal-state : (journal : Journal) (state : State) (who reading : ℕ) (cmd : Command)
-    (told : Option Refusal) →
-    state ≡ state_of journal → is_full journal ≡ false → state_refusal state reading cmd ≡ told →
-    first_refusal journal (record { who = who; reading = reading; cmd = cmd }) ≡ told
-first_refusal-state journal state who reading cmd told running room e =
+    (stated : Option Refusal) →
+    state ≡ state_of journal → is_full journal ≡ false → state_refusal state reading cmd ≡ stated →
+    first_refusal journal (record { who = who; reading = reading; cmd = cmd }) ≡ stated
+first_refusal-state journal state who reading cmd stated running room e =
     let entry : Entry = record { who = who; reading = reading; cmd = cmd } in
     first_refusal-room journal entry room
     ∙ clock_refusal-state journal who reading cmd
@@ -70,7 +70,7 @@ last_accepted journal entry accepted k other high found =
     let same : prefix k (followed_by journal entry) ≡ journal =
     ap (λ (es : List Entry). record journal { entries = es }) (take_at journal.entries (entry
     ∷ []) k last) in
-    let told : Some entry ≡ Some other =
+    let stated : Some entry ≡ Some other =
     sym (slice_get-push journal.entries entry) ∙ ap (slice_get (journal.entries ++ entry ∷ [])) last
     ∙ found in
     let it : entry ≡ other = cc in

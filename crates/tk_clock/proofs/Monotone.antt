@@ -131,7 +131,7 @@ pub never_falls : (journal : Journal) → NeverFalls journal
 never_falls journal n reading reading' within life =
     let next = prefix-next journal n within in
     let entry : Entry = next.0 in
-    let told : reading_at journal (n + 1) ≡ entry.reading =
+    let stated : reading_at journal (n + 1) ≡ entry.reading =
     sym (last_reading-prefix journal (n + 1) (omega arith)) ∙ ap last_reading next.1
     ∙ last_reading-followed_by (prefix n journal) entry in
     let whole : prefix (length journal.entries) journal ≡ journal =
@@ -147,7 +147,7 @@ never_falls journal n reading reading' within life =
     subst (λ (j : Journal). monotonic_units_at (prefix n journal) reading ≤ monotonic_units j)
     (sym next.1)
     (in_life (prefix n journal) entry reading
-    (life_of journal n reading entry.reading within told life)) in
+    (life_of journal n reading entry.reading within stated life)) in
     shr_mono journal.opening.counter.shift
     (chain _ _ _ first (chain _ _ _ to_end (units_at-≤ journal reading')))
 
@@ -171,7 +171,7 @@ agrees journal entry accepted =
     let counter = journal.opening.counter in
     let after = followed_by journal entry in
     let scale = 2 ^ counter.shift in
-    let told = passes_clock journal entry accepted in
+    let stated = passes_clock journal entry accepted in
     let same : cycles_after journal entry.reading ≡ cycles_to journal entry.reading =
     counted_alike (is_asleep journal) (is_resume entry.cmd)
     (nat_lt (mask counter) entry.reading || not (is_well_formed entry.cmd))
@@ -179,7 +179,7 @@ agrees journal entry accepted =
     (gap counter (last_reading journal) entry.reading)
     (value_refusal (λ clock. clock_value journal clock entry.reading)
     (λ clock. clock_value after clock entry.reading) entry.cmd)
-    told in
+    stated in
     ap (λ k. (monotonic_units journal + k * current_multiplier journal) / scale) same
     ∙ ap (λ n. n / scale) (sym (monotonic_units-followed_by journal entry))
     ∙ sym (monotonic-last after)

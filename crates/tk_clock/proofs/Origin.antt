@@ -14,7 +14,7 @@ use Rattle.tk_clock.specs.Reach.{distance}
 use Rattle.tk_clock.proofs.Offsets.{cycles_since-self}
 use Rattle.tk_clock.proofs.Reaching.{nanos-rise}
 
--- a clock that stands still has no units for a cycle
+-- a clock that doesn't run gains no units in a cycle
 pub same_units : (asleep coarse : Bool) (counter : Counter) (last stamp u : ℕ) →
     cycles_since counter false last stamp * (if asleep || coarse then 0 else u)
     ≡ cycles_since counter asleep last (if coarse then last else stamp) * u

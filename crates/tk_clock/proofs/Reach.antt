@@ -44,16 +44,16 @@ module _ (base : ReadBase) (clock : ClockId) (nanos : ℤ) where
       read_refusal base clock reading ≡ None → base_value base clock reading <ℤ limit clock
   below_limit reading read none =
       let within : nat_lt (mask base.counter) reading ≡ false = le-ltb _ _ read in
-      let told = rw within at none in
-      grind (arith, ints, told)
+      let stated = rw within at none in
+      grind (arith, ints, stated)
 
   -- a refused one is not
   at_limit : (reading : ℕ) (refusal : ReadError) → reading ≤ mask base.counter →
       read_refusal base clock reading ≡ Some refusal → limit clock ≤ℤ base_value base clock reading
   at_limit reading refusal read some =
       let within : nat_lt (mask base.counter) reading ≡ false = le-ltb _ _ read in
-      let told = rw within at some in
-      grind (arith, ints, told)
+      let stated = rw within at some in
+      grind (arith, ints, stated)
 
   -- no number of cycles is enough
   pub never_enough : ((cycles : ℕ) → cycles ≤ half base.counter →
@@ -84,14 +84,14 @@ module _ (base : ReadBase) (clock : ClockId) (nanos : ℤ) where
     -- the reading after the fewest cycles is the first one, if it can be read
     pub is_first : read_refusal base clock reading ≡ None →
         IsFirstReached base clock nanos reading
-    is_first told = record {
+    is_first stated = record {
       ahead = (read, is_near);
-      reached = (told, value_reached);
+      reached = (stated, value_reached);
       nearer = λ other ahead nearer.
           let low = early_at other ahead nearer in (
             reads_below other ahead.0
                 (between _ _ _ low
-                (below _ _ _ value_reached (below_limit reading read told))),
+                (below _ _ _ value_reached (below_limit reading read stated))),
             low,
           );
     }
@@ -102,8 +102,8 @@ module _ (base : ReadBase) (clock : ClockId) (nanos : ℤ) where
     -- the clock is at its limit there and from there on
     pub is_never : (refusal : ReadError) → read_refusal base clock reading ≡ Some refusal →
         IsNeverReached base clock nanos
-    is_never refusal told other ahead reached =
-        let end = at_limit reading refusal read told in
+    is_never refusal stated other ahead reached =
+        let end = at_limit reading refusal read stated in
         let low = below_limit other ahead.0 reached.0 in
         let v = value_ahead base clock other ahead.1 in
         let low' : value_after base clock (distance base other) <ℤ limit clock =
@@ -126,24 +126,24 @@ module _ (base : ReadBase) (clock : ClockId) (nanos : ℤ) where
       MatchOption result (IsNeverReached base clock nanos)
       (λ first. IsFirstReached base clock nanos first) →
       (reading : ℕ) → IsReadAt base clock nanos reading → GivesAgain base clock nanos reading result
-  gives_again None never reading told =
-      never reading told.0 (told.1, same_le _ _ (sym told.2))
+  gives_again None never reading stated =
+      never reading stated.0 (stated.1, same_le _ _ (sym stated.2))
     where
       same_le : (a b : ℤ) → a ≡ b → a ≤ℤ b
       same_le a b e = omega (arith, ints, e)
-  gives_again (Some first) found reading told =
+  gives_again (Some first) found reading stated =
       let near : distance base first ≤ distance base reading = elim
       (order (distance base reading) (distance base first)) [
-        | inl nearer ↦ absurd (not_same _ _ (found.nearer reading told.0 nearer).1 told.2)
+        | inl nearer ↦ absurd (not_same _ _ (found.nearer reading stated.0 nearer).1 stated.2)
         | inr far ↦ far
       ] in
       let most : base_value base clock first ≤ℤ base_value base clock reading =
       subst (λ v. v ≤ℤ base_value base clock reading)
       (sym (value_ahead base clock first found.ahead.1))
       (subst (λ v. value_after base clock (distance base first) ≤ℤ v)
-      (sym (value_ahead base clock reading told.0.1))
+      (sym (value_ahead base clock reading stated.0.1))
       (value_rises base clock (distance base first) (distance base reading) near)) in
-      ((found.ahead, found.reached.0, same _ _ _ found.reached.1 most told.2), near)
+      ((found.ahead, found.reached.0, same _ _ _ found.reached.1 most stated.2), near)
     where
       not_same : (a b : ℤ) → a <ℤ b → a ≡ b → ⊥
       not_same a b low e = absurd (omega (arith, ints, low, e))

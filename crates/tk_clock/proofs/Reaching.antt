@@ -12,9 +12,9 @@ pub enough_units : (nanos offset counted missing units shift : ℕ) (time from :
     pos nanos ≡ int_max (pos 0) time → pos offset ≡ from →
     missing ≡ (nanos - offset) * 2 ^ shift - counted → missing ≤ units →
     time ≤ℤ (pos ((counted + units) / 2 ^ shift) +ℤ from)
-enough_units nanos offset counted missing units shift time from e f told enough =
+enough_units nanos offset counted missing units shift time from e f stated enough =
     let reached = le-div (nanos - offset) (counted + units) (2 ^ shift) (pow_pos shift)
-    (omega (arith, told, enough)) in
+    (omega (arith, stated, enough)) in
     omega (arith, ints, clamps, e, f, reached)
 
 -- with fewer units it is before the time
@@ -22,9 +22,9 @@ pub needed_units : (nanos offset counted missing units shift : ℕ) (time from :
     pos nanos ≡ int_max (pos 0) time → pos offset ≡ from →
     missing ≡ (nanos - offset) * 2 ^ shift - counted → units < missing →
     (pos ((counted + units) / 2 ^ shift) +ℤ from) <ℤ time
-needed_units nanos offset counted missing units shift time from e f told few =
+needed_units nanos offset counted missing units shift time from e f stated few =
     let early = div_below (counted + units) (2 ^ shift) (nanos - offset) (pow_pos shift)
-    (omega (arith, told, few)) in
+    (omega (arith, stated, few)) in
     omega (arith, ints, clamps, e, f, early)
 
 -- a reading a number of cycles after another

@@ -15,7 +15,7 @@ use Rattle.tk_clock.specs.Refusal.{first_of, clock_refusal, first_refusal, is_fu
 abbrev tells_want : Option Refusal → Bool
 tells_want (Some Full) = true
 tells_want (Some Memory) = true
-tells_want told = false
+tells_want stated = false
 
 tests_alone : (a b c d e f : Bool) →
     tells_want (first_of (first_of (if a then Some Asleep else if b then Some Awake else None)
@@ -44,11 +44,11 @@ never_want journal entry =
     (is_bad_setting (λ clock. clock_value journal clock entry.reading) entry.cmd)
 
 pub never_full : (journal : Journal) (entry : Entry) → clock_refusal journal entry ≡ Some Full → ⊥
-never_full journal entry told = cc (sym (never_want journal entry) ∙ ap tells_want told)
+never_full journal entry stated = cc (sym (never_want journal entry) ∙ ap tells_want stated)
 
 pub never_memory : (journal : Journal) (entry : Entry) →
     clock_refusal journal entry ≡ Some Memory → ⊥
-never_memory journal entry told = cc (sym (never_want journal entry) ∙ ap tells_want told)
+never_memory journal entry stated = cc (sym (never_want journal entry) ∙ ap tells_want stated)
 
 -- a journal with room has the refusal of the clocks' tests
 pub first_refusal-room : (journal : Journal) (entry : Entry) → is_full journal ≡ false →
@@ -56,15 +56,15 @@ pub first_refusal-room : (journal : Journal) (entry : Entry) → is_full journal
 first_refusal-room journal entry room =
     ap (λ (b : Bool). if b then Some Full else clock_refusal journal entry) room
 
-full_if : (full : Bool) (told : Option Refusal) → (told ≡ Some Full → ⊥) →
-    (if full then Some Full else told) ≡ Some Full → full ≡ true
-full_if true told never answered = refl
-full_if false told never answered = absurd (never answered)
+full_if : (full : Bool) (stated : Option Refusal) → (stated ≡ Some Full → ⊥) →
+    (if full then Some Full else stated) ≡ Some Full → full ≡ true
+full_if true stated never answered = refl
+full_if false stated never answered = absurd (never answered)
 
-room_if : (full : Bool) (told answer : Option Refusal) → (answer ≡ Some Full → ⊥) →
-    (if full then Some Full else told) ≡ answer → full ≡ false
-room_if true told answer other answered = absurd (other (sym answered))
-room_if false told answer other answered = refl
+room_if : (full : Bool) (stated answer : Option Refusal) → (answer ≡ Some Full → ⊥) →
+    (if full then Some Full else stated) ≡ answer → full ≡ false
+room_if true stated answer other answered = absurd (other (sym answered))
+room_if false stated answer other answered = refl
 
 -- if the refusal is Full, the journal is full
 pub is_full-refused : (journal : Journal) (entry : Entry) →
@@ -73,16 +73,16 @@ is_full-refused journal entry refused =
     full_if (is_full journal) (clock_refusal journal entry) (never_full journal entry) refused
 
 -- if the refusal is not Full, the journal has room, and the refusal is that of the clocks' tests
-pub has_room : (journal : Journal) (entry : Entry) (told : Option Refusal) →
-    (told ≡ Some Full → ⊥) → first_refusal journal entry ≡ told → is_full journal ≡ false
-has_room journal entry told other answered =
-    room_if (is_full journal) (clock_refusal journal entry) told other answered
+pub has_room : (journal : Journal) (entry : Entry) (stated : Option Refusal) →
+    (stated ≡ Some Full → ⊥) → first_refusal journal entry ≡ stated → is_full journal ≡ false
+has_room journal entry stated other answered =
+    room_if (is_full journal) (clock_refusal journal entry) stated other answered
 
-pub clock_refusal-told : (journal : Journal) (entry : Entry) (told : Option Refusal) →
-    (told ≡ Some Full → ⊥) → first_refusal journal entry ≡ told →
-    clock_refusal journal entry ≡ told
-clock_refusal-told journal entry told other answered =
-    sym (first_refusal-room journal entry (has_room journal entry told other answered)) ∙ answered
+pub clock_refusal-stated : (journal : Journal) (entry : Entry) (stated : Option Refusal) →
+    (stated ≡ Some Full → ⊥) → first_refusal journal entry ≡ stated →
+    clock_refusal journal entry ≡ stated
+clock_refusal-stated journal entry stated other answered =
+    sym (first_refusal-room journal entry (has_room journal entry stated other answered)) ∙ answered
 
 -- if an entry is not refused, the journal has room, and the entry passes the clocks' tests
 pub accepts_room : (journal : Journal) (entry : Entry) → first_refusal journal entry ≡ None →
@@ -92,17 +92,17 @@ accepts_room journal entry accepted = has_room journal entry None (λ e. cc e) a
 pub passes_clock : (journal : Journal) (entry : Entry) → first_refusal journal entry ≡ None →
     clock_refusal journal entry ≡ None
 passes_clock journal entry accepted =
-    clock_refusal-told journal entry None (λ e. cc e) accepted
+    clock_refusal-stated journal entry None (λ e. cc e) accepted
 
 -- the first test that fails gives the refusal of the entry
-pub IsRefusal-told : (journal : Journal) (entry : Entry) (refusal : Refusal) →
+pub IsRefusal-stated : (journal : Journal) (entry : Entry) (refusal : Refusal) →
     is_full journal ≡ false →
     first_refusal journal entry ≡ Some refusal → IsRefusal journal entry refusal
-IsRefusal-told journal entry Full room told = told
-IsRefusal-told journal entry Asleep room told = told
-IsRefusal-told journal entry Awake room told = told
-IsRefusal-told journal entry Invalid room told = told
-IsRefusal-told journal entry Behind room told = told
-IsRefusal-told journal entry Range room told = told
-IsRefusal-told journal entry Memory room told =
-    absurd (never_memory journal entry (sym (first_refusal-room journal entry room) ∙ told))
+IsRefusal-stated journal entry Full room stated = stated
+IsRefusal-stated journal entry Asleep room stated = stated
+IsRefusal-stated journal entry Awake room stated = stated
+IsRefusal-stated journal entry Invalid room stated = stated
+IsRefusal-stated journal entry Behind room stated = stated
+IsRefusal-stated journal entry Range room stated = stated
+IsRefusal-stated journal entry Memory room stated =
+    absurd (never_memory journal entry (sym (first_refusal-room journal entry room) ∙ stated))

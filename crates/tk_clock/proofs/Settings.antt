@@ -17,7 +17,7 @@ use Rattle.tk_clock.specs.Refusal.{state_value_refusal}
 use Rattle.tk_clock.specs.Effect.{IsEarly, IsForwarded}
 use Rattle.tk_clock.specs.Running.{IsRunning, IsRated}
 use Rattle.tk_clock.proofs.Values.{now_of, real-last, tai-last}
-use Rattle.tk_clock.proofs.Effects.{monotonic-before, told_range, told_invalid, told_none}
+use Rattle.tk_clock.proofs.Effects.{monotonic-before, stated_range, stated_invalid, stated_none}
 
 pub is_below : (x y : ℤ) → x <ℤ y → int_lt x y ≡ true
 is_below x y low = grind (arith, common_steps, ints)
@@ -101,10 +101,10 @@ setting_past : (state : State) (now : ReadBase) (cmd : Command) (b : Bool) → s
 unfolding is_past_limit
 setting_past state now (SetTime time) b sets e past =
     subst (λ (f : ReadBase). is_past_limit (λ clock. base_value f clock now.last) (SetTime time)
-    ≡ b) e.told past
+    ≡ b) e.stated past
 setting_past state now (Step by) b sets e past =
     subst (λ (f : ReadBase). is_past_limit (λ clock. base_value f clock now.last) (Step by)
-    ≡ b) e.told past
+    ≡ b) e.stated past
 setting_past state now _ b sets e past = absurd cc
 
 pub setting_range : {state : State} {now : ReadBase} (cmd : Command) → sets_real cmd ≡ true →
@@ -112,24 +112,24 @@ pub setting_range : {state : State} {now : ReadBase} (cmd : Command) → sets_re
     is_past_limit (λ clock. base_value now clock now.last) cmd ≡ true →
     state_value_refusal state now.last cmd ≡ Some Range
 setting_range {state} {now} cmd sets e past =
-    told_range _ _ _ (setting_past state now cmd true sets e past)
+    stated_range _ _ _ (setting_past state now cmd true sets e past)
 
 -- MONOTONIC before the command is that of the forwarded base
 same_now : (state : State) (now : ReadBase) (cmd : Command) → IsForwarded state now →
     base_monotonic state.base now.last ≡ now_of (forwarded state.base now.last) →
     base_monotonic state.base now.last ≡ now_of now
-same_now state now cmd e before = before ∙ ap now_of (sym e.told)
+same_now state now cmd e before = before ∙ ap now_of (sym e.stated)
 
 set_setting : (state : State) (now : ReadBase) (time : Timespec) (b : Bool) →
     IsEarly state now.last (SetTime time) → IsForwarded state now →
     int_lt (nanoseconds time) (pos (now_of now)) ≡ b →
     is_bad_setting (λ clock. base_value state.base clock now.last) (SetTime time) ≡ b
 unfolding is_bad_setting
-set_setting state now time b early e told =
+set_setting state now time b early e stated =
     ap (λ n. int_lt (nanoseconds time) (pos n))
     (same_now state now (SetTime time) e
     (monotonic-before state now.last (SetTime time) early refl))
-    ∙ told
+    ∙ stated
 
 pub set_invalid : (state : State) (now : ReadBase) (time : Timespec) →
     IsEarly state now.last (SetTime time) → IsForwarded state now →
@@ -137,7 +137,7 @@ pub set_invalid : (state : State) (now : ReadBase) (time : Timespec) →
     nanoseconds time <ℤ pos (now_of now) →
     state_value_refusal state now.last (SetTime time) ≡ Some Invalid
 set_invalid state now time early e past low =
-    told_invalid _ _ _ (setting_past state now (SetTime time) false refl e past)
+    stated_invalid _ _ _ (setting_past state now (SetTime time) false refl e past)
     (set_setting state now time true early e (is_below (nanoseconds time) (pos (now_of now)) low))
 
 pub set_none : (state : State) (now : ReadBase) (time : Timespec) →
@@ -146,7 +146,7 @@ pub set_none : (state : State) (now : ReadBase) (time : Timespec) →
     pos (now_of now) ≤ℤ nanoseconds time →
     state_value_refusal state now.last (SetTime time) ≡ None
 set_none state now time early e past high =
-    told_none _ _ _ (setting_past state now (SetTime time) false refl e past)
+    stated_none _ _ _ (setting_past state now (SetTime time) false refl e past)
     (set_setting state now time false early e
     (not_below (nanoseconds time) (pos (now_of now)) high))
 
@@ -159,16 +159,16 @@ setting_state : (state : State) (now : ReadBase) (offset : ℕ) (real : ReadBase
     IsForwarded state now → pos offset ≡ real now →
     (let fwd = forwarded state.base now.last
     in with_real state now (pos offset) ≡ with_real state fwd (real fwd))
-setting_state state now offset real e told =
-    ap (with_real state now) told ∙ ap (λ (b : ReadBase). with_real state b (real b)) e.told
+setting_state state now offset real e stated =
+    ap (with_real state now) stated ∙ ap (λ (b : ReadBase). with_real state b (real b)) e.stated
 
 pub set_state : (state : State) (now : ReadBase) (time : Timespec) (offset : ℕ) →
     IsForwarded state now →
     pos offset ≡ nanoseconds time -ℤ pos (now_of now) →
     (let after : State = record state { base = record now { real_offset = pos offset } }
     in after ≡ effect state now.last (SetTime time))
-set_state state now time offset e told =
-    setting_state state now offset (λ base. nanoseconds time -ℤ pos (now_of base)) e told
+set_state state now time offset e stated =
+    setting_state state now offset (λ base. nanoseconds time -ℤ pos (now_of base)) e stated
 
 -- REALTIME after a step, in nanoseconds
 abbrev pub stepped : ReadBase → Timespec → ℤ
@@ -180,14 +180,14 @@ step_setting : (state : State) (now : ReadBase) (by : Timespec) (b : Bool) →
     || not (int_lt (stepped now by) (pos (settable_end * 10 ^ 9)))) ≡ b →
     is_bad_setting (λ clock. base_value state.base clock now.last) (Step by) ≡ b
 unfolding is_bad_setting
-step_setting state now by b early e told =
+step_setting state now by b early e stated =
     let test : ℕ → ℤ → Bool = λ n offset.
     int_lt (pos n +ℤ offset +ℤ nanoseconds by) (pos n)
     || not (int_lt (pos n +ℤ offset +ℤ nanoseconds by) (pos (settable_end * 10 ^ 9))) in
     ap (λ n. test n state.base.real_offset)
     (same_now state now (Step by) e (monotonic-before state now.last (Step by) early refl))
-    ∙ ap (λ (f : ReadBase). test (now_of now) f.real_offset) (sym e.told)
-    ∙ told
+    ∙ ap (λ (f : ReadBase). test (now_of now) f.real_offset) (sym e.stated)
+    ∙ stated
 
 bad_step : (x low high : ℤ) → (x <ℤ low) ⊎ (high ≤ℤ x) →
     (int_lt x low || not (int_lt x high)) ≡ true
@@ -210,7 +210,7 @@ pub step_invalid : (state : State) (now : ReadBase) (by : Timespec) →
     (stepped now by <ℤ pos (now_of now)) ⊎ (pos (settable_end * 10 ^ 9) ≤ℤ stepped now by) →
     state_value_refusal state now.last (Step by) ≡ Some Invalid
 step_invalid state now by early e past out =
-    told_invalid _ _ _ (setting_past state now (Step by) false refl e past)
+    stated_invalid _ _ _ (setting_past state now (Step by) false refl e past)
     (step_setting state now by true early e
     (bad_step (stepped now by) (pos (now_of now)) (pos (settable_end * 10 ^ 9)) out))
 
@@ -220,7 +220,7 @@ pub step_none : (state : State) (now : ReadBase) (by : Timespec) →
     pos (now_of now) ≤ℤ stepped now by → stepped now by <ℤ pos (settable_end * 10 ^ 9) →
     state_value_refusal state now.last (Step by) ≡ None
 step_none state now by early e past above below =
-    told_none _ _ _ (setting_past state now (Step by) false refl e past)
+    stated_none _ _ _ (setting_past state now (Step by) false refl e past)
     (step_setting state now by false early e
     (good_step (stepped now by) (pos (now_of now)) (pos (settable_end * 10 ^ 9)) above below))
 
@@ -229,8 +229,8 @@ pub step_state : (state : State) (now : ReadBase) (by : Timespec) (offset : ℕ)
     pos offset ≡ now.real_offset +ℤ nanoseconds by →
     (let after : State = record state { base = record now { real_offset = pos offset } }
     in after ≡ effect state now.last (Step by))
-step_state state now by offset e told =
-    setting_state state now offset (λ base. base.real_offset +ℤ nanoseconds by) e told
+step_state state now by offset e stated =
+    setting_state state now offset (λ base. base.real_offset +ℤ nanoseconds by) e stated
 
 -- clocks still run after REALTIME is set to a time to which it may be set
 pub IsRunning-set : (base now : ReadBase) (frequency tick : ℤ) (offset : ℕ) →

@@ -10,7 +10,7 @@ use Rattle.tk_clock.specs.Command.{is_suspend, frequency_set, tick_set, sets_mul
 use Rattle.tk_clock.specs.Journal.{Journal, followed_by, last_reading, is_asleep, latest}
 use Rattle.tk_clock.specs.Monotonic.{awake_cycles, multiplier_at, stretch_places, stretches_from, current_frequency, current_tick, current_multiplier, monotonic_units}
 use Rattle.tk_clock.specs.Clocks.{raw_units}
-use Rattle.tk_clock.proofs.Append.{at_place-within, at_place-last, latest-push, latest_told, places-push, AtMost, AtMost-places, AtMost-latest}
+use Rattle.tk_clock.proofs.Append.{at_place-within, at_place-last, latest-push, latest_stated, places-push, AtMost, AtMost-places, AtMost-latest}
 
 pub last_reading-followed_by : (journal : Journal) (entry : Entry) →
     last_reading (followed_by journal entry) ≡ entry.reading
@@ -219,28 +219,28 @@ pub current_frequency-followed_by : (journal : Journal) (entry : Entry) →
     current_frequency (followed_by journal entry)
     ≡ option_map_or (λ x. x) (frequency_set entry.cmd) (current_frequency journal)
 current_frequency-followed_by journal entry =
-    latest_told (λ (e : Entry). frequency_set e.cmd) journal.opening.frequency journal.entries entry
+    latest_stated (λ (e : Entry). frequency_set e.cmd) journal.opening.frequency journal.entries entry
 
 pub current_tick-followed_by : (journal : Journal) (entry : Entry) →
     current_tick (followed_by journal entry)
     ≡ option_map_or (λ x. x) (tick_set entry.cmd) (current_tick journal)
 current_tick-followed_by journal entry =
-    latest_told (λ (e : Entry). tick_set e.cmd) journal.opening.tick journal.entries entry
+    latest_stated (λ (e : Entry). tick_set e.cmd) journal.opening.tick journal.entries entry
 
-multiplier_told : (journal : Journal) (entry : Entry) (told : Bool) →
+multiplier_stated : (journal : Journal) (entry : Entry) (stated : Bool) →
     multiplier_at (followed_by journal entry)
-    (latest 0 (stretch_places journal ++ (if told then (length journal.entries + 1) ∷ [] else [])))
-    ≡ (if told then multiplier journal.opening.counter
+    (latest 0 (stretch_places journal ++ (if stated then (length journal.entries + 1) ∷ [] else [])))
+    ≡ (if stated then multiplier journal.opening.counter
     (option_map_or (λ x. x) (frequency_set entry.cmd) (current_frequency journal))
     (option_map_or (λ x. x) (tick_set entry.cmd) (current_tick journal))
     else current_multiplier journal)
-multiplier_told journal entry false =
+multiplier_stated journal entry false =
     ap (λ q. multiplier_at (followed_by journal entry) (latest 0 q))
     (append-nil (stretch_places journal))
     ∙ multiplier_at-within journal entry (latest 0 (stretch_places journal))
     (AtMost-latest (length journal.entries) 0 (stretch_places journal) (omega arith)
     (AtMost-stretch_places journal))
-multiplier_told journal entry true =
+multiplier_stated journal entry true =
     let at_end = λ (es : List Entry).
     multiplier journal.opening.counter
     (latest journal.opening.frequency (filter_map (λ (e : Entry). frequency_set e.cmd) es))
@@ -265,4 +265,4 @@ pub current_multiplier-followed_by : (journal : Journal) (entry : Entry) →
 current_multiplier-followed_by journal entry =
     ap (λ q. multiplier_at (followed_by journal entry) (latest 0 q))
     (stretch_places-followed_by journal entry)
-    ∙ multiplier_told journal entry (sets_multiplier entry.cmd)
+    ∙ multiplier_stated journal entry (sets_multiplier entry.cmd)

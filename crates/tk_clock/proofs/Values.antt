@@ -93,5 +93,5 @@ pub real_offset_low : (base : ReadBase) (offset : ℕ) → base.real_offset ≡ 
     base_value base Realtime base.last <ℤ limit Realtime →
     offset < clock_end * 10 ^ 9
 real_offset_low base offset e low =
-    let told = rw (real-last base) at low in
-    omega (arith, ints, told, e)
+    let stated = rw (real-last base) at low in
+    omega (arith, ints, stated, e)

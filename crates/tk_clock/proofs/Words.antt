@@ -17,7 +17,7 @@ use Rattle.tk_clock.proofs.Units.{below_nanos}
 use Rattle.tk_clock.proofs.Rates.{below_seconds}
 use Rattle.tk_clock.proofs.Values.{monotonic-last}
 use Rattle.tk_clock.proofs.Settings.{both, either, is_below, below-of}
-use Rattle.tk_clock.specs.Words.{words_of, are_in_range, is_within, snapshot_told, restored}
+use Rattle.tk_clock.specs.Words.{words_of, are_in_range, is_within, snapshot_of_words, restored}
 
 -- the words of a snapshot, from the parts that the code keeps
 abbrev pub parts : ℕ → ℕ → ℕ → Amount → Amount → ℕ → ℕ → ℕ → List ℕ
@@ -66,8 +66,8 @@ odd_of tai false = let e : (tai * 2 + 0) % 2 ≡ 0 = omega arith in ap (λ n. n 
 shared : (n : ℕ) → n / 2 * 2 + (if n % 2 == 1 then 1 else 0) ≡ n
 shared n =
     let rest : n % 2 < 2 = omega arith in
-    let told = bit_is (n % 2) rest in
-    omega (arith, told)
+    let stated = bit_is (n % 2) rest in
+    omega (arith, stated)
   where
     bit_is : (r : ℕ) → r < 2 → (if r == 1 then 1 else 0) ≡ r
     bit_is zero low = refl
@@ -141,10 +141,10 @@ not_within true true false t e h = refl
 not_within true false r t e h = refl
 not_within false b r t e h = absurd cc
 
-pub within_told : (base : ReadBase) →
+pub within_stated : (base : ReadBase) →
     is_past_limit (λ clock. base_value base clock base.last) Update ≡ false → IsWithin base
 unfolding is_past_limit
-within_told base past =
+within_stated base past =
     let at : ClockId → ℤ = λ clock. base_value base clock base.last in
     let parts = both (int_lt (at Monotonic) (limit Monotonic))
     (int_lt (at Boottime) (limit Boottime)) _ past in
@@ -199,7 +199,7 @@ ten [] all = absurd (omega arith)
 
 pub words_again : (counter : Counter) (words : List ℕ) → length words ≡ 10 →
     IsInRange counter words →
-    words_of (snapshot_told counter words) ≡ words
+    words_of (snapshot_of_words counter words) ≡ words
 words_again counter words all held =
     let monotonic : Amount = record { sec = get_or words 4 0; frac = get_or words 3 0 } in
     let raw : Amount = record { sec = get_or words 9 0; frac = get_or words 8 0 } in
@@ -211,18 +211,18 @@ words_again counter words all held =
     ∙ ten words all
 
 -- words that pass both tests restore the snapshot that they encode
-pub restored-told : (counter : Counter) (words : List ℕ) → are_in_range counter words ≡ true →
-    is_within (snapshot_told counter words).base ≡ true →
-    restored counter words ≡ Some (snapshot_told counter words)
-restored-told counter words range within =
-    ap (λ (b : Bool). if b then Some (snapshot_told counter words)
+pub restored-stated : (counter : Counter) (words : List ℕ) → are_in_range counter words ≡ true →
+    is_within (snapshot_of_words counter words).base ≡ true →
+    restored counter words ≡ Some (snapshot_of_words counter words)
+restored-stated counter words range within =
+    ap (λ (b : Bool). if b then Some (snapshot_of_words counter words)
     else None) (both_true _ _ range within)
 
 pub restored-none : (counter : Counter) (words : List ℕ) →
-    is_within (snapshot_told counter words).base ≡ false → restored counter words ≡ None
+    is_within (snapshot_of_words counter words).base ≡ false → restored counter words ≡ None
 restored-none counter words without =
-    ap (λ (b : Bool). if b then Some (snapshot_told counter words) else None)
-    (by (are_in_range counter words) (is_within (snapshot_told counter words).base) without)
+    ap (λ (b : Bool). if b then Some (snapshot_of_words counter words) else None)
+    (by (are_in_range counter words) (is_within (snapshot_of_words counter words).base) without)
   where
     by : (a b : Bool) → b ≡ false → (a && b) ≡ false
     by true b e = e
@@ -264,19 +264,19 @@ restored-words counter front last mult monotonic raw real boot tai asleep held w
       base =
           base_from counter last mult monotonic raw real boot t b;
     } in
-    let same : snapshot_told counter words ≡ snapshot =
+    let same : snapshot_of_words counter words ≡ snapshot =
     ap (λ t. put t (word % 2 == 1)) half ∙ ap (λ (b : Bool). put tai b) (odd_of tai asleep) in
     ap (restored counter)
     (words_of-parts counter front last mult monotonic raw real boot tai asleep held.frac_low
     held.raw_frac_low)
-    ∙ restored-told counter words (passes_range counter words range)
+    ∙ restored-stated counter words (passes_range counter words range)
     (ap (λ (s : Snapshot). is_within s.base) same ∙ passes_within snapshot.base within)
     ∙ ap (λ (s : Snapshot). Some s) same
 
 -- if the test of limits passes, none of its clocks is at its limit
-pub is_within-told : (base : ReadBase) → is_within base ≡ true → IsWithin base
+pub is_within-stated : (base : ReadBase) → is_within base ≡ true → IsWithin base
 unfolding is_within
-is_within-told base e =
+is_within-stated base e =
     let at : ClockId → ℤ = λ clock. base_value base clock base.last in
     let boot_real = first_true _ _ e in
     record {
@@ -288,17 +288,17 @@ is_within-told base e =
 -- what is known of words that encode a snapshot
 pub record IsTold (counter : Counter) (words : List ℕ) : Type 0 where
   pub range : are_in_range counter words ≡ true
-  pub within : is_within (snapshot_told counter words).base ≡ true
+  pub within : is_within (snapshot_of_words counter words).base ≡ true
 
-pub told-restored : (counter : Counter) (words : List ℕ) → IsSome (restored counter words) →
+pub stated-restored : (counter : Counter) (words : List ℕ) → IsSome (restored counter words) →
     IsTold counter words
-told-restored counter words some_told =
-    by (are_in_range counter words) (is_within (snapshot_told counter words).base) refl refl
-    some_told
+stated-restored counter words some_stated =
+    by (are_in_range counter words) (is_within (snapshot_of_words counter words).base) refl refl
+    some_stated
   where
     by : (a b : Bool) → are_in_range counter words ≡ a →
-        is_within (snapshot_told counter words).base ≡ b →
-        IsSome (if a && b then Some (snapshot_told counter words) else None) → IsTold counter words
+        is_within (snapshot_of_words counter words).base ≡ b →
+        IsSome (if a && b then Some (snapshot_of_words counter words) else None) → IsTold counter words
     by true true p q h = record { range = p; within = q }
     by true false p q h = absurd cc
     by false b p q h = absurd cc

@@ -158,8 +158,8 @@ stepped-real : clock_value (journal_of (at 0 (Step (time (negsuc 0) 999999999)) 
     ≡ pos 1699999999999999999
 stepped-real = refl
 
-told_tai : clock_value (journal_of (at 0 (Tai (pos 37)) ∷ [])) TaiClock 0 ≡ pos 1700000037000000000
-told_tai = refl
+stated_tai : clock_value (journal_of (at 0 (Tai (pos 37)) ∷ [])) TaiClock 0 ≡ pos 1700000037000000000
+stated_tai = refl
 
 too_far-tai : first_refusal (journal_of []) (at 0 (Tai (pos 100001))) ≡ Some Invalid
 unfolding is_well_formed is_past_limit is_bad_setting

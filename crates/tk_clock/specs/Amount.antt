@@ -17,7 +17,7 @@ IsAmountOf counter amount units = (units_of counter amount ≡ units) × (amount
 abbrev pub amount_of : Counter → ℕ → Amount
 amount_of counter units = record { sec = units / second counter; frac = units % second counter }
 
--- an amount with a rest below a second is the amount of its own units
+-- an amount with a rest below a second is the amount of its units
 pub amount_of-units_of : (counter : Counter) (amount : Amount) → amount.frac < second counter →
     amount_of counter (units_of counter amount) ≡ amount
 amount_of-units_of counter amount low =

@@ -10,7 +10,7 @@ use Rattle.tk_clock.specs.Refusal.{early_refusal, state_value_refusal}
 
 -- the base is the state's base, forwarded to the base's own last reading
 pub record IsForwarded (state : State) (base : ReadBase) : Type 0 where
-  pub told : base ≡ forwarded state.base base.last
+  pub stated : base ≡ forwarded state.base base.last
   pub rated : IsRated base
 
 -- the command passes the tests that need no clock's value

@@ -4,7 +4,7 @@ use Rattle.tk_clock.specs.declared.clock_id.ClockId.{ClockId}
 use Rattle.tk_clock.specs.declared.clock_id.ClockId.TheVariants.{Realtime, Monotonic, Boottime, Tai, RealtimeCoarse, MonotonicCoarse, MonotonicRaw}
 use Rattle.tk_clock.specs.State.{ReadBase}
 
--- whether a clock stands still between commands
+-- whether a clock changes only at commands
 abbrev pub is_coarse : ClockId → Bool
 is_coarse RealtimeCoarse = true
 is_coarse MonotonicCoarse = true
@@ -23,7 +23,7 @@ units_at_last base clock = if is_raw clock then base.raw_amount else base.amount
 abbrev pub running_mult : ReadBase → ClockId → ℕ
 running_mult base clock = if is_raw clock then base.counter.mult else base.mult
 
--- the units that a cycle adds to a clock: 0 if the clock stands still
+-- the units that a cycle adds to a clock: 0 if the clock doesn't run
 abbrev pub mult_of : ReadBase → ClockId → ℕ
 mult_of base clock = if base.asleep || is_coarse clock then 0 else running_mult base clock
 

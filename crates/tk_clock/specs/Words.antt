@@ -21,8 +21,8 @@ words_of snapshot =
     ∷ []
 
 -- the TAI offset that the words encode, in seconds
-abbrev pub tai_told : List ℕ → ℕ
-tai_told words = slice_index words 7 / 2
+abbrev pub tai_of_words : List ℕ → ℕ
+tai_of_words words = slice_index words 7 / 2
 
 -- whether each word is in its range
 unfoldable pub are_in_range : Counter → List ℕ → Bool
@@ -30,12 +30,12 @@ are_in_range counter words =
     nat_le (slice_index words 1) (mask counter)
     && nat_le 1 (slice_index words 2) && nat_le (slice_index words 2) (fastest counter)
     && nat_lt (slice_index words 3) (second counter) && nat_lt (slice_index words 4) monotonic_end
-    && nat_le (tai_told words) greatest_tai
+    && nat_le (tai_of_words words) greatest_tai
     && nat_lt (slice_index words 8) (second counter) && nat_lt (slice_index words 9) raw_end
 
 -- the snapshot that the words encode
-abbrev pub snapshot_told : Counter → List ℕ → Snapshot
-snapshot_told counter words = record {
+abbrev pub snapshot_of_words : Counter → List ℕ → Snapshot
+snapshot_of_words counter words = record {
   front = slice_index words 0;
   base = record {
     counter = counter;
@@ -45,7 +45,7 @@ snapshot_told counter words = record {
     raw_amount = slice_index words 9 * second counter + slice_index words 8;
     real_offset = pos (slice_index words 5);
     boot_offset = pos (slice_index words 6);
-    tai = pos (tai_told words);
+    tai = pos (tai_of_words words);
     asleep = slice_index words 7 % 2 == 1;
   };
 }
@@ -61,5 +61,5 @@ is_within base =
 -- are below their limits
 abbrev pub restored : Counter → List ℕ → Option Snapshot
 restored counter words =
-    if are_in_range counter words && is_within (snapshot_told counter words).base
-    then Some (snapshot_told counter words) else None
+    if are_in_range counter words && is_within (snapshot_of_words counter words).base
+    then Some (snapshot_of_words counter words) else None

@@ -111,7 +111,7 @@ impl Amount {
     pub fn nanos_after(self, desc: &CounterDesc, cycles: u64, mult: u32) -> u64
         requires rest { self.frac < second desc.now }
         requires few { self.sec ≤ raw_end }
-        ensures told { let nanos = (units_of desc.now self + cycles * mult) / 2 ^ desc.now.shift in
+        ensures stated { let nanos = (units_of desc.now self + cycles * mult) / 2 ^ desc.now.shift in
             (result ≡ nanos) ⊎ ((2 ^ 63 ≤ nanos) × (2 ^ 63 ≤ result)) }
         ensures most { result ≤ 15 * 10 ^ 18 }
     {
@@ -124,7 +124,7 @@ impl Amount {
 fn gained_nanos(frac: u64, cycles: u64, mult: u32, shift: u32) -> u64
     requires rest { frac < 2 ^ 62 }
     requires shift { shift ≤ 32 }
-    ensures told { let nanos = (frac + cycles * mult) / 2 ^ shift in
+    ensures stated { let nanos = (frac + cycles * mult) / 2 ^ shift in
         (result ≡ nanos) ⊎ ((2 ^ 63 ≤ nanos) × (2 ^ 63 ≤ result)) }
     ensures most { result ≤ 139 * 10 ^ 17 }
 {
@@ -169,7 +169,7 @@ fn few_units(frac: u64, cycles: u64, mult: u32) -> u64
 fn long_nanos(frac: u64, cycles: u64, mult: u32, shift: u32) -> u64
     requires rest { frac < 2 ^ 62 }
     requires shift { shift ≤ 32 }
-    ensures told { let nanos = (frac + cycles * mult) / 2 ^ shift in
+    ensures stated { let nanos = (frac + cycles * mult) / 2 ^ shift in
         (result ≡ nanos) ⊎ ((2 ^ 63 ≤ nanos) × (2 ^ 63 ≤ result)) }
     ensures most { result ≤ 139 * 10 ^ 17 }
 {

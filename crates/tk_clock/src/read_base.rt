@@ -122,7 +122,7 @@ impl ReadBase {
     /// Returns MONOTONIC at a reading, in ns. If that is beyond every clock's limit, the result may
     /// be another number that is.
     fn monotonic_at(&self, reading: u64) -> u64
-        ensures told { let nanos = base_monotonic self.now reading in
+        ensures stated { let nanos = base_monotonic self.now reading in
             (result ≡ nanos) ⊎ ((2 ^ 63 ≤ nanos) × (2 ^ 63 ≤ result)) }
         ensures most { result ≤ 15 * 10 ^ 18 }
     {

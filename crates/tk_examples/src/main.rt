@@ -66,10 +66,10 @@ fn check_report(rt: &HostRuntime, name: &str) -> io::Result<Verdict> {
     let alloc = rt.alloc();
     let script = fs::read(rt, format!(in alloc; "{name}.csv")?)?;
     let expected = expected_of(rt, name, "report")?;
-    let told = text_of(alloc, report(alloc, script.as_slice()))?;
+    let text = text_of(alloc, report(alloc, script.as_slice()))?;
     let folded = text_of(alloc, report_bounded(alloc, script.as_slice(), 1))?;
     Ok(verdict_if(
-        told.as_slice() == expected.as_slice() && folded.as_slice() == expected.as_slice(),
+        text.as_slice() == expected.as_slice() && folded.as_slice() == expected.as_slice(),
     ))
 }
 
@@ -84,11 +84,11 @@ fn check_trace(
     let mut script = fs::open(rt, format!(in alloc; "{name}.csv")?)?;
     let mut stamps = fs::open(rt, format!(in alloc; "{name}.stamps")?)?;
     let expected = expected_of(rt, name, "trace")?;
-    let mut told = Vec::new(alloc);
-    if let Err(fault) = trace(alloc, threads, &mut script, &mut stamps, clock, &mut told) {
-        told = fault_text(alloc, fault)?;
+    let mut text = Vec::new(alloc);
+    if let Err(fault) = trace(alloc, threads, &mut script, &mut stamps, clock, &mut text) {
+        text = fault_text(alloc, fault)?;
     }
-    Ok(verdict_if(told.as_slice() == expected.as_slice()))
+    Ok(verdict_if(text.as_slice() == expected.as_slice()))
 }
 
 fn verdict_if(is_as_expected: bool) -> Verdict {

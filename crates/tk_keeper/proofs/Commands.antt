@@ -11,7 +11,7 @@ use Rattle.tk_clock.specs.State.{State, state_of, effect}
 use Rattle.tk_clock.proofs.Monotone.{agrees}
 use Rattle.tk_clock.specs.Folding.{journal_from}
 use Rattle.tk_clock.proofs.Legal.{first_refusal-state, state_of-followed_by}
-use Rattle.tk_clock.proofs.Refusals.{IsRefusal-told}
+use Rattle.tk_clock.proofs.Refusals.{IsRefusal-stated}
 use Rattle.tk_keeper.specs.Keeper.{Keeper, IsKept}
 use Rattle.tk_keeper.proofs.Room.{IsKept-followed_by}
 
@@ -34,38 +34,38 @@ IsApplied before after entry result =
     (λ refusal. IsRefusal before.journal entry refusal × (after ≡ before))
 
 -- the clocks' tests never report a lack of memory
-pub not_told : (journal : Journal) (entry : Entry) (refusal : Refusal) → is_full journal ≡ false →
+pub not_stated : (journal : Journal) (entry : Entry) (refusal : Refusal) → is_full journal ≡ false →
     first_refusal journal entry ≡ Some refusal → refusal ≡ Memory → ⊥
-not_told journal entry refusal room told e =
-    let memory : first_refusal journal entry ≡ Some Memory = told ∙ ap (λ (r : Refusal). Some r) e
+not_stated journal entry refusal room stated e =
+    let memory : first_refusal journal entry ≡ Some Memory = stated ∙ ap (λ (r : Refusal). Some r) e
     in
-    let none = IsRefusal-told journal entry Memory room memory in
+    let none = IsRefusal-stated journal entry Memory room memory in
     cc (none, memory)
 
 pub IsApplied-entered : (before after : Keeper) (entry : Entry) (result : Result ℕ Refusal) →
     is_full before.journal ≡ false → IsEntered before after entry result →
     IsApplied before after entry result
-IsApplied-entered before after entry (Ok number) free told = told
-IsApplied-entered before after entry (Err refusal) free told =
-    (IsRefusal-told before.journal entry refusal free told.0, told.1)
+IsApplied-entered before after entry (Ok number) free stated = stated
+IsApplied-entered before after entry (Err refusal) free stated =
+    (IsRefusal-stated before.journal entry refusal free stated.0, stated.1)
 
 pub not_memory-entered : (before after : Keeper) (entry : Entry) (result : Result ℕ Refusal) →
     is_full before.journal ≡ false → IsEntered before after entry result →
     IsErrOf result Memory → ⊥
-not_memory-entered before after entry (Ok number) free told e = cc
-not_memory-entered before after entry (Err refusal) free told e =
-    not_told before.journal entry refusal free told.0 cc
+not_memory-entered before after entry (Ok number) free stated e = cc
+not_memory-entered before after entry (Err refusal) free stated e =
+    not_stated before.journal entry refusal free stated.0 cc
 
 -- room that is made for an accepted command doesn't change its answer
 pub IsApplied-grown : (before grown after : Keeper) (entry : Entry) (result : Result ℕ Refusal) →
     grown.journal ≡ before.journal → first_refusal before.journal entry ≡ None →
     IsEntered grown after entry result →
     IsApplied before after entry result
-IsApplied-grown before grown after entry (Ok number) same accepted told =
-    (accepted, told.1 ∙ ap (λ (j : Journal). followed_by j entry) same, told.2)
-IsApplied-grown before grown after entry (Err refusal) same accepted told =
+IsApplied-grown before grown after entry (Ok number) same accepted stated =
+    (accepted, stated.1 ∙ ap (λ (j : Journal). followed_by j entry) same, stated.2)
+IsApplied-grown before grown after entry (Err refusal) same accepted stated =
     let refused : first_refusal before.journal entry ≡ Some refusal =
-    ap (λ (j : Journal). first_refusal j entry) (sym same) ∙ told.0 in
+    ap (λ (j : Journal). first_refusal j entry) (sym same) ∙ stated.0 in
     absurd (cc (sym accepted ∙ refused))
 
 -- MONOTONIC at the command's reading is the same before and after
@@ -73,10 +73,10 @@ pub agrees-accepted : (before after : Journal) (entry : Entry) (Refused : Refusa
     (result : Result ℕ Refusal) →
     MatchResult result (IsAccepted before after entry) Refused →
     IfOk result (λ _. monotonic before entry.reading ≡ monotonic after entry.reading)
-agrees-accepted before after entry Refused (Ok number) told =
-    agrees before entry told.0
-    ∙ ap (λ (j : Journal). monotonic j entry.reading) (sym told.1)
-agrees-accepted before after entry Refused (Err refusal) told = tt
+agrees-accepted before after entry Refused (Ok number) stated =
+    agrees before entry stated.0
+    ∙ ap (λ (j : Journal). monotonic j entry.reading) (sym stated.1)
+agrees-accepted before after entry Refused (Err refusal) stated = tt
 
 -- the clocks after an accepted command are those of the journal with its entry
 pub running-accepted : (journal : Journal) (before after : State) (entry : Entry) →
@@ -84,8 +84,8 @@ pub running-accepted : (journal : Journal) (before after : State) (entry : Entry
     (state_refusal before entry.reading entry.cmd ≡ None)
     × (after ≡ effect before entry.reading entry.cmd) →
     after ≡ state_of (followed_by journal entry)
-running-accepted journal before after entry running told =
-    told.1 ∙ state_of-followed_by journal before entry.who entry.reading entry.cmd running told.0
+running-accepted journal before after entry running stated =
+    stated.1 ∙ state_of-followed_by journal before entry.who entry.reading entry.cmd running stated.0
 
 -- a keeper's journal refuses what its clocks refuse
 pub first_refusal-clocks : (folded spare : ℕ) (start clock : State) (entries : List Entry)

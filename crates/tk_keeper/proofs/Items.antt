@@ -14,17 +14,17 @@ use Rattle.tk_clock.specs.State.{ReadBase, base_value}
 use Rattle.tk_keeper.specs.Item.{item_at, item_unless}
 use Rattle.tk_keeper.specs.Keeper.{ReadsAs}
 use Rattle.tk_keeper.specs.Past.{at_front, front_refusal}
-use Rattle.tk_keeper.specs.Trace.{told, TellsItems}
+use Rattle.tk_keeper.specs.Trace.{stated, ConvertsItems}
 
 whole_again : (value : ℤ) → pos 0 ≤ℤ value → value ≡ pos (unsigned_abs value)
 whole_again (pos n) since = refl
 whole_again (negsuc n) since = absurd (omega (arith, ints))
 
 -- the result of a value, if its stamp has a fault and if it has none
-told_unless : (index : ℕ) (value : ℤ) (fault : Option ReadError) → pos 0 ≤ℤ value →
-    item_at index value fault ≡ told index (unless_refused fault value)
-told_unless index value None since = ap Ok (whole_again value since)
-told_unless index value (Some error) since = refl
+stated_unless : (index : ℕ) (value : ℤ) (fault : Option ReadError) → pos 0 ≤ℤ value →
+    item_at index value fault ≡ stated index (unless_refused fault value)
+stated_unless index value None since = ap Ok (whole_again value since)
+stated_unless index value (Some error) since = refl
 
 -- the fault of a stamp, by the greatest reading and the clock's value and limit
 abbrev fault_by : ℕ → ℕ → ℤ → ℤ → Option ReadError
@@ -38,7 +38,7 @@ pub tells_items : (journal : Journal) (front : ℕ) (base : ReadBase) →
     front_refusal journal front ≡ None → ReadsAs (at_front front journal) base →
     base.counter ≡ journal.opening.counter →
     ((clock : ClockId) (reading : ℕ) → pos 0 ≤ℤ base_value base clock reading) →
-    TellsItems journal front base
+    ConvertsItems journal front base
 unfolding read_of
 tells_items journal front base there reads counter since clock index stamp =
     let value = base_value base clock stamp in
@@ -49,5 +49,5 @@ tells_items journal front base there reads counter since clock index stamp =
     in
     let same = ap₂ (λ m v. item_at index v (fault_by m stamp end v)) (ap mask (sym counter))
     (sym (reads clock stamp)) in
-    known ∙ same ∙ told_unless index value (fault_by (mask base.counter) stamp end value)
+    known ∙ same ∙ stated_unless index value (fault_by (mask base.counter) stamp end value)
     (since clock stamp)

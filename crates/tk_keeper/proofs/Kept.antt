@@ -31,11 +31,11 @@ earlier journal entry start kept i place there held found here =
     let inside = within (length kept) journal.opening.count (length journal.entries) i place
     held.all (slice_get_within kept i there found) here in
     let same = prefix-followed_by journal entry place inside in
-    let told = held.told i place there found here in
+    let stated = held.stated i place there found here in
     record {
-      clock = told.clock ∙ ap state_of (sym same);
+      clock = stated.clock ∙ ap state_of (sym same);
       run = λ long marked. AreRuns-followed_by journal entry (place - 256) (place - 1) (omega arith)
-          (told.run long marked);
+          (stated.run long marked);
     }
 
 -- an entry whose number is not a multiple of 256 leaves the kept states unchanged
@@ -46,7 +46,7 @@ pub HasKept-same : (journal : Journal) (entry : Entry) (start : State) (kept : L
 HasKept-same journal entry start kept held odd = record {
   first = held.first;
   all = omega (arith, held.all, length_push journal.entries entry);
-  told = λ i place there found here. earlier journal entry start kept i place there held found here;
+  stated = λ i place there found here. earlier journal entry start kept i place there held found here;
 }
 
 -- the place of the last state that is kept
@@ -100,7 +100,7 @@ HasKept-more journal entry start kept next held now marked even =
     record {
       first = held.first;
       all = omega (arith, held.all, there, longer, length_push kept next);
-      told = λ i place any found here.
+      stated = λ i place any found here.
           elim (cases_lt i (length kept)) [
             | inl earlier_one ↦ earlier journal entry start kept i place any held
                 (sym (slice_get-append kept (next ∷ []) i earlier_one) ∙ found) here
@@ -143,16 +143,16 @@ HasKept-folded journal n dropped start kept inside accepted e held =
           ap (λ k. k + (count + n) / 256) (length-drop dropped kept)
           ∙ kept_left count n (length journal.entries) (length kept) dropped e inside held.all
           ∙ ap (λ k. (count + n + k) / 256) (sym (length-drop n journal.entries));
-      told = λ i place any found here.
+      stated = λ i place any found here.
           let older = sym (slice_get-drop dropped kept i (dropped + i) refl) ∙ found in
           let there = kept_place count n i place dropped e here in
-          let told = held.told (dropped + i) (n + place) any older there in
+          let stated = held.stated (dropped + i) (n + place) any older there in
           record {
-            clock = told.clock ∙ sym (state_of-folded journal n place accepted);
+            clock = stated.clock ∙ sym (state_of-folded journal n place accepted);
             run = λ long marked.
                 let first : n + place - 256 ≡ n + (place - 256) = omega arith in
                 let final : n + place - 1 ≡ n + (place - 1) = omega arith in
-                let runs = told.run (omega arith) marked in
+                let runs = stated.run (omega arith) marked in
                 AreRuns-folded journal n (place - 256) (place - 1) accepted
                 (rw (← first, ← final) runs);
           };

@@ -27,31 +27,31 @@ IsAnswer before entry result after =
 first_refusal-is : (journal : Journal) (entry : Entry) (refusal : Refusal) →
     IsRefusal journal entry refusal → (refusal ≡ Memory → ⊥) →
     first_refusal journal entry ≡ Some refusal
-first_refusal-is journal entry Full told other = told
-first_refusal-is journal entry Asleep told other = told
-first_refusal-is journal entry Awake told other = told
-first_refusal-is journal entry Invalid told other = told
-first_refusal-is journal entry Behind told other = told
-first_refusal-is journal entry Range told other = told
-first_refusal-is journal entry Memory told other = absurd (other refl)
+first_refusal-is journal entry Full stated other = stated
+first_refusal-is journal entry Asleep stated other = stated
+first_refusal-is journal entry Awake stated other = stated
+first_refusal-is journal entry Invalid stated other = stated
+first_refusal-is journal entry Behind stated other = stated
+first_refusal-is journal entry Range stated other = stated
+first_refusal-is journal entry Memory stated other = absurd (other refl)
 
 -- unless memory was refused, this is the definition's reply
 pub reply-answer : (before after : Keeper) (entry : Entry) (result : Result ℕ Refusal) →
     IsAnswer before entry result after →
     (result ≡ Err Memory → ⊥) →
     reply_to before.journal entry ≡ record { answer = result; journal = after.journal }
-reply-answer before after entry (Ok number) told enough =
+reply-answer before after entry (Ok number) stated enough =
     let next : accepted_count before.journal + 1 ≡ number =
-    omega (arith, length_push before.journal.entries entry, told.2, ap accepted_count told.1) in
+    omega (arith, length_push before.journal.entries entry, stated.2, ap accepted_count stated.1) in
     let put : ℕ → Journal → Reply = λ n j. record { answer = Ok n; journal = j } in
-    ap (reply_if before.journal entry) told.0
+    ap (reply_if before.journal entry) stated.0
     ∙ ap (λ n. put n (followed_by before.journal entry)) next
-    ∙ ap (put number) (sym told.1)
-reply-answer before after entry (Err refusal) told enough =
+    ∙ ap (put number) (sym stated.1)
+reply-answer before after entry (Err refusal) stated enough =
     ap (reply_if before.journal entry)
-    (first_refusal-is before.journal entry refusal told.0 (λ e. enough (ap Err e)))
+    (first_refusal-is before.journal entry refusal stated.0 (λ e. enough (ap Err e)))
     ∙ ap (λ (k : Keeper). let reply : Reply = record { answer = Err refusal; journal = k.journal }
-    in reply) (sym told.1)
+    in reply) (sym stated.1)
 
 -- if there is room for the events that are left, there is room for an accepted one
 some_room : (left listed spare : ℕ) → 0 < left → listed < listed_most →
@@ -70,8 +70,8 @@ pub never_short : (before after : Keeper) (entry : Entry) (result : Result ℕ R
     (result ≡ Err Memory → before.spare ≡ 0) → 0 < left →
     min left (listed_most - length before.journal.entries) ≤ before.spare →
     result ≡ Err Memory → ⊥
-never_short before after entry result left told short some enough e =
-    let accepted = (subst (λ r. IsAnswer before entry r after) e told).0 in
+never_short before after entry result left stated short some enough e =
+    let accepted = (subst (λ r. IsAnswer before entry r after) e stated).0 in
     let more = finds_room before.journal entry left before.spare some enough accepted in
     let none = short e in
     omega arith
@@ -91,15 +91,15 @@ pub room_left : (before after : Keeper) (entry : Entry) (result : Result ℕ Ref
     IfOk result (λ _. 0 < before.spare → after.spare + 1 ≡ before.spare) → 0 < left →
     min left (listed_most - length before.journal.entries) ≤ before.spare →
     min (left - 1) (listed_most - length after.journal.entries) ≤ after.spare
-room_left before after entry (Ok number) left told less some enough =
+room_left before after entry (Ok number) left stated less some enough =
     less_room left (length before.journal.entries) (length after.journal.entries) before.spare
     after.spare
-    (less (finds_room before.journal entry left before.spare some enough told.0))
-    (ap (λ (j : Journal). length j.entries) told.1
+    (less (finds_room before.journal entry left before.spare some enough stated.0))
+    (ap (λ (j : Journal). length j.entries) stated.1
     ∙ length_push before.journal.entries entry) enough
-room_left before after entry (Err refusal) left told less some enough =
+room_left before after entry (Err refusal) left stated less some enough =
     subst (λ (k : Keeper). min (left - 1) (listed_most - length k.journal.entries) ≤ k.spare)
-    (sym told.1)
+    (sym stated.1)
     (same_room left (length before.journal.entries) before.spare enough)
 
 -- the run of the events from one on
@@ -126,6 +126,6 @@ run-next journal after events k answer none within reply =
 pub one_more : (all before left later after : List (Result ℕ Refusal)) (answer : Result ℕ Refusal) →
     all ≡ before ++ left →
     left ≡ answer ∷ later → after ≡ before ++ answer ∷ [] → all ≡ after ++ later
-one_more all before left later after answer e next told =
+one_more all before left later after answer e next stated =
     e ∙ ap (λ xs. before ++ xs) next ∙ sym (append_assoc before (answer ∷ []) later)
-    ∙ ap (λ xs. xs ++ later) (sym told)
+    ∙ ap (λ xs. xs ++ later) (sym stated)

@@ -36,11 +36,11 @@ next_state journal k entry all here =
 
 -- a command that no test refuses is done
 pub is_done : (after : Type 0) (other : Refusal →
-    Type 0) (told : Option Refusal) (result : Result (Unit {0}) Refusal) → told ≡ None →
-    MatchResult result (λ _. (told ≡ None) × after) (λ refusal. (told ≡ Some refusal)
+    Type 0) (stated : Option Refusal) (result : Result (Unit {0}) Refusal) → stated ≡ None →
+    MatchResult result (λ _. (stated ≡ None) × after) (λ refusal. (stated ≡ Some refusal)
     × other refusal) → IsOk result
-is_done after other told (Ok done) none e = refl
-is_done after other told (Err refusal) none e = let some = e.0 in absurd (cc (none, some))
+is_done after other stated (Ok done) none e = refl
+is_done after other stated (Err refusal) none e = let some = e.0 in absurd (cc (none, some))
 
 -- an item that is found at a place within a list
 pub listed_item : {X : Type 0} (xs : List X) (k : ℕ) (x : X) → k < length xs →
@@ -48,8 +48,8 @@ pub listed_item : {X : Type 0} (xs : List X) (k : ℕ) (x : X) → k < length xs
 listed_item xs k x within e = slice_get-get_or xs k x within ∙ ap (λ y. Some y) (sym e)
 
 pub effect_of : (after : Type 0) (other : Refusal →
-    Type 0) (told : Option Refusal) (result : Result (Unit {0}) Refusal) → told ≡ None →
-    MatchResult result (λ _. (told ≡ None) × after) (λ refusal. (told ≡ Some refusal)
+    Type 0) (stated : Option Refusal) (result : Result (Unit {0}) Refusal) → stated ≡ None →
+    MatchResult result (λ _. (stated ≡ None) × after) (λ refusal. (stated ≡ Some refusal)
     × other refusal) → after
-effect_of after other told (Ok done) none e = e.1
-effect_of after other told (Err refusal) none e = let some = e.0 in absurd (cc (none, some))
+effect_of after other stated (Ok done) none e = e.1
+effect_of after other stated (Err refusal) none e = let some = e.0 in absurd (cc (none, some))

@@ -15,7 +15,7 @@ use Rattle.tk_lanes.specs.declared.batch_error.BatchError.TheVariants as batch
 use Rattle.tk_keeper.specs.declared.trace_error.TraceError.{TraceError}
 use Rattle.tk_keeper.specs.declared.trace_error.TraceError.TheVariants as errors
 use Rattle.tk_keeper.specs.Item.{item, fault_of_stamp}
-use Rattle.tk_keeper.specs.Trace.{item_of, AreValues, IsWritten, IsFirstFault, IsFault, told, TellsItems, place_of, fault_of_batch}
+use Rattle.tk_keeper.specs.Trace.{item_of, AreValues, IsWritten, IsFirstFault, IsFault, stated, ConvertsItems, place_of, fault_of_batch}
 
 mid_below : (a n : ℕ) (xs ys : List ℕ) (i : ℕ) → a ≤ length xs → i < a →
     get_or (put_mid a n xs ys) i 0 ≡ get_or xs i 0
@@ -106,18 +106,18 @@ module _ (journal : Journal) (clock : ClockId) (fronts stamps out : List ℕ) (f
     (inside : first + n ≤ length stamps)
     (room : first + n ≤ length out)
     (same : (k : ℕ) → first ≤ k → k < first + n → get_or fronts k 0 ≡ get_or fronts first 0)
-    (tells : TellsItems journal (get_or fronts first 0) base) where
+    (tells : ConvertsItems journal (get_or fronts first 0) base) where
   abbrev stretch : List ℕ
   stretch = take n (drop first stamps)
 
   -- each item of the stretch has the clock's value at its stamp
-  item_told : (k : ℕ) → first ≤ k → k < first + n →
+  item_stated : (k : ℕ) → first ≤ k → k < first + n →
       item_of journal clock fronts stamps k
-      ≡ told k (read_of base clock (get_or stretch (k - first) 0))
-  item_told k low high =
+      ≡ stated k (read_of base clock (get_or stretch (k - first) 0))
+  item_stated k low high =
       ap (λ f. item journal clock k f (get_or stamps k 0)) (same k low high)
       ∙ tells clock k (get_or stamps k 0)
-      ∙ ap (λ s. told k (read_of base clock s)) (sym (part_at first n k stamps low (omega arith)))
+      ∙ ap (λ s. stated k (read_of base clock s)) (sym (part_at first n k stamps low (omega arith)))
 
   -- the items of the stretch up to a place of it
   pub more_written : (m : ℕ) (part new : List ℕ) → m ≤ n → length new ≡ n →
@@ -130,8 +130,8 @@ module _ (journal : Journal) (clock : ClockId) (fronts stamps out : List ℕ) (f
           ∙ ap (λ v. Ok (pos v)) (sym (mid_below first n out new k (omega arith) early))
       | inr late ↦
           let j : k - first < m = omega arith in
-          item_told k late (omega arith)
-          ∙ ap (told k) (filled.converted (k - first) (omega arith) j)
+          item_stated k late (omega arith)
+          ∙ ap (stated k) (filled.converted (k - first) (omega arith) j)
           ∙ ap (λ v. Ok (pos v))
           (sym (mid_at first n out new k (omega arith) late (omega arith)))
     ];
@@ -151,15 +151,15 @@ module _ (journal : Journal) (clock : ClockId) (fronts stamps out : List ℕ) (f
       IsRefusedAt base clock stretch 0 (length stretch) part new index refusal →
       fault_of_stamp (first + index) refusal ≡ error →
       StopsFrom journal clock fronts stamps first out (put_mid first n out new) error
-  refused_at part new index refusal error long is_part back is_told =
+  refused_at part new index refusal error long is_part back is_stated =
       let here : index < n = omega (arith, back.high, part_long first n stamps inside) in
       let more = more_written index part new (omega arith) long is_part back.filled in
       let e : first + index - first ≡ index = omega arith in
       let fault : item_of journal clock fronts stamps (first + index) ≡ Err error =
-      item_told (first + index) (omega arith) (omega arith)
-      ∙ ap (λ j. told (first + index) (read_of base clock (get_or stretch j 0))) e
-      ∙ ap (told (first + index)) back.refused
-      ∙ ap Err is_told in (
+      item_stated (first + index) (omega arith) (omega arith)
+      ∙ ap (λ j. stated (first + index) (read_of base clock (get_or stretch j 0))) e
+      ∙ ap (stated (first + index)) back.refused
+      ∙ ap Err is_stated in (
         first + index,
         omega arith,
         first_fault journal clock fronts stamps (put_mid first n out new) (first + index) error
@@ -187,7 +187,7 @@ module _ (journal : Journal) (clock : ClockId) (fronts stamps out : List ℕ) (f
 pub stretch_traced : (journal : Journal) (clock : ClockId) (fronts stamps out : List ℕ)
     {first end : ℕ} (base : ReadBase) (new : List ℕ) (answer : Result ⊤ BatchError) →
     AreValues journal clock fronts stamps first out →
-    TellsItems journal (get_or fronts first 0) base →
+    ConvertsItems journal (get_or fronts first 0) base →
     first < end → end ≤ length out → length out ≤ length stamps →
     ((k : ℕ) → first ≤ k → k < end → get_or fronts k 0 ≡ get_or fronts first 0) →
     length new ≡ length (take (end - first) (drop first out)) →

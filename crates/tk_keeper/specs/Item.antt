@@ -29,8 +29,8 @@ item_at index value (Some error) = Err (fault_of_stamp index error)
 
 -- the result for the stamp, unless the front has a fault
 abbrev pub item_unless : ℕ → Result ℤ TraceError → Option FrontError → Result ℤ TraceError
-item_unless index told None = told
-item_unless index told (Some error) = Err (fault_of_front index error)
+item_unless index stated None = stated
+item_unless index stated (Some error) = Err (fault_of_front index error)
 
 -- the result of the item of a front and a stamp; a fault of the front comes first
 abbrev pub item : Journal → ClockId → ℕ → ℕ → ℕ → Result ℤ TraceError

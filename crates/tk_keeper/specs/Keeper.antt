@@ -30,7 +30,7 @@ pub record IsKept (journal : Journal) (state : State) : Type 0 where
 pub record HasKept (journal : Journal) (start : State) (kept : List Kept) : Type 0 where
   pub first : start ≡ state_of (prefix 0 journal)
   pub all : length kept + journal.opening.count / 256 ≡ accepted_count journal / 256
-  pub told : (i place : ℕ) (there : Kept) → slice_get kept i ≡ Some there →
+  pub stated : (i place : ℕ) (there : Kept) → slice_get kept i ≡ Some there →
       journal.opening.count + place ≡ 256 * (journal.opening.count / 256 + 1 + i) →
       IsKeptAt journal place there
 

@@ -57,14 +57,14 @@ IsFault journal clock fronts stamps error =
     (index : ℕ) × IsFirstFault journal clock fronts stamps index error
 
 -- the result of an item, from a read of a clock of its front's snapshot at its stamp
-abbrev pub told : ℕ → Result ℕ ReadError → Result ℤ TraceError
-told index (Ok nanos) = Ok (pos nanos)
-told index (Err error) = Err (fault_of_stamp index error)
+abbrev pub stated : ℕ → Result ℕ ReadError → Result ℤ TraceError
+stated index (Ok nanos) = Ok (pos nanos)
+stated index (Err error) = Err (fault_of_stamp index error)
 
 -- a read base gives the result of every item of a front
-abbrev pub TellsItems : Journal → ℕ → ReadBase → Type 0
-TellsItems journal front base = (clock : ClockId) (index stamp : ℕ) →
-    item journal clock index front stamp ≡ told index (read_of base clock stamp)
+abbrev pub ConvertsItems : Journal → ℕ → ReadBase → Type 0
+ConvertsItems journal front base = (clock : ClockId) (index stamp : ℕ) →
+    item journal clock index front stamp ≡ stated index (read_of base clock stamp)
 
 -- the place of the stamp that a batch refused
 abbrev pub place_of : BatchError → ℕ

@@ -4,9 +4,9 @@ use Rattle.std.specs.Prelude.{Option, None, IsSome, IfSome, slice_index}
 use Rattle.std.proofs.lemmas.Option.{same_Some}
 use Rattle.tk_counter.specs.Counter.{Counter}
 use Rattle.tk_clock.specs.Snapshot.{Snapshot}
-use Rattle.tk_clock.specs.Words.{words_of, restored, snapshot_told}
+use Rattle.tk_clock.specs.Words.{words_of, restored, snapshot_of_words}
 use Rattle.tk_clock.proofs.Lists.{prefix_self, prefix_trans, prefix_whole}
-use Rattle.tk_clock.proofs.Words.{told-restored, restored-told}
+use Rattle.tk_clock.proofs.Words.{stated-restored, restored-stated}
 use Rattle.tk_latch.specs.declared.rule.History.{History}
 use Rattle.tk_latch.specs.Publications.{latest_words, IsPublication, AreNumbered, IsBeginning}
 use Rattle.tk_latch.specs.Look.{AreLatest}
@@ -14,11 +14,11 @@ use Rattle.tk_latch.specs.Look.{AreLatest}
 -- the snapshot that words encode is the one that they restore
 pub snapshot_is : (counter : Counter) (words : List ℕ) (snapshot : Snapshot) →
     restored counter words ≡ Some snapshot →
-    snapshot_told counter words ≡ snapshot
+    snapshot_of_words counter words ≡ snapshot
 snapshot_is counter words snapshot is =
-    let kept = told-restored counter words (subst IsSome (sym is) refl) in
-    same_Some (snapshot_told counter words) snapshot
-    (sym (restored-told counter words kept.range kept.within) ∙ is)
+    let kept = stated-restored counter words (subst IsSome (sym is) refl) in
+    same_Some (snapshot_of_words counter words) snapshot
+    (sym (restored-stated counter words kept.range kept.within) ∙ is)
 
 -- the front and the counter of a snapshot that words restore
 pub restored_parts : (counter : Counter) (words : List ℕ) (front : ℕ) →

@@ -8,7 +8,7 @@ use native.Mathlib.Decide.{ℕ_discrete}
 use lib.ListN.{get_elem?}
 use Rattle.atomic_table.specs.Table.{step, stepped, keeps, Allows, opening}
 use Rattle.tk_clock.specs.Snapshot.{Snapshot}
-use Rattle.tk_clock.specs.Words.{words_of, snapshot_told}
+use Rattle.tk_clock.specs.Words.{words_of, snapshot_of_words}
 use Rattle.tk_latch.specs.declared.rule.History.{History}
 use Rattle.tk_latch.specs.declared.rule.View.{View}
 use Rattle.tk_latch.specs.declared.rule.Role.{Role}
@@ -154,7 +154,7 @@ commits slots id me history written even is next up s r _ at _ =
     let now : get_or (set s.words 0 even) 0 0 ≡ even =
     get_or-set_same s.words 0 even 0 (omega arith) in
     let before = copies.0 in
-    let latest = snapshot_told history.counter written in
+    let latest = snapshot_of_words history.counter written in
     let more = pushed history latest in
     let long = length-append history.list (latest ∷ []) in
     let shown : latest_words more.list ≡ written = latest_words-push history.list latest

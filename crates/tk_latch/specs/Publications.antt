@@ -3,7 +3,7 @@ use Rattle.std.specs.Prelude.{◌≡◌, ℕ, ◌+◌, List, [], ◌∷◌, ◌+
 use mathlib.Core.List.{IsPrefix}
 use Rattle.tk_counter.specs.Counter.{Counter}
 use Rattle.tk_clock.specs.Snapshot.{Snapshot}
-use Rattle.tk_clock.specs.Words.{words_of, restored, snapshot_told}
+use Rattle.tk_clock.specs.Words.{words_of, restored, snapshot_of_words}
 use Rattle.tk_latch.specs.declared.rule.History.{History}
 
 -- the words of the latest of these publications
@@ -38,10 +38,10 @@ pushed history snapshot = record history { list = history.list ++ snapshot ∷ [
 
 -- the history with one more publication, which these words encode
 abbrev pub pushed_words : History → List ℕ → History
-pushed_words history words = pushed history (snapshot_told history.counter words)
+pushed_words history words = pushed history (snapshot_of_words history.counter words)
 
 -- these words encode the next publication
 pub record IsNext (history : History) (words : List ℕ) : Type 0 where
   pub publication :
-      IsPublication history.counter (length history.list) (snapshot_told history.counter words)
-  pub words_again : words_of (snapshot_told history.counter words) ≡ words
+      IsPublication history.counter (length history.list) (snapshot_of_words history.counter words)
+  pub words_again : words_of (snapshot_of_words history.counter words) ≡ words

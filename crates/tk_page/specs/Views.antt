@@ -24,7 +24,7 @@ abbrev pub reads_of : View → ℕ
 reads_of (Viewing count seen) = count
 reads_of _ = 0
 
--- what a viewer saw, noted beside the publisher's journal
+-- what a viewer saw, noted next to the publisher's journal
 abbrev pub noted_of : View → Journal
 noted_of (Comparing own noted) = noted
 noted_of _ = no_journal

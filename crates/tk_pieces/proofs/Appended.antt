@@ -12,14 +12,14 @@ use Rattle.tk_pieces.specs.Pieces.{Items, HoldFirst, IsFaultFrom}
 
 module _ (journal : Journal) (clock : ClockId) (fronts stamps : List ℕ) where
   -- the first fault of a list is the reason why it isn't converted
-  fault_told : (index : ℕ) (error : TraceError) →
+  fault_stated : (index : ℕ) (error : TraceError) →
       IsFirstFault journal clock fronts stamps index error →
       IsFault journal clock fronts stamps error
-  fault_told index errors.Memory first = omega (arith, first.within)
-  fault_told index (errors.Unknown place) first = (index, first)
-  fault_told index (errors.Folded place) first = (index, first)
-  fault_told index (errors.Invalid place) first = (index, first)
-  fault_told index (errors.Range place) first = (index, first)
+  fault_stated index errors.Memory first = omega (arith, first.within)
+  fault_stated index (errors.Unknown place) first = (index, first)
+  fault_stated index (errors.Folded place) first = (index, first)
+  fault_stated index (errors.Invalid place) first = (index, first)
+  fault_stated index (errors.Range place) first = (index, first)
 
   is_ok : {v : ℤ} (r : Result ℤ TraceError) → r ≡ Ok v → IsOk r
   is_ok r e = subst IsOk (sym e) refl
@@ -30,7 +30,7 @@ module _ (journal : Journal) (clock : ClockId) (fronts stamps : List ℕ) where
       HoldFirst item values → IsFaultFrom item count (length values) error →
       IsFault journal clock fronts stamps error
   stopped item count values error named counted so_far (index, from, low, fault, before) =
-      fault_told index error (record {
+      fault_stated index error (record {
         within = subst (λ n. index < n) counted low;
         fault = subst (λ i. i index ≡ Err error) named fault;
         before = λ k early. subst (λ i. IsOk (i k)) named (elim (cases_lt k (length values)) [

@@ -88,9 +88,9 @@ module _ (journal : Journal) (clock : ClockId) (fronts stamps : List ℕ) where
       get_or-take size (drop at out) 0 0 filled ∙ get_or-drop at out 0 0
       ∙ ap (λ j. get_or out j 0) zero in
       let here = within size at k out from (subst (λ m. k < m) room inside) until in
-      let told = piece_at size n at out begins pieces low
+      let stated = piece_at size n at out begins pieces low
       (subst (λ w. w < refused_mark) (sym leads) unmarked) (k - at) here in
-      ap (item_of journal clock fronts stamps) (sym back) ∙ told
+      ap (item_of journal clock fronts stamps) (sym back) ∙ stated
       ∙ ap (λ v. Ok (pos v)) (part_at at size k out from until)
 
   -- the items before a piece, and those of the piece

@@ -59,12 +59,12 @@ ArePieces size journal clock fronts stamps out =
     IsPiece journal clock fronts stamps (n * size) (slice_chunk out size n)
 
 -- the place that a fault reports
-abbrev pub place_told : TraceError → ℕ
-place_told (errors.Unknown index) = index
-place_told (errors.Folded index) = index
-place_told (errors.Invalid index) = index
-place_told (errors.Range index) = index
-place_told errors.Memory = 0
+abbrev pub place_of_fault : TraceError → ℕ
+place_of_fault (errors.Unknown index) = index
+place_of_fault (errors.Folded index) = index
+place_of_fault (errors.Invalid index) = index
+place_of_fault (errors.Range index) = index
+place_of_fault errors.Memory = 0
 
 -- the same fault, of an item that is `by` places later
 abbrev pub further_on : TraceError → ℕ → TraceError

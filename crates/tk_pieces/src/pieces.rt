@@ -6,7 +6,7 @@
 ghost use Rattle.std.specs.Prelude.{[], ◌≡◌, ◌+◌, ◌<◌, ◌≤◌, ◌^◌, length, MatchResult};
 ghost use Rattle.tk_keeper.specs.Trace.{AreValues, IsConverted, IsFault};
 ghost use Rattle.tk_pieces.specs.Input.{of_input};
-ghost use Rattle.tk_pieces.specs.Pieces.{ArePieces, IsPiece, IsTracedInPieces, further_on, place_told};
+ghost use Rattle.tk_pieces.specs.Pieces.{ArePieces, IsPiece, IsTracedInPieces, further_on, place_of_fault};
 
 use crate::ahead::trace_ahead;
 use crate::cost::{estimated_ns, is_long, piece_size};
@@ -228,7 +228,7 @@ fn rest<A: Allocator + Copy>(
 
 /// Returns the fault of a part that begins at the item `by`, as a fault of the whole list.
 pub(crate) fn moved(error: TraceError, by: usize) -> TraceError
-    requires { by + place_told error < 2 ^ 64 }
+    requires { by + place_of_fault error < 2 ^ 64 }
     ensures { result ≡ further_on error by }
 {
     match error {

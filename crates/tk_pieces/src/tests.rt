@@ -48,7 +48,7 @@ fn the_first_fault_of_three_thousand_pieces_decides(rt: HostRuntime) -> Result<(
     for (place, stamp) in stamps.iter_mut().enumerate() {
         *stamp = place as u64;
     }
-    // each fault stands before those that came earlier, at ends of pieces and within them
+    // each fault has a lower index than the faults before it, at ends of pieces and within them
     let faults = [
         (ITEMS, 0, 0, None),
         (

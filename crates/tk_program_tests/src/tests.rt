@@ -23,7 +23,7 @@ use tk_program::{Ending, Folder, WordsError, run};
 use tk_replay::{Fault, ManyError};
 use tk_script::ScriptError;
 
-/// Stops the test where what was found isn't what was wanted. (A call of its own, so that the proof
+/// Stops the test if what was found isn't what was wanted. (A separate call, so that the proof
 /// of a test is short.)
 fn assert_same<T: PartialEq + Debug>(rt: &impl Abort, found: &T, wanted: &T) {
     assert_eq!(rt; found, wanted);
@@ -58,16 +58,16 @@ fn ran(
 }
 
 /// Returns the line of error of a run by these words.
-fn told(
+fn error_line(
     rt: &(impl AllocGlobal + Folder + Threads + Wait + Sync),
     words: &[&str],
     script: &[u8],
 ) -> Result<Vec<u8>, Fail> {
     let mut reader = script;
     let mut writer = Vec::new(rt.alloc());
-    let mut told = Vec::new(rt.alloc());
-    ran(rt, words, &mut reader, &mut writer)?.tell(&mut told)?;
-    Ok(told)
+    let mut line = Vec::new(rt.alloc());
+    ran(rt, words, &mut reader, &mut writer)?.tell(&mut line)?;
+    Ok(line)
 }
 
 #[test]
@@ -93,7 +93,11 @@ fn reports_the_fault_of_a_script(rt: HostRuntime) -> Result<(), Fail> {
         (b"open,32,16777216,24,0,1700000000,0\n", b""),
     ];
     for (script, text) in faults {
-        assert_same(&rt, &told(&rt, &["tkcore"], script)?.as_slice(), &text);
+        assert_same(
+            &rt,
+            &error_line(&rt, &["tkcore"], script)?.as_slice(),
+            &text,
+        );
     }
     Ok(())
 }
@@ -146,9 +150,9 @@ fn states_each_ending(rt: HostRuntime) -> Result<(), Fail> {
         ),
     ];
     for (ending, status, text) in endings {
-        let mut told = Vec::new(rt.alloc());
-        ending.tell(&mut told)?;
-        assert_same(&rt, &told.as_slice(), &text);
+        let mut line = Vec::new(rt.alloc());
+        ending.tell(&mut line)?;
+        assert_same(&rt, &line.as_slice(), &text);
         assert_same(&rt, &ending.status(), &status);
     }
     Ok(())

@@ -89,13 +89,13 @@ acted_push start now next actions replies action reply acted answer = record {
       answer.later is) in
       let front = last_front 0 replies in
       let mark = last_mark 0 replies in
-      let told = answer.right history commands is front mark was.1 in
+      let stated = answer.right history commands is front mark was.1 in
       let last = subst (λ (id : ℕ). IsReply history commands id front mark action reply) acted.later.id
-      told.0 in (
+      stated.0 in (
         replies_push history commands start.id 0 0 actions replies action reply was.0 last,
         subst (λ (t : ℕ × ℕ). Knows next t.0 t.1)
             (λ i. (sym (last_front-push 0 replies reply) i, sym (last_mark-push 0 replies reply) i))
-            told.1,
+            stated.1,
       ));
 }
 

@@ -60,28 +60,28 @@ numbered count number entries before rest entry none next is =
 -- the reply to an order that was accepted is right
 pub done : (old new : Known) (cmd : Command) (number : ℕ) → IsAccepted old new cmd number →
     IsSameCaller old new → IsAnswer old new (Order cmd) (Done number)
-done old new cmd number told same =
-    let before = told.before.entries in
-    let entry = entry_of old told.reading cmd in
-    let last = ap (λ (j : Journal). j.entries) told.last in
-    let count = told.number in
-    let newer = told.newer in
-    let beyond = told.beyond in
-    let mark = told.mark in
+done old new cmd number stated same =
+    let before = stated.before.entries in
+    let entry = entry_of old stated.reading cmd in
+    let last = ap (λ (j : Journal). j.entries) stated.last in
+    let count = stated.number in
+    let newer = stated.newer in
+    let beyond = stated.beyond in
+    let mark = stated.mark in
     let longer = ap length last ∙ length-append before (entry ∷ []) in
     record {
       later = record {
         id = same.0;
         seen = (
           same.1,
-          prefix_trans old.seen.entries before new.seen.entries told.extends.1
+          prefix_trans old.seen.entries before new.seen.entries stated.extends.1
               (entry ∷ [], sym last),
         );
-        learnt = told.learnt;
-        counted = told.counted;
+        learnt = stated.learnt;
+        counted = stated.counted;
         looked = λ none. (let still = same.2 in omega (arith, still));
-        commands = told.commands;
-        log = told.log;
+        commands = stated.commands;
+        log = stated.log;
       };
       right = λ history commands is front least known.
           (let low = known.0 in
@@ -94,7 +94,7 @@ done old new cmd number told same =
               omega (arith, low, newer),
               omega (arith, high, beyond),
               (
-                told.reading,
+                stated.reading,
                 numbered history.opening.count number history.entries before rest entry
                     (whole_count history is.whole) (omega (arith, count, longer)) all,
               ),
@@ -107,36 +107,36 @@ done old new cmd number told same =
 pub refused : (old new : Known) (cmd : Command) (refusal : Refusal) →
     IsRefused old new cmd refusal → IsSameCaller old new →
     IsAnswer old new (Order cmd) (Refused refusal)
-refused old new cmd refusal told same =
-    let more = begins_length old.seen new.seen told.extends in
-    let counted = told.counted in
+refused old new cmd refusal stated same =
+    let more = begins_length old.seen new.seen stated.extends in
+    let counted = stated.counted in
     record {
       later = record {
         id = same.0;
-        seen = told.extends;
+        seen = stated.extends;
         learnt = subst (λ (l : Learnt). IsPrefix old.learnt.publications l.publications)
-            (sym told.learnt) (prefix_self old.learnt.publications);
+            (sym stated.learnt) (prefix_self old.learnt.publications);
         counted = omega (arith, counted);
         looked = λ none. (let still = same.2 in omega (arith, still));
         commands = subst (λ (w : Watched). IsPrefix old.watched.commands w.commands)
-            (sym told.watched) (prefix_self old.watched.commands);
-        log = subst (λ (w : Watched). IsPrefix old.watched.log w.log) (sym told.watched)
+            (sym stated.watched) (prefix_self old.watched.commands);
+        log = subst (λ (w : Watched). IsPrefix old.watched.log w.log) (sym stated.watched)
             (prefix_self old.watched.log);
       };
       right = λ history commands is front mark known.
           (let low = known.0 in
           let high = known.1 in
-          let learnt = ap (λ (l : Learnt). mark_of l.publications) told.learnt in (
+          let learnt = ap (λ (l : Learnt). mark_of l.publications) stated.learnt in (
             record {
               front = length new.seen.entries;
-              reading = told.reading;
+              reading = stated.reading;
               least = omega (arith, low, more);
               within = begins_length new.seen history is.begins;
-              masked = subst (λ (o : Opening). told.reading ≤ mask o.counter) (sym is.begins.0)
-                  told.masked;
+              masked = subst (λ (o : Opening). stated.reading ≤ mask o.counter) (sym is.begins.0)
+                  stated.masked;
               reason = subst
-                  (λ (j : Journal). IsRefusalAfter j (entry_of old told.reading cmd) refusal)
-                  (begins_prefix new.seen history is.begins) told.reason;
+                  (λ (j : Journal). IsRefusalAfter j (entry_of old stated.reading cmd) refusal)
+                  (begins_prefix new.seen history is.begins) stated.reason;
             },
             (omega (arith, low, more), omega (arith, high, learnt)),
           ));

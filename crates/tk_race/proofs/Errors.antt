@@ -19,16 +19,16 @@ split : (few many good above : Bool) →
     else if not good then Some faults.Invalid else None) ≡ None → above ≡ false →
     (if few || many then Some Count
     else if above || not good then Some Invalid else None) ≡ None
-split true many good above told low = absurd (cc told)
-split false true good above told low = absurd (cc told)
-split false false false above told low = absurd (cc told)
-split false false true true told low = absurd (cc low)
-split false false true false told low = refl
+split true many good above stated low = absurd (cc stated)
+split false true good above stated low = absurd (cc stated)
+split false false false above stated low = absurd (cc stated)
+split false false true true stated low = absurd (cc low)
+split false false true false stated low = refl
 
 first_false : (above bad : Bool) → (if above || bad then Some refusals.Invalid else None) ≡ None →
     above ≡ false
-first_false true bad told = absurd (cc told)
-first_false false bad told = refl
+first_false true bad stated = absurd (cc stated)
+first_false false bad stated = refl
 
 -- clocks that can be opened at a reading are opened at one of their counter
 pub within_mask : (counter : Counter) (reading : ℕ) (real : Timespec) →
@@ -59,6 +59,6 @@ pub answered : {T : Type 0} (actors : ℕ) (counter : Counter) (reading : ℕ) (
     race_error actors counter reading real ≡ None → ((report : T) → P report → Q report) →
     MatchResult result P IsLate →
     MatchResult result Q (λ error. IsRaceError actors counter reading real error)
-answered actors counter reading real P Q (Ok report) none more told = more report told
-answered actors counter reading real P Q (Err error) none more told =
-    late actors counter reading real error none told
+answered actors counter reading real P Q (Ok report) none more stated = more report stated
+answered actors counter reading real P Q (Err error) none more stated =
+    late actors counter reading real error none stated

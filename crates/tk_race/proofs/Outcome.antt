@@ -173,7 +173,7 @@ module _ (latch : LatchId) (notice : TableId) (start : Journal) where
       map (λ a. a.caller) olds ≡ newcomers latch notice start n → HaveActed actions olds news →
       callers ≡ map (λ a. a.caller) news → replies ≡ map (λ a. a.replies) news →
       IsClosed journal callers → IsOutcome start actions journal replies
-  outcome journal n actions olds news callers replies some is have known told closed =
+  outcome journal n actions olds news callers replies some is have known stated closed =
       let raced = all_raced n actions olds news is have in
       let history = closed.history in
       let commands = closed.commands in
@@ -188,8 +188,8 @@ module _ (latch : LatchId) (notice : TableId) (start : Journal) where
         commands = commands;
         readings = closed.readings;
         order = closed.order;
-        each = subst (HaveAll history commands 0 actions) (sym told)
+        each = subst (HaveAll history commands 0 actions) (sym stated)
             (all_from history commands 0 actions news closed.whole raced parts watched own);
         counted = closed.counted ∙ ap accepted_by known ∙ counted_from 0 actions news raced
-            ∙ sym (ap (λ l. sum_by done_in l) told);
+            ∙ sym (ap (λ l. sum_by done_in l) stated);
       }

@@ -83,14 +83,14 @@ replied whole kept after entry result alike room answered enough =
 by_answer : (reply : Reply) (result : Result ℕ Refusal) (after : Journal) →
     ((result ≡ Err Memory → ⊥) → (reply.answer ≡ result) × IsAlike after reply.journal) →
     IsReplied reply result after
-by_answer reply (Ok number) after told = told (λ e. cc e)
-by_answer reply (Err Full) after told = told (λ e. cc e)
-by_answer reply (Err Asleep) after told = told (λ e. cc e)
-by_answer reply (Err Awake) after told = told (λ e. cc e)
-by_answer reply (Err Invalid) after told = told (λ e. cc e)
-by_answer reply (Err Behind) after told = told (λ e. cc e)
-by_answer reply (Err Range) after told = told (λ e. cc e)
-by_answer reply (Err Memory) after told = tt
+by_answer reply (Ok number) after stated = stated (λ e. cc e)
+by_answer reply (Err Full) after stated = stated (λ e. cc e)
+by_answer reply (Err Asleep) after stated = stated (λ e. cc e)
+by_answer reply (Err Awake) after stated = stated (λ e. cc e)
+by_answer reply (Err Invalid) after stated = stated (λ e. cc e)
+by_answer reply (Err Behind) after stated = stated (λ e. cc e)
+by_answer reply (Err Range) after stated = stated (λ e. cc e)
+by_answer reply (Err Memory) after stated = tt
 
 pub IsReplied-folded : (whole : Journal) (kept after : Keeper) (entry : Entry)
     (result : Result ℕ Refusal) →

@@ -21,7 +21,7 @@ made_by-prefix id xs ys p =
     let whole = ap (made_by id) p.1 in
     omega (arith, parts, whole)
 
--- an entry of its own counts once
+-- a caller's entry counts once
 own_once : (id : ℕ) (entry : Entry) → entry.who ≡ id → made_by id (entry ∷ []) ≡ 1
 own_once id entry own = ap (λ (b : Bool). 0 + cond b 1 0) (eq-eqb entry.who id own)
 

@@ -32,9 +32,9 @@ with_entry held entry =
 pub held_accepted : (page : TableId) (latch : LatchId) (held : Held) (entry : Entry) →
     IsHeld page latch held → first_refusal held.kept entry ≡ None →
     IsHeld page latch (with_entry held entry)
-held_accepted page latch held entry is told =
+held_accepted page latch held entry is stated =
     let history = held.shown.journal in
-    let accepted = accepted_after history held.kept entry is.whole is.kept told in
+    let accepted = accepted_after history held.kept entry is.whole is.kept stated in
     let longer = length_push history.entries entry in
     record {
       page = is.page;
@@ -71,4 +71,4 @@ held_folded page latch held more is few =
 -- no more entries are folded than are listed
 pub folds_few : (folded listed keep result : ℕ) → result ≡ max folded (folded + listed - keep) →
     result - folded ≤ listed
-folds_few folded listed keep result told = grind (arith, nat_tests)
+folds_few folded listed keep result stated = grind (arith, nat_tests)

@@ -25,7 +25,7 @@ kept_followed_by history kept entry is = record {
       ∙ followed_by-folded history kept.opening.count is.within entry;
 }
 
--- so many commands were accepted
+-- a whole journal and the journal that was kept of it count the same number of accepted commands
 pub kept_count : (history kept : Journal) → IsWhole history → IsKeptOf history kept →
     accepted_count kept ≡ length history.entries
 kept_count history kept whole is =

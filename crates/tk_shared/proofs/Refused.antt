@@ -11,7 +11,7 @@ use Rattle.tk_clock.specs.Limits.{listed_most, counted_most}
 use Rattle.tk_clock.specs.Refusal.{clock_refusal, first_refusal, IsRefusal}
 use Rattle.tk_shared.specs.Callers.{IsRefusalAfter}
 use Rattle.tk_shared.specs.History.{IsKeptOf}
-use Rattle.tk_clock.proofs.Refusals.{clock_refusal-told, is_full-refused, passes_clock}
+use Rattle.tk_clock.proofs.Refusals.{clock_refusal-stated, is_full-refused, passes_clock}
 use Rattle.tk_shared.proofs.Kept.{kept_count, kept_refusal}
 
 -- a journal that is full was preceded by as many entries as one lists
@@ -22,7 +22,7 @@ full_long listed counted all few same full = grind (arith, nat_tests)
 pub refused_after : (history kept : Journal) (entry : Entry) (refusal : Refusal) →
     IsWhole history → IsKeptOf history kept → IsRefusal kept entry refusal →
     IsRefusalAfter history entry refusal
-refused_after history kept entry refusal whole is told = go refusal told
+refused_after history kept entry refusal whole is stated = go refusal stated
   where
     same : clock_refusal kept entry ≡ clock_refusal history entry
     same = kept_refusal history kept whole is entry
@@ -30,7 +30,7 @@ refused_after history kept entry refusal whole is told = go refusal told
     other : (r : Refusal) → (r ≡ Full → ⊥) → first_refusal kept entry ≡ Some r →
         clock_refusal history entry ≡ Some r
     other r apart h =
-        sym same ∙ clock_refusal-told kept entry (Some r) (λ e. absurd (apart (cc e))) h
+        sym same ∙ clock_refusal-stated kept entry (Some r) (λ e. absurd (apart (cc e))) h
 
     long : first_refusal kept entry ≡ Some Full → listed_most ≤ length history.entries
     long h =
@@ -52,6 +52,6 @@ refused_after history kept entry refusal whole is told = go refusal told
 pub accepted_after : (history kept : Journal) (entry : Entry) →
     IsWhole history → IsKeptOf history kept → first_refusal kept entry ≡ None →
     clock_refusal history entry ≡ None
-accepted_after history kept entry whole is told =
+accepted_after history kept entry whole is stated =
     sym (kept_refusal history kept whole is entry)
-    ∙ passes_clock kept entry told
+    ∙ passes_clock kept entry stated

@@ -114,7 +114,7 @@ newcomer latch notice opened id = record {
   watched = opened_watcher (opened_announcer notice opened.opening.reading);
 }
 
--- so many of them, with the numbers 0, 1, and so on
+-- `count` of them, with the numbers 0, 1, and so on
 abbrev pub newcomers : LatchId → TableId → Journal → ℕ → List Known
 newcomers latch notice opened zero = []
 newcomers latch notice opened (suc count) =

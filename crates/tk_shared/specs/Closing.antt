@@ -25,8 +25,8 @@ AreDifferent [] = Unit {0}
 AreDifferent (caller ∷ callers) = IsApart caller.id callers × AreDifferent callers
 
 -- a caller's part in a whole history: what it has seen begins it, each publication that it has
--- learnt of is the snapshot of the first entries of it, and at least so many are its own as were
--- accepted
+-- learnt of is the snapshot of the first entries of it, and it made at least as many of the
+-- entries that it has seen as it counts accepted commands
 pub record IsPartOf (history : Journal) (caller : Known) : Type 0 where
   pub begins : Begins caller.seen history
   pub learnt : AreSnapshots history caller.learnt.publications

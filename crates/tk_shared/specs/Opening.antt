@@ -42,8 +42,8 @@ no_latch = record { table = no_page; counter = record { bits = 0; mult = 0; shif
 abbrev pub most_callers : ℕ
 most_callers = 64
 
--- why a keeper can't be opened, want of memory apart: too few callers or too many, then a time
--- that REALTIME may not be set to
+-- why a keeper can't be opened, unless an allocation fails: too few callers or too many, then a
+-- time that REALTIME may not be set to
 abbrev pub opening_fault : ℕ → Timespec → Option OpenError
 opening_fault callers real =
     if nat_lt callers 1 || nat_lt most_callers callers then Some Count

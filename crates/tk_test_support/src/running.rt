@@ -36,7 +36,7 @@ where
     for job in jobs {
         if is_asked(words.as_slice(), job.name()) {
             let best = fastest(*job, effort, &turn);
-            if !is_told(rt, *job, effort, best) {
+            if !is_printed(rt, *job, effort, best) {
                 status = 1;
             }
         }
@@ -89,7 +89,7 @@ fn fastest<J: Job, F: Fn(J, Effort) -> Option<Turn>>(
 /// and unit between them.
 ///
 /// Returns whether there was such a turn and all was printed.
-fn is_told<J: Job, R: Print>(rt: &R, job: J, effort: Effort, fastest: Option<Turn>) -> bool {
+fn is_printed<J: Job, R: Print>(rt: &R, job: J, effort: Effort, fastest: Option<Turn>) -> bool {
     let Some(turn) = fastest else {
         return false;
     };

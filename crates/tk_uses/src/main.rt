@@ -72,7 +72,7 @@ fn fold(rt: &impl Print, keeper: &mut Timekeeper) -> Result<(), Stop> {
     tell(rt, keeper, 1_000_100)?;
     for (front, stamp) in [(2, 4_500_000), (3, 6_000_000), (5, 100), (6, 100)] {
         match wall_time(keeper, front, stamp) {
-            Ok(told) => println!(rt; "front {front}, {stamp}: {}.{:09}", told.sec, told.nsec)?,
+            Ok(time) => println!(rt; "front {front}, {stamp}: {}.{:09}", time.sec, time.nsec)?,
             Err(why) => println!(rt; "front {front}, {stamp}: {why:?}")?,
         }
     }
@@ -95,8 +95,8 @@ fn act(rt: &impl Print, keeper: &mut Timekeeper, reading: u64, cmd: Command) -> 
 fn timer(rt: &impl Print, keeper: &Timekeeper, at: Timespec) -> Result<(), Stop> {
     match expiry(keeper, at) {
         Some(reading) => {
-            let told = keeper.get(ClockId::Realtime, reading)?;
-            println!(rt; "timer at {reading}: {}.{:09}", told.sec, told.nsec)?;
+            let time = keeper.get(ClockId::Realtime, reading)?;
+            println!(rt; "timer at {reading}: {}.{:09}", time.sec, time.nsec)?;
         }
         None => println!(rt; "no timer for {}.{:09}", at.sec, at.nsec)?,
     }
@@ -134,8 +134,8 @@ fn tell(rt: &impl Print, keeper: &Timekeeper, reading: u64) -> Result<(), Stop> 
         ClockId::Boottime,
         ClockId::Realtime,
     ] {
-        let told = keeper.get(clock, reading)?;
-        println!(rt; "    {clock:?} {}.{:09}", told.sec, told.nsec)?;
+        let time = keeper.get(clock, reading)?;
+        println!(rt; "    {clock:?} {}.{:09}", time.sec, time.nsec)?;
     }
     Ok(())
 }

@@ -26,8 +26,8 @@ fn a_counter_is_written_or_its_first_fault_returned(rt: HostRuntime) {
         let mut out = OLD_COUNTER;
         let answer = tkc_counter_new(&mut out, bits, mult, shift);
         assert_eq!(rt; answer, code, "{bits} {mult} {shift}");
-        let told = if code == 0 { COUNTER } else { OLD_COUNTER };
-        assert_eq!(rt; out, told, "{bits} {mult} {shift}");
+        let wanted = if code == 0 { COUNTER } else { OLD_COUNTER };
+        assert_eq!(rt; out, wanted, "{bits} {mult} {shift}");
     }
 }
 
@@ -50,8 +50,8 @@ fn a_frequency_gives_a_counter_or_its_first_fault(rt: HostRuntime) {
             mult: 699_050_667,
             shift: 24,
         };
-        let told = if code == 0 { scaled } else { OLD_COUNTER };
-        assert_eq!(rt; out, told, "{bits} {hz} {maxsec}");
+        let wanted = if code == 0 { scaled } else { OLD_COUNTER };
+        assert_eq!(rt; out, wanted, "{bits} {hz} {maxsec}");
     }
 }
 
@@ -118,8 +118,8 @@ fn clocks_are_opened_or_refused(rt: HostRuntime) -> Result<(), Fail> {
         let mut out = OLD_CLOCK;
         let answer = tkc_clock_open(&mut out, &counter, reading, sec, nsec);
         assert_eq!(rt; answer, code, "{sec} {nsec} at {reading}");
-        let told = if code == 0 { opened } else { OLD_CLOCK };
-        assert_eq!(rt; out, told, "{sec} {nsec} at {reading}");
+        let wanted = if code == 0 { opened } else { OLD_CLOCK };
+        assert_eq!(rt; out, wanted, "{sec} {nsec} at {reading}");
     }
     Ok(())
 }
@@ -129,7 +129,7 @@ fn a_snapshot_has_the_clocks_parts(rt: HostRuntime) -> Result<(), Fail> {
     let clock = commanded(&rt)?;
     let mut out = OLD_SNAPSHOT;
     tkc_clock_snapshot(&mut out, &clock);
-    let told = SnapshotStorage {
+    let wanted = SnapshotStorage {
         front: 8,
         base: BaseStorage {
             counter: COUNTER,
@@ -145,7 +145,7 @@ fn a_snapshot_has_the_clocks_parts(rt: HostRuntime) -> Result<(), Fail> {
             asleep: 0,
         },
     };
-    assert_eq!(rt; out, told);
+    assert_eq!(rt; out, wanted);
     Ok(())
 }
 

@@ -89,7 +89,7 @@ impl ReadBase {
         }
     }
 
-    /// Returns the units that a cycle adds to the clock: 0 if the clock stands still.
+    /// Returns the units that a cycle adds to the clock: 0 if the clock doesn't run.
     fn cycle_units(&self, clock: ClockId) -> u32
         ensures { result ≡ mult_of self.now clock }
     {

@@ -1,6 +1,6 @@
 ghost use Rattle.std.specs.Prelude.{◌≡◌, length, true, Some, IsSome};
 ghost use Rattle.tk_counter.specs.Counter.{IsCounter};
-ghost use Rattle.tk_clock.specs.Words.{words_of, restored, are_in_range, snapshot_told};
+ghost use Rattle.tk_clock.specs.Words.{words_of, restored, are_in_range, snapshot_of_words};
 
 use super::Snapshot;
 use crate::amount::Amount;
@@ -20,7 +20,7 @@ impl Snapshot {
         describes(&desc);
         Snapshot {
             front: words[0],
-            base: base_told(desc, &words),
+            base: base_of_words(desc, &words),
         }
     }
 }
@@ -34,10 +34,10 @@ fn describes(desc: &CounterDesc)
 }
 
 /// Returns the clocks that the words after the front describe.
-pub(super) fn base_told(desc: CounterDesc, words: &[u64; 10]) -> ReadBase
+pub(super) fn base_of_words(desc: CounterDesc, words: &[u64; 10]) -> ReadBase
     requires range { are_in_range desc words.now ≡ true }
     requires counter { IsCounter desc }
-    ensures value { result ≡ (snapshot_told desc words.now).base }
+    ensures value { result ≡ (snapshot_of_words desc words.now).base }
     ensures ten { length words.now ≡ 10 }
 {
     let &[

@@ -3,7 +3,7 @@ ghost use Rattle.tk_counter.specs.Counter.{IsCounter};
 ghost use Rattle.tk_clock.specs.Words.{words_of, restored, are_in_range};
 
 use super::Snapshot;
-use super::known_words::base_told;
+use super::known_words::base_of_words;
 use crate::command::Command;
 use crate::limits::{MONOTONIC_SEC_LIMIT, RAW_SEC_LIMIT, TAI_OFFSET_MOST};
 use tk_counter::CounterDesc;
@@ -46,7 +46,7 @@ impl Snapshot {
         if !are_in_range(&desc, &words) {
             return None;
         }
-        let base = base_told(desc, &words);
+        let base = base_of_words(desc, &words);
         if base.is_past_limit(Command::Update) {
             return None;
         }

@@ -46,7 +46,7 @@ fn answers(
 }
 
 /// Reads a clock and checks its time.
-fn reads(rt: &impl Abort, clock: &Clock, id: ClockId, reading: u64, told: Timespec) {
+fn reads(rt: &impl Abort, clock: &Clock, id: ClockId, reading: u64, value: Timespec) {
     let read = clock.snapshot(0).get(id, reading);
-    assert_eq!(rt; read, Ok(told), "{id:?} at {reading}");
+    assert_eq!(rt; read, Ok(value), "{id:?} at {reading}");
 }

@@ -39,12 +39,12 @@ fn converts(
     values: &[u64],
 ) -> Result<(), Fail> {
     let mut plain = sevens(alloc, stamps.len())?;
-    let told = plain_batch(snapshot, clock, stamps, plain.as_mut_slice());
-    assert_same(rt, &(clock, told), &(clock, answer));
+    let returned = plain_batch(snapshot, clock, stamps, plain.as_mut_slice());
+    assert_same(rt, &(clock, returned), &(clock, answer));
     assert_same(rt, &(clock, plain.as_slice()), &(clock, values));
     let mut lanes = sevens(alloc, stamps.len())?;
-    let told = lane_batch(snapshot, clock, stamps, lanes.as_mut_slice());
-    assert_same(rt, &(clock, told), &(clock, answer));
+    let returned = lane_batch(snapshot, clock, stamps, lanes.as_mut_slice());
+    assert_same(rt, &(clock, returned), &(clock, answer));
     assert_same(rt, &(clock, lanes.as_slice()), &(clock, values));
     Ok(())
 }
@@ -60,8 +60,8 @@ fn agree(
     let mut plain = sevens(alloc, stamps.len())?;
     let answer = plain_batch(snapshot, clock, stamps, plain.as_mut_slice());
     let mut lanes = sevens(alloc, stamps.len())?;
-    let told = lane_batch(snapshot, clock, stamps, lanes.as_mut_slice());
-    assert_same(rt, &(clock, told), &(clock, answer));
+    let returned = lane_batch(snapshot, clock, stamps, lanes.as_mut_slice());
+    assert_same(rt, &(clock, returned), &(clock, answer));
     assert_same(rt, &(clock, lanes.as_slice()), &(clock, plain.as_slice()));
     Ok(answer)
 }

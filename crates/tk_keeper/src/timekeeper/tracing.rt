@@ -4,7 +4,7 @@ ghost use Rattle.tk_clock.specs.State.{base_value};
 ghost use Rattle.tk_clock.specs.declared.clock_id.ClockId.{ClockId};
 ghost use Rattle.tk_keeper.specs.Item.{item};
 ghost use Rattle.tk_keeper.specs.Past.{IsAt};
-ghost use Rattle.tk_keeper.specs.Trace.{AreValues, IsWritten, IsFirstFault, IsConverted, IsFault, IsTraced, TellsItems};
+ghost use Rattle.tk_keeper.specs.Trace.{AreValues, IsWritten, IsFirstFault, IsConverted, IsFault, IsTraced, ConvertsItems};
 
 use super::Timekeeper;
 use super::past::Cursor;
@@ -73,13 +73,13 @@ impl<A: Allocator + Copy> Timekeeper<A> {
             return Err(TraceError::Memory);
         };
         let mut cursor = self.beginning();
-        let mut told = (fronts[0], self.item_snapshot(&mut cursor, 0, fronts[0])?);
+        let mut current = (fronts[0], self.item_snapshot(&mut cursor, 0, fronts[0])?);
         let mut first = 0;
         'runs: while first < stamps.len() {
             make_room(&mut values, first, stamps.len());
-            self.bring_to(&mut cursor, &mut told, first, fronts[first])?;
+            self.bring_to(&mut cursor, &mut current, first, fronts[first])?;
             let out = values.as_mut_slice();
-            first = self.trace_run(&told.1, clock, fronts, stamps, first, out)?;
+            first = self.trace_run(&current.1, clock, fronts, stamps, first, out)?;
         }
         Ok(values)
     }
@@ -126,7 +126,7 @@ impl<A: Allocator + Copy> Timekeeper<A> {
         requires room { first < length out.old }
         requires inside { length out.old ≤ length stamps.now }
         requires so_far { AreValues self.now.journal clock fronts.now stamps.now first out.old }
-        requires told { TellsItems self.now.journal (slice_index fronts.now first)
+        requires converts { ConvertsItems self.now.journal (slice_index fronts.now first)
             snapshot.now.base }
         ensures { MatchResult result
             (λ end. (first < end) × (end ≤ length out.old)
@@ -146,20 +146,20 @@ impl<A: Allocator + Copy> Timekeeper<A> {
     fn bring_to(
         &self,
         cursor: &mut Cursor,
-        told: &mut (u64, Snapshot),
+        current: &mut (u64, Snapshot),
         index: usize,
         front: u64,
     ) -> Result<(), TraceError>
         requires cursor { IsAt self.now.journal cursor.old }
-        requires told { TellsItems self.now.journal told.old.0 told.old.1.base }
+        requires converts { ConvertsItems self.now.journal current.old.0 current.old.1.base }
         ensures cursor { IsAt self.now.journal cursor.new }
-        ensures told { MatchResult result
-            (λ _. (told.new.0 ≡ front) × TellsItems self.now.journal front told.new.1.base)
+        ensures converts { MatchResult result
+            (λ _. (current.new.0 ≡ front) × ConvertsItems self.now.journal front current.new.1.base)
             (λ error. (clock : ClockId) (stamp : ℕ) →
             item self.now.journal clock index front stamp ≡ Err error) }
     {
-        if told.0 != front {
-            *told = (front, self.item_snapshot(cursor, index, front)?);
+        if current.0 != front {
+            *current = (front, self.item_snapshot(cursor, index, front)?);
         }
         Ok(())
     }
@@ -173,8 +173,8 @@ impl<A: Allocator + Copy> Timekeeper<A> {
     ) -> Result<Snapshot, TraceError>
         requires cursor { IsAt self.now.journal cursor.old }
         ensures cursor { IsAt self.now.journal cursor.new }
-        ensures told { MatchResult result
-            (λ snapshot. TellsItems self.now.journal front snapshot.base)
+        ensures converts { MatchResult result
+            (λ snapshot. ConvertsItems self.now.journal front snapshot.base)
             (λ error. (clock : ClockId) (stamp : ℕ) →
             item self.now.journal clock index front stamp ≡ Err error) }
     {

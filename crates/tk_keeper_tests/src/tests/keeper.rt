@@ -76,7 +76,7 @@ fn time(sec: i64, nsec: u32) -> Timespec {
 }
 
 /// Returns how many commands were accepted, and the words of the snapshot.
-fn told<A: Allocator + Copy>(keeper: &Timekeeper<A>) -> (usize, [u64; 10]) {
+fn length_and_words<A: Allocator + Copy>(keeper: &Timekeeper<A>) -> (usize, [u64; 10]) {
     (keeper.len(), keeper.snapshot().words())
 }
 
@@ -87,12 +87,12 @@ fn applied<A: Allocator + Copy>(
     reading: u64,
     cmd: Command,
 ) -> Result<u64, Refusal> {
-    let before = (told(keeper), keeper.spare());
+    let before = (length_and_words(keeper), keeper.spare());
     let answer = keeper.apply(0, reading, cmd);
     if answer != Err(Refusal::Memory) {
         return answer;
     }
-    assert_same(rt, &(told(keeper), keeper.spare()), &before);
+    assert_same(rt, &(length_and_words(keeper), keeper.spare()), &before);
     keeper.apply(0, reading, cmd)
 }
 
@@ -123,8 +123,8 @@ fn answers(
     steps: &[(u64, Command, Result<u64, Refusal>)],
 ) {
     for (reading, cmd, answer) in steps {
-        let told = applied(rt, keeper, *reading, *cmd);
-        assert_eq!(rt; told, *answer, "{cmd:?} at {reading}");
+        let returned = applied(rt, keeper, *reading, *cmd);
+        assert_eq!(rt; returned, *answer, "{cmd:?} at {reading}");
     }
 }
 
@@ -143,11 +143,11 @@ fn answers_and_reads(
 }
 
 /// Checks the time of MONOTONIC at a reading.
-fn reads_monotonic(rt: &impl Abort, keeper: &Timekeeper, reading: u64, told: Timespec) {
+fn reads_monotonic(rt: &impl Abort, keeper: &Timekeeper, reading: u64, value: Timespec) {
     reads(
         rt,
         &keeper.snapshot(),
-        &[(ClockId::Monotonic, reading, told)],
+        &[(ClockId::Monotonic, reading, value)],
     );
 }
 
@@ -158,8 +158,8 @@ fn has_no_front(rt: &impl Abort, keeper: &Timekeeper, front: u64, error: FrontEr
 
 /// Reads clocks, and checks the time of each.
 fn reads(rt: &impl Abort, snapshot: &Snapshot, values: &[(ClockId, u64, Timespec)]) {
-    for (clock, reading, told) in values {
+    for (clock, reading, value) in values {
         let read = snapshot.get(*clock, *reading);
-        assert_eq!(rt; read, Ok(*told), "{clock:?} at {reading}");
+        assert_eq!(rt; read, Ok(*value), "{clock:?} at {reading}");
     }
 }

@@ -1,4 +1,4 @@
-//! Long lists by pieces, beside the same lists by one thread and worked values.
+//! Compares long lists, converted in pieces, with the same lists by one thread and with worked values.
 
 mod costly;
 mod long;
@@ -90,7 +90,7 @@ fn answered(
         }
         Err(error) => {
             if done != Err(*error) {
-                return Err("memory is told another fault".into());
+                return Err("memory has another fault".into());
             }
         }
     }

@@ -38,9 +38,9 @@ fn assert_whole_or_memory(
     let heap = Heap::new(rt.alloc());
     for request in 1..=100 {
         heap.refuse(request);
-        let told = text.made(&heap);
+        let ended = text.made(&heap);
         let granted = heap.grant_all();
-        match told {
+        match ended {
             Ok(text) => {
                 assert!(rt; granted && request > least);
                 assert_same(rt, &text.as_slice(), &whole);

@@ -213,7 +213,7 @@ fn sixty_four_files_race(rt: HostRuntime) -> Result<(), Fail> {
     assert_text(&rt, words.as_slice(), &files, wanted.as_slice())
 }
 
-/// Takes so many bytes, and then none.
+/// Takes `room` bytes, and then none.
 #[derive(Drop)]
 struct Narrow {
     room: usize,
@@ -286,9 +286,9 @@ fn states_why_there_is_no_race(rt: HostRuntime) -> Result<(), Fail> {
         ),
     ];
     for (ending, text) in endings {
-        let mut told = Vec::new(rt.alloc());
-        ending.tell(&mut told)?;
-        assert_same(&rt, &told.as_slice(), &text);
+        let mut line = Vec::new(rt.alloc());
+        ending.tell(&mut line)?;
+        assert_same(&rt, &line.as_slice(), &text);
         assert_same(&rt, &ending.status(), &1);
     }
     Ok(())

@@ -21,8 +21,8 @@ const OPENING: &[u8] = b"open,32,16777216,24,0,1700000000,0\n";
 
 /// Returns the fault. An allocation failure, or a result without a fault, ends the test with its
 /// own error.
-fn fault_of<T: Drop>(told: Result<T, ScriptError>) -> Result<ScriptError, Fail> {
-    match told {
+fn fault_of<T: Drop>(returned: Result<T, ScriptError>) -> Result<ScriptError, Fail> {
+    match returned {
         Ok(_) => Err("no fault")?,
         Err(ScriptError::Memory) => Err(ScriptError::Memory)?,
         Err(fault) => Ok(fault),

@@ -99,12 +99,12 @@ tkc_snapshot_convert_spec 𝓤 𝓛 𝓜 𝓡 wired =
     let y : W.Ghost = ((κs, qs, bounds, a, (rawptr_vals out, (uint_vals w64 room, (mut_vals d, (shr_vals a.1.1.1.0, (uint_vals w32 clock, (rawptr_vals at, (uint_vals w64 count, tt)))))))), lists) in
     let ends : (v : Val) (r w : ℕ) (new : List ℕ) → IsAnswered base clock lists.stamps lists.old new d.now w r
     → Sq 𝓛 (‵ (fsep (fres d.ghost_name (usize.coded.code w)) (fbor κ (Body (mem usize) d.ref_ptr.0 d.ref_ptr.1 d.ghost_name))) ∷ ‵ (u32.own_val r (v ∷ [])) ∷ ‵ (flft κ q) ∷ ‵ (flft κs.1.0 qs.1.0)
-    ∷ ‵ (owned_at out room new) ∷ ‵ (shared_at at count lists.alive lists.share lists.stamps) ∷ []) (prop (W.post y v)) = λ v r w new told.
+    ∷ ‵ (owned_at out room new) ∷ ‵ (shared_at at count lists.alive lists.share lists.stamps) ∷ []) (prop (W.post y v)) = λ v r w new stated.
     let exit = on_exit 𝓛 f.ended stayed κs qs y.0.4 v r a (tt, (tt, (w, (tt, (tt, (tt, (tt, tt))))))) in
     let Left = λ (zs : List ℕ). sep 𝓤 (sem 𝓛 (owned_at out room zs)) (sep 𝓤 (sem 𝓛 (shared_at at count lists.alive lists.share lists.stamps)) (fact 𝓤 (IsAnswered base clock lists.stamps lists.old zs d.now w r))) in
     suffices ! (sep 𝓤 exit (Left new)) (via 𝓤 (sep 𝓤 exit (ex 𝓤 Left)) (mono_r 𝓤 exit (ex_i 𝓤 Left new))
     (ends_at 𝓛 f.ended stayed c y v r (tt, (tt, (w, (tt, (tt, (tt, (tt, tt))))))) (tt, (tt, (tt, (tt, (tt, (tt, (tt, tt))))))))) $
-    use0 𝓛 (raw (fact 𝓤 (IsAnswered base clock lists.stamps lists.old new d.now w r))) (fact_i 𝓤 (IsAnswered base clock lists.stamps lists.old new d.now w r) (emp 𝓤) told) $
+    use0 𝓛 (raw (fact 𝓤 (IsAnswered base clock lists.stamps lists.old new d.now w r))) (fact_i 𝓤 (IsAnswered base clock lists.stamps lists.old new d.now w r) (emp 𝓤) stated) $
     move ! (1 ∷ []) $ nothing ! $ nothing ! $ join ! $ nothing ! $ join ! $ nothing ! $ join ! $ nothing ! $ join ! $ move ! (1 ∷ 0 ∷ []) $ join ! $
     nothing ! $ join ! $ nothing ! $ join ! $
     -- [the parameters; the fact; the result; the tokens; the numbers; the stamps]
@@ -131,13 +131,13 @@ tkc_snapshot_convert_spec 𝓤 𝓛 𝓜 𝓡 wired =
     (and_then ! (get ! refl) (and_then ! (get ! refl) (no_more !))) (λ v.
     use1 𝓛 (later (some (λ (r : ℕ). ((‵ (flft κ q) ⊛ ‵ ftrue) ⊛ ‵ (u32.own_val r (v ∷ []))) ⊛
     some (λ (ws : ℕ × (Unit {0} × Unit {0})). ‵ (lasts g.ended z.0.0 z.0.3 ws) ⊛ raw (fact 𝓤 (MatchOption (clock_named clock) ((r ≡ number_of BadClock) × (ws.0 ≡ d.now)) (λ named. (r ≡ number_of Done) × (ws.0 ≡ 0)))))))) (id⊢ 𝓤 _) $
-    await ! tt $ pick ! (λ r. split ! $ split ! $ split ! $ move ! (3 ∷ []) $ pick ! (λ ws. split ! $ move ! (1 ∷ []) $ heard ! _ (λ told. fsplit ! $
+    await ! tt $ pick ! (λ r. split ! $ split ! $ split ! $ move ! (3 ∷ []) $ pick ! (λ ws. split ! $ move ! (1 ∷ []) $ heard ! _ (λ stated. fsplit ! $
     -- [the final value of done; nothing; its token; nothing; the result; the other token; the
     -- numbers; the stamps]
     move ! (7 ∷ []) $ rewrite ! 0 (λ (n : ℕ). ‵ (shared_at at n lists.alive lists.share lists.stamps)) (eqb→eq count 0 none) refl $
     feq_l ! (λ empty. feq_i ! (List ℕ) lists.stamps [] empty $ rewrite ! 0 (λ (n : ℕ). ‵ (shared_at at n lists.alive lists.share lists.stamps)) (sym (eqb→eq count 0 none)) refl $
     move ! (5 ∷ []) $ peeks ! u32 (Is u32) (shows 𝓛 u32) r (v ∷ []) (λ is. lands_as ! refl refl ((uint_Lawful 𝓛 w32).typed r _ is).0 $
-    returns_within ! (W.post y) refl (look_at ! 0 refl) $ free_all ! refl $ keep ! (2 ∷ 0 ∷ 4 ∷ 6 ∷ 7 ∷ 1 ∷ []) $ ends v r ws.0 lists.old (subst (λ (s : List ℕ). IsAnswered base clock s lists.old lists.old d.now ws.0 r) (sym empty) (none_answered base clock lists.old d.now ws.0 r told)))))))))
+    returns_within ! (W.post y) refl (look_at ! 0 refl) $ free_all ! refl $ keep ! (2 ∷ 0 ∷ 4 ∷ 6 ∷ 7 ∷ 1 ∷ []) $ ends v r ws.0 lists.old (subst (λ (s : List ℕ). IsAnswered base clock s lists.old lists.old d.now ws.0 r) (sym empty) (none_answered base clock lists.old d.now ws.0 r stated)))))))))
     -- some stamps
     (λ given. skips ! $ exec ! 𝓣.C 𝓣.Λ (env code.Mir.locals l) code.Mir.t-3 (at_ret (env code.Mir.locals l) (W.post y)) $
     sets ! (bin ! (get ! refl) (lit ! tt) tt) refl (tt, tt) $
@@ -151,7 +151,7 @@ tkc_snapshot_convert_spec 𝓤 𝓛 𝓜 𝓡 wired =
     (and_then ! (get ! refl) (no_more !)) (λ v.
     use1 𝓛 (later (some (λ (r : ℕ). (‵ ftrue ⊛ ‵ (u32.own_val r (v ∷ []))) ⊛
     some (λ (ws : Unit {0} × Unit {0}). ‵ (lasts h.ended z.0.0 z.0.3 ws) ⊛ raw (fact 𝓤 ((base' : ReadBase) (s : List ℕ) (n : ℕ) → 0 < length s → IsAnswered base' clock s [] [] n n r)))))) (id⊢ 𝓤 _) $
-    await ! tt $ pick ! (λ r. split ! $ split ! $ move ! (2 ∷ []) $ pick ! (λ ws. split ! $ move ! (1 ∷ []) $ heard ! _ (λ told.
+    await ! tt $ pick ! (λ r. split ! $ split ! $ move ! (2 ∷ []) $ pick ! (λ ws. split ! $ move ! (1 ∷ []) $ heard ! _ (λ stated.
     -- [nothing; nothing; the result; done; its token; the other token; the numbers; the stamps]
     move ! (6 ∷ []) $ rewrite ! 0 (λ (n : ℕ). ‵ (owned_at out n lists.old)) (eqb→eq room 0 no_room) refl $
     feq_l ! (λ empty. feq_i ! (List ℕ) lists.old [] empty $ rewrite ! 0 (λ (n : ℕ). ‵ (owned_at out n lists.old)) (sym (eqb→eq room 0 no_room)) refl $
@@ -160,7 +160,7 @@ tkc_snapshot_convert_spec 𝓤 𝓛 𝓜 𝓡 wired =
     -- [the final value of done; nothing; the numbers; nothing; nothing; the result; its token; the
     -- other token; the stamps]
     move ! (5 ∷ []) $ peeks ! u32 (Is u32) (shows 𝓛 u32) r (v ∷ []) (λ is. lands_as ! refl refl ((uint_Lawful 𝓛 w32).typed r _ is).0 $
-    returns_within ! (W.post y) refl (look_at ! 0 refl) $ free_all ! refl $ keep ! (1 ∷ 0 ∷ 6 ∷ 7 ∷ 3 ∷ 8 ∷ []) $ ends v r d.now lists.old (subst (λ (o : List ℕ). IsAnswered base clock lists.stamps o o d.now d.now r) (sym empty) (told base lists.stamps d.now (some_stamps lists.stamps count sizes.0 given))))))))))
+    returns_within ! (W.post y) refl (look_at ! 0 refl) $ free_all ! refl $ keep ! (1 ∷ 0 ∷ 6 ∷ 7 ∷ 3 ∷ 8 ∷ []) $ ends v r d.now lists.old (subst (λ (o : List ℕ). IsAnswered base clock lists.stamps o o d.now d.now r) (sym empty) (stated base lists.stamps d.now (some_stamps lists.stamps count sizes.0 given))))))))))
     -- both lists are at an address
     (λ roomy. skips ! $ exec ! 𝓣.C 𝓣.Λ (env code.Mir.locals l) code.Mir.t-5 (at_ret (env code.Mir.locals l) (W.post y)) $
     move ! (4 ∷ []) $ use1 𝓛 (‵ (lies_at (Array u64 room) full_share out lists.old)) (numbers_out 𝓛 out room lists.old roomy) $
@@ -209,7 +209,7 @@ tkc_snapshot_convert_spec 𝓤 𝓛 𝓜 𝓡 wired =
     (and_then ! (get ! refl) (and_then ! (get ! refl) (and_then ! (get ! refl) (and_then ! (get ! refl) (and_then ! (get ! refl) (no_more !)))))) (λ v.
     use1 𝓛 (later (some (λ (r : ℕ). ((‵ (flft (α ∷ []) full_share) ⊛ ‵ (flft κ q) ⊛ ‵ (flft κs.1.0 qs.1.0) ⊛ ‵ (flft lists.alive lists.share) ⊛ ‵ ftrue) ⊛ ‵ (u32.own_val r (v ∷ []))) ⊛
     some (λ (ws : List ℕ × (ℕ × (Unit {0} × (Unit {0} × (Unit {0} × Unit {0}))))). ‵ (lasts k.ended z.0.0 z.0.3 ws) ⊛ raw (fact 𝓤 (IsAnswered base clock lists.stamps lists.old ws.0 d.now ws.1.0 r)))))) (id⊢ 𝓤 _) $
-    await ! tt $ pick ! (λ r. split ! $ split ! $ move ! (2 ∷ []) $ pick ! (λ ws. split ! $ move ! (1 ∷ []) $ heard ! _ (λ told.
+    await ! tt $ pick ! (λ r. split ! $ split ! $ move ! (2 ∷ []) $ pick ! (λ ws. split ! $ move ! (1 ∷ []) $ heard ! _ (λ stated.
     fsplit ! $ fsplit ! $ fsplit ! $ move ! (1 ∷ []) $ feq_l ! (λ same. move ! (2 ∷ []) $ fsplit ! $ move ! (4 ∷ []) $ split ! $
     -- [the token of the list; the other tokens; the final value of done; nothing; the list's end;
     -- its borrow; the result; the stamps; what is lent]
@@ -228,4 +228,4 @@ tkc_snapshot_convert_spec 𝓤 𝓛 𝓜 𝓡 wired =
     -- [the stamps; nothing; the token of the snapshot; of done; the numbers; the final value of
     -- done; nothing; the borrow; the result]
     move ! (8 ∷ []) $ peeks ! u32 (Is u32) (shows 𝓛 u32) r (v ∷ []) (λ is. lands_as ! refl refl ((uint_Lawful 𝓛 w32).typed r _ is).0 $
-    returns ! (look_at ! 0 refl) $ free_all ! refl $ keep ! (6 ∷ 0 ∷ 4 ∷ 3 ∷ 5 ∷ 1 ∷ []) $ ends v r ws.1.0 ws.0 told)))))))))))))))))
+    returns ! (look_at ! 0 refl) $ free_all ! refl $ keep ! (6 ∷ 0 ∷ 4 ∷ 3 ∷ 5 ∷ 1 ∷ []) $ ends v r ws.1.0 ws.0 stated)))))))))))))))))

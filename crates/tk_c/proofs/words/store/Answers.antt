@@ -2,4 +2,4 @@ use Rattle.tk_c.proofs.words.store.Goals as goal
 use Rattle.tk_c.proofs.Stored.{stored}
 
 pub returns : goal.returns
-returns c = stored c.args.words.now c.args.told.now c.told-words c.told-told
+returns c = stored c.args.words.now c.args.source.now c.told-words c.told-source

@@ -17,13 +17,13 @@ returns-in_default-from_snapshot c =
 
 pub returns : goal.returns
 returns c =
-    let told = rw (
+    let stated = rw (
       to_z-of_z w64 c.args.frequency c.ranges.frequency,
       to_z-of_z w64 c.args.tick c.ranges.tick,
     )
     at c.in-Some-from_snapshot.ensures in
     rw (← (rw (c.loaded.ensures) at c.in-Some.ensures.value)) (inl record {
-      running = told.0;
-      written = rw (told.1, c.front.ensures) at c.from.ensures;
+      running = stated.0;
+      written = rw (stated.1, c.front.ensures) at c.from.ensures;
       done = c.number-2.ensures;
     })

@@ -4,8 +4,8 @@ use Rattle.tk_clock.proofs.LongUnits.{long_nanos-parts, long_fits, long_beyond, 
 use Rattle.tk_clock.proofs.amount.long_nanos.Goals as goal
 use Rattle.tk_clock.proofs.amount.long_nanos.Goals.{Else-upper-shift-ne0}
 
-pub returns-then-upper-shift-ne0-clause-told : goal.returns-then-upper-shift-ne0-clause-told
-returns-then-upper-shift-ne0-clause-told c =
+pub returns-then-upper-shift-ne0-clause-stated : goal.returns-then-upper-shift-ne0-clause-stated
+returns-then-upper-shift-ne0-clause-stated c =
     let upper = c.halves-upper.result.0 in
     let rest = c.halves-upper.result.1 in
     let shift = c.args.shift in
@@ -32,12 +32,12 @@ overflow_add-result c =
     let low = parts_low (goal.at.overflow_add-result c).Else-upper-shift-ne0 in
     omega (arith, low.0, low.1, c.halves-upper.ensures.low)
 
-pub returns-clause-told : goal.returns-clause-told
-returns-clause-told c =
+pub returns-clause-stated : goal.returns-clause-stated
+returns-clause-stated c =
     let upper = c.halves-upper.result.0 in
     let rest = c.halves-upper.result.1 in
     let shift = c.args.shift in
-    let fits = (parts_low (goal.at.returns-clause-told c).Else-upper-shift-ne0).0 in
+    let fits = (parts_low (goal.at.returns-clause-stated c).Else-upper-shift-ne0).0 in
     let plain : upper * 2 ^ (32 - shift) % 18446744073709551616 ≡ upper * 2 ^ (32 - shift) =
     mod-eq_of_lt (omega (arith, fits)) in
     inl (

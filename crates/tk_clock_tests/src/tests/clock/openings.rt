@@ -57,8 +57,8 @@ fn an_opening_has_a_reading_and_a_settable_time(rt: HostRuntime) -> Result<(), F
         (0, time(0, 1_000_000_000), false),
     ] {
         let refusal = Clock::open(desc, reading, real).err();
-        let told = if opens { None } else { Some(Refusal::Invalid) };
-        assert_eq!(rt; refusal, told, "{real:?} at {reading}");
+        let wanted = if opens { None } else { Some(Refusal::Invalid) };
+        assert_eq!(rt; refusal, wanted, "{real:?} at {reading}");
     }
     assert!(rt; Clock::open(wide_counter()?, u64::MAX, time(0, 0)).is_ok());
     Ok(())

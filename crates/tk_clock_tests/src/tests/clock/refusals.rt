@@ -38,7 +38,7 @@ fn no_clock_is_read_above_the_mask(rt: HostRuntime) -> Result<(), Fail> {
 fn a_clock_is_not_read_at_its_limit(rt: HostRuntime) -> Result<(), Fail> {
     let clock = Clock::open(wide_counter()?, 0, time(1_700_000_000, 0))?;
     let snapshot = clock.snapshot(0);
-    for (id, reading, told) in [
+    for (id, reading, value) in [
         (ClockId::Monotonic, i64::MAX as u64, Err(ReadError::Range)),
         (ClockId::Monotonic, 225_563_049_317, Err(ReadError::Range)),
         (
@@ -47,7 +47,7 @@ fn a_clock_is_not_read_at_its_limit(rt: HostRuntime) -> Result<(), Fail> {
             Ok(time(946_079_999, 998_296_064)),
         ),
     ] {
-        assert_eq!(rt; snapshot.get(id, reading), told, "{id:?} at {reading}");
+        assert_eq!(rt; snapshot.get(id, reading), value, "{id:?} at {reading}");
     }
     Ok(())
 }

@@ -36,8 +36,8 @@ fn the_nanoseconds_of_a_step_count_upwards(rt: HostRuntime) -> Result<(), Fail> 
     let mut clock = opened()?;
     let by = time(-1, 999_999_999);
     answers(&rt, &mut clock, 0, Command::Step(by), Ok(()));
-    let told = time(1_699_999_999, 999_999_999);
-    reads(&rt, &clock, ClockId::Realtime, 0, told);
+    let value = time(1_699_999_999, 999_999_999);
+    reads(&rt, &clock, ClockId::Realtime, 0, value);
     Ok(())
 }
 

@@ -47,13 +47,13 @@ fn a_suspension_moves_realtime_and_boottime(rt: HostRuntime) -> Result<(), Fail>
             0,
         ],
     );
-    for (id, reading, told) in [
+    for (id, reading, value) in [
         (ClockId::Monotonic, 5, time(0, 1_000)),
         (ClockId::Realtime, 5, time(1_700_000_005, 500_001_000)),
         (ClockId::Boottime, 5, time(5, 500_001_000)),
         (ClockId::Monotonic, 15, time(0, 1_010)),
     ] {
-        reads(&rt, &clock, id, reading, told);
+        reads(&rt, &clock, id, reading, value);
     }
     Ok(())
 }
@@ -62,12 +62,12 @@ fn a_suspension_moves_realtime_and_boottime(rt: HostRuntime) -> Result<(), Fail>
 fn asleep_every_read_stands_still(rt: HostRuntime) -> Result<(), Fail> {
     let mut clock = opened()?;
     answers(&rt, &mut clock, 1_000, Command::Suspend, Ok(()));
-    for (id, told) in [
+    for (id, value) in [
         (ClockId::Monotonic, time(0, 1_000)),
         (ClockId::MonotonicRaw, time(0, 1_000)),
         (ClockId::Realtime, time(1_700_000_000, 1_000)),
     ] {
-        reads(&rt, &clock, id, 2_000, told);
+        reads(&rt, &clock, id, 2_000, value);
     }
     Ok(())
 }

@@ -41,9 +41,9 @@ fn a_snapshot_used_beyond_its_life_may_give_more(rt: HostRuntime) -> Result<(), 
     let first = clock.snapshot(1);
     answers(&rt, &mut clock, 1_000, Freq(-32_768_000), Ok(()));
     let second = clock.snapshot(2);
-    for (snapshot, told) in [(first, time(1, 499_963)), (second, time(0, 999_499_977))] {
+    for (snapshot, value) in [(first, time(1, 499_963)), (second, time(0, 999_499_977))] {
         let read = snapshot.get(Monotonic, SECOND);
-        assert_eq!(rt; read, Ok(told), "after {} commands", snapshot.front());
+        assert_eq!(rt; read, Ok(value), "after {} commands", snapshot.front());
     }
     Ok(())
 }

@@ -34,8 +34,8 @@ const BOUNDS: [u64; 9] = [
 /// Checks whether words make a snapshot. If they do, the snapshot must return the same words.
 fn is_taken(rt: &impl Abort, desc: CounterDesc, words: [u64; 10], taken: bool) {
     let back = Snapshot::from_words(desc, words).map(|snapshot| snapshot.words());
-    let told = if taken { Some(words) } else { None };
-    assert_same(rt, &back, &told);
+    let wanted = if taken { Some(words) } else { None };
+    assert_same(rt, &back, &wanted);
 }
 
 #[test]
@@ -101,11 +101,11 @@ fn the_greatest_monotonic_reads_beyond_its_limit_soon(rt: HostRuntime) -> Result
         0,
     ];
     let snapshot = Snapshot::from_words(desc, words).ok_or("the words are in range")?;
-    for (id, told) in [
+    for (id, value) in [
         (ClockId::Monotonic, Err(ReadError::Range)),
         (ClockId::Realtime, Ok(time(946_080_002, 383_706_750))),
     ] {
-        assert_eq!(rt; snapshot.get(id, 2_147_483_647), told, "{id:?}");
+        assert_eq!(rt; snapshot.get(id, 2_147_483_647), value, "{id:?}");
     }
     words[2] = 18_622_710;
     is_taken(&rt, desc, words, false);
@@ -119,7 +119,7 @@ fn known_words_give_their_snapshot_back(rt: HostRuntime) -> Result<(), Fail> {
     clock.apply(2_000, Command::Suspend)?;
     let snapshot = clock.snapshot(2);
     let again = Snapshot::from_known_words(snapshot.desc(), snapshot.words());
-    let told = [
+    let wanted = [
         2,
         2_000,
         16_777_216,
@@ -131,7 +131,7 @@ fn known_words_give_their_snapshot_back(rt: HostRuntime) -> Result<(), Fail> {
         33_554_432_000,
         0,
     ];
-    assert_same(&rt, &again.words(), &told);
+    assert_same(&rt, &again.words(), &wanted);
     assert_same(
         &rt,
         &(again.front(), again.last(), again.tai()),

@@ -1,4 +1,4 @@
-use super::{applied, assert_same, opened, told, updated, updates};
+use super::{applied, assert_same, length_and_words, opened, updated, updates};
 use linked_list_allocator::LocalHeap;
 use std::alloc::Global;
 use std::process::Abort;
@@ -41,12 +41,16 @@ fn spare_commands_go_through_while_every_request_is_refused(rt: HostRuntime) -> 
         );
         assert_same(&rt, &keeper.spare(), &(spare - number));
     }
-    let before = told(&keeper);
+    let before = length_and_words(&keeper);
     let next = keeper.len() as u64 + 1;
     for _ in 0..2 {
         let refused = keeper.apply(0, next, Command::Update);
         assert_same(&rt, &refused, &Err(Refusal::Memory));
-        assert_same(&rt, &(told(&keeper), keeper.spare()), &(before, 0));
+        assert_same(
+            &rt,
+            &(length_and_words(&keeper), keeper.spare()),
+            &(before, 0),
+        );
     }
     let wrong = keeper.apply(0, 4_294_967_296, Command::Update);
     assert_same(&rt, &wrong, &Err(Refusal::Invalid));
@@ -75,17 +79,17 @@ fn each_growth_refused_in_turn_leaves_the_journal(rt: HostRuntime) -> Result<(),
     let heap = Heap::new(rt.alloc());
     for request in 1..=MOST {
         let mut keeper = updated(&rt, &heap, 255, 1)?;
-        let before = told(&keeper);
+        let before = length_and_words(&keeper);
         let spare = keeper.spare();
         heap.refuse(request);
         let answer = keeper.reserve(1_000);
         let granted = grant_all(&rt, &heap, request, 2);
         if answer == Err(Refusal::Memory) {
             assert!(rt; !granted && keeper.spare() >= spare);
-            assert_same(&rt, &told(&keeper), &before);
+            assert_same(&rt, &length_and_words(&keeper), &before);
             keeper.reserve(1_000)?;
         }
-        assert_same(&rt, &told(&keeper), &before);
+        assert_same(&rt, &length_and_words(&keeper), &before);
         assert!(rt; keeper.spare() >= 1_000);
     }
     Ok(())
@@ -102,13 +106,13 @@ fn each_growth_refused_in_turn_applies_nothing_of_a_run(rt: HostRuntime) -> Resu
     let events = [event; 300];
     for request in 1..=MOST {
         let mut keeper = opened(&heap)?;
-        let before = told(&keeper);
+        let before = length_and_words(&keeper);
         heap.refuse(request);
         let answers = match keeper.run(&events) {
             Ok(answers) => answers,
             Err(refusal) => {
                 assert_same(&rt, &refusal, &Refusal::Memory);
-                assert_same(&rt, &told(&keeper), &before);
+                assert_same(&rt, &length_and_words(&keeper), &before);
                 keeper.run(&events)?
             }
         };

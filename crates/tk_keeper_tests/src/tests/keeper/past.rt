@@ -17,14 +17,14 @@ fn each_front_keeps_its_own_clocks(rt: HostRuntime) -> Result<(), Fail> {
         &(first.front(), first.mult(), first.last()),
         &(1, 16_785_604, 0),
     );
-    for (front, reading, told) in [
+    for (front, reading, value) in [
         (0, at, time(1, 0)),
         (1, at, time(1, 499_963)),
         (2, at, time(1, 499_963)),
         (2, at + 1, time(1, 499_964)),
     ] {
         let snapshot = keeper.snapshot_at(front)?;
-        reads(&rt, &snapshot, &[(ClockId::Monotonic, reading, told)]);
+        reads(&rt, &snapshot, &[(ClockId::Monotonic, reading, value)]);
     }
     has_no_front(&rt, &keeper, 3, FrontError::Unknown);
     Ok(())

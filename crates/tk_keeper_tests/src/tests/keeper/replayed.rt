@@ -78,19 +78,19 @@ fn compared(
     filling: Filling,
 ) -> Result<(), Fail> {
     let mut keeper = Timekeeper::open(alloc, desc, 0, OPENED_TIME)?;
-    let mut told = Vec::new(alloc);
-    told.push(keeper.snapshot().words())?;
+    let mut shown = Vec::new(alloc);
+    shown.push(keeper.snapshot().words())?;
     let mut reading: u64 = 0;
     for number in 1..=filling.count() {
         reading = reading.wrapping_add(filling.gap(number, desc.half())) & desc.mask();
         let answer = applied(rt, &mut keeper, reading, filling.command(number));
         assert_same(rt, &answer, &Ok(number));
-        told.push(keeper.snapshot().words())?;
+        shown.push(keeper.snapshot().words())?;
     }
     for folded in [0, 100, 256, 300, 511, 512, 513] {
         keeper.fold(filling.count().wrapping_sub(folded));
         assert_same(rt, &keeper.folded(), &folded);
-        for (front, words) in told.iter().enumerate() {
+        for (front, words) in shown.iter().enumerate() {
             let answer = keeper.snapshot_at(front as u64);
             if (front as u64) < folded {
                 assert_same(rt, &answer.err(), &Some(FrontError::Folded));

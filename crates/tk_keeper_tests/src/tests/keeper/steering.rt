@@ -33,13 +33,13 @@ fn a_frequency_holds_from_its_reading_on(rt: HostRuntime) -> Result<(), Fail> {
 fn a_frequency_is_held_to_500_ppm(rt: HostRuntime) -> Result<(), Fail> {
     let at = 1_000_000_000;
     // 10^9 cycles of mult 16768827 and of mult 16785604
-    for (frequency, told) in [
+    for (frequency, value) in [
         (i64::MIN, time(0, 999_499_976)),
         (i64::MAX, time(1, 499_963)),
     ] {
         let mut keeper = opened(rt.alloc())?;
         answers(&rt, &mut keeper, &[(0, Command::Freq(frequency), Ok(1))]);
-        reads(&rt, &keeper.snapshot(), &[(ClockId::Monotonic, at, told)]);
+        reads(&rt, &keeper.snapshot(), &[(ClockId::Monotonic, at, value)]);
     }
     Ok(())
 }

@@ -15,14 +15,14 @@ fn reads_are_the_journals_own(rt: HostRuntime) -> Result<(), Fail> {
         if fold {
             assert_same(&rt, &keeper.fold(0), &2);
         }
-        for (clock, reading, told) in [
+        for (clock, reading, value) in [
             (ClockId::Monotonic, 5, time(0, 1_000)),
             (ClockId::Monotonic, 15, time(0, 1_010)),
             (ClockId::MonotonicCoarse, 15, time(0, 1_000)),
             (ClockId::Realtime, 5, time(1_700_000_005, 500_001_000)),
             (ClockId::Boottime, 5, time(5, 500_001_000)),
         ] {
-            assert_same(&rt, &keeper.get(clock, reading), &Ok(told));
+            assert_same(&rt, &keeper.get(clock, reading), &Ok(value));
         }
     }
     Ok(())

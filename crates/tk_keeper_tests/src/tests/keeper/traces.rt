@@ -158,15 +158,15 @@ fn a_long_trace_returns_the_place_in_the_whole_list(rt: HostRuntime) -> Result<(
     let alloc = rt.alloc();
     let keeper = opened(alloc)?;
     let (mut fronts, mut stamps) = counted(alloc, 100_000)?;
-    let told = last(&keeper, fronts.as_slice(), stamps.as_slice());
-    assert_same(&rt, &told, &Ok(Some(99_999)));
+    let returned = last(&keeper, fronts.as_slice(), stamps.as_slice());
+    assert_same(&rt, &returned, &Ok(Some(99_999)));
     put(&mut stamps, 9_000, ABOVE);
     put(&mut stamps, 5_000, ABOVE);
-    let told = last(&keeper, fronts.as_slice(), stamps.as_slice());
-    assert_same(&rt, &told, &Err(TraceError::Invalid { index: 5_000 }));
+    let returned = last(&keeper, fronts.as_slice(), stamps.as_slice());
+    assert_same(&rt, &returned, &Err(TraceError::Invalid { index: 5_000 }));
     put(&mut fronts, 4_999, 1);
-    let told = last(&keeper, fronts.as_slice(), stamps.as_slice());
-    assert_same(&rt, &told, &Err(TraceError::Unknown { index: 4_999 }));
+    let returned = last(&keeper, fronts.as_slice(), stamps.as_slice());
+    assert_same(&rt, &returned, &Err(TraceError::Unknown { index: 4_999 }));
     Ok(())
 }
 

@@ -1,5 +1,5 @@
 use Rattle.std.proofs.Common.{rules, sym, ap, ◌∙◌, get_or, List, ℕ}
-use Rattle.tk_clock.specs.Words.{snapshot_told}
+use Rattle.tk_clock.specs.Words.{snapshot_of_words}
 use Rattle.tk_latch.proofs.Publications.{latest_words-push}
 use Rattle.tk_latch.proofs.Writing.{commits, checks_word, copies_word}
 use Rattle.tk_latch.proofs.writer.commit.Goals as goal
@@ -22,7 +22,7 @@ load-found-requires g c = (
 pub store-requires-then-found-words : goal.store-requires-then-found-words
 store-requires-then-found-words g c =
     let history = c.args.seat.now.me.0.history in
-    let snapshot = snapshot_told history.counter c.args.words.now in
+    let snapshot = snapshot_of_words history.counter c.args.words.now in
     let shown = latest_words-push history.list snapshot ∙ c.requires.next.words_again in
     let same = ap (λ (p : List ℕ). get_or p c.loop-i.i 0) (sym shown) in (
       search rules,
@@ -35,7 +35,7 @@ store-requires-then-found-words g c =
 pub loop-i-preserved : goal.loop-i-preserved
 loop-i-preserved g c =
     let history = c.args.seat.now.me.0.history in
-    let snapshot = snapshot_told history.counter c.args.words.now in
+    let snapshot = snapshot_of_words history.counter c.args.words.now in
     let shown = latest_words-push history.list snapshot ∙ c.requires.next.words_again in
     let same = ap (λ (p : List ℕ). get_or p c.loop-i.i 0) (sym shown) in
     let found = c.load-found.ensures.2 _ _ c.loop-i.invariant.writer in

@@ -13,9 +13,9 @@ returns-in-Err g c =
     let n = at + c.len.result - at in
     let whole = part_refused journal c.args.input.clock fronts stamps at n _ c.in-Err.error (search rules)
     (in_pieces journal c.args.input.clock _ _ _ _ (Err c.in-Err.error) c.in-Err.ensures) in
-    let told = subst (IsFaultFrom (item_of journal c.args.input.clock fronts stamps) (length stamps) at)
+    let stated = subst (IsFaultFrom (item_of journal c.args.input.clock fronts stamps) (length stamps) at)
     (sym c.moved.ensures) whole in
     let counted = subst (λ count. IsFaultFrom (item_of journal c.args.input.clock fronts stamps) count at
-    c.moved.result) (sym c.requires.named.1) told in
+    c.moved.result) (sym c.requires.named.1) stated in
     subst (λ item. IsFaultFrom item g.N.NamesTrace.count at c.moved.result)
     (sym c.requires.named.0) counted

@@ -58,9 +58,9 @@ returns-in-Err-clause-refused g c =
     let counted : m ≡ length c.args.values.now.items = search rules in
     let fault = part_refused journal c.args.input.clock fronts stamps m n _ c.in-Err.error
     (search rules) c.in-Err.ensures in
-    let told = subst (IsFaultFrom (item_of journal c.args.input.clock fronts stamps) (length stamps) m)
+    let stated = subst (IsFaultFrom (item_of journal c.args.input.clock fronts stamps) (length stamps) m)
     (sym c.moved.ensures) fault in
     let here = subst (λ at. IsFaultFrom (item_of journal c.args.input.clock fronts stamps)
-    (length stamps) at c.moved.result) counted told in
+    (length stamps) at c.moved.result) counted stated in
     stopped journal c.args.input.clock fronts stamps (item_of journal c.args.input.clock fronts stamps)
     (length stamps) c.args.values.now.items c.moved.result refl refl c.requires.so_far here

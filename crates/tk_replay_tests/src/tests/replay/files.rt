@@ -34,8 +34,8 @@ fn replays_a_file_into_a_file(rt: HostRuntime) -> Result<(), Fail> {
     let mut script = File::open(&rt, "tk_replay_script")?;
     let mut report = File::create(&rt, "tk_replay_report")?;
     assert_same(&rt, &replay(rt.alloc(), &mut script, &mut report), &Ok(()));
-    let told = fs::read(&rt, "tk_replay_report")?;
-    assert_same(&rt, &told.as_slice(), &REPORT);
+    let text = fs::read(&rt, "tk_replay_report")?;
+    assert_same(&rt, &text.as_slice(), &REPORT);
     fs::remove_file(&rt, "tk_replay_script")?;
     fs::remove_file(&rt, "tk_replay_report")?;
     Ok(())
@@ -51,8 +51,8 @@ fn traces_two_files_into_a_third(rt: HostRuntime) -> Result<(), Fail> {
     let clock = ClockId::Monotonic;
     let outcome = trace(rt.alloc(), &rt, &mut script, &mut stamps, clock, &mut text);
     assert_same(&rt, &outcome, &Ok(()));
-    let told = fs::read(&rt, "tk_replay_trace")?;
-    assert_same(&rt, &told.as_slice(), &TRACE);
+    let text = fs::read(&rt, "tk_replay_trace")?;
+    assert_same(&rt, &text.as_slice(), &TRACE);
     for name in ["tk_replay_steered", "tk_replay_stamps", "tk_replay_trace"] {
         fs::remove_file(&rt, name)?;
     }

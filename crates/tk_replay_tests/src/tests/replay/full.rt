@@ -20,7 +20,7 @@ const LAST: &[u8] = b"ok,1048576,0.000000000\nok,1048577,0.000000000\n";
 /// their numbers.
 const LENGTH: usize = 20 + 16 * COMMANDS + 6_228_935;
 
-/// A script of so many updates that the journal has no room for the last one.
+/// Returns a script with one update more than a journal has room for.
 fn script(alloc: Global) -> Result<Vec<u8>, AllocError> {
     let mut script = Vec::new(alloc);
     script.extend_from_slice(OPENING)?;

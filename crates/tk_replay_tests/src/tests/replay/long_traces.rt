@@ -54,7 +54,7 @@ fn values(alloc: Global) -> Result<Vec<u8>, AllocError> {
     Ok(lines)
 }
 
-/// What a trace of REALTIME by the steps comes to, and what it has written.
+/// Returns the result of a trace of REALTIME by the steps, and what it has written.
 fn traced(
     alloc: Global,
     rt: &(impl Threads + Sync),

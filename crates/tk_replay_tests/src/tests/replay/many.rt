@@ -170,7 +170,7 @@ impl Counts {
         }
     }
 
-    /// Whether so many calls for the piece were counted.
+    /// Returns whether `count` calls for the piece were counted.
     fn has(calls: &[AtomicU64], piece: usize, count: u64) -> bool {
         piece < calls.len() && calls[piece].load(Ordering::SeqCst) == count
     }

@@ -30,8 +30,8 @@ fn script() -> [u8; LENGTH] {
 }
 
 /// The report is there, or memory was refused.
-fn assert_report(rt: &impl Abort, told: Result<Vec<u8>, ScriptError>) {
-    match told {
+fn assert_report(rt: &impl Abort, returned: Result<Vec<u8>, ScriptError>) {
+    match returned {
         Ok(text) => {
             assert!(rt; text.starts_with(b"open,32,16777216,24\nok,1,0.000000000\n"));
             assert!(rt; text.ends_with(b"\nok,600,0.000000000\n"));

@@ -8,9 +8,9 @@ use tk_script::ScriptError;
 
 /// Both reports of the script are this text.
 pub(super) fn assert_report(rt: &impl Abort, alloc: Global, script: &[u8], text: &[u8]) {
-    for told in [report(alloc, script), report_bounded(alloc, script, 1)] {
-        match told {
-            Ok(told) => assert_same(rt, &told.as_slice(), &text),
+    for returned in [report(alloc, script), report_bounded(alloc, script, 1)] {
+        match returned {
+            Ok(report) => assert_same(rt, &report.as_slice(), &text),
             Err(error) => assert_same(rt, &error, &ScriptError::Memory),
         }
     }
@@ -18,8 +18,8 @@ pub(super) fn assert_report(rt: &impl Abort, alloc: Global, script: &[u8], text:
 
 /// The script has this fault, in both reports.
 fn assert_fault(rt: &impl Abort, alloc: Global, script: &[u8], fault: ScriptError) {
-    for told in [report(alloc, script), report_bounded(alloc, script, 1)] {
-        match told {
+    for returned in [report(alloc, script), report_bounded(alloc, script, 1)] {
+        match returned {
             Ok(_) => assert!(rt; false, "a report in place of {fault}"),
             Err(error) => assert!(rt; error == fault || error == ScriptError::Memory, "{error}"),
         }

@@ -131,7 +131,7 @@ fn returns_the_fault_of_records_of_one_byte(rt: HostRuntime) -> Result<(), Fail>
     assert_same(&rt, &bytes.len(), &16_777_216);
     let opening = ScriptError::Opening { row: 1 };
     assert_same(&rt, &fault(rt.alloc(), bytes.as_slice())?, &opening);
-    let told = Stamps::from_bytes(rt.alloc(), bytes.as_slice());
-    assert_same(&rt, &fault_of(told)?, &ScriptError::Fields { row: 1 });
+    let returned = Stamps::from_bytes(rt.alloc(), bytes.as_slice());
+    assert_same(&rt, &fault_of(returned)?, &ScriptError::Fields { row: 1 });
     Ok(())
 }

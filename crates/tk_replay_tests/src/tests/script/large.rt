@@ -34,15 +34,15 @@ fn takes_a_script_of_more_rows_than_a_journal_lists(rt: HostRuntime) -> Result<(
 #[test]
 fn takes_as_many_stamps_as_fit(rt: HostRuntime) -> Result<(), Fail> {
     let bytes = repeated(rt.alloc(), b"", b"3,5\n", STAMPS)?;
-    let told = Stamps::from_bytes(rt.alloc(), bytes.as_slice())?;
+    let returned = Stamps::from_bytes(rt.alloc(), bytes.as_slice())?;
     assert_same(
         &rt,
-        &(told.fronts.len(), told.stamps.len()),
+        &(returned.fronts.len(), returned.stamps.len()),
         &(STAMPS, STAMPS),
     );
     assert_same(
         &rt,
-        &(told.fronts.last(), told.stamps.last()),
+        &(returned.fronts.last(), returned.stamps.last()),
         &(Some(&3), Some(&5)),
     );
     Ok(())

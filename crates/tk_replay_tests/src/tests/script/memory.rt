@@ -19,9 +19,9 @@ fn writes_utc_or_nothing(rt: HostRuntime) -> Result<(), Fail> {
     let heap = Heap::new(rt.alloc());
     for request in 1..=100 {
         heap.refuse(request);
-        let told = utc(&heap, 1_700_000_000, 5);
+        let returned = utc(&heap, 1_700_000_000, 5);
         let granted = heap.grant_all();
-        match told {
+        match returned {
             Ok(text) => {
                 assert!(rt; granted && request > 1);
                 assert_same(&rt, &text.as_str(), &"2023-11-14T22:13:20.000000005Z");

@@ -49,14 +49,14 @@ fn reads_a_script_where_memory_is_there(rt: HostRuntime) -> Result<(), Fail> {
 fn reads_stamps_where_memory_is_there(rt: HostRuntime) -> Result<(), Fail> {
     let bytes = b"1,18446744073709551615\n2,2\n3,3\n4,4\n5,5\n6,6\n7,7\n8,8\n9,9\n";
     match Stamps::from_bytes(rt.alloc(), bytes) {
-        Ok(told) => {
+        Ok(returned) => {
             assert_same(
                 &rt,
-                &told.fronts.as_slice(),
+                &returned.fronts.as_slice(),
                 &[1, 2, 3, 4, 5, 6, 7, 8, 9].as_slice(),
             );
             let stamps = [u64::MAX, 2, 3, 4, 5, 6, 7, 8, 9];
-            assert_same(&rt, &told.stamps.as_slice(), &stamps.as_slice());
+            assert_same(&rt, &returned.stamps.as_slice(), &stamps.as_slice());
             Ok(())
         }
         Err(error) => {

@@ -4,27 +4,27 @@ use tk_script::{ScriptError, Stamps};
 
 #[test]
 fn reads_fronts_and_stamps(rt: HostRuntime) -> Result<(), Fail> {
-    let told = Stamps::from_bytes(rt.alloc(), b"0,1000000000\n1,1000000000\n2,1000000001\n")?;
-    assert_same(&rt, &told.fronts.as_slice(), &[0, 1, 2].as_slice());
+    let returned = Stamps::from_bytes(rt.alloc(), b"0,1000000000\n1,1000000000\n2,1000000001\n")?;
+    assert_same(&rt, &returned.fronts.as_slice(), &[0, 1, 2].as_slice());
     let stamps = [1_000_000_000, 1_000_000_000, 1_000_000_001];
-    assert_same(&rt, &told.stamps.as_slice(), &stamps.as_slice());
+    assert_same(&rt, &returned.stamps.as_slice(), &stamps.as_slice());
     Ok(())
 }
 
 #[test]
 fn reads_quotes_and_the_greatest_numbers(rt: HostRuntime) -> Result<(), Fail> {
-    let told = Stamps::from_bytes(rt.alloc(), b"\"007\",0\r\n\r18446744073709551615,\"9")?;
-    assert_same(&rt, &told.fronts.as_slice(), &[7, u64::MAX].as_slice());
-    assert_same(&rt, &told.stamps.as_slice(), &[0, 9].as_slice());
+    let returned = Stamps::from_bytes(rt.alloc(), b"\"007\",0\r\n\r18446744073709551615,\"9")?;
+    assert_same(&rt, &returned.fronts.as_slice(), &[7, u64::MAX].as_slice());
+    assert_same(&rt, &returned.stamps.as_slice(), &[0, 9].as_slice());
     Ok(())
 }
 
 #[test]
 fn reads_a_file_without_a_record_as_no_stamps(rt: HostRuntime) -> Result<(), Fail> {
     for bytes in [b"".as_slice(), b"\n\r\n".as_slice()] {
-        let told = Stamps::from_bytes(rt.alloc(), bytes)?;
-        assert_same(&rt, &told.fronts.len(), &0);
-        assert_same(&rt, &told.stamps.len(), &0);
+        let returned = Stamps::from_bytes(rt.alloc(), bytes)?;
+        assert_same(&rt, &returned.fronts.len(), &0);
+        assert_same(&rt, &returned.stamps.len(), &0);
     }
     Ok(())
 }
@@ -64,11 +64,11 @@ fn returns_the_first_fault_of_a_stamp_file(rt: HostRuntime) -> Result<(), Fail> 
 #[test]
 fn refuses_a_stamp_file_by_its_length(rt: HostRuntime) -> Result<(), Fail> {
     let mut bytes = Vec::from_elem(rt.alloc(), b'\n', 16_777_217)?;
-    let told = Stamps::from_bytes(rt.alloc(), bytes.as_slice());
-    assert_same(&rt, &fault_of(told)?, &ScriptError::TooLarge);
+    let returned = Stamps::from_bytes(rt.alloc(), bytes.as_slice());
+    assert_same(&rt, &fault_of(returned)?, &ScriptError::TooLarge);
     bytes.truncate(16_777_216);
-    let told = Stamps::from_bytes(rt.alloc(), bytes.as_slice())?;
-    assert_same(&rt, &told.stamps.len(), &0);
+    let returned = Stamps::from_bytes(rt.alloc(), bytes.as_slice())?;
+    assert_same(&rt, &returned.stamps.len(), &0);
     Ok(())
 }
 
@@ -78,8 +78,8 @@ fn grows_both_lists(rt: HostRuntime) -> Result<(), Fail> {
     for _ in 0..100 {
         bytes.extend_from_slice(b"3,5\n")?;
     }
-    let told = Stamps::from_bytes(rt.alloc(), bytes.as_slice())?;
-    assert_same(&rt, &told.fronts.as_slice(), &[3; 100].as_slice());
-    assert_same(&rt, &told.stamps.as_slice(), &[5; 100].as_slice());
+    let returned = Stamps::from_bytes(rt.alloc(), bytes.as_slice())?;
+    assert_same(&rt, &returned.fronts.as_slice(), &[3; 100].as_slice());
+    assert_same(&rt, &returned.stamps.as_slice(), &[5; 100].as_slice());
     Ok(())
 }

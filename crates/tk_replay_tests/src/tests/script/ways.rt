@@ -104,13 +104,13 @@ fn both_ways_return_the_same_fault(rt: HostRuntime) -> Result<(), Fail> {
     ] {
         let mut plain = first.to_vec(rt.alloc())?;
         plain.extend_from_slice(later)?;
-        let told = Script::from_bytes(rt.alloc(), plain.as_slice());
-        assert_same(&rt, &fault_of(told)?, &want);
+        let returned = Script::from_bytes(rt.alloc(), plain.as_slice());
+        assert_same(&rt, &fault_of(returned)?, &want);
         // a carriage return before a line feed, or at the end, leaves the records unchanged
         let mut other = plain.clone()?;
         other.extend_from_slice(b"\n\r\n")?;
-        let told = Script::from_bytes(rt.alloc(), other.as_slice());
-        assert_same(&rt, &fault_of(told)?, &want);
+        let returned = Script::from_bytes(rt.alloc(), other.as_slice());
+        assert_same(&rt, &fault_of(returned)?, &want);
     }
     Ok(())
 }
@@ -141,9 +141,13 @@ fn both_ways_give_the_same_stamps(rt: HostRuntime) -> Result<(), Fail> {
         b"0,1\r\n2,18446744073709551615\r\n4,000000000000000000005\r\n",
         b"\xef\xbb\xbf0,1\n2,18446744073709551615\n4,000000000000000000005\n",
     ] {
-        let told = Stamps::from_bytes(rt.alloc(), text)?;
-        assert_same(&rt, &told.fronts.as_slice(), &[0, 2, 4].as_slice());
-        assert_same(&rt, &told.stamps.as_slice(), &[1, u64::MAX, 5].as_slice());
+        let returned = Stamps::from_bytes(rt.alloc(), text)?;
+        assert_same(&rt, &returned.fronts.as_slice(), &[0, 2, 4].as_slice());
+        assert_same(
+            &rt,
+            &returned.stamps.as_slice(),
+            &[1, u64::MAX, 5].as_slice(),
+        );
     }
     for (text, want) in [
         (b"0,1\n2,3,\n".as_slice(), ScriptError::Fields { row: 2 }),

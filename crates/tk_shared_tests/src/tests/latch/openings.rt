@@ -37,10 +37,10 @@ fn a_wrong_count_is_returned_before_memory(rt: HostRuntime) -> Result<(), Fail> 
         (64, LatchError::Memory),
         (65, LatchError::Count),
     ] {
-        let Err(told) = Latch::open(&heap, clock.snapshot(0), count) else {
+        let Err(returned) = Latch::open(&heap, clock.snapshot(0), count) else {
             return Err("opened without memory".into());
         };
-        assert_eq!(rt; told, error, "{count} readers");
+        assert_eq!(rt; returned, error, "{count} readers");
     }
     Ok(())
 }

@@ -6,7 +6,7 @@ use tk_clock::Command;
 use tk_latch::{Latch, LatchReader};
 
 /// Reads a latch in which nobody publishes, and returns the words and the mark.
-fn told(latch: &Latch, reader: &mut LatchReader) -> Option<([u64; 10], u64)>
+fn words_and_mark(latch: &Latch, reader: &mut LatchReader) -> Option<([u64; 10], u64)>
     requires { reader.old.latch ≡ latch.now }
     ensures { reader.new.latch ≡ reader.old.latch }
 {
@@ -19,17 +19,33 @@ fn the_words_of_each_publication_are_read(rt: HostRuntime) -> Result<(), Fail> {
     let mut clock = opened()?;
     let (latch, mut writer, mut readers) = Latch::open(rt.alloc(), clock.snapshot(0), 2)?;
     let mut reader = readers.pop().ok_or("a reader")?;
-    assert_same(&rt, &told(&latch, &mut reader), &Some((OPENED_WORDS, 0)));
+    assert_same(
+        &rt,
+        &words_and_mark(&latch, &mut reader),
+        &Some((OPENED_WORDS, 0)),
+    );
     clock.apply(100, Command::Update)?;
     writer.publish(&latch, clock.snapshot(1))?;
     assert_same(&rt, &reader.mark(), &0);
-    assert_same(&rt, &told(&latch, &mut reader), &Some((UPDATED_WORDS, 1)));
+    assert_same(
+        &rt,
+        &words_and_mark(&latch, &mut reader),
+        &Some((UPDATED_WORDS, 1)),
+    );
     clock.apply(300, Command::Tai(37))?;
     writer.publish(&latch, clock.snapshot(2))?;
     let mut late = readers.pop().ok_or("a reader")?;
     latch.tell(&mut writer, &mut late);
     assert_same(&rt, &late.mark(), &2);
-    assert_same(&rt, &told(&latch, &mut late), &Some((TAI_WORDS, 2)));
-    assert_same(&rt, &told(&latch, &mut reader), &Some((TAI_WORDS, 2)));
+    assert_same(
+        &rt,
+        &words_and_mark(&latch, &mut late),
+        &Some((TAI_WORDS, 2)),
+    );
+    assert_same(
+        &rt,
+        &words_and_mark(&latch, &mut reader),
+        &Some((TAI_WORDS, 2)),
+    );
     Ok(())
 }

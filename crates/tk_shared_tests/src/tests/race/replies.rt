@@ -122,7 +122,7 @@ fn one_actor_is_answered_as_on_one_thread(rt: HostRuntime) -> Result<(), Fail> {
     Ok(())
 }
 
-/// The error of a race of so many actors without actions.
+/// Returns the error of a race of `actors` actors without actions.
 fn error_of<R: Abort + Threads + Wait + Sync>(
     rt: &R,
     alloc: Global,

@@ -1,4 +1,4 @@
-//! Four callers, each in a thread of its own, and every kind of command.
+//! Four callers, each in its own thread, and every kind of command.
 ghost use Rattle.std.specs.Prelude.{◌≡◌, [], ◌∷◌, length, IfOk};
 ghost use Rattle.tk_shared.specs.Opening.{IsNamed};
 

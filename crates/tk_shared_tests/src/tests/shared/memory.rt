@@ -1,4 +1,4 @@
-//! Whatever request for memory is refused: what was handed in comes back, and nothing has changed.
+//! Whichever allocation fails, the call returns what was passed to it, and nothing has changed.
 ghost use Rattle.std.specs.Prelude.{◌≡◌};
 ghost use Rattle.tk_shared.specs.Opening.{IsNamed};
 
@@ -18,7 +18,7 @@ use tk_shared::{
 /// How many commands are given: room is made again and again.
 const COMMANDS: u64 = 600;
 
-/// The counter came back for want of memory, after it was read once.
+/// Checks that an allocation failed and that the counter, which is returned, was read once.
 fn came_back<R: Abort>(rt: &R, fault: OpenFault<Ticker>) -> Result<(), Fail> {
     let OpenFault { error, mut counter } = fault;
     assert_same(rt, &(error, counter.read()), &(OpenError::Memory, 10));
@@ -61,8 +61,8 @@ fn opened<L: Named, R: Wait + Abort>(
     Ok(())
 }
 
-/// Gives all commands: each is the next entry, or is refused for want of memory and leaves journal
-/// and counts as they were.
+/// Gives all commands. Each is the next entry, or is refused because an allocation failed and leaves
+/// journal and counts as they were.
 fn gives_all<L: Named, R: Wait + Abort>(
     rt: &R,
     keeper: &SharedKeeper<L, Ticker>,

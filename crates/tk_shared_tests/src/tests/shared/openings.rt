@@ -6,7 +6,8 @@ use std::test::Fail;
 use tk_clock::Timespec;
 use tk_shared::{Counter, OpenError, OpenFault, Ticker, prepare};
 
-/// Asks for so many callers and this time: why not, and what the counter answers next.
+/// Returns the error of `prepare` for `callers` callers and the time `real`, and what the counter
+/// answers next.
 fn refused<R: Wait>(
     rt: &R,
     alloc: Global,

@@ -11,5 +11,5 @@ returns c =
     let frequency = to_z-of_z w64 c.args.frequency c.ranges.frequency in
     let tick = (running_words c.self.invariant).1 ∙ ap (λ (s : State). s.tick) c.self.view_is in
     steered_effect c.args.self.now c.args.now (Freq c.args.frequency) c.args.frequency
-    c.args.self.now.tick c.steered.result refl refl c.requires.forwarded.told
+    c.args.self.now.tick c.steered.result refl refl c.requires.forwarded.stated
     (rw (frequency, tick) at c.steered.ensures)

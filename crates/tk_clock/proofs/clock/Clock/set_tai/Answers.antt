@@ -14,10 +14,10 @@ fits : (c : After-unsigned_abs) →
     (pos c.unsigned_abs.result ≡ c.args.seconds) × (c.unsigned_abs.result ≤ greatest_tai)
 fits c =
     let range = tai-between c.args.self.now c.args.now.last c.args.seconds c.requires.early in
-    let told = c.unsigned_abs.ensures in
+    let stated = c.unsigned_abs.ensures in
     let same = to_z-of_z w64 c.args.seconds c.ranges.seconds in (
-      omega (arith, ints, told, same, range.0, range.1),
-      omega (arith, ints, told, same, range.0, range.1),
+      omega (arith, ints, stated, same, range.0, range.1),
+      omega (arith, ints, stated, same, range.0, range.1),
     )
 
 pub overflow_cast-unsigned_abs : goal.overflow_cast-unsigned_abs
@@ -38,7 +38,7 @@ returns c =
     let e = ap (λ (b : ReadBase). let after : State = record state { base = b }
     in after) c.with_tai.ensures
     ∙ ap (λ z. put z c.args.now) seconds
-    ∙ ap (put c.args.seconds) c.requires.forwarded.told in
+    ∙ ap (put c.args.seconds) c.requires.forwarded.stated in
     settled_effect state c.args.now.last (Tai c.args.seconds)
     (record state { base = c.with_tai.result }) c.settled.result refl e
     (rw same at c.settled.ensures)

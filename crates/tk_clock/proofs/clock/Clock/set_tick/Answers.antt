@@ -23,5 +23,5 @@ returns c =
     let frequency = (running_words c.self.invariant).0
     ∙ ap (λ (s : State). s.frequency) c.self.view_is in
     steered_effect state c.args.now (Tick c.args.tick) state.frequency c.args.tick c.steered.result
-    refl refl c.requires.forwarded.told
+    refl refl c.requires.forwarded.stated
     (rw (to_z-of_z w64 c.args.tick c.ranges.tick, frequency) at c.steered.ensures)

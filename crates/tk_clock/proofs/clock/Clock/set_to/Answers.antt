@@ -7,7 +7,7 @@ use Rattle.tk_clock.proofs.clock.Clock.set_to.Goals as goal
 pub invariant_of-result : goal.invariant_of-result
 invariant_of-result c =
     let clock = c.self.inside in
-    let forwarded = rw (← c.self.view_is) at c.requires.forwarded.told in
+    let forwarded = rw (← c.self.view_is) at c.requires.forwarded.stated in
     let held = c.self.invariant in
     let frequency : to_z w64 (of_z w64 clock.frequency) ≡ clock.frequency =
     omega (arith, ints, held.frequency_low, held.frequency_high) in

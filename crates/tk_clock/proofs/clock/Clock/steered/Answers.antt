@@ -20,7 +20,7 @@ with_mult-base-requires-clause-some c =
 pub invariant_of-result : goal.invariant_of-result
 invariant_of-result c =
     let base = c.with_mult-base.result in
-    let told = c.with_mult-base.ensures in
+    let stated = c.with_mult-base.ensures in
     let past = sym c.if-is_past_limit.ensures in
     let plain = within_plain (λ clock. base_value base clock base.last) c.args.cmd c.requires.plain
     past in
@@ -33,14 +33,14 @@ invariant_of-result c =
       to_z-of_z w64 c.args.frequency c.ranges.frequency,
       to_z-of_z w64 c.args.tick c.ranges.tick,
     ) record {
-      steered = ap (λ (b : ReadBase). b.mult) told ∙ mult
+      steered = ap (λ (b : ReadBase). b.mult) stated ∙ mult
           ∙ ap (λ k. multiplier k c.args.frequency c.args.tick) counter
-          ∙ ap (λ (b : ReadBase). multiplier b.counter c.args.frequency c.args.tick) (sym told);
+          ∙ ap (λ (b : ReadBase). multiplier b.counter c.args.frequency c.args.tick) (sym stated);
       frequency_low = omega (arith, ints, c.ranges.frequency);
       frequency_high = omega (arith, ints, c.ranges.frequency);
       tick_low = c.requires.slowest;
       tick_high = c.requires.fastest;
-      rated = rw told c.requires.rated;
+      rated = rw stated c.requires.rated;
       within = record {
         real_low = plain.0;
         boot_low = within_boot (λ clock. base_value base clock base.last) c.args.cmd past;

@@ -53,10 +53,10 @@ real_is : (state : State) (base now : ReadBase) (by : Timespec) (monotonic offse
     base.real_offset ≡ pos offset → monotonic ≡ now_of now →
     stepped now by ≡ pos (monotonic + offset) +ℤ nanoseconds by
 real_is state base now by monotonic offset forwarded same held amount =
-    let told : now.real_offset ≡ pos offset =
+    let stated : now.real_offset ≡ pos offset =
     ap (λ (b : ReadBase). b.real_offset) forwarded ∙ ap (λ (b : ReadBase). b.real_offset) (sym same)
     ∙ held in
-    omega (arith, ints, told, amount)
+    omega (arith, ints, stated, amount)
 
 moved_is : (c : After-moved) →
     stepped c.args.now c.args.by
@@ -67,7 +67,7 @@ moved_is c =
     let base = ap (λ (s : State). s.base) c.self.view_is in
     real_is c.args.self.now c.self.inside.base c.args.now c.args.by
     c.monotonic_now-monotonic.result c.self-inside.inside.0.0.real_offset
-    c.requires.forwarded.told base held c.monotonic_now-monotonic.ensures.amount
+    c.requires.forwarded.stated base held c.monotonic_now-monotonic.ensures.amount
 
 pub returns-in_default : goal.returns-in_default
 returns-in_default c =
@@ -85,33 +85,33 @@ pub returns-then-real-monotonic : goal.returns-then-real-monotonic
 returns-then-real-monotonic c =
     let now = c.args.now in
     let real = moved_is (goal.at.returns-then-real-monotonic c).After-moved in
-    let told = c.in-Some.ensures in
+    let stated = c.in-Some.ensures in
     let amount = c.monotonic_now-monotonic.ensures.amount in
     step_invalid c.args.self.now now c.args.by c.requires.early c.requires.forwarded
     (sym c.if-is_past_limit.ensures)
     (elim c.then-real-monotonic.branch [
       | then-real-monotonic-via-then-real-monotonic w ↦ let low = w.if-real-monotonic.true
-          in inl (omega (arith, ints, told, real, amount, low))
+          in inl (omega (arith, ints, stated, real, amount, low))
       | then-real-monotonic-via-else-real-monotonic+then-real-settable_limit w ↦
           let high = w.if-real-settable_limit.true in
           let limit = w.settable_limit.ensures in
-          inr (omega (arith, ints, told, real, high, limit))
+          inr (omega (arith, ints, stated, real, high, limit))
     ])
 
 pub returns : goal.returns
 returns c =
     let now = c.args.now in
     let real = moved_is (goal.at.returns c).After-moved in
-    let told = c.in-Some.ensures in
+    let stated = c.in-Some.ensures in
     let amount = c.monotonic_now-monotonic.ensures.amount in
     let above : pos (now_of now) ≤ℤ stepped now c.args.by = let high = c.if-real-monotonic.false
-    in omega (arith, ints, told, real, amount, high) in
+    in omega (arith, ints, stated, real, amount, high) in
     let below : stepped now c.args.by <ℤ pos (settable_end * 10 ^ 9) =
     let low = c.if-real-settable_limit.false in let limit = c.settable_limit.ensures
-    in omega (arith, ints, told, real, low, limit) in
+    in omega (arith, ints, stated, real, low, limit) in
     let offset : pos (c.in-Some.real - c.monotonic_now-monotonic.result)
     ≡ now.real_offset +ℤ nanoseconds c.args.by =
-    let high = c.if-real-monotonic.false in omega (arith, ints, told, real, amount, high) in (
+    let high = c.if-real-monotonic.false in omega (arith, ints, stated, real, amount, high) in (
       step_none c.args.self.now now c.args.by c.requires.early c.requires.forwarded
           (sym c.if-is_past_limit.ensures) above below,
       c.set_to.ensures

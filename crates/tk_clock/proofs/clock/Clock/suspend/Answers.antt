@@ -9,6 +9,6 @@ returns c =
     let state = c.args.self.now in
     let put : ReadBase → State = λ b. record state { base = b } in
     let same = ap put c.fallen_asleep.ensures
-    ∙ ap (λ (b : ReadBase). put (record b { asleep = true })) c.requires.forwarded.told in
+    ∙ ap (λ (b : ReadBase). put (record b { asleep = true })) c.requires.forwarded.stated in
     settled_effect state c.args.now.last Suspend (put c.fallen_asleep.result) c.settled.result refl
     same c.settled.ensures

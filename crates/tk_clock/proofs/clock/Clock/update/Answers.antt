@@ -8,6 +8,6 @@ pub returns : goal.returns
 returns c =
     let state = c.args.self.now in
     let same = ap (λ (b : ReadBase). let after : State = record state { base = b }
-    in after) c.requires.forwarded.told in
+    in after) c.requires.forwarded.stated in
     settled_effect state c.args.now.last Update (record state { base = c.args.now })
     c.settled.result refl same c.settled.ensures

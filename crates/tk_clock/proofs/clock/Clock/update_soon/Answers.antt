@@ -12,19 +12,19 @@ use Rattle.tk_clock.proofs.clock.Clock.update_soon.Goals as goal
 pub invariant_of-self : goal.invariant_of-self
 invariant_of-self c =
     let clock = c.self.inside in
-    let told = c.in-Some.ensures.0 in
+    let stated = c.in-Some.ensures.0 in
     subst (λ (b : ReadBase). IsRunning b clock.frequency clock.tick) (sym c.take_forward.ensures)
     (IsRunning-settled (the_view clock).base c.in-Some.now clock.frequency clock.tick Update
-    c.self.invariant (ap (λ (b : ReadBase). b.counter) told) (ap (λ (b : ReadBase). b.mult) told)
+    c.self.invariant (ap (λ (b : ReadBase). b.counter) stated) (ap (λ (b : ReadBase). b.mult) stated)
     c.in-Some.ensures.1 refl (sym c.if-is_past_limit.ensures))
 
 pub returns : goal.returns
 returns c =
     let before = the_view c.self.inside in
     let reading = c.args.reading in
-    let told = c.in-Some.ensures.0 in
+    let stated = c.in-Some.ensures.0 in
     let after : State = record before { base = c.in-Some.now } in
-    let same = ap (λ (b : ReadBase). let next : State = record before { base = b } in next) told in
+    let same = ap (λ (b : ReadBase). let next : State = record before { base = b } in next) stated in
     let result : Result State Refusal = Ok after in
     let settled = settled_effect before reading Update after result refl same
     (sym c.if-is_past_limit.ensures, refl) in
@@ -33,5 +33,5 @@ returns c =
       refl,
       ap (λ r. first_of r (state_value_refusal before reading Update)) early ∙ settled.0,
       ap (λ (b : ReadBase). let next : State = record before { base = b } in next)
-          (c.take_forward.ensures ∙ told),
+          (c.take_forward.ensures ∙ stated),
     ))

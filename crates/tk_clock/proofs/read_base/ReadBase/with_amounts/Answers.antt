@@ -57,13 +57,13 @@ returns c =
     let rated = rw (← c.self.view_is) at c.requires.rated in
     let amount = rw (← c.self.view_is) at c.requires.monotonic in
     let raw_amount = rw (← c.self.view_is) at c.requires.raw in
-    let told = ap (λ m. record after {
+    let stated = ap (λ m. record after {
       amount = m;
       raw_amount = units_of base.desc c.args.raw;
     }) amount.0
     ∙ ap (λ r. record after { raw_amount = r }) raw_amount.0 in
     rw (← c.self.view_is) (
-      told,
-      subst (λ (b : ReadBase). IsRated b) (sym told)
+      stated,
+      subst (λ (b : ReadBase). IsRated b) (sym stated)
           (IsRated-forwarded before c.args.reading steered rated),
     )

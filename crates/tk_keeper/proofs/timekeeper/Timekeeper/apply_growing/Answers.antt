@@ -2,7 +2,7 @@ use Rattle.std.proofs.Common.{◌≡◌, refl}
 use Rattle.std.specs.Prelude.{None}
 use Rattle.std.proofs.lemmas.Result.{err_from_is_err_and}
 use Rattle.tk_clock.specs.Refusal.{first_refusal}
-use Rattle.tk_clock.proofs.Refusals.{IsRefusal-told}
+use Rattle.tk_clock.proofs.Refusals.{IsRefusal-stated}
 use Rattle.tk_keeper.proofs.Commands.{first_refusal-clocks, IsApplied-grown}
 use Rattle.tk_keeper.proofs.timekeeper.Timekeeper.apply_growing.Given.{Over}
 use Rattle.tk_keeper.proofs.timekeeper.Timekeeper.apply_growing.Goals.{After-make_room}
@@ -13,7 +13,7 @@ returns-in_err-apply g c =
     let keeper = c.self.inside in
     let p = err_from_is_err_and c.from_residual.result c.from_residual.ensures.1 in
     rw (p.1, p.2) (
-      IsRefusal-told c.args.self.now.journal c.args.entry _ c.requires.free
+      IsRefusal-stated c.args.self.now.journal c.args.entry _ c.requires.free
           (first_refusal-clocks keeper.folded _ keeper.start keeper.clock keeper.entries.items
           c.args.self.now c.args.entry _ c.self.view_is c.requires.free c.self.invariant.0
           c.in_err-apply.ensures.0),

@@ -18,9 +18,9 @@ returns-then-place-from-lt-KEPT_EVERY g c = λ marked.
     let found : slice_get keeper.kept.items next ≡ Some kept =
     listed_item keeper.kept.items next kept (omega (arith, c.if-next-len.false, c.len.ensures))
     c.row.ensures in
-    let told = c.self.invariant.1.told next (from + 256) kept found
+    let stated = c.self.invariant.1.stated next (from + 256) kept found
     (omega (arith, c.if-folded-from-ne0.false)) in
-    let runs = told.run (omega arith) marked in
+    let runs = stated.run (omega arith) marked in
     let first : from + 256 - 256 ≡ from = omega arith in
     subst (λ (k : Keeper). AreRuns k.journal from place) c.self.view_is
     (λ end low high. subst (λ n. IsRun journal n end) first (runs end (omega arith)

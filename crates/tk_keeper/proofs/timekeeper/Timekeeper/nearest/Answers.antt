@@ -17,5 +17,5 @@ returns-clause-cursor g c =
     omega (arith, listed, c.requires, c.self.invariant.1.all, c.if-kept-eq0.false) in
     let found : slice_get keeper.kept.items i ≡ Some kept =
     listed_item keeper.kept.items i kept within c.row.ensures in
-    let told = c.self.invariant.1.told i there kept found (omega (arith, c.if-kept-eq0.false)) in
-    told.clock ∙ ap (λ (k : Keeper). state_of (prefix there k.journal)) c.self.view_is
+    let stated = c.self.invariant.1.stated i there kept found (omega (arith, c.if-kept-eq0.false)) in
+    stated.clock ∙ ap (λ (k : Keeper). state_of (prefix there k.journal)) c.self.view_is

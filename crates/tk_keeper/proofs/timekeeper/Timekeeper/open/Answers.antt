@@ -13,23 +13,23 @@ invariant_of-result g c =
     let reading = c.args.reading in
     let real = c.args.real in
     let clock = c.in_ok-clock.clock in
-    let told = c.in_ok-clock.ensures.answer in
+    let stated = c.in_ok-clock.ensures.answer in
     let same : journal_from 0 clock c.new.result.items ≡ opened counter reading real =
     ap (λ (es : List Entry). journal_from 0 clock es) c.new.ensures.items
-    ∙ ap (λ (s : State). journal_from 0 s []) told.1
+    ∙ ap (λ (s : State). journal_from 0 s []) stated.1
     ∙ ap (λ (o : Opening). let journal : Journal = record { opening = o; entries = [] }
     in journal) (sym (opened-folded counter reading real)) in
     let kept : IsKept (opened counter reading real) clock = record {
-      legal = IsLegal-opened counter reading real c.open.ensures.counter told.0;
-      running = told.1;
+      legal = IsLegal-opened counter reading real c.open.ensures.counter stated.0;
+      running = stated.1;
       room = omega arith;
       counted = omega arith;
     } in
     let none : HasKept (opened counter reading real) clock [] =
     record {
-      first = told.1;
+      first = stated.1;
       all = omega arith;
-      told = λ i place there found here. absurd (cc found);
+      stated = λ i place there found here. absurd (cc found);
     } in (
       subst (λ (j : Journal). IsKept j clock) (sym same) kept,
       rw c.new-2.ensures.items (subst (λ (j : Journal). HasKept j clock []) (sym same) none),

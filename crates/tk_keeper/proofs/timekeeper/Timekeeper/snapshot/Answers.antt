@@ -8,10 +8,10 @@ use Rattle.tk_keeper.proofs.timekeeper.Timekeeper.snapshot.Goals as goal
 
 pub returns-clause-clocks : goal.returns-clause-clocks
 returns-clause-clocks g c = λ clock reading.
-    let told = ap (λ (s : Snapshot). s.base) c.snapshot.ensures in
+    let stated = ap (λ (s : Snapshot). s.base) c.snapshot.ensures in
     let running = ap (λ (s : State). s.base) c.self.invariant.0.running in
     let same = ap (λ (k : Keeper). base_of k.journal) c.self.view_is in
-    ap (λ (b : ReadBase). base_value b clock reading) (told ∙ running ∙ same)
+    ap (λ (b : ReadBase). base_value b clock reading) (stated ∙ running ∙ same)
     ∙ base_value-base_of c.args.self.now.journal clock reading
 
 pub returns-clause-honest : goal.returns-clause-honest

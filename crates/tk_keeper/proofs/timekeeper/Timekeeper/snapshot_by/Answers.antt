@@ -10,9 +10,9 @@ use Rattle.tk_keeper.proofs.timekeeper.Timekeeper.snapshot_by.Goals as goal
 pub returns-clause-clocks : goal.returns-clause-clocks
 returns-clause-clocks g c = λ clock reading.
     let journal = c.args.self.now.journal in
-    let told = ap (λ (s : Snapshot). s.base) c.snapshot.ensures in
+    let stated = ap (λ (s : Snapshot). s.base) c.snapshot.ensures in
     let count = ap (λ (k : Keeper). k.journal.opening.count) c.self.view_is in
     let state = c.move_to.ensures.clock
     ∙ ap (λ n. state_of (prefix (c.args.front - n) journal)) count in
-    ap (λ (b : ReadBase). base_value b clock reading) (told ∙ ap (λ (s : State). s.base) state)
+    ap (λ (b : ReadBase). base_value b clock reading) (stated ∙ ap (λ (s : State). s.base) state)
     ∙ base_value-base_of (at_front c.args.front journal) clock reading

@@ -1,7 +1,7 @@
 use Rattle.std.proofs.Common.{Ok, get_or, sym, ap, subst, ◌∙◌, arith}
 use Rattle.std.specs.Prelude.{pos}
 use Rattle.std.proofs.lemmas.Result.{err_from_is_err_and}
-use Rattle.tk_keeper.specs.Trace.{TellsItems}
+use Rattle.tk_keeper.specs.Trace.{ConvertsItems}
 use Rattle.tk_keeper.proofs.Stretches.{fault_at, taken_back}
 use Rattle.tk_keeper.proofs.timekeeper.Timekeeper.trace_in.Goals as goal
 
@@ -11,7 +11,7 @@ returns-in_err-bring_to g c =
     c.from_residual-in_err-bring_to.ensures.1 in
     rw (p.1, p.2) (fault_at c.args.self.now.journal c.args.clock c.args.fronts.now
     c.args.stamps.now c.runs.values.items c.runs.first _ c.runs-test.true c.runs.invariant.so_far
-    (c.in_err-bring_to.ensures.told c.args.clock (get_or c.args.stamps.now c.runs.first 0)))
+    (c.in_err-bring_to.ensures.converts c.args.clock (get_or c.args.stamps.now c.runs.first 0)))
 
 pub trace_run-requires-clause-so_far : goal.trace_run-requires-clause-so_far
 trace_run-requires-clause-so_far g c k early =
@@ -22,7 +22,7 @@ trace_run-requires-clause-so_far g c k early =
 
 pub runs-preserved : goal.runs-preserved
 runs-preserved g c =
-    let e = c.in_ok-bring_to.ensures.told in record {
+    let e = c.in_ok-bring_to.ensures.converts in record {
       made = omega (arith, c.in_ok-first.ensures.1, c.as_mut_slice-out.ensures.len);
       inside = c.make_room.ensures.inside;
       room = c.make_room.ensures.room;
@@ -36,7 +36,7 @@ runs-preserved g c =
           ))
           (omega (arith, c.in_ok-first.ensures.1, c.as_mut_slice-out.ensures.len))));
       cursor = c.bring_to.ensures.cursor;
-      told =
-          subst (λ f. TellsItems c.args.self.now.journal f c.bring_to.new.told.1.base) (sym e.0)
+      converts =
+          subst (λ f. ConvertsItems c.args.self.now.journal f c.bring_to.new.current.1.base) (sym e.0)
           e.1;
     }

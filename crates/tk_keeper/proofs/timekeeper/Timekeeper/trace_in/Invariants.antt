@@ -1,6 +1,6 @@
 use Rattle.std.proofs.Common.{◌-◌, ◌≤◌, length}
 use Rattle.tk_keeper.specs.Past.{IsAt}
-use Rattle.tk_keeper.specs.Trace.{AreValues, TellsItems}
+use Rattle.tk_keeper.specs.Trace.{AreValues, ConvertsItems}
 use Rattle.tk_keeper.proofs.timekeeper.Timekeeper.trace_in.Given as goal
 
 abbrev pub invariant-runs : goal.invariant-runs
@@ -10,7 +10,7 @@ invariant-runs g l = record {
   room : length l.stamps ≤ l.values.cap;
   so_far : AreValues l.self.journal l.clock l.fronts l.stamps l.first l.values.items;
   cursor : IsAt l.self.journal l.cursor;
-  told : TellsItems l.self.journal l.told.0 l.told.1.base;
+  converts : ConvertsItems l.self.journal l.current.0 l.current.1.base;
 }
 
 abbrev pub decreases-runs : goal.decreases-runs

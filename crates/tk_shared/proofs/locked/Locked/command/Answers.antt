@@ -86,7 +86,7 @@ at_rest g c =
 pub returns-in-Err-clause-answer : goal.returns-in-Err-clause-answer
 returns-in-Err-clause-answer g c =
     let old = refused_caller g c in
-    let told = refused g.L.Named.page g.L.Named.latch (refused_by g c) c.self.invariant.0 old
+    let stated = refused g.L.Named.page g.L.Named.latch (refused_by g c) c.self.invariant.0 old
     c.read_after.result c.args.cmd c.tell.ensures.begins c.in-Err.refusal
     c.in-Err.ensures.answer.0 in
     let new : Journal × ℕ → Known = λ p. record old { reads = p.1; seen = p.0 } in
@@ -96,7 +96,7 @@ returns-in-Err-clause-answer g c =
     let guarded : Journal × Journal → Guarded = λ p. record { history = p.0; journal = p.1 } in (
       subst (λ (k : Known). IsRefused k (new (sight c.tell.new.viewer)) c.args.cmd c.in-Err.refusal)
           c.caller.view_is
-          (subst (λ (p : Journal × ℕ). IsRefused old (new p) c.args.cmd c.in-Err.refusal) (sym seen) told),
+          (subst (λ (p : Journal × ℕ). IsRefused old (new p) c.args.cmd c.in-Err.refusal) (sym seen) stated),
       ap guarded (λ i. (history i, ap (λ (k : Keeper). k.journal) c.in-Err.ensures.answer.1 i))
           ∙ c.self.view_is,
     )
@@ -106,7 +106,7 @@ returns-in-Err-clause-reading g c =
     let old = refused_caller g c in
     let held = refused_by g c in
     let answer = c.read_after.result in
-    let told = reason g.L.Named.page g.L.Named.latch held c.self.invariant.0 old answer c.args.cmd
+    let stated = reason g.L.Named.page g.L.Named.latch held c.self.invariant.0 old answer c.args.cmd
     c.tell.ensures.begins c.in-Err.refusal c.in-Err.ensures.answer.0 in
     let low = low_bits g.L.Named.page g.L.Named.latch held c.self.invariant.0 old answer c.args.cmd
     c.tell.ensures.begins in
@@ -118,7 +118,7 @@ returns-in-Err-clause-reading g c =
       from = moment_of c.look.result.now;
       reading = bit_and answer held.mask;
       read = record { answer = answer; given = c.read_after.ensures.given; kept = low };
-      reason = told;
+      reason = stated;
     } in
     subst
     (λ (p : Known × Journal).
@@ -162,12 +162,12 @@ invariant_of-self g c =
 pub invariant_of-self-2 : goal.invariant_of-self-2
 invariant_of-self-2 g c =
     let published = shown g c in
-    let told = c.tell-3.ensures.writer ∙ latched g c in (
+    let stated = c.tell-3.ensures.writer ∙ latched g c in (
       subst (IsHeld g.L.Named.page g.L.Named.latch)
           (λ i. record {
             kept = sym c.in-Ok.ensures.answer.1 i;
             shown = sym published i;
-            latched = sym told i;
+            latched = sym stated i;
             mask = c.self.inside.mask;
             total = sym c.add.ensures.total i;
           })
@@ -198,7 +198,7 @@ pub returns-clause-answer : goal.returns-clause-answer
 returns-clause-answer g c =
     let old = caller_of g c in
     let answer = c.in-Ok.ensures.answer in
-    let told = accepted g.L.Named.page g.L.Named.latch (held_by g c) c.self.invariant.0 old
+    let stated = accepted g.L.Named.page g.L.Named.latch (held_by g c) c.self.invariant.0 old
     c.read_after.result c.args.cmd c.publish_for.ensures.begins c.in-Ok.number c.tell-2.ensures.extends
     answer.0 (answer.2 ∙ ap accepted_count answer.1) g.L.Named.notice c.accept.new.self
     c.tell-4.new.watcher (at_rest g c) c.tell-4.ensures.told in
@@ -219,7 +219,7 @@ returns-clause-answer g c =
     c.args.cmd c.in-Ok.number)
     c.caller.view_is
     (subst (λ (p : ℕ × Journal × Learnt). IsAccepted old (new p) c.args.cmd c.in-Ok.number)
-    (λ i. (sym reads i, sym seen i, sym learnt i)) told)
+    (λ i. (sym reads i, sym seen i, sym learnt i)) stated)
 
 pub returns-clause-reading : goal.returns-clause-reading
 returns-clause-reading g c =

@@ -17,8 +17,8 @@ accepted : (journal : Journal) (clock now : State) (front next reading : ℕ) (c
     (let entry : Entry = record { who = 0; reading = reading; cmd = cmd } in
     (now ≡ state_of (followed_by journal entry))
     × (next ≡ accepted_count (followed_by journal entry)))
-accepted journal clock now front next reading cmd running known free told counted = (
-  told ∙ state_of-followed_by journal clock 0 reading cmd running free,
+accepted journal clock now front next reading cmd running known free stated counted = (
+  stated ∙ state_of-followed_by journal clock 0 reading cmd running free,
   omega (
     arith,
     known,
@@ -30,10 +30,10 @@ accepted journal clock now front next reading cmd running known free told counte
 pub publish-requires-clause-snapshot : goal.publish-requires-clause-snapshot
 publish-requires-clause-snapshot g c =
     let desk = c.self.inside in
-    let told = accepted desk.publisher.journal desk.clock _ desk.front _ _ _ c.self.invariant.0
+    let stated = accepted desk.publisher.journal desk.clock _ desk.front _ _ _ c.self.invariant.0
     c.self.invariant.1 c.in_ok-apply.ensures.0 c.in_ok-apply.ensures.1 c.in-Some.ensures.1 in
     c.snapshot-snapshot.ensures
-    ∙ (λ i. record { front = told.1 i; base = ap (λ (s : State). s.base) told.0 i })
+    ∙ (λ i. record { front = stated.1 i; base = ap (λ (s : State). s.base) stated.0 i })
 
 pub invariant_of-self-2 : goal.invariant_of-self-2
 invariant_of-self-2 g c =

@@ -5,6 +5,6 @@ use Rattle.tk_shared_tests.proofs.tests.latch.changes.publication.Goals as goal
 
 pub returns : goal.returns
 returns c =
-    subst (λ told. IfSome told (λ s. (s.front ≡ c.args.number) × (s.base.counter ≡ c.args.desc)))
+    subst (λ stated. IfSome stated (λ s. (s.front ≡ c.args.number) × (s.base.counter ≡ c.args.desc)))
     (sym c.from_words.ensures.value)
     (restored_parts c.args.desc c.words_at.result c.args.number c.words_at.ensures)

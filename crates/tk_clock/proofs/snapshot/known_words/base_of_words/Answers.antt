@@ -1,6 +1,6 @@
 use Rattle.std.proofs.Common.{arith}
 use Rattle.tk_clock.proofs.Words.{in_range}
-use Rattle.tk_clock.proofs.snapshot.known_words.base_told.Goals as goal
+use Rattle.tk_clock.proofs.snapshot.known_words.base_of_words.Goals as goal
 
 pub overflow_cast-result : goal.overflow_cast-result
 overflow_cast-result c =
