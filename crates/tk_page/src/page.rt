@@ -43,8 +43,9 @@
 //! 2^63 - 1 stores of the words. Step 1 uses one, so there can be 2^63 - 2 publications.
 ghost use Rattle.std.specs.Prelude.{◌≡◌, IfOk, length};
 ghost use Rattle.crossbeam_utils.specs.Seq.{cell_view};
-ghost use Rattle.tk_page.specs.declared.view.View.TheVariants.{Fresh, Publishing};
+ghost use Rattle.tk_page.specs.declared.view.View.TheVariants.{Comparing, Fresh, Publishing, Viewing};
 ghost use Rattle.tk_page.specs.History.{Begins, IsOpening, opened_by};
+ghost use Rattle.tk_page.specs.Views.{journal_of, reads_of};
 
 use crate::page_error::PageError;
 use crate::publisher::Publisher;
@@ -117,8 +118,7 @@ impl Page {
         ensures begins { Begins viewer.old.journal publisher.old.journal }
     {
         // Step 7.
-        let noted = self.cell.split_pass::<Copies>(&mut viewer.pass);
-        self.cell.join_pass::<Notes>(&mut publisher.pass, noted);
+        note(&self.cell, &mut publisher.pass, &mut viewer.pass);
         let words = self.cell.load_as::<Compares, R>(rt, &mut publisher.pass);
         self.extend(publisher, viewer, words[0]);
     }
@@ -140,6 +140,24 @@ impl Page {
         viewer.pass = whole;
         viewer.front = front;
     }
+}
+
+/// Notes in the publisher's pass what a viewer's pass knows. It touches no word of the page.
+#[inline]
+pub(crate) fn note(cell: &Cell, publisher: &mut Pass, viewer: &mut Pass)
+    requires publisher { publisher.old.table_id ≡ cell.now.table.shared.table_id }
+    requires viewer { viewer.old.table_id ≡ cell.now.table.shared.table_id }
+    requires publishing { cell_view publisher.old ≡ Publishing (journal_of (cell_view publisher.old)) }
+    requires viewing { let known = cell_view viewer.old in
+        known ≡ Viewing (reads_of known) (journal_of known) }
+    ensures publisher { publisher.new.table_id ≡ publisher.old.table_id }
+    ensures viewer { viewer.new.table_id ≡ viewer.old.table_id }
+    ensures noted { cell_view publisher.new
+        ≡ Comparing (journal_of (cell_view publisher.old)) (journal_of (cell_view viewer.old)) }
+    ensures same { cell_view viewer.new ≡ cell_view viewer.old }
+{
+    let noted = cell.split_pass::<Copies>(viewer);
+    cell.join_pass::<Notes>(publisher, noted);
 }
 
 /// Makes the first pass the publisher's, by a store of the words that the cell already has.

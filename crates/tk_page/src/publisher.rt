@@ -6,7 +6,7 @@ ghost use Rattle.tk_page.specs.declared.view.View.TheVariants.{Comparing, Publis
 ghost use Rattle.tk_page.specs.History.{Begins};
 ghost use Rattle.tk_page.specs.Views.{journal_of, noted_of};
 
-use crate::page::Page;
+use crate::page::{Page, note};
 use crate::rule::{Cell, Copies, NamesEntry, Notes, Pass, Publishes};
 use crate::viewer::Viewer;
 use std::marker::{Brand, Model};
@@ -50,7 +50,7 @@ impl Publisher {
     {
         let own = page.cell.split_pass::<Copies>(&mut self.pass);
         page.cell.join_pass::<Notes>(&mut self.pass, own);
-        publish_entry::<Brand, R>(rt, &page.cell, &mut self.pass, entry, snapshot);
+        publish_entry::<Brand, R>(rt, &page.cell, &mut self.pass, entry, &snapshot);
     }
 
     /// Does what `publish` does, and gives a viewer the longer journal. The viewer's former journal
@@ -62,19 +62,18 @@ impl Publisher {
         rt: &R,
         page: &Page,
         entry: Entry,
-        snapshot: Snapshot,
+        snapshot: &Snapshot,
         viewer: &mut Viewer,
     )
         requires page { self.old.page ≡ page.now }
         requires viewer { viewer.old.page ≡ page.now }
-        requires snapshot { snapshot ≡ snapshot_of (followed_by self.old.journal entry) }
+        requires snapshot { snapshot.now ≡ snapshot_of (followed_by self.old.journal entry) }
         ensures journal { self.new ≡ record self.old { journal = followed_by self.old.journal entry } }
         ensures viewer { viewer.new
             ≡ record viewer.old { journal = followed_by self.old.journal entry } }
         ensures begins { Begins viewer.old.journal self.old.journal }
     {
-        let noted = page.cell.split_pass::<Copies>(&mut viewer.pass);
-        page.cell.join_pass::<Notes>(&mut self.pass, noted);
+        note(&page.cell, &mut self.pass, &mut viewer.pass);
         publish_entry::<Brand, R>(rt, &page.cell, &mut self.pass, entry, snapshot);
         page.extend(self, viewer, snapshot.front());
     }
@@ -87,13 +86,13 @@ fn publish_entry<E: NamesEntry, R: Wait>(
     cell: &Cell,
     pass: &mut Pass,
     entry: Entry,
-    snapshot: Snapshot,
+    snapshot: &Snapshot,
 )
     requires cell { pass.old.table_id ≡ cell.now.table.shared.table_id }
     requires view { cell_view pass.old
         ≡ Comparing (journal_of (cell_view pass.old)) (noted_of (cell_view pass.old)) }
     requires entry { E.entry ≡ entry }
-    requires snapshot { snapshot
+    requires snapshot { snapshot.now
         ≡ snapshot_of (followed_by (journal_of (cell_view pass.old)) entry) }
     ensures cell { pass.new.table_id ≡ pass.old.table_id }
     ensures view { cell_view pass.new

@@ -101,7 +101,7 @@ impl<L: Named, C: Counter> Locked<L, C> {
         let entry = Entry { who, reading, cmd };
         let snapshot = self.keeper.snapshot();
         let (publisher, viewer) = (&mut self.publisher, &mut caller.viewer);
-        publisher.publish_for(rt, page, entry, snapshot, viewer);
+        publisher.publish_for(rt, page, entry, &snapshot, viewer);
         show_on_latch(latch, &mut self.writer, snapshot);
         self.announcer.accept(notice, reading);
         latch.tell(&mut self.writer, &mut caller.reader);

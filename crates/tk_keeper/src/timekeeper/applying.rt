@@ -31,6 +31,7 @@ impl<A: Allocator + Copy> Timekeeper<A> {
     /// - `Refusal::Range` if a clock would reach its limit.
     /// - `Refusal::Invalid` if REALTIME would fall below MONOTONIC or beyond what may be set.
     /// - `Refusal::Memory` if `spare()` is 0 and the memory for the entry can't be allocated.
+    #[inline(always)]
     pub fn apply(&mut self, who: u32, reading: u64, cmd: Command) -> Result<u64, Refusal>
         ensures answer { let entry : Entry = record { who = who; reading = reading; cmd = cmd } in
             MatchResult result
@@ -92,6 +93,7 @@ impl<A: Allocator + Copy> Timekeeper<A> {
     /// Applies a command and enters it in the journal, which has room for it. Returns its number.
     ///
     /// The clocks are changed in place. A refused command leaves them as they were.
+    #[inline(always)]
     fn enter(&mut self, entry: Entry) -> Result<u64, Refusal>
         requires room { 0 < self.old.spare }
         requires free { is_full self.old.journal ≡ false }
