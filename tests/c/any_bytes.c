@@ -19,17 +19,8 @@
 
 enum { ROUNDS = 1000000 };
 
-static uint64_t round_number;
-
 /* The number of times that each code was returned. */
 static uint64_t met[TKC_BAD_RATE + 1];
-
-void fail(const char *what, const char *file, int line)
-{
-	fprintf(stderr, "%s:%d: round %" PRIu64 ": not so: %s\n", file, line,
-		round_number, what);
-	exit(EXIT_FAILURE);
-}
 
 uint32_t saw(uint32_t code)
 {
@@ -78,7 +69,8 @@ int main(int argc, char **argv)
 		seed(strtoull(argv[2], NULL, 10) | 1);
 	make_rooms();
 	check(tkc_version() == TKC_VERSION);
-	for (round_number = 0; round_number < rounds; round_number++)
+	case_name = "round";
+	for (case_number = 0; case_number < rounds; case_number++)
 		do_round();
 	printf("%" PRIu64 " rounds of random numbers: each answer is sound\n",
 	       rounds);

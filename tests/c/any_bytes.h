@@ -3,23 +3,12 @@
 #ifndef ANY_BYTES_H
 #define ANY_BYTES_H
 
+#include "check.h"
 #include "random.h"
 #include "rooms.h"
 
-#include <stdbool.h>
 #include <stdint.h>
 #include <tkcore.h>
-
-#define COUNT_OF(array) (sizeof(array) / sizeof(*(array)))
-
-/* Ends the program if a condition doesn't hold. */
-#define check(holds) \
-	do { \
-		if (!(holds)) \
-			fail(#holds, __FILE__, __LINE__); \
-	} while (0)
-
-void fail(const char *what, const char *file, int line);
 
 /* Counts a code that a call returned, and returns it. */
 uint32_t saw(uint32_t code);
@@ -32,10 +21,6 @@ void some_counter(struct tkc_counter *counter);
 
 /* Reads clocks of a snapshot, one by one and in a list. */
 void try_reads(const struct tkc_snapshot *of);
-
-/* Returns whether a snapshot has these words. */
-bool is_same_snapshot(const struct tkc_snapshot *snapshot,
-		      const uint64_t words[TKC_WORDS]);
 
 /* Make the snapshot or the clocks that words represent. */
 void try_snapshot_words(const struct tkc_counter *of,

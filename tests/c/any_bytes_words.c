@@ -5,15 +5,6 @@
 
 #include <string.h>
 
-bool is_same_snapshot(const struct tkc_snapshot *snapshot,
-		      const uint64_t words[TKC_WORDS])
-{
-	uint64_t found[TKC_WORDS];
-
-	tkc_snapshot_words(found, snapshot);
-	return !memcmp(found, words, sizeof(found));
-}
-
 static void spoil(uint64_t words[TKC_WORDS])
 {
 	for (uint64_t n = below(3); n > 0; n--) {

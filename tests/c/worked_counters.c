@@ -1,0 +1,80 @@
+/* SPDX-License-Identifier: MIT OR Apache-2.0 */
+/* Makes counters from numbers and from frequencies. */
+#include "worked_rows.h"
+
+struct description {
+	uint32_t bits, mult, shift, code;
+};
+
+struct rate {
+	uint32_t bits;
+	uint64_t hz;
+	uint32_t maxsec, code, mult, shift;
+};
+
+/* Checks what a call wrote: at TKC_OK a counter that returns these numbers, and
+ * otherwise nothing. */
+static void check_made(const struct tkc_counter *out, uint32_t code,
+			  uint32_t bits, uint32_t mult, uint32_t shift)
+{
+	uint32_t found[3] = { 7, 7, 7 };
+
+	if (code) {
+		check(is_old(out));
+		return;
+	}
+	tkc_counter_numbers(&found[0], &found[1], &found[2], out);
+	check(found[0] == bits && found[1] == mult && found[2] == shift);
+}
+
+static void try_numbers(const struct description *row)
+{
+	struct tkc_counter out;
+
+	make_old(&out);
+	check(tkc_counter_new(&out, row->bits, row->mult, row->shift) == row->code);
+	check_made(&out, row->code, row->bits, row->mult, row->shift);
+}
+
+static void try_rate(const struct rate *row)
+{
+	struct tkc_counter out;
+
+	make_old(&out);
+	check(tkc_counter_from_hz(&out, row->bits, row->hz, row->maxsec) ==
+	      row->code);
+	check_made(&out, row->code, row->bits, row->mult, row->shift);
+}
+
+/* A refused row may have later faults too: its code is that of the first. */
+static const struct description descriptions[] = {
+	{ 32, 16777216, 24, TKC_OK },
+	{ 8, 256, 0, TKC_OK },
+	{ 64, 3869339906, 32, TKC_OK },
+	{ 7, 255, 33, TKC_BAD_BITS },
+	{ 65, 16777216, 24, TKC_BAD_BITS },
+	{ 32, 255, 33, TKC_BAD_SHIFT },
+	{ 32, 255, 24, TKC_BAD_MULT },
+	{ 32, 3869339907, 24, TKC_BAD_ADJUST },
+};
+
+/* The numbers are those of the kernel's clocks_calc_mult_shift. */
+static const struct rate rates[] = {
+	{ 32, 24000000, 600, TKC_OK, 699050667, 24 },
+	{ 56, 24000000, 600, TKC_OK, 699050667, 24 },
+	{ 64, 4294967295, 1, TKC_OK, 1000000000, 32 },
+	{ 64, 4294967295, 600, TKC_OK, 3906250, 24 },
+	{ 7, 0, 0, TKC_BAD_BITS, 0, 0 },
+	{ 65, 4318967296, 600, TKC_BAD_BITS, 0, 0 },
+	{ 32, 0, 600, TKC_BAD_RATE, 0, 0 },
+	{ 32, 24000000, 601, TKC_BAD_RATE, 0, 0 },
+	{ 32, 4294967296, 1, TKC_BAD_RATE, 0, 0 },
+	/* 2^32 above 24 MHz */
+	{ 32, 4318967296, 600, TKC_BAD_RATE, 0, 0 },
+};
+
+void try_counters(void)
+{
+	try_each(descriptions, try_numbers);
+	try_each(rates, try_rate);
+}
