@@ -5,7 +5,7 @@ use tk_clock::{ReadError, Refusal};
 use tk_counter::DescError;
 
 /// Names what a call returns, with the numbers of `enum tkc_code` in include/tkcore.h.
-#[derive(Clone, Copy, Debug, PartialEq, Eq)]
+#[derive(Clone, Copy)]
 pub enum Code {
     /// The call is done.
     Done = 0,

@@ -2,7 +2,7 @@ use tk_clock::Clock;
 
 /// Holds running clocks and the number of commands that they accepted: `struct tkc_clock` in C.
 #[repr(C)]
-#[derive(Clone, Copy, Debug)]
+#[derive(Clone, Copy)]
 pub struct CountedClock {
     /// The clocks.
     pub clock: Clock,

@@ -36,6 +36,3 @@ pub use version::tkc_version;
 pub use words::{
     tkc_clock_from_words, tkc_clock_words, tkc_snapshot_from_words, tkc_snapshot_words,
 };
-
-#[cfg(test)]
-mod tests;

@@ -164,7 +164,7 @@ fn convert_into_none(clock: u32) -> u32
 }
 
 /// Converts stamps as `tkc_snapshot_convert` does, for lists that are slices.
-pub(crate) fn convert(
+fn convert(
     out: &mut [u64],
     done: &mut usize,
     snapshot: &Snapshot,

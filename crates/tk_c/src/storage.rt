@@ -20,7 +20,7 @@ const _: () = prove!(size_of::<CountedClock>() == size_of::<ClockStorage>());
 /// Describes the memory that a counter is written to: `struct tkc_counter`. A cycle lasts
 /// `mult / 2^shift` ns.
 #[repr(C)]
-#[derive(Clone, Copy, Debug, PartialEq, Eq)]
+#[derive(Clone, Copy)]
 pub struct CounterStorage {
     /// The bits of a reading, 8 to 64 once a counter is written.
     pub bits: u32,
@@ -32,7 +32,7 @@ pub struct CounterStorage {
 
 /// Describes the part of a snapshot and of clocks that reads use, in the units of tk_clock.
 #[repr(C)]
-#[derive(Clone, Copy, Debug, PartialEq, Eq)]
+#[derive(Clone, Copy)]
 pub struct BaseStorage {
     /// The counter.
     pub counter: CounterStorage,
@@ -60,7 +60,7 @@ pub struct BaseStorage {
 
 /// Describes the memory that a snapshot is written to: `struct tkc_snapshot`.
 #[repr(C)]
-#[derive(Clone, Copy, Debug, PartialEq, Eq)]
+#[derive(Clone, Copy)]
 pub struct SnapshotStorage {
     /// The number of accepted commands.
     pub front: u64,
@@ -70,7 +70,7 @@ pub struct SnapshotStorage {
 
 /// Describes the memory that clocks are written to: `struct tkc_clock`.
 #[repr(C)]
-#[derive(Clone, Copy, Debug, PartialEq, Eq)]
+#[derive(Clone, Copy)]
 pub struct ClockStorage {
     /// What reads use.
     pub base: BaseStorage,
@@ -84,7 +84,7 @@ pub struct ClockStorage {
 
 /// Describes the memory that a time is written to: `struct tkc_time`.
 #[repr(C)]
-#[derive(Clone, Copy, Debug, PartialEq, Eq)]
+#[derive(Clone, Copy)]
 pub struct TimeStorage {
     /// Whole seconds.
     pub sec: i64,
