@@ -17,6 +17,11 @@ fn assert_same<T: PartialEq + Debug>(rt: &impl Abort, found: &T, wanted: &T) {
     assert_eq!(rt; found, wanted);
 }
 
+/// Stops the test as `assert_same` does, and prints the row of the test's table.
+fn assert_same_at<R: Debug, T: PartialEq + Debug>(rt: &impl Abort, row: &R, found: &T, wanted: &T) {
+    assert_eq!(rt; found, wanted, "at {row:?}");
+}
+
 /// Returns a time in seconds and nanoseconds.
 fn time(sec: i64, nsec: u32) -> Timespec {
     Timespec { sec, nsec }

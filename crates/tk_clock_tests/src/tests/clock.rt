@@ -12,7 +12,7 @@ mod steering;
 mod updates;
 mod words;
 
-use super::{are_distinct, assert_same, time};
+use super::{are_distinct, assert_same, assert_same_at, time};
 use std::process::Abort;
 use std::test::Fail;
 use tk_clock::{Clock, ClockId, Command, Refusal, Timespec};
@@ -38,15 +38,16 @@ fn answers(
     cmd: Command,
     answer: Result<(), Refusal>,
 ) {
+    let row = (cmd, reading);
     let before = clock.snapshot(0).words();
-    assert_eq!(rt; clock.apply(reading, cmd), answer, "{cmd:?} at {reading}");
+    assert_same_at(rt, &row, &clock.apply(reading, cmd), &answer);
     if answer.is_err() {
-        assert_eq!(rt; clock.snapshot(0).words(), before, "{cmd:?} at {reading}");
+        assert_same_at(rt, &row, &clock.snapshot(0).words(), &before);
     }
 }
 
 /// Reads a clock and checks its time.
 fn reads(rt: &impl Abort, clock: &Clock, id: ClockId, reading: u64, value: Timespec) {
     let read = clock.snapshot(0).get(id, reading);
-    assert_eq!(rt; read, Ok(value), "{id:?} at {reading}");
+    assert_same_at(rt, &(id, reading), &read, &Ok(value));
 }

@@ -7,7 +7,7 @@ mod frequencies;
 mod gaps;
 mod multipliers;
 
-use super::{are_distinct, assert_same};
+use super::{are_distinct, assert_same, assert_same_at};
 use std::test::Fail;
 use tk_counter::CounterDesc;
 use tk_test_support::{nanosecond_counter, next_random};

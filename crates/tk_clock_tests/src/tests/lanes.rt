@@ -7,7 +7,7 @@ mod values;
 
 ghost use Rattle.std.specs.Prelude.{◌≡◌, vec_len, IfOk};
 
-use super::{assert_same, time};
+use super::{assert_same, assert_same_at, time};
 use std::alloc::{AllocError, Global};
 use std::process::Abort;
 use std::test::Fail;

@@ -1,4 +1,4 @@
-use super::{are_distinct, assert_same, opened, time};
+use super::{are_distinct, assert_same, assert_same_at, opened, time};
 use std::test::Fail;
 use tk_clock::{Clock, Command, Entry, ReadError, Refusal, Snapshot};
 use tk_test_support::CLOCKS;
@@ -107,10 +107,11 @@ fn a_clone_of_the_clocks_reads_and_goes_on_as_they_do(rt: HostRuntime) -> Result
             copy.apply(reading, cmd)?;
             own.apply(reading, cmd)?;
         }
-        assert_eq!(rt;
-            copy.snapshot(9).words(),
-            own.snapshot(9).words(),
-            "{cmd:?}"
+        assert_same_at(
+            &rt,
+            &cmd,
+            &copy.snapshot(9).words(),
+            &own.snapshot(9).words(),
         );
     }
     Ok(())

@@ -1,4 +1,4 @@
-use super::{assert_same, nanosecond_counter, opened, time, wide_counter};
+use super::{assert_same, assert_same_at, nanosecond_counter, opened, time, wide_counter};
 use std::test::Fail;
 use tk_clock::{Clock, Refusal};
 
@@ -58,7 +58,7 @@ fn an_opening_has_a_reading_and_a_settable_time(rt: HostRuntime) -> Result<(), F
     ] {
         let refusal = Clock::open(desc, reading, real).err();
         let wanted = if opens { None } else { Some(Refusal::Invalid) };
-        assert_eq!(rt; refusal, wanted, "{real:?} at {reading}");
+        assert_same_at(&rt, &(real, reading), &refusal, &wanted);
     }
     assert!(rt; Clock::open(wide_counter()?, u64::MAX, time(0, 0)).is_ok());
     Ok(())

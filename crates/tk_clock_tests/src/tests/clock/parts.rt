@@ -1,4 +1,4 @@
-use super::{assert_same, nanosecond_counter, opened, time};
+use super::{assert_same, assert_same_at, nanosecond_counter, opened, time};
 use std::test::Fail;
 use tk_clock::{Clock, Command, Refusal, Snapshot};
 
@@ -48,11 +48,8 @@ fn no_clocks_have_another_rate_than_their_multiplier(rt: HostRuntime) -> Result<
         let words = [0, 0, mult, 0, 0, 0, 0, 0, raw_frac, 0];
         let snapshot = Snapshot::from_words(desc, words).ok_or("the words are in range")?;
         let clock = Clock::from_snapshot(snapshot, frequency, tick);
-        assert_eq!(rt;
-            clock.is_some(),
-            made,
-            "{mult} {frequency} {tick} {raw_frac}"
-        );
+        let row = (mult, frequency, tick, raw_frac);
+        assert_same_at(&rt, &row, &clock.is_some(), &made);
     }
     Ok(())
 }

@@ -1,6 +1,6 @@
 //! Tests the first reading at which a clock has reached a time, at values worked out manually.
 
-use super::{nanosecond_counter, opened, time, wide_counter};
+use super::{assert_same_at, nanosecond_counter, opened, time, wide_counter};
 use std::process::Abort;
 use std::test::Fail;
 use tk_clock::{Clock, ClockId, Command, Timespec};
@@ -9,7 +9,7 @@ use tk_counter::CounterDesc;
 /// Checks the first reading at which a clock has reached a time.
 fn reaches(rt: &impl Abort, clock: &Clock, id: ClockId, at: Timespec, first: Option<u64>) {
     let found = clock.snapshot(0).reading_at(id, at);
-    assert_eq!(rt; found, first, "{id:?} at {at:?}");
+    assert_same_at(rt, &(id, at), &found, &first);
 }
 
 #[test]

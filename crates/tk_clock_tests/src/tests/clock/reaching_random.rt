@@ -1,7 +1,7 @@
 //! Tests the first reading at which a clock has reached a time against a search by halves, on
 //! snapshots of random journals, which are the same in each run.
 
-use super::time;
+use super::{assert_same_at, time};
 use crate::tests::random::{clock_of, numbers};
 use std::process::Abort;
 use std::test::Fail;
@@ -82,7 +82,7 @@ fn agrees(rt: &impl Abort, snapshot: &Snapshot, clock: ClockId, nanos: u64) -> b
     let at = timespec(nanos);
     let found = snapshot.reading_at(clock, at);
     let wanted = searched(snapshot, clock, u128::from(nanos));
-    assert_eq!(rt; found, wanted, "{clock:?} at {at:?} of {snapshot:?}");
+    assert_same_at(rt, &(clock, at, snapshot), &found, &wanted);
     found.is_some()
 }
 
@@ -120,11 +120,9 @@ fn the_first_reading_agrees_with_a_search(rt: HostRuntime) -> Result<(), Fail> {
             }
         }
     }
-    assert!(rt; reached > 10_000, "{reached} of {tried} were reached");
-    assert!(rt;
-        tried.wrapping_sub(reached) > 5_000,
-        "{reached} of {tried} were reached"
-    );
+    let missed = tried.wrapping_sub(reached);
+    let both = (reached > 10_000, missed > 5_000);
+    assert_same_at(&rt, &(reached, missed), &both, &(true, true));
     Ok(())
 }
 
@@ -140,19 +138,14 @@ fn a_time_that_was_read_is_given_again(rt: HostRuntime) -> Result<(), Fail> {
                 continue;
             };
             let first = snapshot.reading_at(clock, read).ok_or("the time was read")?;
-            assert_eq!(rt;
-                snapshot.get(clock, first),
-                Ok(read),
-                "{clock:?} at {reading}"
-            );
+            let row = (clock, reading);
+            assert_same_at(&rt, &row, &snapshot.get(clock, first), &Ok(read));
             let far = desc.gap(snapshot.last(), reading);
-            assert!(rt;
-                desc.gap(snapshot.last(), first) <= far,
-                "{clock:?} at {reading}"
-            );
+            let soon = desc.gap(snapshot.last(), first) <= far;
+            assert_same_at(&rt, &row, &soon, &true);
             given = given.wrapping_add(1);
         }
     }
-    assert!(rt; given > 1_000, "{given} times were given again");
+    assert_same_at(&rt, &given, &(given > 1_000), &true);
     Ok(())
 }

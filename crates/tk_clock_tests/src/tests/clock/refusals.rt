@@ -1,4 +1,4 @@
-use super::{answers, opened, time, wide_counter};
+use super::{answers, assert_same_at, opened, time, wide_counter};
 use std::test::Fail;
 use tk_clock::{Clock, ClockId, Command, ReadError, Refusal};
 use tk_test_support::CLOCKS;
@@ -29,7 +29,7 @@ fn no_clock_is_read_above_the_mask(rt: HostRuntime) -> Result<(), Fail> {
     let snapshot = opened()?.snapshot(0);
     for id in CLOCKS {
         let read = snapshot.get(id, 4_294_967_296);
-        assert_eq!(rt; read, Err(ReadError::Invalid), "{id:?}");
+        assert_same_at(&rt, &id, &read, &Err(ReadError::Invalid));
     }
     Ok(())
 }
@@ -47,7 +47,7 @@ fn a_clock_is_not_read_at_its_limit(rt: HostRuntime) -> Result<(), Fail> {
             Ok(time(946_079_999, 998_296_064)),
         ),
     ] {
-        assert_eq!(rt; snapshot.get(id, reading), value, "{id:?} at {reading}");
+        assert_same_at(&rt, &(id, reading), &snapshot.get(id, reading), &value);
     }
     Ok(())
 }

@@ -1,4 +1,4 @@
-use super::{answers, assert_same, opened, reads, time};
+use super::{answers, assert_same, assert_same_at, opened, reads, time};
 use std::process::Abort;
 use std::test::Fail;
 use tk_clock::ClockId::{Monotonic, MonotonicRaw};
@@ -11,7 +11,7 @@ const SECOND: u64 = 1_000_000_000;
 /// Applies a command and checks the multiplier after it.
 fn steers(rt: &impl Abort, clock: &mut Clock, reading: u64, cmd: Command, mult: u32) {
     answers(rt, clock, reading, cmd, Ok(()));
-    assert_eq!(rt; clock.snapshot(0).mult(), mult, "{cmd:?} at {reading}");
+    assert_same_at(rt, &(cmd, reading), &clock.snapshot(0).mult(), &mult);
 }
 
 #[test]
@@ -43,7 +43,7 @@ fn a_snapshot_used_beyond_its_life_may_give_more(rt: HostRuntime) -> Result<(), 
     let second = clock.snapshot(2);
     for (snapshot, value) in [(first, time(1, 499_963)), (second, time(0, 999_499_977))] {
         let read = snapshot.get(Monotonic, SECOND);
-        assert_eq!(rt; read, Ok(value), "after {} commands", snapshot.front());
+        assert_same_at(&rt, &snapshot.front(), &read, &Ok(value));
     }
     Ok(())
 }

@@ -1,5 +1,6 @@
-use super::{nanosecond_counter, quick, slow};
+use super::{assert_same_at, nanosecond_counter, quick, slow};
 use crate::tests::random::drawn;
+use std::process::Abort;
 use std::test::Fail;
 use tk_counter::CounterDesc;
 
@@ -44,74 +45,65 @@ fn plain_advance(desc: &CounterDesc, frac: u64, delta: u64, mult: u32) -> Option
     Some((seconds, units.checked_rem(second)?))
 }
 
-/// Returns whether the two computations agree.
-fn agrees(desc: &CounterDesc, frac: u64, delta: u64, mult: u32) -> bool {
-    if frac >= desc.second() {
-        return true;
+/// Compares the two computations, if the units are less than a second.
+fn agrees(rt: &impl Abort, desc: &CounterDesc, frac: u64, delta: u64, mult: u32) {
+    if frac < desc.second() {
+        let found = desc.advance(frac, delta, mult);
+        let wide = found.map(|(seconds, rest)| (u128::from(seconds), u128::from(rest)));
+        let wanted = plain_advance(desc, frac, delta, mult);
+        assert_same_at(rt, &(desc, frac, delta, mult), &wide, &wanted);
     }
-    let wide = desc
-        .advance(frac, delta, mult)
-        .map(|(seconds, rest)| (u128::from(seconds), u128::from(rest)));
-    wide == plain_advance(desc, frac, delta, mult)
+}
+
+/// Checks the seconds and the rest that a gap gives, or that it is refused.
+fn advances(
+    rt: &impl Abort,
+    desc: &CounterDesc,
+    (frac, delta, mult): (u64, u64, u32),
+    parts: Option<(u64, u64)>,
+) {
+    assert!(rt; frac < desc.second());
+    let found = desc.advance(frac, delta, mult);
+    assert_same_at(rt, &(frac, delta, mult), &found, &parts);
 }
 
 #[test]
 fn seconds_and_what_is_left_are_exact(rt: HostRuntime) -> Result<(), Fail> {
-    for (desc, frac, delta, mult, parts) in [
-        (
-            nanosecond_counter()?,
-            16_777_215,
-            1,
-            16_777_216,
-            (0, 33_554_431),
-        ),
-        (
-            nanosecond_counter()?,
-            16_777_215_999_999_999,
-            1,
-            16_777_216,
-            (1, 16_777_215),
-        ),
-        (
-            slow()?,
-            862_207,
-            2_199_023_255_348,
-            4_194_304,
-            (9_223_372_035, 999_999_999),
-        ),
-        (
-            quick()?,
-            16_777_215_999_999_999,
-            1_000_000_000_000_000,
-            699_050_667,
-            (41_666_667, 11_518_143_999_999_999),
-        ),
+    for (gap, parts) in [
+        ((16_777_215, 1, 16_777_216), (0, 33_554_431)),
+        ((16_777_215_999_999_999, 1, 16_777_216), (1, 16_777_215)),
     ] {
-        assert!(rt; frac < desc.second());
-        assert_eq!(rt;
-            desc.advance(frac, delta, mult),
-            Some(parts),
-            "{frac} {delta}"
-        );
+        advances(&rt, &nanosecond_counter()?, gap, Some(parts));
     }
+    advances(
+        &rt,
+        &slow()?,
+        (862_207, 2_199_023_255_348, 4_194_304),
+        Some((9_223_372_035, 999_999_999)),
+    );
+    advances(
+        &rt,
+        &quick()?,
+        (16_777_215_999_999_999, 1_000_000_000_000_000, 699_050_667),
+        Some((41_666_667, 11_518_143_999_999_999)),
+    );
     Ok(())
 }
 
 #[test]
 fn seconds_that_no_clock_reaches_are_refused(rt: HostRuntime) -> Result<(), Fail> {
-    for (desc, frac, delta, mult) in [
-        (slow()?, 862_208, 2_199_023_255_348, 4_194_304),
-        (slow()?, 0, 9_223_372_036_854_775_807, 4_194_304),
-        (
-            quick()?,
-            16_777_215_999_999_999,
-            9_223_372_036_854_775_807,
-            699_050_667,
-        ),
+    for gap in [
+        (862_208, 2_199_023_255_348, 4_194_304),
+        (0, 9_223_372_036_854_775_807, 4_194_304),
     ] {
-        assert!(rt; frac < desc.second());
-        assert_eq!(rt; desc.advance(frac, delta, mult), None, "{frac} {delta}");
+        advances(&rt, &slow()?, gap, None);
     }
+    let gap = (
+        16_777_215_999_999_999,
+        9_223_372_036_854_775_807,
+        699_050_667,
+    );
+    advances(&rt, &quick()?, gap, None);
     Ok(())
 }
 
@@ -119,11 +111,11 @@ fn seconds_that_no_clock_reaches_are_refused(rt: HostRuntime) -> Result<(), Fail
 fn edges_agree_with_wide_integers(rt: HostRuntime) -> Result<(), Fail> {
     for shift in 0..=32 {
         let desc = CounterDesc::new(64, 256, shift)?;
+        let last = desc.second().saturating_sub(1);
         for delta in DELTAS {
             for mult in MULTS {
-                assert!(rt; agrees(&desc, 0, delta, mult), "{shift} {delta} {mult}");
-                let last = desc.second().saturating_sub(1);
-                assert!(rt; agrees(&desc, last, delta, mult), "{shift} {delta} {mult}");
+                agrees(&rt, &desc, 0, delta, mult);
+                agrees(&rt, &desc, last, delta, mult);
             }
         }
     }
@@ -139,15 +131,9 @@ fn any_gap_agrees_with_wide_integers(rt: HostRuntime) -> Result<(), Fail> {
         let mult = (number & 0xffff_ffff) as u32;
         let frac = number >> 2;
         let delta = drawn(&mut seed);
-        assert!(rt; agrees(&desc, frac, delta, mult), "{frac} {delta} {mult}");
-        assert!(rt;
-            agrees(&desc, frac >> 24, delta >> 24, mult),
-            "{frac} {delta} {mult}"
-        );
-        assert!(rt;
-            agrees(&desc, frac >> 32, delta >> 40, mult),
-            "{frac} {delta} {mult}"
-        );
+        agrees(&rt, &desc, frac, delta, mult);
+        agrees(&rt, &desc, frac >> 24, delta >> 24, mult);
+        agrees(&rt, &desc, frac >> 32, delta >> 40, mult);
     }
     Ok(())
 }

@@ -1,4 +1,4 @@
-use super::{assert_same, nanosecond_counter, quick, slow};
+use super::{assert_same, assert_same_at, nanosecond_counter, quick, slow};
 use std::test::Fail;
 use tk_counter::{CounterDesc, DescError};
 
@@ -13,11 +13,8 @@ fn the_first_fault_is_returned(rt: HostRuntime) {
         (32, 4_000_000_000, 2, DescError::Adjust),
         (32, 3_869_339_907, 2, DescError::Adjust),
     ] {
-        assert_eq!(rt;
-            CounterDesc::new(bits, mult, shift),
-            Err(fault),
-            "{bits} {mult} {shift}"
-        );
+        let made = CounterDesc::new(bits, mult, shift);
+        assert_same_at(&rt, &(bits, mult, shift), &made, &Err(fault));
     }
 }
 

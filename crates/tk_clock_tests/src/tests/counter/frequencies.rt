@@ -1,4 +1,4 @@
-use super::{assert_same, next_random};
+use super::{assert_same, assert_same_at, next_random};
 use std::test::Fail;
 use tk_counter::{CounterDesc, DescError};
 
@@ -50,11 +50,8 @@ const FROM_KERNEL: [(u32, u32, u32, u32); 12] = [
 fn a_frequency_is_scaled_as_in_the_kernel(rt: HostRuntime) -> Result<(), Fail> {
     for (hz, maxsec, mult, shift) in FROM_KERNEL {
         let desc = CounterDesc::from_hz(32, hz, maxsec)?;
-        assert_eq!(rt;
-            (desc.bits(), desc.mult(), desc.shift()),
-            (32, mult, shift),
-            "{hz} Hz"
-        );
+        let made = (desc.bits(), desc.mult(), desc.shift());
+        assert_same_at(&rt, &hz, &made, &(32, mult, shift));
     }
     Ok(())
 }
@@ -69,13 +66,15 @@ fn a_frequency_fixes_the_amounts(rt: HostRuntime) -> Result<(), Fail> {
 
 #[test]
 fn the_bits_are_refused_before_the_rate(rt: HostRuntime) {
-    for (bits, hz, maxsec) in [(7, 0, 601), (65, 24_000_000, 600)] {
+    for (bits, hz, maxsec, fault) in [
+        (7, 0, 601, Err(DescError::Bits)),
+        (65, 24_000_000, 600, Err(DescError::Bits)),
+        (32, 0, 600, Err(DescError::Rate)),
+        (32, 24_000_000, 0, Err(DescError::Rate)),
+        (32, 24_000_000, 601, Err(DescError::Rate)),
+    ] {
         let answer = CounterDesc::from_hz(bits, hz, maxsec);
-        assert_eq!(rt; answer, Err(DescError::Bits), "{bits} {hz} {maxsec}");
-    }
-    for (hz, maxsec) in [(0, 600), (24_000_000, 0), (24_000_000, 601)] {
-        let answer = CounterDesc::from_hz(32, hz, maxsec);
-        assert_eq!(rt; answer, Err(DescError::Rate), "{hz} {maxsec}");
+        assert_same_at(&rt, &(bits, hz, maxsec), &answer, &fault);
     }
 }
 
@@ -88,7 +87,7 @@ fn any_frequency_is_scaled_as_by_the_kernels_loops(rt: HostRuntime) -> Result<()
         let maxsec = 1 + (seed >> 8 & 511) as u32;
         let desc = CounterDesc::from_hz(64, hz, maxsec)?;
         let scale = Some((u64::from(desc.mult()), desc.shift()));
-        assert_eq!(rt; scale, kernel_scale(hz, maxsec), "{hz} Hz, {maxsec} s");
+        assert_same_at(&rt, &(hz, maxsec), &scale, &kernel_scale(hz, maxsec));
     }
     Ok(())
 }

@@ -1,4 +1,4 @@
-use super::{assert_same, nanosecond_counter, quick};
+use super::{assert_same, assert_same_at, nanosecond_counter, quick};
 use std::test::Fail;
 use tk_counter::CounterDesc;
 
@@ -12,7 +12,7 @@ fn a_gap_goes_over_the_wrap(rt: HostRuntime) -> Result<(), Fail> {
         (4_294_967_295, 1, 2),
         (2_000, 1_000, 4_294_966_296),
     ] {
-        assert_eq!(rt; desc.gap(last, now), gap, "from {last} to {now}");
+        assert_same_at(&rt, &(last, now), &desc.gap(last, now), &gap);
     }
     assert_same(&rt, &quick()?.gap(u64::MAX, 1), &2);
     Ok(())
@@ -36,11 +36,8 @@ fn half_the_range_leads_forward_and_one_more_leads_back(rt: HostRuntime) -> Resu
         (4_294_967_295, 2_147_483_647, true),
         (1, 0, true),
     ] {
-        assert_eq!(rt;
-            desc.is_behind(desc.gap(last, now)),
-            behind,
-            "from {last} to {now}"
-        );
+        let found = desc.is_behind(desc.gap(last, now));
+        assert_same_at(&rt, &(last, now), &found, &behind);
     }
     let wide = quick()?;
     assert!(rt; !wide.is_behind(u64::MAX >> 1));

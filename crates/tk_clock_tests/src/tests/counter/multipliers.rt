@@ -1,4 +1,4 @@
-use super::{assert_same, nanosecond_counter};
+use super::{assert_same, assert_same_at, nanosecond_counter};
 use crate::tests::random::drawn;
 use std::process::Abort;
 use std::test::Fail;
@@ -13,18 +13,18 @@ fn plain_mult_at(desc: &CounterDesc, freq: i64, tick: i64) -> Option<u128> {
     Some(u128::from(desc.mult()) * u128::from(rate) / 65_536_000_000)
 }
 
-/// Returns whether the two computations agree.
-fn agrees(desc: &CounterDesc, freq: i64, tick: i64) -> bool {
-    if tick < 9_000 || tick > 11_000 {
-        return false;
-    }
-    Some(u128::from(desc.mult_at(freq, tick))) == plain_mult_at(desc, freq, tick)
+/// Compares the two computations. The tick must be one that can be set.
+fn agrees(rt: &impl Abort, desc: &CounterDesc, freq: i64, tick: i64) {
+    assert!(rt; tick >= 9_000 && tick <= 11_000);
+    let found = Some(u128::from(desc.mult_at(freq, tick)));
+    let wanted = plain_mult_at(desc, freq, tick);
+    assert_same_at(rt, &(desc, freq, tick), &found, &wanted);
 }
 
 /// Checks the multiplier that both calls give for a frequency, at the usual tick.
 fn has_mult(rt: &impl Abort, desc: &CounterDesc, freq: i64, mult: u32) {
-    assert_eq!(rt; desc.mult_for(freq), mult, "at {freq}");
-    assert_eq!(rt; desc.mult_at(freq, 10_000), mult, "at {freq}");
+    let both = (desc.mult_for(freq), desc.mult_at(freq, 10_000));
+    assert_same_at(rt, &freq, &both, &(mult, mult));
 }
 
 #[test]
@@ -53,12 +53,9 @@ fn every_tick_agrees_with_wide_integers(rt: HostRuntime) -> Result<(), Fail> {
     for mult in [256, 16_777_216, 3_869_339_906] {
         let desc = CounterDesc::new(64, mult, 24)?;
         for tick in 9_000..=11_000 {
-            assert!(rt; agrees(&desc, 32_768_000, tick), "{mult} {tick}");
-            assert!(rt; agrees(&desc, -32_768_000, tick), "{mult} {tick}");
-            assert!(rt;
-                agrees(&desc, tick.wrapping_mul(-3_119), tick),
-                "{mult} {tick}"
-            );
+            agrees(&rt, &desc, 32_768_000, tick);
+            agrees(&rt, &desc, -32_768_000, tick);
+            agrees(&rt, &desc, tick.wrapping_mul(-3_119), tick);
         }
     }
     Ok(())
@@ -73,7 +70,7 @@ fn any_frequency_agrees_with_wide_integers(rt: HostRuntime) -> Result<(), Fail> 
         let number = drawn(&mut seed);
         let freq = (number & 0x7ff_ffff) as i64 - 0x400_0000;
         let tick = 9_000 + (number >> 32) as i64 % 2_001;
-        assert!(rt; agrees(&desc, freq, tick), "{mult} {freq} {tick}");
+        agrees(&rt, &desc, freq, tick);
     }
     Ok(())
 }

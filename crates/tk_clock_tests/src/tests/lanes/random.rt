@@ -1,6 +1,6 @@
 //! Tests both calls on snapshots of random journals, which are the same in each run.
 
-use super::{agree, sevens};
+use super::{agree, assert_same_at, sevens};
 use crate::tests::random::{clock_of, drawn};
 use std::test::Fail;
 use tk_test_support::CLOCKS;
@@ -38,7 +38,7 @@ fn both_calls_agree_on_any_journal(rt: HostRuntime) -> Result<(), Fail> {
         }
     }
     // there were lists of both kinds
-    assert!(rt; whole > 100, "{whole} were converted whole");
-    assert!(rt; refused > 100, "{refused} were refused");
+    let both = (whole > 100, refused > 100);
+    assert_same_at(&rt, &(whole, refused), &both, &(true, true));
     Ok(())
 }

@@ -120,8 +120,10 @@ fn a_million_stamps_are_converted(rt: HostRuntime) -> Result<(), Fail> {
     let alloc = rt.alloc();
     let snapshot = opened()?.snapshot(0);
     let mut stamps = sevens(alloc, 1_048_576)?;
-    for (place, stamp) in stamps.iter_mut().enumerate() {
-        *stamp = (place as u64).wrapping_mul(1_000);
+    let mut next = 0u64;
+    for stamp in stamps.iter_mut() {
+        *stamp = next;
+        next = next.wrapping_add(1_000);
     }
     let answer = agree(&rt, alloc, &snapshot, ClockId::Monotonic, stamps.as_slice())?;
     assert_same(&rt, &answer, &Ok(()));
