@@ -6,7 +6,6 @@ mod pieces;
 use std::alloc::{Allocator, Global};
 use std::fmt::Debug;
 use std::process::Abort;
-use std::test::Fail;
 use tk_clock::Command;
 use tk_keeper::Timekeeper;
 use tk_test_support::{OPENED_TIME, nanosecond_counter};
@@ -16,31 +15,38 @@ const ABOVE: u64 = 4_294_967_296;
 
 /// Returns a timekeeper of one nanosecond a cycle, opened at reading 0, with REALTIME at
 /// 1,700,000,000 s.
-fn opened<A: Allocator + Copy>(alloc: A) -> Result<Timekeeper<A>, Fail> {
-    Ok(Timekeeper::open(alloc, nanosecond_counter()?, 0, OPENED_TIME)?)
+fn opened<A: Allocator + Copy>(rt: &impl Abort, alloc: A) -> Timekeeper<A> {
+    let desc = nanosecond_counter().expect(rt, "a counter");
+    Timekeeper::open(alloc, desc, 0, OPENED_TIME).expect(rt, "a timekeeper")
 }
 
 /// Returns the same timekeeper after two commands: 500 ppm faster from reading 0 on, and 500 ppm
 /// slower from reading 10^9 on.
-fn steered<A: Allocator + Copy>(alloc: A) -> Result<Timekeeper<A>, Fail> {
-    let mut keeper = opened(alloc)?;
-    keeper.reserve(2)?;
-    keeper.apply(0, 0, Command::Freq(65_536_000))?;
-    keeper.apply(0, 1_000_000_000, Command::Freq(-32_768_000))?;
-    Ok(keeper)
+fn steered<A: Allocator + Copy>(rt: &impl Abort, alloc: A) -> Timekeeper<A> {
+    let mut keeper = opened(rt, alloc);
+    let faster = keeper.apply(0, 0, Command::Freq(65_536_000));
+    assert_same(rt, &faster, &Ok(1));
+    let slower = keeper.apply(0, 1_000_000_000, Command::Freq(-32_768_000));
+    assert_same(rt, &slower, &Ok(2));
+    keeper
+}
+
+/// Returns a list of `many` times the same number.
+fn repeated(rt: &impl Abort, alloc: Global, number: u64, many: usize) -> Vec<u64> {
+    Vec::from_elem(alloc, number, many).expect(rt, "memory")
 }
 
 /// Returns the numbers below `many`, in their order.
-fn numbers(alloc: Global, many: usize) -> Result<Vec<u64>, Fail> {
-    let mut list = vec![in alloc; 0; many]?;
-    for (place, item) in list.iter_mut().enumerate() {
-        *item = place as u64;
+fn numbers(rt: &impl Abort, alloc: Global, many: usize) -> Vec<u64> {
+    let mut list = repeated(rt, alloc, 0, many);
+    for place in 0..many {
+        put(list.as_mut_slice(), place, place as u64);
     }
-    Ok(list)
+    list
 }
 
 /// Writes an item, if the list has that place.
-fn put(list: &mut Vec<u64>, place: usize, number: u64) {
+fn put(list: &mut [u64], place: usize, number: u64) {
     if let Some(item) = list.get_mut(place) {
         *item = number;
     }

@@ -15,10 +15,9 @@ mod steering;
 mod times;
 mod traces;
 
-use super::{ABOVE, assert_same, numbers, opened, put, steered};
+use super::{ABOVE, assert_same, opened, put, steered};
 use std::alloc::{Allocator, Global};
 use std::process::Abort;
-use std::test::Fail;
 use tk_clock::{ClockId, Command, Refusal, Snapshot, Timespec};
 use tk_keeper::{FrontError, Timekeeper};
 use tk_test_support::OPENED_REAL;
@@ -56,6 +55,9 @@ const AWAKE_WORDS: [u64; 10] = [
     THOUSAND,
     0,
 ];
+
+/// The words after a frequency of 500 ppm at reading 0.
+const FASTER_WORDS: [u64; 10] = [1, 0, 16_785_604, 0, 0, OPENED_REAL, 0, 0, 0, 0];
 
 /// The words after a Tick to 11,000 at reading 0, and the highest frequency from reading 10^9 on.
 const TICKED_WORDS: [u64; 10] = [
@@ -105,15 +107,10 @@ fn updates<A: Allocator + Copy>(rt: &impl Abort, keeper: &mut Timekeeper<A>, man
 }
 
 /// Opens a timekeeper and applies `many` updates, each `step` cycles after the one before.
-fn updated<A: Allocator + Copy>(
-    rt: &impl Abort,
-    alloc: A,
-    many: u64,
-    step: u64,
-) -> Result<Timekeeper<A>, Fail> {
-    let mut keeper = opened(alloc)?;
+fn updated<A: Allocator + Copy>(rt: &impl Abort, alloc: A, many: u64, step: u64) -> Timekeeper<A> {
+    let mut keeper = opened(rt, alloc);
     updates(rt, &mut keeper, many, step);
-    Ok(keeper)
+    keeper
 }
 
 /// Applies commands in their order, and checks the answer to each.
@@ -124,7 +121,7 @@ fn answers(
 ) {
     for (reading, cmd, answer) in steps {
         let returned = applied(rt, keeper, *reading, *cmd);
-        assert_eq!(rt; returned, *answer, "{cmd:?} at {reading}");
+        assert_same(rt, &(*reading, *cmd, returned), &(*reading, *cmd, *answer));
     }
 }
 
@@ -135,11 +132,10 @@ fn answers_and_reads(
     alloc: Global,
     steps: &[(u64, Command, Result<u64, Refusal>)],
     values: &[(ClockId, u64, Timespec)],
-) -> Result<(), Fail> {
-    let mut keeper = opened(alloc)?;
+) {
+    let mut keeper = opened(rt, alloc);
     answers(rt, &mut keeper, steps);
     reads(rt, &keeper.snapshot(), values);
-    Ok(())
 }
 
 /// Checks the time of MONOTONIC at a reading.
@@ -156,10 +152,27 @@ fn has_no_front(rt: &impl Abort, keeper: &Timekeeper, front: u64, error: FrontEr
     assert_same(rt, &keeper.snapshot_at(front).err(), &Some(error));
 }
 
+/// Returns the words of the snapshot as of a front.
+fn words_at(keeper: &Timekeeper, front: u64) -> Result<[u64; 10], FrontError> {
+    Ok(keeper.snapshot_at(front)?.words())
+}
+
+/// Reads clocks as of a front, and checks the time of each.
+fn reads_at(rt: &impl Abort, keeper: &Timekeeper, front: u64, values: &[(ClockId, u64, Timespec)]) {
+    match keeper.snapshot_at(front) {
+        Ok(snapshot) => reads(rt, &snapshot, values),
+        Err(error) => assert_same(rt, &Some(error), &None),
+    }
+}
+
 /// Reads clocks, and checks the time of each.
 fn reads(rt: &impl Abort, snapshot: &Snapshot, values: &[(ClockId, u64, Timespec)]) {
     for (clock, reading, value) in values {
         let read = snapshot.get(*clock, *reading);
-        assert_eq!(rt; read, Ok(*value), "{clock:?} at {reading}");
+        assert_same(
+            rt,
+            &(*clock, *reading, read),
+            &(*clock, *reading, Ok(*value)),
+        );
     }
 }

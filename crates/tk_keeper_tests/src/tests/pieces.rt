@@ -4,11 +4,10 @@ mod costly;
 mod long;
 
 use self::long::LONG;
-use super::{ABOVE, assert_same, numbers, opened, put, steered};
+use super::{ABOVE, assert_same, numbers, opened, put, repeated, steered};
 use std::alloc::{Allocator, Global};
 use std::marker::{Send, Sync};
 use std::process::Abort;
-use std::test::Fail;
 use std::thread::Threads;
 use tk_clock::ClockId;
 use tk_keeper::{Timekeeper, TraceError};
@@ -30,26 +29,21 @@ struct Lists {
 }
 
 /// Returns this number of items as of the opening, where each stamp is the item's place.
-fn counted(alloc: Global, many: usize) -> Result<Lists, Fail> {
-    Ok(Lists {
-        fronts: vec![in alloc; 0; many]?,
-        stamps: numbers(alloc, many)?,
-        out: vec![in alloc; 77; many]?,
-    })
-}
-
-/// Returns a steered timekeeper, and this number of items as of its opening.
-fn kept(alloc: Global, many: usize) -> Result<(Timekeeper, Lists), Fail> {
-    Ok((steered(alloc)?, counted(alloc, many)?))
+fn counted(rt: &impl Abort, alloc: Global, many: usize) -> Lists {
+    Lists {
+        fronts: repeated(rt, alloc, 0, many),
+        stamps: numbers(rt, alloc, many),
+        out: repeated(rt, alloc, 77, many),
+    }
 }
 
 /// Returns the values of one thread.
-fn alone(keeper: &Timekeeper, lists: &Lists) -> Result<Vec<u64>, Fail> {
+fn alone(rt: &impl Abort, keeper: &Timekeeper, lists: &Lists) -> Vec<u64> {
     let (fronts, stamps) = (lists.fronts.as_slice(), lists.stamps.as_slice());
-    if fronts.len() != stamps.len() {
-        return Err("lists of two lengths".into());
-    }
-    Ok(keeper.trace(fronts, stamps, ClockId::Monotonic)?)
+    assert!(rt; fronts.len() == stamps.len());
+    keeper
+        .trace(fronts, stamps, ClockId::Monotonic)
+        .expect(rt, "values")
 }
 
 /// What `trace_all` answers, out of another allocator.
@@ -70,31 +64,24 @@ fn asked<A: Allocator + Copy + Send + Sync, B: Allocator>(
 /// What both calls answer, which must be the same.
 fn answered(
     alloc: Global,
-    rt: &(impl Threads + Sync),
+    rt: &(impl Threads + Sync + Abort),
     keeper: &Timekeeper,
     lists: &mut Lists,
-) -> Result<Result<Vec<u64>, TraceError>, Fail> {
+) -> Result<Vec<u64>, TraceError> {
     let clock = ClockId::Monotonic;
     let fronts = lists.fronts.as_slice();
     let stamps = lists.stamps.as_slice();
-    if fronts.len() != stamps.len() || stamps.len() != lists.out.len() {
-        return Err("lists of several lengths".into());
-    }
+    assert!(rt; fronts.len() == stamps.len() && stamps.len() == lists.out.len());
     let done = trace_all_into(rt, keeper, fronts, stamps, clock, lists.out.as_mut_slice());
     let list = asked(alloc, rt, keeper, lists);
     match &list {
         Ok(values) => {
-            if done.is_err() || values.as_slice() != lists.out.as_slice() {
-                return Err("memory has other values".into());
-            }
+            let is_same = values.as_slice() == lists.out.as_slice();
+            assert_same(rt, &(done, is_same), &(Ok(()), true));
         }
-        Err(error) => {
-            if done != Err(*error) {
-                return Err("memory has another fault".into());
-            }
-        }
+        Err(error) => assert_same(rt, &done, &Err(*error)),
     }
-    Ok(list)
+    list
 }
 
 /// Checks that both calls return `many` values, and that one thread gives the same values.
@@ -104,12 +91,11 @@ fn agrees_with_one_thread(
     keeper: &Timekeeper,
     lists: &mut Lists,
     many: usize,
-) -> Result<(), Fail> {
-    let values = answered(alloc, rt, keeper, lists)??;
-    let alone = alone(keeper, lists)?;
+) {
+    let values = answered(alloc, rt, keeper, lists).expect(rt, "values");
+    let alone = alone(rt, keeper, lists);
     assert_same(rt, &values.len(), &many);
     assert_same(rt, &(values.as_slice() == alone.as_slice()), &true);
-    Ok(())
 }
 
 /// A faulty item: its place in the list, its front, its stamp and the fault.
@@ -127,6 +113,14 @@ fn faulty_at(places: [usize; 4]) -> [Faulty; 4] {
     ]
 }
 
+/// Returns the first items of a list, or all if it has no more.
+fn first(list: &[u64], many: usize) -> &[u64] {
+    match list.split_at_checked(many) {
+        Some((first, _)) => first,
+        None => list,
+    }
+}
+
 /// Writes faulty items in turn, each before those that were written earlier. Checks after each that
 /// both calls return its fault, and that the items before it have these values.
 fn first_faults(
@@ -136,106 +130,104 @@ fn first_faults(
     lists: &mut Lists,
     values: &[u64],
     items: &[Faulty],
-) -> Result<(), Fail> {
+) {
     for (place, front, stamp, fault) in items {
-        put(&mut lists.fronts, *place, *front);
-        put(&mut lists.stamps, *place, *stamp);
-        let answer = answered(alloc, rt, keeper, lists)?;
+        put(lists.fronts.as_mut_slice(), *place, *front);
+        put(lists.stamps.as_mut_slice(), *place, *stamp);
+        let answer = answered(alloc, rt, keeper, lists);
         assert_same(rt, &answer.err(), &Some(*fault));
-        for (value, wanted) in lists.out.iter().zip(values).take(*place) {
-            assert_same(rt, value, wanted);
-        }
+        let before = first(lists.out.as_slice(), *place) == first(values, *place);
+        assert_same(rt, &(*place, before), &(*place, true));
     }
-    Ok(())
 }
 
 #[test]
-fn lists_of_each_length_are_converted(rt: HostRuntime) -> Result<(), Fail> {
+fn lists_of_each_length_are_converted(rt: HostRuntime) {
     let alloc = rt.alloc();
-    let keeper = steered(alloc)?;
+    let keeper = steered(&rt, alloc);
     // several threads convert a million items of equal fronts, in pieces of 65,536 items
     for many in [
         0, 1, 1_023, 1_024, 999_999, 1_000_000, 1_000_001, 1_048_575, 1_048_576, MANY,
     ] {
-        let mut lists = counted(alloc, many)?;
-        let values = answered(alloc, &rt, &keeper, &mut lists)??;
-        assert_same(&rt, &values.len(), &many);
-        for (place, value) in values.iter().enumerate() {
-            assert_same(&rt, value, &(place as u64));
-        }
+        let mut lists = counted(&rt, alloc, many);
+        let values = answered(alloc, &rt, &keeper, &mut lists).expect(&rt, "values");
+        let is_same = values.as_slice() == lists.stamps.as_slice();
+        assert_same(&rt, &(many, values.len(), is_same), &(many, many, true));
     }
-    Ok(())
 }
 
 #[test]
-fn the_first_fault_of_all_pieces_decides(rt: HostRuntime) -> Result<(), Fail> {
+fn the_first_fault_of_all_pieces_decides(rt: HostRuntime) {
     let alloc = rt.alloc();
-    let (mut keeper, mut lists) = kept(alloc, MANY)?;
-    let values = numbers(alloc, MANY)?;
+    let mut keeper = steered(&rt, alloc);
+    let mut lists = counted(&rt, alloc, MANY);
+    let values = numbers(&rt, alloc, MANY);
     let items = faulty_at([1_048_576, 1_000_000, 65_536, 65_535]);
-    first_faults(&rt, alloc, &keeper, &mut lists, values.as_slice(), &items)?;
+    first_faults(&rt, alloc, &keeper, &mut lists, values.as_slice(), &items);
     let items = [
         (9_000, 0, ABOVE, TraceError::Invalid { index: 9_000 }),
         (5_000, 0, ABOVE, TraceError::Invalid { index: 5_000 }),
         (4_999, 3, 0, TraceError::Unknown { index: 4_999 }),
     ];
-    first_faults(&rt, alloc, &keeper, &mut lists, values.as_slice(), &items)?;
+    first_faults(&rt, alloc, &keeper, &mut lists, values.as_slice(), &items);
     keeper.fold(1);
-    let answer = answered(alloc, &rt, &keeper, &mut lists)?;
+    let answer = answered(alloc, &rt, &keeper, &mut lists);
     assert_same(&rt, &answer.err(), &Some(TraceError::Folded { index: 0 }));
-    Ok(())
 }
 
 #[test]
-fn fronts_up_and_down_are_converted_as_by_one_thread(rt: HostRuntime) -> Result<(), Fail> {
+fn fronts_up_and_down_are_converted_as_by_one_thread(rt: HostRuntime) {
     let alloc = rt.alloc();
-    let (keeper, mut lists) = kept(alloc, UNEVEN)?;
+    let keeper = steered(&rt, alloc);
+    let mut lists = counted(&rt, alloc, UNEVEN);
     let mut seed: u64 = 88_172_645_463_325_252;
     for place in 0..UNEVEN {
         seed = next_random(seed);
-        put(&mut lists.fronts, place, seed % 3);
-        put(&mut lists.stamps, place, (seed >> 8) % ABOVE);
+        put(lists.fronts.as_mut_slice(), place, seed % 3);
+        put(lists.stamps.as_mut_slice(), place, (seed >> 8) % ABOVE);
     }
-    put(&mut lists.fronts, UNEVEN - 1, 2);
-    put(&mut lists.stamps, UNEVEN - 1, 1_000_000_001);
-    let values = answered(alloc, &rt, &keeper, &mut lists)??;
+    put(lists.fronts.as_mut_slice(), UNEVEN - 1, 2);
+    put(lists.stamps.as_mut_slice(), UNEVEN - 1, 1_000_000_001);
+    let values = answered(alloc, &rt, &keeper, &mut lists).expect(&rt, "values");
     assert_same(&rt, &values.last(), &Some(&1_000_499_964));
-    for ((front, stamp), value) in lists.fronts.iter().zip(&lists.stamps).zip(&values) {
-        let alone = keeper.trace(&[*front], &[*stamp], ClockId::Monotonic)?;
-        assert_same(&rt, &alone.as_slice(), &[*value].as_slice());
+    for place in 0..UNEVEN {
+        let (front, stamp) = (lists.fronts.get(place), lists.stamps.get(place));
+        let (front, stamp) = ([front.copied().unwrap_or(0)], [stamp.copied().unwrap_or(0)]);
+        let mut value = [0];
+        let done = keeper.trace_into(&front, &stamp, ClockId::Monotonic, &mut value);
+        let found = values.get(place).copied();
+        assert_same(&rt, &(done, Some(value[0])), &(Ok(()), found));
     }
-    Ok(())
 }
 
 #[test]
-fn room_is_asked_for_first(rt: HostRuntime) -> Result<(), Fail> {
+fn room_is_asked_for_first(rt: HostRuntime) {
     let heap = Heap::new(rt.alloc());
-    let keeper = steered(rt.alloc())?;
-    let none = counted(rt.alloc(), 0)?;
+    let keeper = steered(&rt, rt.alloc());
+    let none = counted(&rt, rt.alloc(), 0);
     for many in [3, MANY, LONG] {
-        let mut lists = counted(rt.alloc(), many)?;
-        put(&mut lists.fronts, 2, 7);
+        let mut lists = counted(&rt, rt.alloc(), many);
+        put(lists.fronts.as_mut_slice(), 2, 7);
         heap.refuse_all();
         let refused = asked(&heap, &rt, &keeper, &lists);
         assert_same(&rt, &refused.err(), &Some(TraceError::Memory));
-        assert_same(&rt, &asked(&heap, &rt, &keeper, &none)?.len(), &0);
+        let empty = asked(&heap, &rt, &keeper, &none).expect(&rt, "no values");
+        assert_same(&rt, &empty.len(), &0);
         heap.grant_all();
         let fault = asked(&heap, &rt, &keeper, &lists);
         assert_same(&rt, &fault.err(), &Some(TraceError::Unknown { index: 2 }));
     }
-    Ok(())
 }
 
 #[test]
-fn the_answer_takes_one_request_of_its_own_length(rt: HostRuntime) -> Result<(), Fail> {
+fn the_answer_takes_one_request_of_its_own_length(rt: HostRuntime) {
     let heap = Heap::new(rt.alloc());
-    let keeper = steered(rt.alloc())?;
+    let keeper = steered(&rt, rt.alloc());
     for many in [1, 3, MANY, LONG] {
-        let lists = counted(rt.alloc(), many)?;
+        let lists = counted(&rt, rt.alloc(), many);
         heap.refuse(2);
-        let values = asked(&heap, &rt, &keeper, &lists)?;
+        let values = asked(&heap, &rt, &keeper, &lists).expect(&rt, "values");
         assert_same(&rt, &heap.grant_all(), &true);
         assert_same(&rt, &(values.len(), values.capacity()), &(many, many));
     }
-    Ok(())
 }

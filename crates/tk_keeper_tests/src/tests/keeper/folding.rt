@@ -1,54 +1,53 @@
 use super::sleep::wakes;
 use super::steering::speeds_up;
 use super::{
-    answers, assert_same, has_no_front, opened, reads, reads_monotonic, steered, time, updated,
+    FASTER_WORDS, answers, assert_same, has_no_front, opened, reads_at, reads_monotonic, steered,
+    time, updated, words_at,
 };
 use std::alloc::Global;
 use std::process::Abort;
-use std::test::Fail;
 use tk_clock::{ClockId, Command};
 use tk_keeper::{FrontError, Timekeeper};
 
 /// Opens a timekeeper, applies a command and folds its entry.
-fn folded(rt: &impl Abort, alloc: Global, reading: u64, cmd: Command) -> Result<Timekeeper, Fail> {
-    let mut keeper = opened(alloc)?;
+fn folded(rt: &impl Abort, alloc: Global, reading: u64, cmd: Command) -> Timekeeper {
+    let mut keeper = opened(rt, alloc);
     answers(rt, &mut keeper, &[(reading, cmd, Ok(1))]);
     assert_same(rt, &keeper.fold(0), &1);
-    Ok(keeper)
+    keeper
 }
 
 #[test]
-fn folded_entries_are_gone_and_count_on(rt: HostRuntime) -> Result<(), Fail> {
-    let mut keeper = steered(rt.alloc())?;
+fn folded_entries_are_gone_and_count_on(rt: HostRuntime) {
+    let mut keeper = steered(&rt, rt.alloc());
     let at = 1_000_000_000;
     assert_same(&rt, &keeper.fold(1), &1);
     assert_same(&rt, &(keeper.len(), keeper.folded()), &(2, 1));
     assert_same(&rt, &keeper.entry(1), &None);
-    assert!(rt; keeper.entry(2).is_some());
+    assert_same(&rt, &keeper.entry(2).is_some(), &true);
     has_no_front(&rt, &keeper, 0, FrontError::Folded);
-    assert_same(&rt, &keeper.snapshot_at(1)?.mult(), &16_785_604);
-    reads(
+    assert_same(&rt, &words_at(&keeper, 1), &Ok(FASTER_WORDS));
+    reads_at(
         &rt,
-        &keeper.snapshot_at(1)?,
+        &keeper,
+        1,
         &[(ClockId::Monotonic, at, time(1, 499_963))],
     );
     reads_monotonic(&rt, &keeper, at + 1, time(1, 499_964));
     assert_same(&rt, &keeper.fold(5), &1);
-    Ok(())
 }
 
 #[test]
-fn a_sleep_and_a_tick_outlast_folding(rt: HostRuntime) -> Result<(), Fail> {
-    let mut asleep = folded(&rt, rt.alloc(), 1_000, Command::Suspend)?;
+fn a_sleep_and_a_tick_outlast_folding(rt: HostRuntime) {
+    let mut asleep = folded(&rt, rt.alloc(), 1_000, Command::Suspend);
     wakes(&rt, &mut asleep);
-    let mut ticked = folded(&rt, rt.alloc(), 0, Command::Tick(11_000))?;
+    let mut ticked = folded(&rt, rt.alloc(), 0, Command::Tick(11_000));
     speeds_up(&rt, &mut ticked);
-    Ok(())
 }
 
 #[test]
-fn kept_states_outlast_folding(rt: HostRuntime) -> Result<(), Fail> {
-    let mut keeper = updated(&rt, rt.alloc(), 1_000, 1_000)?;
+fn kept_states_outlast_folding(rt: HostRuntime) {
+    let mut keeper = updated(&rt, rt.alloc(), 1_000, 1_000);
     for (keep, folded, front, coarse) in [
         (745, 255, 255, time(0, 255_000)),
         (744, 256, 256, time(0, 256_000)),
@@ -58,8 +57,7 @@ fn kept_states_outlast_folding(rt: HostRuntime) -> Result<(), Fail> {
     ] {
         assert_same(&rt, &keeper.fold(keep), &folded);
         let value = (ClockId::MonotonicCoarse, 0, coarse);
-        reads(&rt, &keeper.snapshot_at(front)?, &[value]);
+        reads_at(&rt, &keeper, front, &[value]);
         has_no_front(&rt, &keeper, 254, FrontError::Folded);
     }
-    Ok(())
 }

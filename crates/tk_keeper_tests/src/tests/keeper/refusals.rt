@@ -1,16 +1,15 @@
-use super::{answers, answers_and_reads, reads, reads_monotonic, time};
-use std::test::Fail;
+use super::{answers, answers_and_reads, assert_same, reads, reads_monotonic, time};
 use tk_clock::{ClockId, Command, Refusal};
 use tk_counter::CounterDesc;
 use tk_keeper::Timekeeper;
 use tk_test_support::{OPENED_TIME, nanosecond_counter};
 
 #[test]
-fn half_the_range_is_the_longest_way_ahead(rt: HostRuntime) -> Result<(), Fail> {
+fn half_the_range_is_the_longest_way_ahead(rt: HostRuntime) {
     let half = 2_147_483_648;
     let refused = (half, Command::Update, Err(Refusal::Behind));
     let unmoved = (ClockId::Monotonic, half, time(0, 0));
-    answers_and_reads(&rt, rt.alloc(), &[refused], &[unmoved])?;
+    answers_and_reads(&rt, rt.alloc(), &[refused], &[unmoved]);
     answers_and_reads(
         &rt,
         rt.alloc(),
@@ -20,16 +19,18 @@ fn half_the_range_is_the_longest_way_ahead(rt: HostRuntime) -> Result<(), Fail> 
 }
 
 #[test]
-fn readings_wrap_at_the_counters_end(rt: HostRuntime) -> Result<(), Fail> {
-    let desc = nanosecond_counter()?;
-    let mut keeper = Timekeeper::open(rt.alloc(), desc, 4_294_967_290, OPENED_TIME)?;
+fn readings_wrap_at_the_counters_end(rt: HostRuntime) {
+    let desc = nanosecond_counter().expect(&rt, "a counter");
+    let mut keeper = Timekeeper::open(rt.alloc(), desc, 4_294_967_290, OPENED_TIME).expect(
+        &rt,
+        "a timekeeper",
+    );
     answers(&rt, &mut keeper, &[(10, Command::Update, Ok(1))]);
     reads_monotonic(&rt, &keeper, 10, time(0, 16));
-    Ok(())
 }
 
 #[test]
-fn the_first_failing_test_is_returned(rt: HostRuntime) -> Result<(), Fail> {
+fn the_first_failing_test_is_returned(rt: HostRuntime) {
     let late = Command::SetTime(time(8_277_292_036, 0));
     let early = Command::SetTime(time(0, 0));
     answers_and_reads(
@@ -47,7 +48,7 @@ fn the_first_failing_test_is_returned(rt: HostRuntime) -> Result<(), Fail> {
 }
 
 #[test]
-fn an_earlier_reading_gets_the_last_value(rt: HostRuntime) -> Result<(), Fail> {
+fn an_earlier_reading_gets_the_last_value(rt: HostRuntime) {
     answers_and_reads(
         &rt,
         rt.alloc(),
@@ -60,10 +61,10 @@ fn an_earlier_reading_gets_the_last_value(rt: HostRuntime) -> Result<(), Fail> {
 }
 
 #[test]
-fn no_clock_passes_its_limit(rt: HostRuntime) -> Result<(), Fail> {
-    let desc = CounterDesc::new(64, 4_194_304, 0)?;
+fn no_clock_passes_its_limit(rt: HostRuntime) {
+    let desc = CounterDesc::new(64, 4_194_304, 0).expect(&rt, "a counter");
     let real = time(8_277_292_035, 999_999_999);
-    let mut keeper = Timekeeper::open(rt.alloc(), desc, 0, real)?;
+    let mut keeper = Timekeeper::open(rt.alloc(), desc, 0, real).expect(&rt, "a timekeeper");
     let end = 225_563_049_316;
     answers(
         &rt,
@@ -88,19 +89,18 @@ fn no_clock_passes_its_limit(rt: HostRuntime) -> Result<(), Fail> {
             (ClockId::Realtime, end, time(9_223_372_035, 998_296_063)),
         ],
     );
-    Ok(())
 }
 
 #[test]
-fn only_a_settable_time_opens(rt: HostRuntime) -> Result<(), Fail> {
-    let desc = nanosecond_counter()?;
+fn only_a_settable_time_opens(rt: HostRuntime) {
+    let desc = nanosecond_counter().expect(&rt, "a counter");
     for (reading, real) in [
         (4_294_967_296, time(0, 0)),
         (0, time(-1, 0)),
         (0, time(8_277_292_036, 0)),
     ] {
         let refused = Timekeeper::open(rt.alloc(), desc, reading, real).err();
-        assert_eq!(rt; refused, Some(Refusal::Invalid), "{real:?} at {reading}");
+        let wanted = Some(Refusal::Invalid);
+        assert_same(&rt, &(reading, real, refused), &(reading, real, wanted));
     }
-    Ok(())
 }

@@ -1,13 +1,13 @@
-//! Snapshots of past fronts, each compared with the snapshot of the time when the front was the
-//! latest. The gaps of neighbouring updates add up to half the mask, to more, and to whole rounds of
-//! the counter, for a counter of 64 bits too. A second journal has long runs of updates.
+//! Snapshots of past fronts, each compared with the snapshot of clocks that applied the same
+//! commands one after the other. The gaps of neighbouring updates add up to half the mask, to more,
+//! and to whole rounds of the counter, for a counter of 64 bits too. A second journal has long runs
+//! of updates.
 
 use super::fronts::{COMMANDS, command};
-use super::{applied, assert_same};
+use super::{applied, assert_same, words_at};
 use std::alloc::Global;
 use std::process::Abort;
-use std::test::Fail;
-use tk_clock::Command;
+use tk_clock::{Clock, Command};
 use tk_counter::CounterDesc;
 use tk_keeper::{FrontError, Timekeeper};
 use tk_test_support::OPENED_TIME;
@@ -69,50 +69,66 @@ fn calm_gap(number: u64, half: u64) -> u64 {
     }
 }
 
+/// Applies the next command to clocks that have no journal, and returns its reading.
+fn advanced(rt: &impl Abort, clock: &mut Clock, filling: Filling, number: u64) -> u64 {
+    let before = clock.snapshot(0);
+    let desc = before.desc();
+    let gap = filling.gap(number, desc.half());
+    let reading = before.last().wrapping_add(gap) & desc.mask();
+    assert_same(rt, &clock.apply(reading, filling.command(number)), &Ok(()));
+    reading
+}
+
+/// Checks the snapshot of each front, up to the last one. `opened` has the clocks at front 0.
+fn compared(rt: &impl Abort, keeper: &Timekeeper, opened: Clock, filling: Filling) {
+    let mut clock = opened;
+    for front in 0..=filling.count() {
+        if front > 0 {
+            advanced(rt, &mut clock, filling, front);
+        }
+        let wanted = if front < keeper.folded() {
+            Err(FrontError::Folded)
+        } else {
+            Ok(clock.snapshot(front).words())
+        };
+        assert_same(rt, &words_at(keeper, front), &wanted);
+    }
+}
+
 /// Fills a journal of this counter, and checks the snapshot of each front, before folds and after
 /// them.
-fn compared(
-    rt: &impl Abort,
-    alloc: Global,
-    desc: CounterDesc,
-    filling: Filling,
-) -> Result<(), Fail> {
-    let mut keeper = Timekeeper::open(alloc, desc, 0, OPENED_TIME)?;
-    let mut shown = Vec::new(alloc);
-    shown.push(keeper.snapshot().words())?;
-    let mut reading: u64 = 0;
+fn filled(rt: &impl Abort, alloc: Global, desc: CounterDesc, filling: Filling) {
+    let opened = Clock::open(desc, 0, OPENED_TIME).expect(rt, "clocks");
+    let mut keeper = Timekeeper::open(alloc, desc, 0, OPENED_TIME).expect(rt, "a timekeeper");
+    let mut clock = opened;
     for number in 1..=filling.count() {
-        reading = reading.wrapping_add(filling.gap(number, desc.half())) & desc.mask();
+        let reading = advanced(rt, &mut clock, filling, number);
         let answer = applied(rt, &mut keeper, reading, filling.command(number));
         assert_same(rt, &answer, &Ok(number));
-        shown.push(keeper.snapshot().words())?;
+        assert_same(
+            rt,
+            &keeper.snapshot().words(),
+            &clock.snapshot(number).words(),
+        );
     }
     for folded in [0, 100, 256, 300, 511, 512, 513] {
         keeper.fold(filling.count().wrapping_sub(folded));
         assert_same(rt, &keeper.folded(), &folded);
-        for (front, words) in shown.iter().enumerate() {
-            let answer = keeper.snapshot_at(front as u64);
-            if (front as u64) < folded {
-                assert_same(rt, &answer.err(), &Some(FrontError::Folded));
-            } else {
-                assert_same(rt, &answer?.words(), words);
-            }
-        }
+        compared(rt, &keeper, opened, filling);
     }
-    Ok(())
 }
 
 #[test]
-fn each_past_front_has_the_words_that_it_had(rt: HostRuntime) -> Result<(), Fail> {
+fn each_past_front_has_the_words_that_it_had(rt: HostRuntime) {
     let alloc = rt.alloc();
     // 1 ns a cycle twice, and 2^24 cycles a nanosecond: runs of more than 2^64 cycles
     for desc in [
-        CounterDesc::new(8, 256, 8)?,
-        CounterDesc::new(32, 16_777_216, 24)?,
-        CounterDesc::new(64, 256, 32)?,
+        CounterDesc::new(8, 256, 8),
+        CounterDesc::new(32, 16_777_216, 24),
+        CounterDesc::new(64, 256, 32),
     ] {
-        compared(&rt, alloc, desc, Filling::Varied)?;
-        compared(&rt, alloc, desc, Filling::Calm)?;
+        let desc = desc.expect(&rt, "a counter");
+        filled(&rt, alloc, desc, Filling::Varied);
+        filled(&rt, alloc, desc, Filling::Calm);
     }
-    Ok(())
 }

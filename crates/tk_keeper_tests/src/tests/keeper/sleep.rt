@@ -2,7 +2,6 @@ use super::{
     ASLEEP_WORDS, AWAKE_WORDS, answers, answers_and_reads, assert_same, opened, reads, time,
 };
 use std::process::Abort;
-use std::test::Fail;
 use tk_clock::ClockId;
 use tk_clock::Command::{Resume, SetTime, Step, Suspend, Tai, Update};
 use tk_clock::Refusal::{Asleep, Awake, Invalid, Range};
@@ -30,15 +29,14 @@ pub(super) fn wakes(rt: &impl Abort, keeper: &mut Timekeeper) {
 }
 
 #[test]
-fn a_suspension_moves_realtime_and_boottime(rt: HostRuntime) -> Result<(), Fail> {
-    let mut keeper = opened(rt.alloc())?;
+fn a_suspension_moves_realtime_and_boottime(rt: HostRuntime) {
+    let mut keeper = opened(&rt, rt.alloc());
     answers(&rt, &mut keeper, &[(1_000, Suspend, Ok(1))]);
     wakes(&rt, &mut keeper);
-    Ok(())
 }
 
 #[test]
-fn only_a_sleeping_clock_resumes(rt: HostRuntime) -> Result<(), Fail> {
+fn only_a_sleeping_clock_resumes(rt: HostRuntime) {
     let steps = [
         (0, Resume(time(0, 0)), Err(Awake)),
         (0, Suspend, Ok(1)),
@@ -47,11 +45,11 @@ fn only_a_sleeping_clock_resumes(rt: HostRuntime) -> Result<(), Fail> {
         (0, Resume(time(0, 1)), Ok(2)),
     ];
     let values = [(ClockId::Boottime, 0, time(0, 1))];
-    answers_and_reads(&rt, rt.alloc(), &steps, &values)
+    answers_and_reads(&rt, rt.alloc(), &steps, &values);
 }
 
 #[test]
-fn a_suspension_ends_below_the_clocks_limits(rt: HostRuntime) -> Result<(), Fail> {
+fn a_suspension_ends_below_the_clocks_limits(rt: HostRuntime) {
     let steps = [
         (0, Suspend, Ok(1)),
         (0, Resume(time(7_523_372_036, 0)), Err(Range)),
@@ -61,5 +59,5 @@ fn a_suspension_ends_below_the_clocks_limits(rt: HostRuntime) -> Result<(), Fail
         (0, Step(time(0, 0)), Err(Invalid)),
         (1, SetTime(time(100, 0)), Ok(3)),
     ];
-    answers_and_reads(&rt, rt.alloc(), &steps, &[])
+    answers_and_reads(&rt, rt.alloc(), &steps, &[]);
 }

@@ -1,56 +1,48 @@
 use super::{answers, assert_same, opened, time};
-use std::test::Fail;
-use tk_clock::{ClockId, Command, ReadError};
+use std::process::Abort;
+use tk_clock::{ClockId, Command, ReadError, Timespec};
+use tk_keeper::Timekeeper;
 
-#[test]
-fn reads_are_the_journals_own(rt: HostRuntime) -> Result<(), Fail> {
-    let mut keeper = opened(rt.alloc())?;
-    let wake = Command::Resume(time(5, 500_000_000));
-    answers(
-        &rt,
-        &mut keeper,
-        &[(1_000, Command::Suspend, Ok(1)), (5, wake, Ok(2))],
-    );
-    for fold in [false, true] {
-        if fold {
-            assert_same(&rt, &keeper.fold(0), &2);
-        }
-        for (clock, reading, value) in [
-            (ClockId::Monotonic, 5, time(0, 1_000)),
-            (ClockId::Monotonic, 15, time(0, 1_010)),
-            (ClockId::MonotonicCoarse, 15, time(0, 1_000)),
-            (ClockId::Realtime, 5, time(1_700_000_005, 500_001_000)),
-            (ClockId::Boottime, 5, time(5, 500_001_000)),
-        ] {
-            assert_same(&rt, &keeper.get(clock, reading), &Ok(value));
-        }
+/// What a clock gives at a reading.
+type Value = (ClockId, u64, Result<Timespec, ReadError>);
+
+/// Reads clocks without a snapshot, and checks the result of each.
+fn gives(rt: &impl Abort, keeper: &Timekeeper, values: &[Value]) {
+    for (clock, reading, value) in values {
+        assert_same(rt, &keeper.get(*clock, *reading), value);
     }
-    Ok(())
 }
 
 #[test]
-fn a_reading_above_the_mask_is_refused_first(rt: HostRuntime) -> Result<(), Fail> {
-    let mut keeper = opened(rt.alloc())?;
-    assert_same(
-        &rt,
-        &keeper.get(ClockId::Monotonic, 4_294_967_296),
-        &Err(ReadError::Invalid),
-    );
+fn reads_are_the_journals_own(rt: HostRuntime) {
+    let mut keeper = opened(&rt, rt.alloc());
+    let wake = Command::Resume(time(5, 500_000_000));
+    let steps = [(1_000, Command::Suspend, Ok(1)), (5, wake, Ok(2))];
+    answers(&rt, &mut keeper, &steps);
+    let values = [
+        (ClockId::Monotonic, 5, Ok(time(0, 1_000))),
+        (ClockId::Monotonic, 15, Ok(time(0, 1_010))),
+        (ClockId::MonotonicCoarse, 15, Ok(time(0, 1_000))),
+        (ClockId::Realtime, 5, Ok(time(1_700_000_005, 500_001_000))),
+        (ClockId::Boottime, 5, Ok(time(5, 500_001_000))),
+    ];
+    gives(&rt, &keeper, &values);
+    assert_same(&rt, &keeper.fold(0), &2);
+    gives(&rt, &keeper, &values);
+}
+
+#[test]
+fn a_reading_above_the_mask_is_refused_first(rt: HostRuntime) {
+    let mut keeper = opened(&rt, rt.alloc());
+    let above = 4_294_967_296;
+    let invalid = Err(ReadError::Invalid);
+    gives(&rt, &keeper, &[(ClockId::Monotonic, above, invalid)]);
     let wake = Command::Resume(time(7_523_372_035, 999_999_999));
-    answers(
-        &rt,
-        &mut keeper,
-        &[(0, Command::Suspend, Ok(1)), (0, wake, Ok(2))],
-    );
-    assert_same(
-        &rt,
-        &keeper.get(ClockId::Realtime, 1),
-        &Err(ReadError::Range),
-    );
-    assert_same(
-        &rt,
-        &keeper.get(ClockId::Realtime, 4_294_967_296),
-        &Err(ReadError::Invalid),
-    );
-    Ok(())
+    let steps = [(0, Command::Suspend, Ok(1)), (0, wake, Ok(2))];
+    answers(&rt, &mut keeper, &steps);
+    let values = [
+        (ClockId::Realtime, 1, Err(ReadError::Range)),
+        (ClockId::Realtime, above, invalid),
+    ];
+    gives(&rt, &keeper, &values);
 }

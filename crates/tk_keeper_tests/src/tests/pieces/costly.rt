@@ -1,8 +1,10 @@
 //! Lists whose fronts have no order, so that several threads convert a few thousand items.
 
-use super::{ABOVE, Lists, agrees_with_one_thread, alone, counted, first_faults, opened};
+use super::{
+    ABOVE, Lists, agrees_with_one_thread, answered, assert_same, counted, first_faults, opened, put,
+};
 use std::alloc::Global;
-use std::test::Fail;
+use std::process::Abort;
 use tk_clock::Command;
 use tk_keeper::{Timekeeper, TraceError};
 use tk_test_support::next_random;
@@ -21,62 +23,109 @@ const UPDATES: [Command; 2] = [Command::Update, Command::Update];
 const SETTINGS: [Command; 2] = [Command::Freq(65_536_000), Command::Freq(-32_768_000)];
 
 /// Returns a timekeeper after `PAIRS` times these two commands.
-fn busy(alloc: Global, pair: [Command; 2]) -> Result<Timekeeper, Fail> {
-    let mut keeper = opened(alloc)?;
-    let [first, second] = pair;
+fn busy(rt: &impl Abort, alloc: Global, pair: [Command; 2]) -> Timekeeper {
+    let mut keeper = opened(rt, alloc);
     for _ in 0..PAIRS {
-        keeper.apply(0, READING, first)?;
-        keeper.apply(0, READING, second)?;
+        for cmd in pair {
+            assert_same(rt, &keeper.apply(0, READING, cmd).is_ok(), &true);
+        }
     }
-    Ok(keeper)
+    keeper
+}
+
+/// Returns this number of items, each with a stamp after `READING`.
+fn late(rt: &impl Abort, alloc: Global, many: usize) -> Lists {
+    let mut lists = counted(rt, alloc, many);
+    for place in 0..many {
+        put(
+            lists.stamps.as_mut_slice(),
+            place,
+            READING.wrapping_add(place as u64),
+        );
+    }
+    lists
 }
 
 /// Returns this number of items with fronts in no order.
-fn scattered(alloc: Global, many: usize) -> Result<Lists, Fail> {
-    let mut lists = counted(alloc, many)?;
+fn scattered(rt: &impl Abort, alloc: Global, many: usize) -> Lists {
+    let mut lists = late(rt, alloc, many);
     let mut seed: u64 = 88_172_645_463_325_252;
-    for front in lists.fronts.iter_mut() {
+    for place in 0..many {
         seed = next_random(seed);
-        *front = seed % (LAST + 1);
+        put(lists.fronts.as_mut_slice(), place, seed % (LAST + 1));
     }
-    for stamp in lists.stamps.iter_mut() {
-        *stamp = READING.wrapping_add(*stamp);
+    lists
+}
+
+/// Returns a timekeeper after 396 commands, which are updates but for numbers 140 and 396. The
+/// estimate takes the commands before these two for others like them.
+fn calm(rt: &impl Abort, alloc: Global) -> Timekeeper {
+    let mut keeper = opened(rt, alloc);
+    for number in 1..=396 {
+        let cmd = if number % 256 == 140 {
+            Command::Tai(37)
+        } else {
+            Command::Update
+        };
+        assert_same(rt, &keeper.apply(0, READING, cmd), &Ok(number));
     }
-    Ok(lists)
+    keeper
+}
+
+/// Returns this number of items with two fronts in turn, each 140 commands after a kept state. An
+/// item is estimated to take 2,215 ns, so a piece has as few items as it may have, which is 32.
+fn far_apart(rt: &impl Abort, alloc: Global, many: usize) -> Lists {
+    let mut lists = late(rt, alloc, many);
+    for place in 0..many {
+        put(
+            lists.fronts.as_mut_slice(),
+            place,
+            if place % 2 == 0 { 140 } else { 396 },
+        );
+    }
+    lists
 }
 
 #[test]
-fn costly_lists_of_each_length_are_converted(rt: HostRuntime) -> Result<(), Fail> {
+fn costly_lists_of_each_length_are_converted(rt: HostRuntime) {
     let alloc = rt.alloc();
     // around the lengths from which on several threads convert, and multiples of a piece's length
     for (pair, lengths) in [
         (UPDATES, [6_800, 7_168, 7_169]),
         (SETTINGS, [1_023, 1_024, 2_049]),
     ] {
-        let keeper = busy(alloc, pair)?;
+        let keeper = busy(&rt, alloc, pair);
         for many in lengths {
-            let mut lists = scattered(alloc, many)?;
-            agrees_with_one_thread(&rt, alloc, &keeper, &mut lists, many)?;
+            let mut lists = scattered(&rt, alloc, many);
+            agrees_with_one_thread(&rt, alloc, &keeper, &mut lists, many);
         }
     }
-    Ok(())
 }
 
 #[test]
-fn the_first_fault_of_a_costly_list_decides(rt: HostRuntime) -> Result<(), Fail> {
+fn the_first_fault_of_three_hundred_pieces_decides(rt: HostRuntime) {
     let alloc = rt.alloc();
-    let keeper = busy(alloc, SETTINGS)?;
-    let mut lists = scattered(alloc, 2_049)?;
-    let values = alone(&keeper, &lists)?;
-    // a piece has 32 items
+    let keeper = calm(&rt, alloc);
+    let mut lists = far_apart(&rt, alloc, 10_017);
+    // MONOTONIC counts the cycles, because the commands set TAI alone
+    let values = lists.stamps.clone().expect(&rt, "memory");
+    let found = answered(alloc, &rt, &keeper, &mut lists).expect(&rt, "values");
+    assert_same(&rt, &(found.as_slice() == values.as_slice()), &true);
+    // a piece has 32 items, the last one has one; stages end before the items 32, 544 and 8,736
     let items = [
-        (2_048, LAST, ABOVE, TraceError::Invalid { index: 2_048 }),
-        (2_016, 1_001, 0, TraceError::Unknown { index: 2_016 }),
-        (2_015, 0, ABOVE, TraceError::Invalid { index: 2_015 }),
+        (10_016, 0, ABOVE, TraceError::Invalid { index: 10_016 }),
+        (10_015, 1_001, 0, TraceError::Unknown { index: 10_015 }),
+        (9_984, 0, ABOVE, TraceError::Invalid { index: 9_984 }),
+        (8_736, 0, ABOVE, TraceError::Invalid { index: 8_736 }),
+        (8_735, 1_001, 0, TraceError::Unknown { index: 8_735 }),
+        (5_024, 0, ABOVE, TraceError::Invalid { index: 5_024 }),
+        (5_023, 9_999, 0, TraceError::Unknown { index: 5_023 }),
+        (544, 0, ABOVE, TraceError::Invalid { index: 544 }),
+        (543, 1_001, 0, TraceError::Unknown { index: 543 }),
         (33, 0, ABOVE, TraceError::Invalid { index: 33 }),
         (32, 1_001, ABOVE, TraceError::Unknown { index: 32 }),
         (31, 0, ABOVE, TraceError::Invalid { index: 31 }),
         (0, 1_001, 0, TraceError::Unknown { index: 0 }),
     ];
-    first_faults(&rt, alloc, &keeper, &mut lists, values.as_slice(), &items)
+    first_faults(&rt, alloc, &keeper, &mut lists, values.as_slice(), &items);
 }
