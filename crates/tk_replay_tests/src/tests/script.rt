@@ -12,21 +12,93 @@ mod stamps;
 mod ways;
 
 use super::{assert_lines, assert_same};
-use std::test::Fail;
+use std::alloc::{AllocError, Global};
+use std::process::Abort;
 use tk_clock::{ClockId, Command, Timespec};
-use tk_script::{Row, ScriptError};
+use tk_script::{Row, Script, ScriptError, Stamps};
 
 /// A counter of 32 bits at 1 ns per cycle, opened at reading 0.
 const OPENING: &[u8] = b"open,32,16777216,24,0,1700000000,0\n";
 
-/// Returns the fault. An allocation failure, or a result without a fault, ends the test with its
-/// own error.
-fn fault_of<T: Drop>(returned: Result<T, ScriptError>) -> Result<ScriptError, Fail> {
-    match returned {
-        Ok(_) => Err("no fault")?,
-        Err(ScriptError::Memory) => Err(ScriptError::Memory)?,
-        Err(fault) => Ok(fault),
+/// Stops the test unless the bytes are a script of these rows.
+fn assert_rows(rt: &(impl Abort + AllocGlobal), bytes: &[u8], rows: &[Row]) {
+    match Script::from_bytes(rt.alloc(), bytes) {
+        Ok(script) => assert_same(rt, &script.rows.as_slice(), &rows),
+        Err(error) => assert_same(rt, &Some(error), &None),
     }
+}
+
+/// Stops the test unless a script opens a counter of these bits, multiplier and shift, at this
+/// reading and time.
+fn assert_opening(
+    rt: &(impl Abort + AllocGlobal),
+    bytes: &[u8],
+    counter: (u32, u32, u32),
+    reading: u64,
+    real: Timespec,
+) {
+    match Script::from_bytes(rt.alloc(), bytes) {
+        Ok(script) => {
+            let desc = script.desc;
+            let found = (desc.bits(), desc.mult(), desc.shift());
+            assert_same(rt, &found, &counter);
+            assert_same(rt, &script.reading, &reading);
+            assert_same(rt, &script.real, &real);
+        }
+        Err(error) => assert_same(rt, &Some(error), &None),
+    }
+}
+
+/// Stops the test unless a script has this fault.
+fn assert_fault(rt: &(impl Abort + AllocGlobal), bytes: &[u8], fault: ScriptError) {
+    let found = match Script::from_bytes(rt.alloc(), bytes) {
+        Ok(_) => None,
+        Err(error) => Some(error),
+    };
+    assert_same(rt, &found, &Some(fault));
+}
+
+/// Stops the test unless the bytes are a stamp file of these items.
+fn assert_stamps(rt: &(impl Abort + AllocGlobal), bytes: &[u8], fronts: &[u64], stamps: &[u64]) {
+    match Stamps::from_bytes(rt.alloc(), bytes) {
+        Ok(items) => {
+            assert_same(rt, &items.fronts.as_slice(), &fronts);
+            assert_same(rt, &items.stamps.as_slice(), &stamps);
+        }
+        Err(error) => assert_same(rt, &Some(error), &None),
+    }
+}
+
+/// Stops the test unless a stamp file has this fault.
+fn assert_stamps_fault(rt: &(impl Abort + AllocGlobal), bytes: &[u8], fault: ScriptError) {
+    let found = match Stamps::from_bytes(rt.alloc(), bytes) {
+        Ok(_) => None,
+        Err(error) => Some(error),
+    };
+    assert_same(rt, &found, &Some(fault));
+}
+
+/// Returns a text and a later one after it.
+fn joined(alloc: Global, first: &[u8], later: &[u8]) -> Result<Vec<u8>, AllocError> {
+    let mut bytes = first.to_vec(alloc)?;
+    bytes.extend_from_slice(later)?;
+    Ok(bytes)
+}
+
+/// Returns the text, followed by `many` copies of the record.
+fn repeated(alloc: Global, text: &[u8], record: &[u8], many: usize) -> Result<Vec<u8>, AllocError> {
+    let mut bytes = text.to_vec(alloc)?;
+    for _ in 0..many {
+        bytes.extend_from_slice(record)?;
+    }
+    Ok(bytes)
+}
+
+/// Returns the text, filled with line feeds up to `len` bytes.
+fn filled(alloc: Global, text: &[u8], len: usize) -> Result<Vec<u8>, AllocError> {
+    let mut bytes = text.to_vec(alloc)?;
+    bytes.resize(len, b'\n')?;
+    Ok(bytes)
 }
 
 fn time(sec: i64, nsec: u32) -> Timespec {

@@ -3,11 +3,52 @@
 use super::{REPORT, SCRIPT, assert_lines, assert_same};
 use std::alloc::{AllocError, Global};
 use std::process::Abort;
+use std::sync::Wait;
 use std::sync::atomic::{AtomicU64, Ordering};
 use std::test::Fail;
 use std::thread;
+use std::thread::Threads;
 use tk_replay::{Gate, ManyError, NoGate, replay_all, report};
 use tk_script::ScriptError;
+
+/// The result for one script.
+type Outcome = Result<Vec<u8>, ScriptError>;
+
+/// The result of `replay_all`.
+pub(super) type Outcomes = Result<Vec<Outcome>, ManyError>;
+
+/// Stops the test unless this many workers give these outcomes.
+pub(super) fn assert_outcomes<G: Gate + Sync>(
+    rt: &(impl Abort + AllocGlobal + Threads + Wait + Sync),
+    scripts: &[Vec<u8>],
+    workers: usize,
+    gate: &G,
+    wanted: &Outcomes,
+) {
+    assert_same(
+        rt,
+        &replay_all(rt.alloc(), rt, scripts, workers, gate),
+        wanted,
+    );
+}
+
+/// Returns the report of each script, made alone.
+pub(super) fn reports_of(alloc: Global, scripts: &[Vec<u8>]) -> Result<Outcomes, Fail> {
+    let mut reports = Vec::new(alloc);
+    for script in scripts {
+        reports.push(Ok(report(alloc, script.as_slice())?))?;
+    }
+    Ok(Ok(reports))
+}
+
+/// Returns this many copies of the script.
+pub(super) fn copies(alloc: Global, count: usize) -> Result<Vec<Vec<u8>>, AllocError> {
+    let mut scripts = Vec::new(alloc);
+    for _ in 0..count {
+        scripts.push(Vec::from_slice(alloc, SCRIPT)?)?;
+    }
+    Ok(scripts)
+}
 
 /// A script whose second record has too few fields.
 const SHORT: &[u8] = b"open,32,16777216,24,0,1700000000,0\nset,5,7\n";
@@ -19,16 +60,28 @@ fn two(alloc: Global) -> Result<Vec<Vec<u8>>, AllocError> {
     Ok(vec![in alloc; whole, short]?)
 }
 
+/// The outcomes of both.
+fn two_outcomes(alloc: Global) -> Result<Vec<Outcome>, AllocError> {
+    let whole = Ok(Vec::from_slice(alloc, REPORT)?);
+    let short = Err(ScriptError::Fields { row: 2 });
+    Ok(vec![in alloc; whole, short]?)
+}
+
+/// A script of this many updates.
+fn updates(alloc: Global, count: usize) -> Result<Vec<u8>, AllocError> {
+    let mut script = Vec::from_slice(alloc, b"open,32,16777216,24,0,1700000000,0\n")?;
+    for _ in 0..count {
+        script.extend_from_slice(b"update,0\n")?;
+    }
+    Ok(script)
+}
+
 /// Scripts of different lengths: the one at place n has n updates, every third the most.
 fn uneven(alloc: Global, count: usize) -> Result<Vec<Vec<u8>>, AllocError> {
     let mut scripts = Vec::new(alloc);
     for place in 0..count {
-        let mut script = Vec::from_slice(alloc, b"open,32,16777216,24,0,1700000000,0\n")?;
-        let updates = if place % 3 == 0 { 2_000 } else { place };
-        for _ in 0..updates {
-            script.extend_from_slice(b"update,0\n")?;
-        }
-        scripts.push(script)?;
+        let many = if place % 3 == 0 { 2_000 } else { place };
+        scripts.push(updates(alloc, many)?)?;
     }
     Ok(scripts)
 }
@@ -68,19 +121,15 @@ impl Gate for Meeting {
 
 #[test]
 fn all_workers_are_at_work_at_once(rt: HostRuntime) -> Result<(), Fail> {
-    let alloc = rt.alloc();
     for workers in [1, 2, 3, 64] {
-        let mut scripts = Vec::new(alloc);
-        for _ in 0..workers {
-            scripts.push(Vec::from_slice(alloc, SCRIPT)?)?;
-        }
+        let scripts = copies(rt.alloc(), workers)?;
+        let wanted = reports_of(rt.alloc(), scripts.as_slice())?;
         let gate = Meeting {
             wanted: workers as u64,
             came: AtomicU64::new(0),
             late: AtomicU64::new(0),
         };
-        let outcomes = replay_all(alloc, &rt, scripts.as_slice(), workers, &gate)?;
-        assert_same(&rt, &outcomes.len(), &workers);
+        assert_outcomes(&rt, scripts.as_slice(), workers, &gate, &wanted);
         assert_same(&rt, &gate.late.load(Ordering::SeqCst), &0);
     }
     Ok(())
@@ -88,203 +137,150 @@ fn all_workers_are_at_work_at_once(rt: HostRuntime) -> Result<(), Fail> {
 
 #[test]
 fn as_many_workers_as_are_asked_for(rt: HostRuntime) -> Result<(), Fail> {
-    let alloc = rt.alloc();
-    let scripts = two(alloc)?;
-    for workers in [1, 2, 64] {
-        let outcomes = replay_all(alloc, &rt, scripts.as_slice(), workers, &NoGate)?;
-        assert_eq!(rt; outcomes.len(), 2);
-        let Ok(first) = &outcomes[0] else {
-            return Err(Fail::from("the first script has a report"));
-        };
-        assert_same(&rt, &first.as_slice(), &REPORT);
-        assert!(rt; matches!(outcomes[1], Err(ScriptError::Fields { row: 2 })));
-    }
-    for workers in [0, 65, usize::MAX] {
-        let refused = replay_all(alloc, &rt, scripts.as_slice(), workers, &NoGate);
-        assert!(rt; matches!(refused, Err(ManyError::Count)));
-        let none = replay_all(alloc, &rt, &[], workers, &NoGate);
-        assert!(rt; matches!(none, Err(ManyError::Count)));
+    let scripts = two(rt.alloc())?;
+    let both = Ok(two_outcomes(rt.alloc())?);
+    let refused = Err(ManyError::Count);
+    for (workers, wanted) in [
+        (1, &both),
+        (2, &both),
+        (64, &both),
+        (0, &refused),
+        (65, &refused),
+        (usize::MAX, &refused),
+    ] {
+        assert_outcomes(&rt, scripts.as_slice(), workers, &NoGate, wanted);
     }
     Ok(())
 }
 
 #[test]
-fn no_scripts_have_no_reports(rt: HostRuntime) -> Result<(), Fail> {
-    for workers in [1, 64] {
-        let outcomes = replay_all(rt.alloc(), &rt, &[], workers, &NoGate)?;
-        assert!(rt; outcomes.is_empty());
+fn no_scripts_have_no_reports(rt: HostRuntime) {
+    let none = Ok(Vec::new(rt.alloc()));
+    let refused = Err(ManyError::Count);
+    for (workers, wanted) in [
+        (1, &none),
+        (64, &none),
+        (0, &refused),
+        (65, &refused),
+        (usize::MAX, &refused),
+    ] {
+        assert_outcomes(&rt, &[], workers, &NoGate, wanted);
     }
-    Ok(())
 }
 
-#[test]
-fn reports_stand_in_the_order_of_their_scripts(rt: HostRuntime) -> Result<(), Fail> {
-    let alloc = rt.alloc();
-    let scripts = uneven(alloc, 40)?;
-    for workers in [1, 3, 4, 64] {
-        let outcomes = replay_all(alloc, &rt, scripts.as_slice(), workers, &NoGate)?;
-        assert_same(&rt, &outcomes.len(), &scripts.len());
-        for (outcome, script) in outcomes.iter().zip(&scripts) {
-            let Ok(text) = outcome else {
-                return Err(Fail::from("each script has a report"));
-            };
-            let alone = report(alloc, script.as_slice())?;
-            assert_same(&rt, &text.as_slice(), &alone.as_slice());
-        }
-    }
-    Ok(())
-}
-
-/// Counts the calls for each of 40 pieces, and notes those out of order.
+/// Notes by a bit which of 40 pieces were begun and ended, whether a call was wrong, and how many
+/// pieces were between the two calls at most.
 #[derive(Drop)]
-struct Counts {
-    before: Vec<AtomicU64>,
-    after: Vec<AtomicU64>,
+struct Notes {
+    before: AtomicU64,
+    after: AtomicU64,
     wrong: AtomicU64,
-}
-
-impl Counts {
-    fn new(alloc: Global) -> Result<Counts, AllocError> {
-        let mut before = Vec::new(alloc);
-        let mut after = Vec::new(alloc);
-        for _ in 0..40 {
-            before.push(AtomicU64::new(0))?;
-            after.push(AtomicU64::new(0))?;
-        }
-        Ok(Counts {
-            before,
-            after,
-            wrong: AtomicU64::new(0),
-        })
-    }
-
-    /// Counts a call where the piece's counts so far are these, and else notes that it is wrong.
-    fn count(&self, calls: &[AtomicU64], piece: usize, before: u64) {
-        if Counts::has(self.before.as_slice(), piece, before)
-            && Counts::has(self.after.as_slice(), piece, 0)
-            && piece < calls.len()
-        {
-            calls[piece].fetch_add(1, Ordering::SeqCst);
-        } else {
-            self.wrong.store(1, Ordering::SeqCst);
-        }
-    }
-
-    /// Returns whether `count` calls for the piece were counted.
-    fn has(calls: &[AtomicU64], piece: usize, count: u64) -> bool {
-        piece < calls.len() && calls[piece].load(Ordering::SeqCst) == count
-    }
-}
-
-impl Gate for Counts {
-    fn before(&self, piece: usize) {
-        self.count(self.before.as_slice(), piece, 0);
-    }
-
-    fn after(&self, piece: usize) {
-        self.count(self.after.as_slice(), piece, 1);
-    }
-}
-
-/// The gate was called once before and once after each piece up to `count`, and for no other.
-fn assert_called_once(rt: &impl Abort, gate: &Counts, count: usize) {
-    assert_same(rt, &gate.wrong.load(Ordering::SeqCst), &0);
-    for piece in 0..40usize {
-        let times = u64::from(piece < count);
-        assert!(rt; Counts::has(gate.before.as_slice(), piece, times));
-        assert!(rt; Counts::has(gate.after.as_slice(), piece, times));
-    }
-}
-
-#[test]
-fn the_gate_is_called_for_each_piece_once(rt: HostRuntime) -> Result<(), Fail> {
-    let alloc = rt.alloc();
-    for (count, workers) in [(0, 4), (1, 4), (3, 64), (40, 1), (40, 4)] {
-        let scripts = uneven(alloc, count)?;
-        let gate = Counts::new(alloc)?;
-        replay_all(alloc, &rt, scripts.as_slice(), workers, &gate)?;
-        assert_called_once(&rt, &gate, count);
-    }
-    Ok(())
-}
-
-/// Counts those that are between `before` and `after`, and the most there were at once.
-#[derive(Drop)]
-struct Crowd {
     now: AtomicU64,
     most: AtomicU64,
 }
 
-impl Gate for Crowd {
-    fn before(&self, _piece: usize) {
+/// The bit of a piece; none above the 40.
+fn bit_of(piece: usize) -> u64 {
+    if piece < 40 { 1 << piece } else { 0 }
+}
+
+impl Notes {
+    fn new() -> Notes {
+        Notes {
+            before: AtomicU64::new(0),
+            after: AtomicU64::new(0),
+            wrong: AtomicU64::new(0),
+            now: AtomicU64::new(0),
+            most: AtomicU64::new(0),
+        }
+    }
+
+    /// Notes a call as wrong unless the piece was begun and ended as is said.
+    fn expect(&self, bit: u64, was_begun: bool, was_ended: bool) {
+        let is_begun = self.before.load(Ordering::SeqCst) & bit != 0;
+        let is_ended = self.after.load(Ordering::SeqCst) & bit != 0;
+        if bit == 0 || is_begun != was_begun || is_ended != was_ended {
+            self.wrong.store(1, Ordering::SeqCst);
+        }
+    }
+}
+
+impl Gate for Notes {
+    fn before(&self, piece: usize) {
+        let bit = bit_of(piece);
+        self.expect(bit, false, false);
+        self.before.fetch_or(bit, Ordering::SeqCst);
         let now = self.now.fetch_add(1, Ordering::SeqCst).saturating_add(1);
         self.most.fetch_max(now, Ordering::SeqCst);
     }
 
-    fn after(&self, _piece: usize) {
+    fn after(&self, piece: usize) {
+        let bit = bit_of(piece);
+        self.expect(bit, true, false);
+        self.after.fetch_or(bit, Ordering::SeqCst);
         self.now.fetch_sub(1, Ordering::SeqCst);
     }
 }
 
+/// The gate was called once before and once after each piece up to `count` and for no other, and no
+/// more pieces than workers were between the two at once.
+fn assert_called_once(rt: &impl Abort, gate: &Notes, count: usize, workers: usize) {
+    let all = (1 << count.min(63)) - 1;
+    assert_same(rt, &gate.before.load(Ordering::SeqCst), &all);
+    assert_same(rt, &gate.after.load(Ordering::SeqCst), &all);
+    assert_same(rt, &gate.wrong.load(Ordering::SeqCst), &0);
+    assert_same(rt, &gate.now.load(Ordering::SeqCst), &0);
+    assert!(rt; gate.most.load(Ordering::SeqCst) <= workers as u64);
+}
+
 #[test]
-fn no_more_at_work_than_there_are_workers(rt: HostRuntime) -> Result<(), Fail> {
-    let alloc = rt.alloc();
-    let scripts = uneven(alloc, 40)?;
-    for workers in [1, 2, 3] {
-        let gate = Crowd {
-            now: AtomicU64::new(0),
-            most: AtomicU64::new(0),
-        };
-        replay_all(alloc, &rt, scripts.as_slice(), workers, &gate)?;
-        assert!(rt; gate.most.load(Ordering::SeqCst) <= workers as u64);
-        assert_same(&rt, &gate.now.load(Ordering::SeqCst), &0);
+fn reports_stand_in_the_order_of_their_scripts(rt: HostRuntime) -> Result<(), Fail> {
+    for (count, workers) in [
+        (0, 4),
+        (1, 4),
+        (3, 64),
+        (40, 1),
+        (40, 2),
+        (40, 3),
+        (40, 4),
+        (40, 64),
+    ] {
+        let scripts = uneven(rt.alloc(), count)?;
+        let wanted = reports_of(rt.alloc(), scripts.as_slice())?;
+        let gate = Notes::new();
+        assert_outcomes(&rt, scripts.as_slice(), workers, &gate, &wanted);
+        assert_called_once(&rt, &gate, count, workers);
     }
     Ok(())
 }
 
-/// Notes whether it was ever called.
-#[derive(Drop)]
-struct Bell {
-    rung: AtomicU64,
+/// The outcome is this one, or memory was refused.
+fn assert_or_memory(rt: &impl Abort, outcome: &Outcome, wanted: &Outcome) {
+    if *outcome != Err(ScriptError::Memory) {
+        assert_same(rt, outcome, wanted);
+    }
 }
 
-impl Gate for Bell {
-    fn before(&self, _piece: usize) {
-        self.rung.store(1, Ordering::SeqCst);
-    }
-
-    fn after(&self, _piece: usize) {
-        self.rung.store(1, Ordering::SeqCst);
+/// These are the outcomes of `two`, but for those that memory was refused for.
+fn assert_two(rt: &impl Abort, outcomes: &[Outcome], wanted: &[Outcome]) {
+    assert_same(rt, &outcomes.len(), &2);
+    if let ([whole, short], [whole_wanted, short_wanted]) = (outcomes, wanted) {
+        assert_or_memory(rt, whole, whole_wanted);
+        assert_or_memory(rt, short, short_wanted);
     }
 }
 
 #[test]
-fn many_reports_or_want_of_them(rt: HostRuntime) -> Result<(), Fail> {
+fn many_reports_or_want_of_them(rt: HostRuntime) {
     let alloc = rt.alloc();
-    let (Ok(scripts), Ok(whole)) = (two(alloc), Vec::from_slice(alloc, REPORT)) else {
-        return Ok(());
-    };
-    let gate = Bell {
-        rung: AtomicU64::new(0),
-    };
-    match replay_all(alloc, &rt, scripts.as_slice(), 2, &gate) {
-        Ok(outcomes) => {
-            assert_eq!(rt; outcomes.len(), 2);
-            match &outcomes[0] {
-                Ok(text) => assert_same(&rt, &text.as_slice(), &whole.as_slice()),
-                Err(error) => assert_same(&rt, error, &ScriptError::Memory),
-            }
-            match &outcomes[1] {
-                Ok(_) => assert!(rt; false, "a report of what is no script"),
-                Err(error) => assert!(rt;
-                    *error == ScriptError::Memory || *error == ScriptError::Fields { row: 2 }
-                ),
-            }
+    if let (Ok(scripts), Ok(wanted)) = (two(alloc), two_outcomes(alloc)) {
+        let gate = Notes::new();
+        match replay_all(alloc, &rt, scripts.as_slice(), 2, &gate) {
+            Ok(outcomes) => assert_two(&rt, outcomes.as_slice(), wanted.as_slice()),
+            Err(ManyError::Memory) => assert_called_once(&rt, &gate, 0, 0),
+            Err(error) => assert_same(&rt, &error, &ManyError::Threads),
         }
-        Err(ManyError::Memory) => assert_same(&rt, &gate.rung.load(Ordering::SeqCst), &0),
-        Err(error) => assert_same(&rt, &error, &ManyError::Threads),
     }
-    Ok(())
 }
 
 #[test]

@@ -3,10 +3,11 @@
 //! `tools/check_program` runs both tests with `tools/count_between.c` loaded, which counts the
 //! requests for memory between the two marks. Without it neither test can fail by its marks.
 
+use super::many::{assert_outcomes, copies, reports_of};
 use super::{REPORT, SCRIPT, assert_same};
 use std::alloc::Global;
 use std::test::Fail;
-use tk_replay::{Gate, replay_all, report};
+use tk_replay::{Gate, report};
 
 /// Makes one request for memory in each call. The library finds the call by the request's size.
 #[derive(Drop)]
@@ -27,19 +28,15 @@ impl Gate for Marks {
 /// The test makes the first report itself. The library expects as many requests in each later pair.
 #[test]
 fn each_report_is_made_between_the_calls_of_its_gate(rt: HostRuntime) -> Result<(), Fail> {
-    let alloc = rt.alloc();
-    let gate = Marks { alloc };
-    let mut scripts = Vec::new(alloc);
-    for _ in 0..8 {
-        scripts.push(Vec::from_slice(alloc, SCRIPT)?)?;
-    }
+    let gate = Marks { alloc: rt.alloc() };
     gate.before(0);
-    let alone = report(alloc, SCRIPT)?;
+    let alone = report(rt.alloc(), SCRIPT);
     gate.after(0);
-    assert_same(&rt, &alone.as_slice(), &REPORT);
+    assert_same(&rt, &alone?.as_slice(), &REPORT);
+    let scripts = copies(rt.alloc(), 8)?;
+    let wanted = reports_of(rt.alloc(), scripts.as_slice())?;
     for workers in [1, 3, 8] {
-        let outcomes = replay_all(alloc, &rt, scripts.as_slice(), workers, &gate)?;
-        assert_same(&rt, &outcomes.len(), &8);
+        assert_outcomes(&rt, scripts.as_slice(), workers, &gate, &wanted);
     }
     Ok(())
 }

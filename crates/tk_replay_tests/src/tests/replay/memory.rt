@@ -2,12 +2,12 @@
 
 use super::assert_same;
 use super::fakes::{Turn, Writer};
-use super::traces::{STAMPS, STEERED, TRACE, traced};
+use super::traces::{STAMPS, STEERED, traced};
 use std::alloc::Global;
 use std::process::Abort;
-use std::test::Fail;
 use std::thread::Threads;
 use tk_clock::ClockId;
+use tk_keeper::Timekeeper;
 use tk_replay::{
     Fault, convert, keeper_after, keeper_of, replay, replay_bounded, report, report_bounded,
     report_rows,
@@ -80,11 +80,11 @@ fn bounded_replay_or_want_of_it(rt: HostRuntime) {
 }
 
 #[test]
-fn there_is_memory(rt: HostRuntime) -> Result<(), Fail> {
+fn there_is_memory(rt: HostRuntime) {
     let script = script();
-    let text = report_bounded(rt.alloc(), &script, 1)?;
-    assert!(rt; text == report(rt.alloc(), &script)?);
-    Ok(())
+    let text = report(rt.alloc(), &script);
+    assert!(rt; text.is_ok());
+    assert_same(&rt, &report_bounded(rt.alloc(), &script, 1), &text);
 }
 
 /// A script whose report takes growths of the journal, of the text and of two dates.
@@ -92,15 +92,37 @@ const DATED: &[u8] = b"open,64,16777216,24,0,1700000000,0\n\
 update,1\nupdate,2\nupdate,3\nupdate,4\nupdate,5\nget,5,realtime\nupdate,6\nupdate,7\n\
 update,8\nupdate,9\nget,86400000000000,realtime\nget,86400000000000,tai\nupdate,10\n";
 
+/// The clocks after `DATED`.
+fn dated_keeper(alloc: Global) -> Result<Timekeeper, ScriptError> {
+    keeper_of(alloc, DATED)
+}
+
 /// The lines of stamps by the journal of `DATED`, out of the heap.
 fn lines<'h>(
     heap: &'h Heap<Global>,
     rt: &(impl AllocGlobal + Threads + Sync),
     stamps: &[u8],
 ) -> Result<Vec<u8, &'h Heap<Global>>, Fault> {
-    let keeper = keeper_of(rt.alloc(), DATED)?;
+    let keeper = dated_keeper(rt.alloc())?;
     let items = Stamps::from_bytes(rt.alloc(), stamps)?;
     convert(heap, rt, &keeper, &items, ClockId::Monotonic)
+}
+
+/// The report of `DATED`, out of the heap.
+fn text_of<'h>(
+    heap: &'h Heap<Global>,
+    alloc: Global,
+    is_bounded: bool,
+) -> Result<Vec<u8, &'h Heap<Global>>, ScriptError> {
+    let (start, mut rows) = RowReader::open(alloc, DATED)?;
+    let keep = if is_bounded { Some(1) } else { None };
+    report_rows(heap, start, &mut rows, keep)
+}
+
+/// How many commands of `DATED` are accepted, by a journal out of the heap.
+fn accepted(heap: &Heap<Global>, alloc: Global) -> Result<usize, ScriptError> {
+    let (start, mut rows) = RowReader::open(alloc, DATED)?;
+    Ok(keeper_after(heap, start, &mut rows)?.len())
 }
 
 /// What is made while memory is refused.
@@ -114,6 +136,20 @@ enum Work {
     Lines,
 }
 
+/// How the report of `DATED` ends.
+const DATED_END: &[u8] = b",2023-11-15T22:13:20.000000000Z\n\
+at,tai,1700086400.000000000\nok,10,0.000000010\n";
+
+/// The text is the report of `DATED`.
+fn assert_dated(rt: &(impl Abort + AllocGlobal), text: &[u8]) {
+    let alone = report(rt.alloc(), DATED);
+    assert!(rt; alone.is_ok());
+    if let Ok(alone) = alone {
+        assert_same(rt, &text, &alone.as_slice());
+    }
+    assert!(rt; text.ends_with(DATED_END));
+}
+
 impl Work {
     /// Makes it from `DATED`, in memory of the heap. Stops the test if the result is wrong.
     fn make(
@@ -121,20 +157,10 @@ impl Work {
         rt: &(impl Abort + AllocGlobal + Threads + Sync),
         heap: &Heap<Global>,
     ) -> Result<(), Fault> {
-        let (start, mut rows) = RowReader::open(rt.alloc(), DATED)?;
         match self {
-            Work::Report => {
-                let text = report_rows(heap, start, &mut rows, None)?;
-                assert_same(rt, &text.as_slice(), &report(rt.alloc(), DATED)?.as_slice());
-            }
-            Work::BoundedReport => {
-                let text = report_rows(heap, start, &mut rows, Some(1))?;
-                assert_same(rt, &text.as_slice(), &report(rt.alloc(), DATED)?.as_slice());
-            }
-            Work::Journal => {
-                let keeper = keeper_after(heap, start, &mut rows)?;
-                assert_same(rt, &keeper.len(), &10);
-            }
+            Work::Report => assert_dated(rt, text_of(heap, rt.alloc(), false)?.as_slice()),
+            Work::BoundedReport => assert_dated(rt, text_of(heap, rt.alloc(), true)?.as_slice()),
+            Work::Journal => assert_same(rt, &accepted(heap, rt.alloc())?, &10),
             Work::Lines => {
                 let text = lines(heap, rt, b"10,12\n0,7\n9,1000\n")?;
                 assert_same(rt, &text.as_slice(), &b"12\n7\n1000\n".as_slice());
@@ -144,39 +170,49 @@ impl Work {
     }
 }
 
-/// Refuses each request of the work in turn, at least `least` of them. Stops the test unless the
-/// fault is then `Memory`, and the work is done when nothing is refused.
-fn assert_made_or_memory(
+/// Does the work while this request is refused. Returns whether one was refused: the fault is then
+/// `Memory`.
+fn is_work_refused(
     rt: &(impl Abort + AllocGlobal + Threads + Sync),
     work: Work,
-    least: u64,
-) -> Result<(), Fail> {
+    request: u64,
+) -> bool {
     let heap = Heap::new(rt.alloc());
-    for request in 1..=1_000 {
-        heap.refuse(request);
-        let outcome = work.make(rt, &heap);
-        if heap.grant_all() {
-            assert_same(rt, &outcome, &Ok(()));
-            assert!(rt; request > least);
-            return Ok(());
+    heap.refuse(request);
+    let outcome = work.make(rt, &heap);
+    let is_refused = !heap.grant_all();
+    let wanted = if is_refused {
+        Err(Fault::Memory)
+    } else {
+        Ok(())
+    };
+    assert_same(rt, &outcome, &wanted);
+    is_refused
+}
+
+/// Each work makes at least `least` requests of the heap, any of which may be refused.
+#[test]
+fn each_growth_refused_in_turn(rt: HostRuntime) {
+    for (work, least) in [
+        (Work::Report, 5),
+        (Work::BoundedReport, 5),
+        (Work::Journal, 2),
+        (Work::Lines, 2),
+    ] {
+        for request in 1..1_000 {
+            let is_refused = is_work_refused(&rt, work, request);
+            assert!(rt; is_refused || request > least);
         }
-        assert_same(rt, &outcome, &Err(Fault::Memory));
+        assert!(rt; !is_work_refused(&rt, work, 1_000));
     }
-    Err("each request was refused".into())
 }
 
 #[test]
-fn each_growth_of_a_report_refused_in_turn(rt: HostRuntime) -> Result<(), Fail> {
-    assert!(rt;
-        report(rt.alloc(), DATED)?.ends_with(
-            b",2023-11-15T22:13:20.000000000Z\n\
-at,tai,1700086400.000000000\nok,10,0.000000010\n"
-        )
-    );
-    for work in [Work::Report, Work::BoundedReport] {
-        assert_made_or_memory(&rt, work, 5)?;
-    }
-    Ok(())
+fn the_lines_of_one_stamp_need_memory(rt: HostRuntime) {
+    let heap = Heap::new(rt.alloc());
+    heap.refuse_all();
+    assert!(rt; matches!(lines(&heap, &rt, b"10,12\n"), Err(Fault::Memory)));
+    heap.grant_all();
 }
 
 #[test]
@@ -184,27 +220,4 @@ fn trace_or_want_of_it(rt: HostRuntime) {
     let mut writer = Writer::willing();
     let outcome = traced(&rt, STEERED, STAMPS, ClockId::Monotonic, &mut writer);
     assert_written(&rt, outcome, &writer);
-}
-
-#[test]
-fn there_is_memory_for_a_trace(rt: HostRuntime) {
-    let mut writer = Writer::willing();
-    let outcome = traced(&rt, STEERED, STAMPS, ClockId::Monotonic, &mut writer);
-    assert_same(&rt, &outcome, &Ok(()));
-    assert_same(&rt, &writer.text(), &TRACE);
-}
-
-#[test]
-fn each_growth_of_a_traces_journal_refused_in_turn(rt: HostRuntime) -> Result<(), Fail> {
-    assert_made_or_memory(&rt, Work::Journal, 2)
-}
-
-#[test]
-fn each_growth_of_a_traces_lines_refused_in_turn(rt: HostRuntime) -> Result<(), Fail> {
-    assert_made_or_memory(&rt, Work::Lines, 2)?;
-    let heap = Heap::new(rt.alloc());
-    heap.refuse_all();
-    assert!(rt; matches!(lines(&heap, &rt, b"10,12\n"), Err(Fault::Memory)));
-    heap.grant_all();
-    Ok(())
 }

@@ -1,26 +1,19 @@
-use super::{OPENING, act, assert_same, look, time};
-use std::alloc::Global;
+use super::{OPENING, act, assert_opening, assert_rows, joined, look, time};
 use std::process::Abort;
-use std::test::Fail;
 use tk_clock::{ClockId, Command};
-use tk_script::{Row, Script};
-
-/// Stops the test if the script has other rows.
-fn assert_rows(rt: &impl Abort, alloc: Global, bytes: &[u8], rows: &[Row]) -> Result<(), Fail> {
-    let script = Script::from_bytes(alloc, bytes)?;
-    assert_same(rt, &script.rows.as_slice(), &rows);
-    Ok(())
-}
+use tk_script::Row;
 
 /// Stops the test if one record after an opening gives another row.
-fn assert_row(rt: &impl Abort, alloc: Global, record: &[u8], row: Row) -> Result<(), Fail> {
-    let mut bytes = OPENING.to_vec(alloc)?;
-    bytes.extend_from_slice(record)?;
-    assert_rows(rt, alloc, bytes.as_slice(), [row].as_slice())
+fn assert_row(rt: &(impl Abort + AllocGlobal), record: &[u8], row: Row) {
+    let bytes = joined(rt.alloc(), OPENING, record);
+    assert!(rt; bytes.is_ok());
+    if let Ok(bytes) = bytes {
+        assert_rows(rt, bytes.as_slice(), [row].as_slice());
+    }
 }
 
 #[test]
-fn reads_each_command(rt: HostRuntime) -> Result<(), Fail> {
+fn reads_each_command(rt: HostRuntime) {
     for (record, cmd) in [
         (b"update,9".as_slice(), Command::Update),
         (
@@ -40,13 +33,12 @@ fn reads_each_command(rt: HostRuntime) -> Result<(), Fail> {
             Command::Resume(time(5, 500_000_000)),
         ),
     ] {
-        assert_row(&rt, rt.alloc(), record, act(9, cmd))?;
+        assert_row(&rt, record, act(9, cmd));
     }
-    Ok(())
 }
 
 #[test]
-fn reads_each_clock(rt: HostRuntime) -> Result<(), Fail> {
+fn reads_each_clock(rt: HostRuntime) {
     for (record, clock) in [
         (b"get,7,realtime".as_slice(), ClockId::Realtime),
         (b"get,7,monotonic".as_slice(), ClockId::Monotonic),
@@ -59,31 +51,29 @@ fn reads_each_clock(rt: HostRuntime) -> Result<(), Fail> {
         ),
         (b"get,7,monotonic_raw".as_slice(), ClockId::MonotonicRaw),
     ] {
-        assert_row(&rt, rt.alloc(), record, look(7, clock))?;
+        assert_row(&rt, record, look(7, clock));
     }
-    Ok(())
 }
 
 #[test]
-fn reads_the_greatest_and_the_least_numbers(rt: HostRuntime) -> Result<(), Fail> {
-    let alloc = rt.alloc();
-    let most = act(u64::MAX, Command::Freq(i64::MAX));
-    assert_row(
-        &rt,
-        alloc,
-        b"freq,18446744073709551615,9223372036854775807",
-        most,
-    )?;
-    let least = act(0, Command::Tai(i64::MIN));
-    assert_row(&rt, alloc, b"tai,0,-9223372036854775808", least)?;
-    let longest = act(0, Command::SetTime(time(i64::MIN, u32::MAX)));
-    assert_row(
-        &rt,
-        alloc,
-        b"set,0,-9223372036854775808,4294967295",
-        longest,
-    )?;
-    assert_row(&rt, alloc, b"tick,000,-000", act(0, Command::Tick(0)))
+fn reads_the_greatest_and_the_least_numbers(rt: HostRuntime) {
+    for (record, row) in [
+        (
+            b"freq,18446744073709551615,9223372036854775807".as_slice(),
+            act(u64::MAX, Command::Freq(i64::MAX)),
+        ),
+        (
+            b"tai,0,-9223372036854775808",
+            act(0, Command::Tai(i64::MIN)),
+        ),
+        (
+            b"set,0,-9223372036854775808,4294967295",
+            act(0, Command::SetTime(time(i64::MIN, u32::MAX))),
+        ),
+        (b"tick,000,-000", act(0, Command::Tick(0))),
+    ] {
+        assert_row(&rt, record, row);
+    }
 }
 
 const FREQUENCY: &[u8] = b"openhz,32,24000000,600,0,1700000000,0
@@ -98,13 +88,9 @@ get,7,tai
 ";
 
 #[test]
-fn reads_a_script_over_a_counter_of_24_megahertz(rt: HostRuntime) -> Result<(), Fail> {
-    let script = Script::from_bytes(rt.alloc(), FREQUENCY)?;
-    assert_same(&rt, &script.desc.bits(), &32);
-    assert_same(&rt, &script.desc.mult(), &699_050_667);
-    assert_same(&rt, &script.desc.shift(), &24);
-    assert_same(&rt, &script.reading, &0);
-    assert_same(&rt, &script.real, &time(1_700_000_000, 0));
+fn reads_a_script_over_a_counter_of_24_megahertz(rt: HostRuntime) {
+    let counter = (32, 699_050_667, 24);
+    assert_opening(&rt, FREQUENCY, counter, 0, time(1_700_000_000, 0));
     let rows = [
         look(24_000_000, ClockId::Monotonic),
         act(24_000_000, Command::Tai(37)),
@@ -115,8 +101,7 @@ fn reads_a_script_over_a_counter_of_24_megahertz(rt: HostRuntime) -> Result<(), 
         look(7, ClockId::Boottime),
         look(7, ClockId::Tai),
     ];
-    assert_same(&rt, &script.rows.as_slice(), &rows.as_slice());
-    Ok(())
+    assert_rows(&rt, FREQUENCY, rows.as_slice());
 }
 
 const SETTINGS: &[u8] = b"open,32,16777216,24,0,1700000000,0
@@ -136,7 +121,7 @@ get,4294967296,tai
 ";
 
 #[test]
-fn reads_settings_and_steps(rt: HostRuntime) -> Result<(), Fail> {
+fn reads_settings_and_steps(rt: HostRuntime) {
     let rows = [
         act(0, Command::SetTime(time(8_277_292_035, 999_999_999))),
         act(0, Command::SetTime(time(8_277_292_036, 0))),
@@ -152,5 +137,5 @@ fn reads_settings_and_steps(rt: HostRuntime) -> Result<(), Fail> {
         act(0, Command::Resume(time(0, 0))),
         look(4_294_967_296, ClockId::Tai),
     ];
-    assert_rows(&rt, rt.alloc(), SETTINGS, rows.as_slice())
+    assert_rows(&rt, SETTINGS, rows.as_slice());
 }

@@ -1,22 +1,21 @@
-use super::{OPENING, assert_lines, assert_same, fault_of};
-use std::alloc::Global;
+use super::{OPENING, assert_fault, assert_lines, filled, joined, repeated};
+use std::process::Abort;
 use std::test::Fail;
-use tk_script::{Script, ScriptError};
+use tk_script::ScriptError;
 
-fn fault(alloc: Global, bytes: &[u8]) -> Result<ScriptError, Fail> {
-    fault_of(Script::from_bytes(alloc, bytes))
-}
-
-fn fault_after_opening(alloc: Global, records: &[u8]) -> Result<ScriptError, Fail> {
-    let mut bytes = OPENING.to_vec(alloc)?;
-    bytes.extend_from_slice(records)?;
-    fault(alloc, bytes.as_slice())
+/// Stops the test unless these records after an opening have this fault.
+fn assert_later_fault(rt: &(impl Abort + AllocGlobal), records: &[u8], fault: ScriptError) {
+    let bytes = joined(rt.alloc(), OPENING, records);
+    assert!(rt; bytes.is_ok());
+    if let Ok(bytes) = bytes {
+        assert_fault(rt, bytes.as_slice(), fault);
+    }
 }
 
 const NO_OPENING: ScriptError = ScriptError::Opening { row: 1 };
 
 #[test]
-fn returns_the_fault_of_the_first_record(rt: HostRuntime) -> Result<(), Fail> {
+fn returns_the_fault_of_the_first_record(rt: HostRuntime) {
     let fields = ScriptError::Fields { row: 1 };
     let number = ScriptError::Number { row: 1 };
     for (bytes, want) in [
@@ -42,13 +41,12 @@ fn returns_the_fault_of_the_first_record(rt: HostRuntime) -> Result<(), Fail> {
         (b"open,32,16777216,24,0,9223372036854775808,0", number),
         (b"open,7,16777216,24,0,1700000000,-0", number),
     ] {
-        assert_same(&rt, &fault(rt.alloc(), bytes)?, &want);
+        assert_fault(&rt, bytes, want);
     }
-    Ok(())
 }
 
 #[test]
-fn returns_the_fault_of_a_later_record(rt: HostRuntime) -> Result<(), Fail> {
+fn returns_the_fault_of_a_later_record(rt: HostRuntime) {
     let word = ScriptError::Word { row: 2 };
     let fields = ScriptError::Fields { row: 2 };
     let number = ScriptError::Number { row: 2 };
@@ -94,60 +92,35 @@ fn returns_the_fault_of_a_later_record(rt: HostRuntime) -> Result<(), Fail> {
         (b"update,1\nget,1,foo", ScriptError::Word { row: 3 }),
         (b"update\nfoo", fields),
     ] {
-        assert_same(&rt, &fault_after_opening(rt.alloc(), records)?, &want);
+        assert_later_fault(&rt, records, want);
     }
-    Ok(())
 }
 
 #[test]
 fn a_record_may_have_any_number_of_fields(rt: HostRuntime) -> Result<(), Fail> {
-    let faults: [(&[u8], ScriptError); 2] = [
-        (b"update", ScriptError::Fields { row: 2 }),
-        (b"updat", ScriptError::Word { row: 2 }),
-    ];
-    for (word, want) in faults {
-        for fields in [15, 16, 17, 1_000, 100_000] {
-            let mut record = word.to_vec(rt.alloc())?;
-            for _ in 0..fields {
-                record.extend_from_slice(b",0")?;
-            }
-            assert_same(
-                &rt,
-                &fault_after_opening(rt.alloc(), record.as_slice())?,
-                &want,
-            );
-        }
+    for fields in [15, 16, 17, 1_000, 100_000] {
+        let known = repeated(rt.alloc(), b"update", b",0", fields)?;
+        assert_later_fault(&rt, known.as_slice(), ScriptError::Fields { row: 2 });
+        let unknown = repeated(rt.alloc(), b"updat", b",0", fields)?;
+        assert_later_fault(&rt, unknown.as_slice(), ScriptError::Word { row: 2 });
     }
     Ok(())
 }
 
-/// Returns the fault of a record with an unknown word, followed by line feeds up to `len` bytes.
-fn fault_of_size(alloc: Global, len: usize) -> Result<ScriptError, Fail> {
-    let mut bytes = b"x\n".to_vec(alloc)?;
-    bytes.resize(len, b'\n')?;
-    fault(alloc, bytes.as_slice())
-}
-
 #[test]
 fn refuses_a_script_by_its_length(rt: HostRuntime) -> Result<(), Fail> {
-    assert_same(&rt, &fault_of_size(rt.alloc(), 16_777_216)?, &NO_OPENING);
-    assert_same(
-        &rt,
-        &fault_of_size(rt.alloc(), 16_777_217)?,
-        &ScriptError::TooLarge,
-    );
+    let mut bytes = filled(rt.alloc(), b"x\n", 16_777_216)?;
+    assert_fault(&rt, bytes.as_slice(), NO_OPENING);
+    bytes.push(b'\n')?;
+    assert_fault(&rt, bytes.as_slice(), ScriptError::TooLarge);
     Ok(())
 }
 
 #[test]
 fn counts_the_records_before_a_fault(rt: HostRuntime) -> Result<(), Fail> {
-    let mut bytes = OPENING.to_vec(rt.alloc())?;
-    for _ in 0..1000 {
-        bytes.extend_from_slice(b"update,1\n\n")?;
-    }
+    let mut bytes = repeated(rt.alloc(), OPENING, b"update,1\n\n", 1_000)?;
     bytes.extend_from_slice(b"update")?;
-    let want = ScriptError::Fields { row: 1002 };
-    assert_same(&rt, &fault(rt.alloc(), bytes.as_slice())?, &want);
+    assert_fault(&rt, bytes.as_slice(), ScriptError::Fields { row: 1002 });
     Ok(())
 }
 

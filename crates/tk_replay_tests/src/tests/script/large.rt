@@ -1,7 +1,6 @@
 //! The number of rows or stamps has no limit; only the number of bytes has one.
 
-use super::{OPENING, act, assert_same};
-use std::alloc::{AllocError, Global};
+use super::{OPENING, act, assert_same, repeated};
 use std::test::Fail;
 use tk_clock::Command;
 use tk_script::{Script, Stamps};
@@ -11,15 +10,6 @@ const ROWS: usize = 1_500_000;
 
 /// The most stamps in 16,777,216 bytes.
 const STAMPS: usize = 4_194_304;
-
-/// Returns the text, followed by `many` copies of the record.
-fn repeated(alloc: Global, text: &[u8], record: &[u8], many: usize) -> Result<Vec<u8>, AllocError> {
-    let mut bytes = text.to_vec(alloc)?;
-    for _ in 0..many {
-        bytes.extend_from_slice(record)?;
-    }
-    Ok(bytes)
-}
 
 #[test]
 fn takes_a_script_of_more_rows_than_a_journal_lists(rt: HostRuntime) -> Result<(), Fail> {

@@ -2,7 +2,7 @@ use super::assert_same;
 use std::test::Fail;
 use tk_clock::{ClockId, Refusal, Timespec};
 use tk_counter::CounterDesc;
-use tk_script::{Calendar, line_at, line_no, line_ok, line_open, utc};
+use tk_script::{Calendar, line_at, line_no, line_ok, line_open};
 
 #[test]
 fn writes_each_line(rt: HostRuntime) -> Result<(), Fail> {
@@ -31,13 +31,6 @@ fn writes_each_line(rt: HostRuntime) -> Result<(), Fail> {
         at,realtime,1700000000.000000000,2023-11-14T22:13:20.000000000Z\n\
         at,tai,1700000000.000000000\n";
     assert_same(&rt, &out.as_slice(), &want.as_slice());
-    Ok(())
-}
-
-#[test]
-fn writes_the_last_second_in_utc(rt: HostRuntime) -> Result<(), Fail> {
-    let text = utc(rt.alloc(), 9_223_372_035, 999_999_999)?;
-    assert_same(&rt, &text.as_str(), &"2262-04-11T23:47:15.999999999Z");
     Ok(())
 }
 

@@ -2,7 +2,8 @@
 //! completes.
 
 use super::assert_same;
-use std::alloc::Allocator;
+use std::alloc::Global;
+use std::process::Abort;
 use std::test::Fail;
 use tk_clock::{ClockId, Refusal, Timespec};
 use tk_counter::CounterDesc;
@@ -14,27 +15,31 @@ const TIME: Timespec = Timespec {
     nsec: 999_999_999,
 };
 
-#[test]
-fn writes_utc_or_nothing(rt: HostRuntime) -> Result<(), Fail> {
+/// Makes a date while this request is refused. Returns whether one was refused.
+fn is_utc_refused(rt: &(impl Abort + AllocGlobal), request: u64) -> bool {
     let heap = Heap::new(rt.alloc());
-    for request in 1..=100 {
-        heap.refuse(request);
-        let returned = utc(&heap, 1_700_000_000, 5);
-        let granted = heap.grant_all();
-        match returned {
-            Ok(text) => {
-                assert!(rt; granted && request > 1);
-                assert_same(&rt, &text.as_str(), &"2023-11-14T22:13:20.000000005Z");
-                return Ok(());
-            }
-            Err(error) => assert!(rt; !granted && error == ScriptError::Memory),
-        }
+    heap.refuse(request);
+    let returned = utc(&heap, 1_700_000_000, 5);
+    let is_refused = !heap.grant_all();
+    assert_same(rt, &returned.is_err(), &is_refused);
+    match returned {
+        Ok(text) => assert_same(rt, &text.as_str(), &"2023-11-14T22:13:20.000000005Z"),
+        Err(error) => assert_same(rt, &error, &ScriptError::Memory),
     }
-    Err("each text met a refusal".into())
+    is_refused
+}
+
+#[test]
+fn writes_utc_or_nothing(rt: HostRuntime) {
+    assert!(rt; is_utc_refused(&rt, 1));
+    for request in 2..100 {
+        is_utc_refused(&rt, request);
+    }
+    assert!(rt; !is_utc_refused(&rt, 100));
 }
 
 /// One line of a report.
-#[derive(Clone, Copy, Debug)]
+#[derive(Drop)]
 enum Line {
     Open(CounterDesc),
     Accepted,
@@ -45,9 +50,9 @@ enum Line {
 
 impl Line {
     /// Appends this line.
-    fn write<A: Allocator + Copy>(self, out: &mut Vec<u8, A>) -> Result<(), ScriptError> {
+    fn write(&self, out: &mut Vec<u8, &Heap<Global>>) -> Result<(), ScriptError> {
         match self {
-            Line::Open(desc) => line_open(out, &desc),
+            Line::Open(desc) => line_open(out, desc),
             Line::Accepted => line_ok(out, u64::MAX, TIME),
             Line::Refused => line_no(out, Refusal::Invalid),
             Line::Plain => line_at(out, ClockId::MonotonicCoarse, TIME),
@@ -56,9 +61,41 @@ impl Line {
     }
 }
 
+/// Writes a line while this request is refused. Returns whether one was refused.
+fn is_line_refused(
+    rt: &(impl Abort + AllocGlobal),
+    line: &Line,
+    whole: &[u8],
+    request: u64,
+) -> bool {
+    let heap = Heap::new(rt.alloc());
+    let mut out = Vec::new(&heap);
+    assert!(rt; out.push(b'-').is_ok());
+    heap.refuse(request);
+    let written = line.write(&mut out);
+    let is_refused = !heap.grant_all();
+    if is_refused {
+        assert_same(rt, &written, &Err(ScriptError::Memory));
+        assert_same(rt, &out.as_slice(), &b"-".as_slice());
+    } else {
+        assert_same(rt, &written, &Ok(()));
+        assert_same(rt, &out.as_slice(), &whole);
+    }
+    is_refused
+}
+
+/// Stops the test unless each refused request leaves the text unchanged, and the line is whole when
+/// none is.
+fn assert_line_or_nothing(rt: &(impl Abort + AllocGlobal), line: &Line, whole: &[u8]) {
+    assert!(rt; is_line_refused(rt, line, whole, 1));
+    for request in 2..100 {
+        is_line_refused(rt, line, whole, request);
+    }
+    assert!(rt; !is_line_refused(rt, line, whole, 100));
+}
+
 #[test]
 fn writes_a_line_or_nothing(rt: HostRuntime) -> Result<(), Fail> {
-    let heap = Heap::new(rt.alloc());
     let desc = CounterDesc::new(32, 3_869_339_906, 32)?;
     let lines: [(Line, &[u8]); 5] = [
         (Line::Open(desc), b"-open,32,3869339906,32\n"),
@@ -73,94 +110,104 @@ fn writes_a_line_or_nothing(rt: HostRuntime) -> Result<(), Fail> {
             b"-at,realtime_coarse,9223372035.999999999,2262-04-11T23:47:15.999999999Z\n",
         ),
     ];
-    for (line, whole) in lines {
-        let mut is_whole = false;
-        'requests: for request in 1..=100 {
-            let mut out = Vec::new(&heap);
-            out.push(b'-')?;
-            heap.refuse(request);
-            let written = line.write(&mut out);
-            is_whole = heap.grant_all();
-            if is_whole {
-                assert_eq!(rt; written, Ok(()), "{line:?}");
-                assert_same(&rt, &out.as_slice(), &whole);
-                assert!(rt; request > 1, "{line:?}");
-                break 'requests;
-            }
-            assert_eq!(rt; written, Err(ScriptError::Memory), "{line:?} at {request}");
-            assert_same(&rt, &out.as_slice(), &b"-".as_slice());
-        }
-        assert!(rt; is_whole, "{line:?}");
+    for (line, whole) in &lines {
+        assert_line_or_nothing(&rt, line, whole);
     }
     Ok(())
 }
 
+/// Appends the line of a clock at this second.
+fn write_at<'h>(
+    calendar: &mut Calendar<&'h Heap<Global>>,
+    out: &mut Vec<u8, &'h Heap<Global>>,
+    clock: ClockId,
+    sec: u32,
+) -> Result<(), ScriptError> {
+    let time = Timespec {
+        sec: i64::from(sec),
+        nsec: 0,
+    };
+    calendar.line_at(out, clock, time)
+}
+
+/// Appends the line of a second. If its memory is refused, nothing is written, and it is appended
+/// at the next try.
+fn write_second<'h>(
+    rt: &impl Abort,
+    calendar: &mut Calendar<&'h Heap<Global>>,
+    out: &mut Vec<u8, &'h Heap<Global>>,
+    sec: u32,
+) {
+    let before = out.len();
+    if write_at(calendar, out, ClockId::Realtime, sec) == Err(ScriptError::Memory) {
+        assert_same(rt, &out.len(), &before);
+        let again = write_at(calendar, out, ClockId::Realtime, sec);
+        assert_same(rt, &again, &Ok(()));
+    }
+}
+
 /// The number of lines in the report.
-const DAYS: u32 = 100;
+const DAYS: u64 = 100;
 
 /// The length of the report, in bytes.
 const LENGTH: usize = 6_400;
 
-#[test]
-fn a_calendar_that_was_refused_a_date_goes_on(rt: HostRuntime) -> Result<(), Fail> {
+/// Writes a line for each day while this request is refused. Returns whether one was refused.
+fn is_day_refused(rt: &(impl Abort + AllocGlobal), request: u64) -> bool {
     let heap = Heap::new(rt.alloc());
-    for request in 1..=1_000 {
-        let mut calendar = Calendar::new(&heap);
-        let mut out = Vec::new(&heap);
-        heap.refuse(request);
-        for day in 0..DAYS {
-            let time = Timespec {
-                sec: i64::from(1_700_000_000 + day * 86_400),
-                nsec: 0,
-            };
-            let before = out.len();
-            let written = calendar.line_at(&mut out, ClockId::Realtime, time);
-            if written == Err(ScriptError::Memory) {
-                assert_same(&rt, &out.len(), &before);
-                assert_same(
-                    &rt,
-                    &calendar.line_at(&mut out, ClockId::Realtime, time),
-                    &Ok(()),
-                );
-            }
-        }
-        assert_same(&rt, &out.len(), &LENGTH);
-        assert!(rt; out.ends_with(b"1708553600.000000000,2024-02-21T22:13:20.000000000Z\n"));
-        if heap.grant_all() {
-            assert!(rt; request > u64::from(DAYS));
-            return Ok(());
-        }
+    let mut calendar = Calendar::new(&heap);
+    let mut out = Vec::new(&heap);
+    let mut sec = 1_700_000_000u32;
+    heap.refuse(request);
+    for _ in 0..DAYS {
+        write_second(rt, &mut calendar, &mut out, sec);
+        sec = sec.wrapping_add(86_400);
     }
-    Err("each report met a refusal".into())
+    assert_same(rt, &out.len(), &LENGTH);
+    assert!(rt; out.ends_with(b"1708553600.000000000,2024-02-21T22:13:20.000000000Z\n"));
+    !heap.grant_all()
+}
+
+#[test]
+fn a_calendar_that_was_refused_a_date_goes_on(rt: HostRuntime) {
+    for request in 1..1_000 {
+        let is_refused = is_day_refused(&rt, request);
+        assert!(rt; is_refused || request > DAYS);
+    }
+    assert!(rt; !is_day_refused(&rt, 1_000));
+}
+
+/// Appends the lines of a day from its second 80,000 on. Only the first of them asks for memory.
+fn write_day<'h>(
+    rt: &impl Abort,
+    heap: &Heap<Global>,
+    calendar: &mut Calendar<&'h Heap<Global>>,
+    out: &mut Vec<u8, &'h Heap<Global>>,
+    first: u32,
+) {
+    // a second later the day ends
+    let last = first.wrapping_add(6_399);
+    heap.refuse_all();
+    let refused = write_at(calendar, out, ClockId::Realtime, first);
+    assert_same(rt, &refused, &Err(ScriptError::Memory));
+    heap.grant_all();
+    let mut written = write_at(calendar, out, ClockId::Realtime, first).is_ok();
+    heap.refuse_all();
+    for _ in 0..3 {
+        written &= write_at(calendar, out, ClockId::RealtimeCoarse, last).is_ok();
+        written &= write_at(calendar, out, ClockId::Monotonic, first).is_ok();
+    }
+    heap.grant_all();
+    assert!(rt; written);
 }
 
 #[test]
 fn only_the_first_line_of_a_day_asks_for_memory(rt: HostRuntime) -> Result<(), Fail> {
     let heap = Heap::new(rt.alloc());
-    let mut calendar = Calendar::new(&heap);
     let mut out = Vec::with_capacity(&heap, LENGTH)?;
-    for day in 0..3u32 {
-        let start = 1_700_000_000 + day * 86_400;
-        let first = Timespec {
-            sec: i64::from(start),
-            nsec: 0,
-        };
-        // a second later the day ends
-        let last = Timespec {
-            sec: i64::from(start + 6_399),
-            nsec: 0,
-        };
-        heap.refuse_all();
-        let refused = calendar.line_at(&mut out, ClockId::Realtime, first);
-        assert_same(&rt, &refused, &Err(ScriptError::Memory));
-        heap.grant_all();
-        calendar.line_at(&mut out, ClockId::Realtime, first)?;
-        heap.refuse_all();
-        for _ in 0..3 {
-            calendar.line_at(&mut out, ClockId::RealtimeCoarse, last)?;
-            calendar.line_at(&mut out, ClockId::Monotonic, first)?;
-        }
-        heap.grant_all();
+    let mut calendar = Calendar::new(&heap);
+    for first in [1_700_000_000, 1_700_086_400, 1_700_172_800] {
+        write_day(&rt, &heap, &mut calendar, &mut out, first);
     }
     assert!(rt;
         out.ends_with(b",2023-11-16T23:59:59.000000000Z\nat,monotonic,1700172800.000000000\n")

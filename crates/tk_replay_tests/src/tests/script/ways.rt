@@ -1,17 +1,18 @@
 //! A text is read as lines that are cut at their commas. If it has a quote, a carriage return or a
 //! byte order mark, csv's reader reads it. Both give the same rows, stamps and faults.
 
-use super::{act, assert_same, fault_of, look};
-use std::test::Fail;
+use super::{act, assert_fault, assert_rows, assert_stamps, assert_stamps_fault, joined, look};
+use std::alloc::AllocError;
+use std::process::Abort;
 use tk_clock::{ClockId, Command};
-use tk_script::{Row, Script, ScriptError, Stamps};
+use tk_script::{Row, ScriptError};
 
 fn update(reading: u64) -> Row {
     act(reading, Command::Update)
 }
 
 #[test]
-fn both_ways_give_the_same_rows(rt: HostRuntime) -> Result<(), Fail> {
+fn both_ways_give_the_same_rows(rt: HostRuntime) {
     let rows = [
         update(5),
         look(7, ClockId::Tai),
@@ -53,17 +54,30 @@ get,18446744073709551615,monotonic_raw\nupdate,10000000000000000000
 get,000000000000000000000003,realtime\n"
             .as_slice(),
     ] {
-        let script = Script::from_bytes(rt.alloc(), text)?;
-        assert_same(&rt, &script.rows.as_slice(), &rows.as_slice());
+        assert_rows(&rt, text, rows.as_slice());
     }
-    Ok(())
 }
 
 /// A first record without a fault.
 const FIRST: &[u8] = b"open,8,256,0,0,0,0";
 
+/// Stops the test unless two texts in a row have this fault. A carriage return before a line feed,
+/// or at the end, leaves the records unchanged.
+fn assert_both(
+    rt: &(impl Abort + AllocGlobal),
+    first: &[u8],
+    later: &[u8],
+    fault: ScriptError,
+) -> Result<(), AllocError> {
+    let plain = joined(rt.alloc(), first, later)?;
+    assert_fault(rt, plain.as_slice(), fault);
+    let other = joined(rt.alloc(), plain.as_slice(), b"\n\r\n")?;
+    assert_fault(rt, other.as_slice(), fault);
+    Ok(())
+}
+
 #[test]
-fn both_ways_return_the_same_fault(rt: HostRuntime) -> Result<(), Fail> {
+fn both_ways_return_the_same_fault(rt: HostRuntime) {
     let fields = ScriptError::Fields { row: 2 };
     let number = ScriptError::Number { row: 2 };
     let word = ScriptError::Word { row: 2 };
@@ -102,21 +116,12 @@ fn both_ways_return_the_same_fault(rt: HostRuntime) -> Result<(), Fail> {
             ScriptError::Fields { row: 4 },
         ),
     ] {
-        let mut plain = first.to_vec(rt.alloc())?;
-        plain.extend_from_slice(later)?;
-        let returned = Script::from_bytes(rt.alloc(), plain.as_slice());
-        assert_same(&rt, &fault_of(returned)?, &want);
-        // a carriage return before a line feed, or at the end, leaves the records unchanged
-        let mut other = plain.clone()?;
-        other.extend_from_slice(b"\n\r\n")?;
-        let returned = Script::from_bytes(rt.alloc(), other.as_slice());
-        assert_same(&rt, &fault_of(returned)?, &want);
+        assert!(rt; assert_both(&rt, first, later, want).is_ok());
     }
-    Ok(())
 }
 
 #[test]
-fn a_quote_within_a_field_is_a_byte(rt: HostRuntime) -> Result<(), Fail> {
+fn a_quote_within_a_field_is_a_byte(rt: HostRuntime) {
     for (text, want) in [
         (
             b"open,8,256,0,0,0,0\nupdate,5\"\nupdate,6".as_slice(),
@@ -127,13 +132,12 @@ fn a_quote_within_a_field_is_a_byte(rt: HostRuntime) -> Result<(), Fail> {
             ScriptError::Word { row: 2 },
         ),
     ] {
-        assert_same(&rt, &fault_of(Script::from_bytes(rt.alloc(), text))?, &want);
+        assert_fault(&rt, text, want);
     }
-    Ok(())
 }
 
 #[test]
-fn both_ways_give_the_same_stamps(rt: HostRuntime) -> Result<(), Fail> {
+fn both_ways_give_the_same_stamps(rt: HostRuntime) {
     for text in [
         b"0,1\n2,18446744073709551615\n4,000000000000000000005".as_slice(),
         b"\n0,1\n\n2,18446744073709551615\n4,000000000000000000005\n\n",
@@ -141,13 +145,7 @@ fn both_ways_give_the_same_stamps(rt: HostRuntime) -> Result<(), Fail> {
         b"0,1\r\n2,18446744073709551615\r\n4,000000000000000000005\r\n",
         b"\xef\xbb\xbf0,1\n2,18446744073709551615\n4,000000000000000000005\n",
     ] {
-        let returned = Stamps::from_bytes(rt.alloc(), text)?;
-        assert_same(&rt, &returned.fronts.as_slice(), &[0, 2, 4].as_slice());
-        assert_same(
-            &rt,
-            &returned.stamps.as_slice(),
-            &[1, u64::MAX, 5].as_slice(),
-        );
+        assert_stamps(&rt, text, &[0, 2, 4], &[1, u64::MAX, 5]);
     }
     for (text, want) in [
         (b"0,1\n2,3,\n".as_slice(), ScriptError::Fields { row: 2 }),
@@ -156,7 +154,6 @@ fn both_ways_give_the_same_stamps(rt: HostRuntime) -> Result<(), Fail> {
         (b"0,1\n\"2\",\n", ScriptError::Number { row: 2 }),
         (b"\xef0,1\n", ScriptError::Number { row: 1 }),
     ] {
-        assert_same(&rt, &fault_of(Stamps::from_bytes(rt.alloc(), text))?, &want);
+        assert_stamps_fault(&rt, text, want);
     }
-    Ok(())
 }
