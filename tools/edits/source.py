@@ -1,0 +1,84 @@
+"""The items of a Rattle source file that a wrong edit can change, and where their proofs stand."""
+import dataclasses
+import re
+
+FUNCTION = re.compile(r'( *)(?:pub(?:\([^)]*\))? )?(?:const |unsafe |extern "C" )*fn (\w+)')
+BLOCK = re.compile(r"(?:pub(?:\([^)]*\))? )?(?:unsafe )?(impl|struct|enum|trait|union)\b(.*)")
+
+
+@dataclasses.dataclass(frozen=True)
+class Item:
+    """A function, or with the name "" a block around functions.
+
+    It has its lines, from 1 on, and a pattern of the names of its proof's files.
+    """
+
+    file: str
+    name: str
+    first: int
+    last: int
+    proofs: str
+
+    def has_line(self, file, number):
+        return file == self.file and self.first <= number <= self.last
+
+    def has_proof(self, path):
+        return re.fullmatch(self.proofs, path) is not None
+
+
+def without_parameters(text):
+    """Removes what stands in angle brackets."""
+    while (shorter := re.sub(r"<[^<>]*>", "", text)) != text:
+        text = shorter
+    return text
+
+
+def folder_of(block):
+    """How the folder of an impl is named: by its type, its trait and the trait's parameters."""
+    words = re.findall(r"[\w:]+", without_parameters(block).split(" where ")[0])
+    names = [it.rpartition("::")[2] for it in words]
+    if "for" in names:
+        at = names.index("for")
+        return rf"{names[at + 1]}{names[at - 1]}\w*"
+    return names[0] if names else r"\w+"
+
+
+def end_of(lines, first):
+    """The line on which an item ends that begins on line `first`, both from 0 on."""
+    indent = re.match(" *", lines[first])[0]
+    for number in range(first, len(lines)):
+        line = lines[number].rstrip()
+        if line == f"{indent}}}" or number == first and line.endswith(("}", ";")):
+            return number
+    return first
+
+
+def items(file, text):
+    """The functions of a file, and each block around them, with the innermost last.
+
+    A method's proof is in the folder of its type, wherever the type's module is, and that of a
+    function f that calls itself in a folder +f.
+    """
+    module = re.sub(r"^src/((lib|main)\.rt$)?|\.rt$", "", file)
+    at = f"proofs/{re.escape(module)}/" if module else "proofs/"
+    lines, found, block = text.split("\n"), [], None
+    for number, line in enumerate(lines):
+        head, outer = FUNCTION.match(line), BLOCK.match(line)
+        if not head and not outer:
+            continue
+        span = number + 1, end_of(lines, number) + 1
+        if outer:
+            folder = folder_of(outer[2]) if outer[1] == "impl" else r"\w+"
+            block = Item(file, "", *span, rf"proofs/(\w+/)*{folder}/.+\.antt")
+            found.append(block)
+        else:
+            is_inside = block and block.first <= span[0] <= block.last
+            folder = block.proofs.removesuffix(r".+\.antt") if is_inside else at
+            found.append(Item(file, head[2], *span, rf"{folder}\+?{head[2]}/\w+\.antt"))
+    return found
+
+
+def item_at(file, text, number):
+    """The innermost item that holds a line, if one does."""
+    inside = [it for it in items(file, text) if it.first <= number <= it.last]
+    return inside[-1] if inside else None
