@@ -19,11 +19,10 @@ use super::assert_same;
 use std::alloc::Global;
 use std::sync::Wait;
 use std::test::Fail;
-use tk_clock::{ClockId, Command, ReadError, Refusal, Snapshot, Timespec};
+use tk_clock::{Command, Refusal, Snapshot, Timespec};
 use tk_counter::CounterDesc;
 use tk_latch::Moved;
-use tk_now::SharedCounter;
-use tk_shared::{Caller, Counter, Named, NowFault, Prepared, SharedKeeper, prepare};
+use tk_shared::{Caller, Counter, Named, Prepared, SharedKeeper, prepare};
 use tk_test_support::{OPENED_TIME, nanosecond_counter};
 
 /// A time in seconds and nanoseconds.
@@ -145,43 +144,4 @@ fn glanced<L: Named, C: Counter>(
     ensures { caller.new.id ≡ caller.old.id }
 {
     keeper.fast_read(caller)
-}
-
-/// The front that a fast read finds.
-fn glanced_front<L: Named, C: Counter>(
-    keeper: &SharedKeeper<L, C>,
-    caller: &mut Caller<L>,
-) -> Option<u64>
-    ensures { caller.new.id ≡ caller.old.id }
-{
-    match glanced(keeper, caller) {
-        Ok(seen) => Some(seen.front()),
-        Err(_) => None,
-    }
-}
-
-/// The time now by the page, without its contract.
-fn now_by<L: Named, C: Counter, S: SharedCounter, R: Wait>(
-    rt: &R,
-    keeper: &SharedKeeper<L, C>,
-    caller: &mut Caller<L>,
-    counter: &S,
-    clock: ClockId,
-) -> Result<Timespec, ReadError> {
-    keeper.now(rt, caller, counter, clock)
-}
-
-/// The time now by the latch, without its contract.
-fn glanced_now<L: Named, C: Counter, S: SharedCounter>(
-    keeper: &SharedKeeper<L, C>,
-    caller: &mut Caller<L>,
-    counter: &S,
-    clock: ClockId,
-) -> Result<Timespec, NowFault> {
-    keeper.now_fast(caller, counter, clock)
-}
-
-/// A fold that keeps this number of entries, without its contract.
-fn folded<L: Named, C: Counter, R: Wait>(rt: &R, keeper: &SharedKeeper<L, C>, keep: u64) -> u64 {
-    keeper.fold(rt, keep)
 }

@@ -6,7 +6,7 @@ use tk_clock::Command;
 use tk_latch::{Latch, LatchReader};
 
 /// Reads a latch in which nobody publishes, and returns the words and the mark.
-pub(super) fn words_and_mark(latch: &Latch, reader: &mut LatchReader) -> Option<([u64; 10], u64)>
+fn words_and_mark(latch: &Latch, reader: &mut LatchReader) -> Option<([u64; 10], u64)>
     requires { reader.old.latch ≡ latch.now }
     ensures { reader.new.latch ≡ reader.old.latch }
 {

@@ -10,8 +10,8 @@ fn an_update_is_passed_on_and_read(rt: HostRuntime) -> Result<(), Fail> {
     let words = [0, 0, 16_777_216, 0, 0, OPENED_REAL, 0, 0, 0, 0];
     assert_same(&rt, &viewer.read(&rt, &page).words(), &words);
     assert_same(&rt, &viewer.front(), &0);
-    let number = desk.command(&rt, &page, 100, Command::Update);
-    assert_same(&rt, &number, &Ok(1));
+    let number = desk.command(&rt, &page, 100, Command::Update)?;
+    assert_same(&rt, &number, &1);
     desk.tell(&rt, &page, &mut viewer);
     assert_same(&rt, &viewer.front(), &1);
     let amount = 1_677_721_600;
@@ -47,8 +47,7 @@ fn each_publication_shows_its_own_words(rt: HostRuntime) -> Result<(), Fail> {
             ],
         ),
     ] {
-        let number = desk.command(&rt, &page, reading, cmd);
-        assert_same(&rt, &number, &Ok(words[0]));
+        desk.command(&rt, &page, reading, cmd)?;
         assert_same(&rt, &viewer.read(&rt, &page).words(), &words);
     }
     Ok(())
@@ -58,12 +57,10 @@ fn each_publication_shows_its_own_words(rt: HostRuntime) -> Result<(), Fail> {
 fn a_split_viewer_knows_as_much_and_a_joined_one_the_more(rt: HostRuntime) -> Result<(), Fail> {
     let (page, mut desk, viewer) = opened_page(&rt, rt.alloc()).ok_or("no page")?;
     let (mut early, mut late) = viewer.split(&page);
-    let number = desk.command(&rt, &page, 7, Command::Update);
-    assert_same(&rt, &number, &Ok(1));
+    desk.command(&rt, &page, 7, Command::Update)?;
     assert_same(&rt, &early.read(&rt, &page).last(), &7);
     assert_same(&rt, &(early.front(), late.front()), &(1, 0));
-    let number = desk.command(&rt, &page, 9, Command::Suspend);
-    assert_same(&rt, &number, &Ok(2));
+    desk.command(&rt, &page, 9, Command::Suspend)?;
     assert_same(&rt, &late.read(&rt, &page).asleep(), &true);
     let (early, again) = early.split(&page);
     assert_same(&rt, &(early.front(), again.front()), &(1, 1));

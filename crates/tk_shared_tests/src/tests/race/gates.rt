@@ -1,13 +1,13 @@
 //! When the gate is called, and that actors act at the same time.
 
-use super::{UPDATE, alike, are_first, assert_same, nanosecond_counter, raced, raced_alike, rise};
+use super::{UPDATE, alike, assert_same, nanosecond_counter, raced, rise};
 use std::alloc::Global;
 use std::process::Abort;
 use std::sync::Wait;
 use std::sync::atomic::{AtomicBool, AtomicU64, Ordering};
 use std::test::Fail;
 use std::thread::{self, Threads};
-use tk_race::{Action, Gate, RaceReply, RaceReport};
+use tk_race::{Action, Gate, RaceReply};
 
 /// The number of times that a held piece checks a flag before it gives up.
 const TURNS: u32 = 50_000_000;
@@ -77,13 +77,15 @@ fn all_meet<R: Abort + Threads + Wait + Sync>(
     alloc: Global,
     count: u32,
 ) -> Result<(), Fail> {
+    let desc = nanosecond_counter()?;
+    let actors = alike(alloc, count as usize, UPDATE, 3)?;
     let gate = Meeting {
         expected: u64::from(count),
         came: AtomicU64::new(0),
         ended: AtomicU64::new(0),
         late: Flag::new(),
     };
-    let report = raced_alike(rt, alloc, (0, 1_000), count as usize, UPDATE, 3, &gate)?;
+    let report = raced(rt, alloc, desc, (0, 1_000), actors.as_slice(), &gate)?;
     assert!(rt; !gate.late.0.load(Ordering::SeqCst));
     let ended = gate.ended.load(Ordering::SeqCst);
     assert_same(rt, &ended, &u64::from(count));
@@ -120,12 +122,21 @@ impl Gate for Tally {
 
 #[test]
 fn each_piece_begins_and_ends_once_even_without_actions(rt: HostRuntime) -> Result<(), Fail> {
+    let orders = vec![in rt.alloc(); UPDATE; 2]?;
+    let looks = vec![in rt.alloc(); Action::Look; 1]?;
+    let actors = vec![in rt.alloc(); orders, Vec::new(rt.alloc()), looks]?;
     let gate = Tally {
         begun: [AtomicU64::new(0), AtomicU64::new(0), AtomicU64::new(0)],
         ended: [AtomicU64::new(0), AtomicU64::new(0), AtomicU64::new(0)],
     };
-    let counts = [(UPDATE, 2), (UPDATE, 0), (Action::Look, 1)];
-    let report = raced_by(&rt, rt.alloc(), &counts, &gate)?;
+    let report = raced(
+        &rt,
+        rt.alloc(),
+        nanosecond_counter()?,
+        (0, 1),
+        actors.as_slice(),
+        &gate,
+    )?;
     assert_same(&rt, &report.keeper.len(), &2);
     for pieces in [&gate.begun, &gate.ended] {
         for times in pieces {
@@ -133,21 +144,6 @@ fn each_piece_begins_and_ends_once_even_without_actions(rt: HostRuntime) -> Resu
         }
     }
     Ok(())
-}
-
-/// Returns the report of a race of actors of which each has this number of copies of its action.
-fn raced_by<G: Gate + Sync, R: Threads + Wait + Sync>(
-    rt: &R,
-    alloc: Global,
-    counts: &[(Action, usize)],
-    gate: &G,
-) -> Result<RaceReport, Fail> {
-    let desc = nanosecond_counter()?;
-    let mut actors = Vec::new(alloc);
-    for (action, count) in counts {
-        actors.push(vec![in alloc; *action; *count]?)?;
-    }
-    raced(rt, alloc, desc, (0, 1), actors.as_slice(), gate)
 }
 
 /// Holds the second of two pieces in `before` until the first arrives in `after`, and the first
@@ -192,8 +188,10 @@ impl Gate for InTurn {
 
 #[test]
 fn a_gate_is_called_round_all_actions_of_an_actor(rt: HostRuntime) -> Result<(), Fail> {
+    let desc = nanosecond_counter()?;
+    let actors = alike(rt.alloc(), 2, UPDATE, 20_000)?;
     let gate = InTurn::holding(1);
-    let report = raced_alike(&rt, rt.alloc(), (0, 1), 2, UPDATE, 20_000, &gate)?;
+    let report = raced(&rt, rt.alloc(), desc, (0, 1), actors.as_slice(), &gate)?;
     assert!(&rt; !gate.late.0.load(Ordering::SeqCst));
     // all entries of actor 0 precede all entries of actor 1
     let mut number = 0u64;
@@ -209,23 +207,15 @@ fn a_gate_is_called_round_all_actions_of_an_actor(rt: HostRuntime) -> Result<(),
 
 #[test]
 fn an_actor_reads_what_another_did_before_it_began(rt: HostRuntime) -> Result<(), Fail> {
-    let gate = InTurn::holding(0);
-    let report = raced_after_orders(&rt, rt.alloc(), &gate)?;
-    assert!(&rt; !gate.late.0.load(Ordering::SeqCst));
-    let expected = [RaceReply::Glanced(4), RaceReply::Saw(4)];
-    assert!(&rt; are_first(report.replies.as_slice(), &expected));
-    Ok(())
-}
-
-/// Returns the report of a race of an actor that reads and another that gives four orders.
-fn raced_after_orders<G: Gate + Sync, R: Threads + Wait + Sync>(
-    rt: &R,
-    alloc: Global,
-    gate: &G,
-) -> Result<RaceReport, Fail> {
     let desc = nanosecond_counter()?;
-    let mut actors = Vec::new(alloc);
-    actors.push(vec![in alloc; Action::Glance, Action::Look]?)?;
-    actors.push(vec![in alloc; UPDATE; 4]?)?;
-    raced(rt, alloc, desc, (0, 1), actors.as_slice(), gate)
+    let reads = vec![in rt.alloc(); Action::Glance, Action::Look]?;
+    let orders = vec![in rt.alloc(); UPDATE; 4]?;
+    let actors = vec![in rt.alloc(); reads, orders]?;
+    let gate = InTurn::holding(0);
+    let report = raced(&rt, rt.alloc(), desc, (0, 1), actors.as_slice(), &gate)?;
+    assert!(&rt; !gate.late.0.load(Ordering::SeqCst));
+    let replies = report.replies.first().ok_or("replies")?;
+    let expected = [RaceReply::Glanced(4), RaceReply::Saw(4)];
+    assert!(&rt; replies.as_slice() == expected.as_slice());
+    Ok(())
 }

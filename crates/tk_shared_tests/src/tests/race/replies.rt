@@ -1,9 +1,6 @@
 //! The replies that actors get.
 
-use super::{
-    OPENED_TIME, UPDATE, alike, assert_same, nanosecond_counter, raced, raced_alike, raced_alone,
-    rise,
-};
+use super::{OPENED_TIME, UPDATE, alike, assert_same, nanosecond_counter, raced, rise};
 use std::alloc::Global;
 use std::process::Abort;
 use std::sync::Wait;
@@ -11,28 +8,34 @@ use std::test::Fail;
 use std::thread::Threads;
 use tk_clock::{ClockId, Command, Refusal, Timespec};
 use tk_counter::CounterDesc;
-use tk_keeper::Timekeeper;
 use tk_race::{Action, NoGate, RaceError, RaceReply, race};
 
 #[test]
 fn two_actors_of_three_updates_make_six_entries(rt: HostRuntime) -> Result<(), Fail> {
-    let report = raced_alike(&rt, rt.alloc(), (0, 1_000), 2, UPDATE, 3, &NoGate)?;
+    let desc = nanosecond_counter()?;
+    let actors = alike(rt.alloc(), 2, UPDATE, 3)?;
+    let report = raced(
+        &rt,
+        rt.alloc(),
+        desc,
+        (0, 1_000),
+        actors.as_slice(),
+        &NoGate,
+    )?;
     assert_same(&rt, &(report.keeper.len(), report.replies.len()), &(6, 2));
     for replies in report.replies.as_slice() {
         assert!(&rt; replies.len() == 3 && rise(0, replies.as_slice()));
     }
     // each reading is the counter's next one, whichever actor gave the command
-    for number in 1..=6 {
-        let wanted = Some((1_000 * number, Command::Update));
-        assert_same(&rt, &order(&report.keeper, number), &wanted);
+    for number in 1..=6u64 {
+        let entry = report.keeper.entry(number).ok_or("an entry")?;
+        assert_same(
+            &rt,
+            &(entry.reading, entry.cmd),
+            &(1_000 * number, Command::Update),
+        );
     }
     Ok(())
-}
-
-/// Returns the reading and the command of an entry.
-fn order(keeper: &Timekeeper, number: u64) -> Option<(u64, Command)> {
-    let entry = keeper.entry(number)?;
-    Some((entry.reading, entry.cmd))
 }
 
 /// The readings of three updates by one actor on a counter of one nanosecond a cycle, and MONOTONIC
@@ -46,17 +49,12 @@ fn three_updates<R: Threads + Wait + Sync>(
 ) -> Result<([u64; 3], Timespec), Fail> {
     let desc = CounterDesc::new(bits, 16_777_216, 24)?;
     let actors = alike(alloc, 1, UPDATE, 3)?;
-    let report = raced(rt, alloc, desc, (reading, step), actors.as_slice(), &NoGate)?;
-    Ok(readings_and_time(&report.keeper).ok_or("three entries")?)
-}
-
-/// Returns the readings of the first three entries, and MONOTONIC at the third.
-fn readings_and_time(keeper: &Timekeeper) -> Option<([u64; 3], Timespec)> {
-    let first = keeper.entry(1)?.reading;
-    let second = keeper.entry(2)?.reading;
-    let third = keeper.entry(3)?.reading;
-    let time = keeper.get(ClockId::Monotonic, third).ok()?;
-    Some(([first, second, third], time))
+    let keeper = raced(rt, alloc, desc, (reading, step), actors.as_slice(), &NoGate)?.keeper;
+    let mut readings = [0; 3];
+    for (number, place) in (1..).zip(&mut readings) {
+        *place = keeper.entry(number).ok_or("an entry")?.reading;
+    }
+    Ok((readings, keeper.get(ClockId::Monotonic, readings[2])?))
 }
 
 #[test]
@@ -80,8 +78,11 @@ fn readings_and_steps_keep_their_upper_bits(rt: HostRuntime) -> Result<(), Fail>
             884_904_888,
         ),
     ] {
-        let found = three_updates(&rt, rt.alloc(), bits, reading, step)?;
-        assert_same(&rt, &found, &(readings, Timespec { sec, nsec }));
+        assert_same(
+            &rt,
+            &three_updates(&rt, rt.alloc(), bits, reading, step)?,
+            &(readings, Timespec { sec, nsec }),
+        );
     }
     Ok(())
 }
@@ -100,6 +101,8 @@ fn one_actor_is_answered_as_on_one_thread(rt: HostRuntime) -> Result<(), Fail> {
         Action::Look,
         Action::Glance,
     ]?;
+    let actors = vec![in rt.alloc(); actions]?;
+    let report = raced(&rt, rt.alloc(), desc, (5, 10), actors.as_slice(), &NoGate)?;
     let expected = [
         RaceReply::Done(1),
         RaceReply::Glanced(1),
@@ -111,11 +114,11 @@ fn one_actor_is_answered_as_on_one_thread(rt: HostRuntime) -> Result<(), Fail> {
         RaceReply::Saw(3),
         RaceReply::Glanced(3),
     ];
-    let report = raced_alone(&rt, rt.alloc(), desc, (5, 10), actions, &expected)?;
-    assert_same(&rt, &report.keeper.len(), &3);
+    let replies = report.replies.first().ok_or("replies")?;
+    assert!(&rt; replies.as_slice() == expected.as_slice());
     // a refused order has also read the counter
-    let resume = Command::Resume(Timespec { sec: 1, nsec: 0 });
-    assert_same(&rt, &order(&report.keeper, 3), &Some((55, resume)));
+    let resumed = report.keeper.entry(3).ok_or("an entry")?;
+    assert_same(&rt, &(report.keeper.len(), resumed.reading), &(3, 55));
     Ok(())
 }
 
@@ -152,8 +155,11 @@ fn one_to_64_actors_race(rt: HostRuntime) -> Result<(), Fail> {
         (64, None),
         (65, Some(RaceError::Count)),
     ] {
-        let found = error_of(&rt, rt.alloc(), actors, desc, 0, OPENED_TIME)?;
-        assert_same(&rt, &found, &error);
+        assert_same(
+            &rt,
+            &error_of(&rt, rt.alloc(), actors, desc, 0, OPENED_TIME)?,
+            &error,
+        );
     }
     Ok(())
 }
@@ -172,8 +178,11 @@ fn count_comes_before_invalid(rt: HostRuntime) -> Result<(), Fail> {
         (0, 4_294_967_296, late, Some(RaceError::Count)),
         (65, 4_294_967_296, late, Some(RaceError::Count)),
     ] {
-        let found = error_of(&rt, rt.alloc(), actors, desc, reading, real)?;
-        assert_same(&rt, &found, &error);
+        assert_same(
+            &rt,
+            &error_of(&rt, rt.alloc(), actors, desc, reading, real)?,
+            &error,
+        );
     }
     Ok(())
 }

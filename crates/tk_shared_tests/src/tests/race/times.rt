@@ -1,10 +1,10 @@
 //! Tests the time now in races.
 
-use super::{nanosecond_counter, raced_alone};
+use super::{nanosecond_counter, raced};
 use std::test::Fail;
 use tk_clock::{ClockId, Command, ReadError, Timespec};
 use tk_counter::CounterDesc;
-use tk_race::{Action, RaceReply};
+use tk_race::{Action, NoGate, RaceReply};
 
 /// A reply with this front and this time.
 fn timed(front: u64, sec: i64, nsec: u32) -> RaceReply {
@@ -18,7 +18,6 @@ fn timed(front: u64, sec: i64, nsec: u32) -> RaceReply {
 /// suspension, which lasts a second by the resume.
 #[test]
 fn times_are_those_of_the_counters_readings(rt: HostRuntime) -> Result<(), Fail> {
-    let desc = nanosecond_counter()?;
     let actions = vec![in rt.alloc();
         Action::Now(ClockId::Monotonic),
         Action::Order(Command::Update),
@@ -30,6 +29,9 @@ fn times_are_those_of_the_counters_readings(rt: HostRuntime) -> Result<(), Fail>
         Action::Now(ClockId::Boottime),
         Action::Glance,
     ]?;
+    let actors = vec![in rt.alloc(); actions]?;
+    let desc = nanosecond_counter()?;
+    let report = raced(&rt, rt.alloc(), desc, (5, 10), actors.as_slice(), &NoGate)?;
     let expected = [
         timed(0, 0, 10),
         RaceReply::Done(1),
@@ -41,19 +43,30 @@ fn times_are_those_of_the_counters_readings(rt: HostRuntime) -> Result<(), Fail>
         timed(3, 1, 50),
         RaceReply::Glanced(3),
     ];
-    raced_alone(&rt, rt.alloc(), desc, (5, 10), actions, &expected)?;
+    let replies = report.replies.first().ok_or("replies")?;
+    assert!(&rt; replies.as_slice() == expected.as_slice());
     Ok(())
 }
 
 /// 2^62 ns after the opening no clock has a value any more.
 #[test]
 fn a_reading_beyond_the_clocks_is_refused(rt: HostRuntime) -> Result<(), Fail> {
-    let desc = CounterDesc::new(64, 16_777_216, 24)?;
     let actions = vec![in rt.alloc(); Action::Now(ClockId::Monotonic); 1]?;
+    let actors = vec![in rt.alloc(); actions]?;
+    let desc = CounterDesc::new(64, 16_777_216, 24)?;
+    let report = raced(
+        &rt,
+        rt.alloc(),
+        desc,
+        (0, 1 << 62),
+        actors.as_slice(),
+        &NoGate,
+    )?;
     let refused = RaceReply::Untimed {
         front: 0,
         refusal: ReadError::Range,
     };
-    raced_alone(&rt, rt.alloc(), desc, (0, 1 << 62), actions, &[refused])?;
+    let replies = report.replies.first().ok_or("replies")?;
+    assert!(&rt; replies.as_slice() == [refused].as_slice());
     Ok(())
 }

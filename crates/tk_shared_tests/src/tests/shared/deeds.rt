@@ -9,7 +9,7 @@ use std::marker::Brand;
 use std::process::Abort;
 use std::sync::Wait;
 use std::test::Fail;
-use tk_shared::{Caller, Named, Prepared, SharedKeeper, Ticker};
+use tk_shared::{Named, Prepared, Ticker};
 
 /// What the only caller of a keeper does.
 #[derive(Clone, Copy)]
@@ -23,6 +23,7 @@ pub(super) enum Alone {
 pub(super) enum Both {
     Fold,
     Read,
+    ReadFast,
 }
 
 /// The only caller of a keeper on this counter does this.
@@ -45,21 +46,11 @@ fn one_caller<L: Named, R: Wait + Abort>(
     requires named { IsNamed prepared L.page L.latch L.notice L.name L.parts L.callers }
 {
     let (keeper, mut callers) = opened::<L, Ticker>(alloc, prepared)?;
-    first_does(rt, &keeper, callers.as_mut_slice(), deed)
-}
-
-fn first_does<L: Named, R: Wait + Abort>(
-    rt: &R,
-    keeper: &SharedKeeper<L, Ticker>,
-    callers: &mut [Caller<L>],
-    deed: Alone,
-) -> Result<(), Fail> {
-    let caller = callers.first_mut().ok_or("a caller")?;
+    let caller = callers.as_mut_slice().first_mut().ok_or("a caller")?;
     match deed {
-        Alone::Fills => folding::fills(rt, keeper, caller),
-        Alone::Keeps => folding::keeps_of_five(rt, keeper, caller),
+        Alone::Fills => folding::fills(rt, &keeper, caller),
+        Alone::Keeps => folding::keeps_of_five(rt, &keeper, caller),
     }
-    Ok(())
 }
 
 /// The two callers of a keeper do this. Its counter is 1,000 ns further at each reading.
@@ -77,9 +68,10 @@ fn two_callers<L: Named, R: Wait + Abort>(
     requires named { IsNamed prepared L.page L.latch L.notice L.name L.parts L.callers }
     requires two { prepared.callers ≡ 2 }
 {
-    let (keeper, one, two) = open_two::<L, Ticker>(alloc, prepared)?;
+    let (keeper, mut one, mut two) = open_two::<L, Ticker>(alloc, prepared)?;
     match deed {
         Both::Fold => folding::folds(rt, alloc, keeper, one, two),
         Both::Read => turns::reads(rt, alloc, keeper, one, two),
+        Both::ReadFast => turns::fast_reads(rt, &keeper, &mut one, &mut two),
     }
 }

@@ -1,7 +1,7 @@
 //! Folding under the lock.
 ghost use Rattle.std.specs.Prelude.{◌≡◌};
 
-use super::{assert_same, both, commanded, deeds, folded, glanced_front, read_by};
+use super::{assert_same, both, commanded, deeds, glanced, read_by};
 use std::alloc::Global;
 use std::process::Abort;
 use std::sync::Wait;
@@ -18,7 +18,7 @@ pub(super) fn fills<L: Named, R: Wait + Abort>(
     rt: &R,
     keeper: &SharedKeeper<L, Ticker>,
     caller: &mut Caller<L>,
-) {
+) -> Result<(), Fail> {
     let mut is_good = true;
     for number in 1..=1_048_576 {
         let answer = commanded(rt, keeper, caller, Command::Update);
@@ -28,10 +28,11 @@ pub(super) fn fills<L: Named, R: Wait + Abort>(
     let refused = commanded(rt, keeper, caller, Command::Update);
     assert_same(rt, &refused, &Err(Refusal::Full));
     // a refused command folds nothing
-    assert_same(rt, &folded(rt, keeper, 1_048_576), &0);
-    assert_same(rt, &folded(rt, keeper, 1), &1_048_575);
+    assert_same(rt, &keeper.fold(rt, 1_048_576), &0);
+    assert_same(rt, &keeper.fold(rt, 1), &1_048_575);
     let accepted = commanded(rt, keeper, caller, Command::Update);
     assert_same(rt, &accepted, &Ok(1_048_577));
+    Ok(())
 }
 
 #[test]
@@ -43,15 +44,16 @@ pub(super) fn keeps_of_five<L: Named, R: Wait + Abort>(
     rt: &R,
     keeper: &SharedKeeper<L, Ticker>,
     caller: &mut Caller<L>,
-) {
+) -> Result<(), Fail> {
     for number in 1..=5 {
         let answer = commanded(rt, keeper, caller, Command::Update);
         assert_same(rt, &answer, &Ok(number));
     }
     // how many are to be listed, and how many are folded then
-    for (keep, count) in [(u64::MAX, 0), (5, 0), (2, 3), (4, 3), (0, 5)] {
-        assert_same(rt, &folded(rt, keeper, keep), &count);
+    for (keep, folded) in [(u64::MAX, 0), (5, 0), (2, 3), (4, 3), (0, 5)] {
+        assert_same(rt, &keeper.fold(rt, keep), &folded);
     }
+    Ok(())
 }
 
 #[test]
@@ -68,32 +70,24 @@ pub(super) fn folds<L: Named, R: Wait + Abort>(
 ) -> Result<(), Fail>
     requires callers { (one.id ≡ 0) × (two.id ≡ 1) }
 {
-    folds_once(rt, &keeper, &mut one, &mut two);
-    let callers = both(alloc, one, two)?;
-    let closed = keeper.close(rt, callers).ok().ok_or("closed")?.keeper;
-    assert_same(rt, &(closed.len(), closed.folded()), &(4, 2));
-    Ok(())
-}
-
-/// Folds between commands of both callers.
-fn folds_once<L: Named, R: Wait + Abort>(
-    rt: &R,
-    keeper: &SharedKeeper<L, Ticker>,
-    one: &mut Caller<L>,
-    two: &mut Caller<L>,
-)
-    ensures one { one.new.id ≡ one.old.id }
-    ensures two { two.new.id ≡ two.old.id }
-{
-    let first = commanded(rt, keeper, one, Command::Update);
-    let second = commanded(rt, keeper, two, Command::Update);
-    let third = commanded(rt, keeper, one, Command::Update);
-    let left = folded(rt, keeper, 1);
+    let first = commanded(rt, &keeper, &mut one, Command::Update);
+    let second = commanded(rt, &keeper, &mut two, Command::Update);
+    let third = commanded(rt, &keeper, &mut one, Command::Update);
+    let folded = keeper.fold(rt, 1);
     let fronts = (one.front(), two.front());
-    let seen = read_by(rt, keeper, one).front();
-    let fast = glanced_front(keeper, two);
-    let fourth = commanded(rt, keeper, two, Command::Update);
-    let answers = (first, second, third, fourth);
-    assert_same(rt, &answers, &(Ok(1), Ok(2), Ok(3), Ok(4)));
-    assert_same(rt, &(left, fronts, seen, fast), &(2, (3, 2), 3, Some(3)));
+    let seen = read_by(rt, &keeper, &mut one).front();
+    let fast = glanced(&keeper, &mut two).is_ok_and(|seen| seen.front() == 3);
+    let fourth = commanded(rt, &keeper, &mut two, Command::Update);
+    let closed = keeper
+        .close(rt, both(alloc, one, two)?)
+        .ok()
+        .ok_or("closed")?;
+    assert_same(
+        rt,
+        &(first, second, third, fourth),
+        &(Ok(1), Ok(2), Ok(3), Ok(4)),
+    );
+    assert_same(rt, &(folded, fronts, seen, fast), &(2, (3, 2), 3, true));
+    assert_same(rt, &(closed.keeper.len(), closed.keeper.folded()), &(4, 2));
+    Ok(())
 }

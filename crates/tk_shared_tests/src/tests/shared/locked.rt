@@ -2,7 +2,7 @@
 ghost use Rattle.std.specs.Prelude.{◌≡◌};
 ghost use Rattle.tk_shared.specs.Opening.{IsNamed};
 
-use super::{assert_same, commanded, glanced_front, open_two, read_by, ready};
+use super::{assert_same, commanded, glanced, open_two, read_by, ready};
 use std::alloc::Global;
 use std::marker::Brand;
 use std::process::Abort;
@@ -72,7 +72,10 @@ fn reads<L: Named, C: Counter, R: Wait>(
     answered: &AtomicU64,
 ) -> (bool, Option<u64>, u64) {
     let entered = is_set(inside);
-    let fast = glanced_front(keeper, caller);
+    let fast = match glanced(keeper, caller) {
+        Ok(seen) => Some(seen.front()),
+        Err(_) => None,
+    };
     let front = read_by(rt, keeper, caller).front();
     answered.store(1, Ordering::SeqCst);
     (entered, fast, front)

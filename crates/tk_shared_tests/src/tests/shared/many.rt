@@ -6,7 +6,7 @@ use super::{
     OPENED_TIME, assert_same, commanded, glanced, nanosecond_counter, opened, read_by, ready, time,
     two_of,
 };
-use std::alloc::Global;
+use std::alloc::{AllocError, Global};
 use std::marker::Brand;
 use std::process::Abort;
 use std::sync::Wait;
@@ -48,21 +48,13 @@ struct Seen {
     is_good: bool,
 }
 
-impl Seen {
-    /// Keeps a snapshot that was read, which was in order if `is_good`.
-    fn keeps(&mut self, snapshot: Snapshot, is_good: bool) {
-        let is_kept = self.snapshots.push(snapshot).is_ok();
-        self.is_good = self.is_good && is_good && is_kept;
-    }
-}
-
 /// Gives all commands, with reads between.
 fn all_commands<L: Named, R: Wait>(
     rt: &R,
     alloc: Global,
     keeper: &SharedKeeper<L, Ticker>,
     mut caller: Caller<L>,
-) -> (Caller<L>, Seen)
+) -> (Caller<L>, Result<Seen, AllocError>)
     ensures { result.0.id ≡ caller.id }
 {
     let mut seen = Seen {
@@ -83,12 +75,12 @@ fn all_commands<L: Named, R: Wait>(
                 seen.is_good = seen.is_good && known && caller.mark() == mark;
             }
         }
-        if turn % READ_EVERY == 0 {
-            reads_both(rt, keeper, &mut caller, &mut seen);
+        if turn % READ_EVERY == 0 && reads_both(rt, keeper, &mut caller, &mut seen).is_err() {
+            return (caller, Err(AllocError));
         }
     }
     seen.accepted = caller.accepted();
-    (caller, seen)
+    (caller, Ok(seen))
 }
 
 /// Keeps what a read answers, and a fast one where it answers.
@@ -97,18 +89,18 @@ fn reads_both<L: Named, R: Wait>(
     keeper: &SharedKeeper<L, Ticker>,
     caller: &mut Caller<L>,
     seen: &mut Seen,
-)
+) -> Result<(), AllocError>
     ensures { caller.new.id ≡ caller.old.id }
 {
     let front = caller.front();
     let snapshot = read_by(rt, keeper, caller);
-    seen.keeps(
-        snapshot,
-        front <= snapshot.front() && caller.front() == snapshot.front(),
-    );
+    seen.is_good = seen.is_good && front <= snapshot.front() && caller.front() == snapshot.front();
+    seen.snapshots.push(snapshot)?;
     if let Ok(snapshot) = glanced(keeper, caller) {
-        seen.keeps(snapshot, caller.mark() == snapshot.front());
+        seen.is_good = seen.is_good && caller.mark() == snapshot.front();
+        seen.snapshots.push(snapshot)?;
     }
+    Ok(())
 }
 
 /// Two callers at once.
@@ -118,7 +110,10 @@ fn two_callers<L: Named + Send + Sync, R: Threads + Wait + Sync>(
     keeper: &SharedKeeper<L, Ticker>,
     one: Caller<L>,
     two: Caller<L>,
-) -> ((Caller<L>, Seen), (Caller<L>, Seen))
+) -> (
+    (Caller<L>, Result<Seen, AllocError>),
+    (Caller<L>, Result<Seen, AllocError>),
+)
     ensures one { result.0.0.id ≡ one.id }
     ensures two { result.1.0.id ≡ two.id }
 {
@@ -133,20 +128,18 @@ fn two_callers<L: Named + Send + Sync, R: Threads + Wait + Sync>(
     )
 }
 
-/// The same journal, entered again command by command, each at one of the ticker's readings.
-fn enter_again<R: Abort>(rt: &R, keeper: &Timekeeper, again: &mut Timekeeper) -> Result<(), Fail> {
+/// The same journal, entered again command by command, each at one of the ticker's readings: each
+/// snapshot that was read is that of the first entries, as many as its front.
+fn agrees<R: Abort>(rt: &R, alloc: Global, keeper: &Timekeeper, seen: &Seen) -> Result<(), Fail> {
+    let mut again = Timekeeper::open(alloc, nanosecond_counter()?, 0, OPENED_TIME)?;
     for number in 1..=keeper.len() as u64 {
         let entry = keeper.entry(number).ok_or("an entry")?;
         let answer = again.apply(entry.who, entry.reading, entry.cmd);
-        assert_same(rt, &(answer, entry.reading % STEP), &(Ok(number), 0));
+        assert_same(rt, &answer, &Ok(number));
+        assert_same(rt, &(entry.reading % STEP), &0);
     }
     assert_same(rt, &again.snapshot().words(), &keeper.snapshot().words());
-    Ok(())
-}
-
-/// Each snapshot that was read is that of the first entries, as many as its front.
-fn are_past<R: Abort>(rt: &R, again: &Timekeeper, read: &[Snapshot]) -> Result<(), Fail> {
-    for snapshot in read {
+    for snapshot in seen.snapshots.iter() {
         let past = again.snapshot_at(snapshot.front()).ok().ok_or("a front")?;
         assert_same(rt, &past.words(), &snapshot.words());
     }
@@ -180,26 +173,10 @@ fn four<L: Named + Send + Sync, R: Threads + Wait + Abort + Sync>(
     );
     let ((zero, zero_saw), (one, one_saw)) = first;
     let ((two, two_saw), (three, three_saw)) = second;
-    let saw = [zero_saw, one_saw, two_saw, three_saw];
-    match closed(rt, alloc, keeper, (zero, one, two, three)) {
-        Some(keeper) => all_agree(rt, alloc, &keeper, &saw),
-        None => Err(Fail::from("not closed")),
-    }
-}
-
-/// The journal of a keeper that its callers 0 to 3 close.
-fn closed<L: Named, R: Wait>(
-    rt: &R,
-    alloc: Global,
-    keeper: SharedKeeper<L, Ticker>,
-    callers: (Caller<L>, Caller<L>, Caller<L>, Caller<L>),
-) -> Option<Timekeeper>
-    requires lower { (callers.0.id ≡ 0) × (callers.1.id ≡ 1) }
-    requires upper { (callers.2.id ≡ 2) × (callers.3.id ≡ 3) }
-{
-    let (zero, one, two, three) = callers;
-    let callers = vec![in alloc; zero, one, two, three].ok()?;
-    Some(keeper.close(rt, callers).ok()?.keeper)
+    let callers = vec![in alloc; zero, one, two, three].ok().ok_or("memory")?;
+    let closed = keeper.close(rt, callers).ok().ok_or("closed")?.keeper;
+    let saw = [zero_saw?, one_saw?, two_saw?, three_saw?];
+    all_agree(rt, alloc, &closed, &saw)
 }
 
 /// All was in order in what the callers saw, and each snapshot is of the journal, which has all
@@ -210,13 +187,11 @@ fn all_agree<R: Abort>(
     keeper: &Timekeeper,
     saw: &[Seen],
 ) -> Result<(), Fail> {
-    let mut again = Timekeeper::open(alloc, nanosecond_counter()?, 0, OPENED_TIME)?;
-    enter_again(rt, keeper, &mut again)?;
     let mut accepted = 0u64;
     for seen in saw {
         assert!(rt; seen.is_good);
         accepted = accepted.wrapping_add(seen.accepted);
-        are_past(rt, &again, seen.snapshots.as_slice())?;
+        agrees(rt, alloc, keeper, seen)?;
     }
     assert_same(rt, &(keeper.len() as u64), &accepted);
     Ok(())

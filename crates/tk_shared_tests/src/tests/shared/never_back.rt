@@ -3,9 +3,7 @@
 ghost use Rattle.std.specs.Prelude.{◌≡◌};
 ghost use Rattle.tk_shared.specs.Opening.{IsNamed};
 
-use super::{
-    assert_same, commanded, folded, glanced_now, nanoseconds, now_by, opened, ready_on, time,
-};
+use super::{assert_same, commanded, nanoseconds, opened, ready_on, time};
 use std::alloc::Global;
 use std::marker::Brand;
 use std::process::Abort;
@@ -102,9 +100,9 @@ fn asked<L: Named, C: Counter, R: Wait>(
 ) -> Result<Option<Timespec>, ReadError> {
     let clock = ClockId::Monotonic;
     if caller.id() < 2 {
-        return Ok(Some(now_by(rt, keeper, caller, counter, clock)?));
+        return Ok(Some(keeper.now(rt, caller, counter, clock)?));
     }
-    match glanced_now(keeper, caller, counter, clock) {
+    match keeper.now_fast(caller, counter, clock) {
         Ok(time) => Ok(Some(time)),
         Err(NowFault::Refused(refusal)) => Err(refusal),
         Err(_) => Ok(None),
@@ -129,7 +127,7 @@ fn gives_commands<L: Named, C: Counter, R: Wait>(
             }
         }
         if turn % 1_024 == 0 {
-            folded(rt, keeper, 16);
+            keeper.fold(rt, 16);
         }
         thread::yield_now();
     }
@@ -163,6 +161,44 @@ fn no_answer_is_below_an_earlier_one(rt: HostRuntime) -> Result<(), Fail> {
     all_play::<Brand, _, _>(&rt, rt.alloc(), prepared, &board)
 }
 
+/// Lets two callers play at once.
+fn two_play<L: Named + Send + Sync, C: Counter, R: Threads + Wait + Sync>(
+    rt: &R,
+    keeper: &SharedKeeper<L, C>,
+    mut one: Caller<L>,
+    mut other: Caller<L>,
+    board: &Board,
+) {
+    let _ = thread::join(
+        rt,
+        move || plays(rt, keeper, &mut one, board),
+        move || plays(rt, keeper, &mut other, board),
+    );
+}
+
+/// Lets the last four callers play at once.
+fn four_play<L: Named + Send + Sync, C: Counter, R: Threads + Wait + Sync>(
+    rt: &R,
+    keeper: &SharedKeeper<L, C>,
+    mut callers: Vec<Caller<L>>,
+    board: &Board,
+) {
+    let (Some(one), Some(two), Some(three), Some(four)) = (
+        callers.pop(),
+        callers.pop(),
+        callers.pop(),
+        callers.pop(),
+    ) else {
+        board.fails();
+        return;
+    };
+    let _ = thread::join(
+        rt,
+        move || two_play(rt, keeper, one, two, board),
+        move || two_play(rt, keeper, three, four, board),
+    );
+}
+
 fn all_play<L: Named + Send + Sync, C: Counter, R: Threads + Wait + Abort + Sync>(
     rt: &R,
     alloc: Global,
@@ -172,12 +208,13 @@ fn all_play<L: Named + Send + Sync, C: Counter, R: Threads + Wait + Abort + Sync
     requires named { IsNamed prepared L.page L.latch L.notice L.name L.parts L.callers }
 {
     let (keeper, mut callers) = opened::<L, C>(alloc, prepared)?;
-    // each caller in a thread
-    thread::for_each_mut(
+    let one = callers.pop().ok_or("a caller")?;
+    let two = callers.pop().ok_or("a caller")?;
+    let keeper = &keeper;
+    let _ = thread::join(
         rt,
-        callers.as_mut_slice(),
-        6,
-        &|_, caller| { plays(rt, &keeper, caller, board) },
+        move || two_play(rt, keeper, one, two, board),
+        move || four_play(rt, keeper, callers, board),
     );
     assert_same(rt, &board.faults.load(Ordering::SeqCst), &0);
     Ok(())

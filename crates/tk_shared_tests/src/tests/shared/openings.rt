@@ -23,16 +23,31 @@ fn refused<R: Wait>(
 
 #[test]
 fn each_fault_hands_the_counter_back_unread(rt: HostRuntime) -> Result<(), Fail> {
-    for (callers, real, error) in [
-        (0, OPENED_TIME, OpenError::Count),
-        (65, OPENED_TIME, OpenError::Count),
-        (0, time(-1, 0), OpenError::Count),
-        (1, time(-1, 0), OpenError::Invalid),
-        (64, time(8_277_292_036, 0), OpenError::Invalid),
-    ] {
-        let found = refused(&rt, rt.alloc(), callers, real)?;
-        assert_same(&rt, &found, &(error, 7));
-    }
+    assert_same(
+        &rt,
+        &refused(&rt, rt.alloc(), 0, OPENED_TIME)?,
+        &(OpenError::Count, 7),
+    );
+    assert_same(
+        &rt,
+        &refused(&rt, rt.alloc(), 65, OPENED_TIME)?,
+        &(OpenError::Count, 7),
+    );
+    assert_same(
+        &rt,
+        &refused(&rt, rt.alloc(), 0, time(-1, 0))?,
+        &(OpenError::Count, 7),
+    );
+    assert_same(
+        &rt,
+        &refused(&rt, rt.alloc(), 1, time(-1, 0))?,
+        &(OpenError::Invalid, 7),
+    );
+    assert_same(
+        &rt,
+        &refused(&rt, rt.alloc(), 64, time(8_277_292_036, 0))?,
+        &(OpenError::Invalid, 7),
+    );
     Ok(())
 }
 

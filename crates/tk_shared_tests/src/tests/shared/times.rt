@@ -2,7 +2,7 @@
 ghost use Rattle.std.specs.Prelude.{◌≡◌};
 ghost use Rattle.tk_shared.specs.Opening.{IsNamed};
 
-use super::{assert_same, commanded, glanced_now, nanoseconds, now_by, open_two, ready_on, time};
+use super::{assert_same, commanded, nanoseconds, open_two, ready_on, time};
 use std::alloc::Global;
 use std::marker::Brand;
 use std::process::Abort;
@@ -137,10 +137,10 @@ fn takes_turn<L: Named, C: Counter, S: SharedCounter, R: Wait + Abort>(
     match turn {
         Turn::Gives(cmd, result) => assert_same(rt, &commanded(rt, keeper, one, *cmd), result),
         Turn::Asks(clock, result) => {
-            assert_same(rt, &now_by(rt, keeper, two, counter, *clock), result);
+            assert_same(rt, &keeper.now(rt, two, counter, *clock), result);
         }
         Turn::AsksFast(clock, result) => {
-            assert_same(rt, &glanced_now(keeper, two, counter, *clock), result);
+            assert_same(rt, &keeper.now_fast(two, counter, *clock), result);
         }
     }
 }
@@ -167,31 +167,16 @@ fn rises<L: Named, C: Counter, S: SharedCounter, R: Wait + Abort>(
     let (keeper, mut one, mut two) = open_two::<L, C>(alloc, prepared)?;
     let mut before = 0;
     for _ in 0..1000 {
-        let (by_page, by_latch) = both_times(rt, &keeper, &mut one, &mut two, counter);
+        let by_page = nanoseconds(keeper.now(rt, &mut two, counter, ClockId::Monotonic)?);
+        let done = commanded(rt, &keeper, &mut one, Command::Update);
+        assert_same(rt, &done.is_ok(), &true);
+        let Ok(by_latch) = keeper.now_fast(&mut two, counter, ClockId::Monotonic) else {
+            return Err("a time by the latch".into());
+        };
+        let by_latch = nanoseconds(by_latch);
         assert_same(rt, &(before <= by_page, by_page <= by_latch), &(true, true));
         before = by_latch;
     }
-    assert_same(rt, &(0 < before, before < 60_000_000_000), &(true, true));
+    assert!(rt; 0 < before && before < 60_000_000_000);
     Ok(())
-}
-
-/// MONOTONIC in nanoseconds by the page, and then, after a command of the first caller, by the
-/// latch.
-fn both_times<L: Named, C: Counter, S: SharedCounter, R: Wait + Abort>(
-    rt: &R,
-    keeper: &SharedKeeper<L, C>,
-    one: &mut Caller<L>,
-    two: &mut Caller<L>,
-    counter: &S,
-) -> (u64, u64) {
-    let by_page = now_by(rt, keeper, two, counter, ClockId::Monotonic);
-    let done = commanded(rt, keeper, one, Command::Update);
-    let by_latch = glanced_now(keeper, two, counter, ClockId::Monotonic);
-    let all = (by_page.is_ok(), done.is_ok(), by_latch.is_ok());
-    assert_same(rt, &all, &(true, true, true));
-    let none = time(0, 0);
-    (
-        nanoseconds(by_page.unwrap_or(none)),
-        nanoseconds(by_latch.unwrap_or(none)),
-    )
 }

@@ -1,12 +1,12 @@
 //! Two callers take turns in one thread.
 ghost use Rattle.std.specs.Prelude.{◌≡◌, [], ◌∷◌, IfOk};
 
-use super::{assert_same, commanded, deeds, glanced, glanced_front, read_by, time};
+use super::{assert_same, commanded, deeds, glanced, read_by, time};
 use std::alloc::Global;
 use std::process::Abort;
 use std::sync::Wait;
 use std::test::Fail;
-use tk_clock::{ClockId, Command, Snapshot, Timespec};
+use tk_clock::{ClockId, Command, Refusal, Snapshot, Timespec};
 use tk_keeper::Timekeeper;
 use tk_shared::{Caller, Closed, Counter, Missing, Named, SharedKeeper, Ticker};
 
@@ -52,40 +52,28 @@ fn both_read<L: Named, R: Wait + Abort>(
 {
     let opened = (one.front(), one.mark(), one.accepted());
     let first = commanded(rt, keeper, one, SET);
-    both_glance(rt, keeper, one, two);
     let own = read_by(rt, keeper, one);
     let others = read_by(rt, keeper, two).front();
     let second = commanded(rt, keeper, two, Command::Update);
-    let (counts, marks) = ((one.accepted(), two.accepted()), (one.mark(), two.mark()));
-    assert_same(rt, &(opened, counts, marks), &((0, 0, 0), (1, 1), (1, 2)));
-    assert_same(rt, &(first, second), &(Ok(1), Ok(2)));
-    is_set(rt, &own, others);
+    let counts = (one.accepted(), two.accepted());
+    assert_same(rt, &(opened, counts), &((0, 0, 0), (1, 1)));
+    is_set_between(rt, (first, second), &own, others);
 }
 
-/// Reads the command by fast reads, of which the front of the second caller learns nothing.
-fn both_glance<L: Named, R: Abort>(
+/// Both commands were accepted, and each caller read between them that REALTIME is set.
+fn is_set_between<R: Abort>(
     rt: &R,
-    keeper: &SharedKeeper<L, Ticker>,
-    one: &mut Caller<L>,
-    two: &mut Caller<L>,
-)
-    ensures one { one.new.id ≡ one.old.id }
-    ensures two { two.new.id ≡ two.old.id }
-{
-    let own = glanced(keeper, one);
-    let others = glanced_front(keeper, two).unwrap_or(0);
-    let known = (one.front(), two.front(), two.mark());
-    assert_same(rt, &(known, own.is_ok()), &((1, 0, 1), true));
-    if let Ok(own) = own {
-        is_set(rt, &own, others);
-    }
-}
-
-/// Both callers found the first command alone, which set REALTIME.
-fn is_set<R: Abort>(rt: &R, own: &Snapshot, others: u64) {
-    assert_same(rt, &(own.front(), others), &(1, 1));
-    let real = own.get(ClockId::Realtime, 1_000);
-    assert_same(rt, &real, &Ok(time(2_000_000_000, 0)));
+    answers: (Result<u64, Refusal>, Result<u64, Refusal>),
+    own: &Snapshot,
+    others: u64,
+) {
+    let fronts = (own.front(), others);
+    assert_same(rt, &(answers, fronts), &((Ok(1), Ok(2)), (1, 1)));
+    assert_same(
+        rt,
+        &own.get(ClockId::Realtime, 1_000),
+        &Ok(time(2_000_000_000, 0)),
+    );
 }
 
 /// Closes with the first caller alone, which is refused, and then with both.
@@ -130,5 +118,27 @@ fn is_journal<R: Abort>(rt: &R, keeper: &Timekeeper) -> Result<(), Fail> {
         &(1, 2_000, Command::Update),
     );
     assert_same(rt, &keeper.len(), &2);
+    Ok(())
+}
+
+#[test]
+fn a_fast_read_finds_what_another_caller_did(rt: HostRuntime) -> Result<(), Fail> {
+    deeds::both_do(&rt, rt.alloc(), deeds::Both::ReadFast)
+}
+
+pub(super) fn fast_reads<L: Named, R: Wait + Abort>(
+    rt: &R,
+    keeper: &SharedKeeper<L, Ticker>,
+    one: &mut Caller<L>,
+    two: &mut Caller<L>,
+) -> Result<(), Fail> {
+    let first = commanded(rt, keeper, one, SET);
+    let own = glanced(keeper, one).ok().ok_or("read")?;
+    let others = glanced(keeper, two).ok().ok_or("read")?.front();
+    let known = (one.front(), two.front(), two.mark());
+    let second = commanded(rt, keeper, two, Command::Update);
+    let marks = (one.mark(), two.mark());
+    is_set_between(rt, (first, second), &own, others);
+    assert_same(rt, &(known, marks), &((1, 0, 1), (1, 2)));
     Ok(())
 }
