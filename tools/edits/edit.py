@@ -111,4 +111,3 @@ def together(edits):
         if why:
             return None
     return texts
-

@@ -21,6 +21,6 @@ def own_error(edit, lines):
 
 
 def is_judged(ran):
-    """Whether the prover came to a verdict on the check, which ends with the crate not proved."""
+    """Whether the prover reached a verdict, which is that the crate is not proved."""
     last = ran.stdout.rstrip("\n").rpartition("\n")[2]
     return ran.returncode == 1 and last.startswith("logic=not-proved")

@@ -57,8 +57,8 @@ fn scattered(rt: &impl Abort, alloc: Global, many: usize) -> Lists {
     lists
 }
 
-/// Returns a timekeeper after 396 commands, which are updates but for numbers 140 and 396. The
-/// estimate takes the commands before these two for others like them.
+/// Returns a timekeeper after 396 commands, which are updates except for numbers 140 and 396.
+/// The estimate takes the commands before these two for others like them.
 fn calm(rt: &impl Abort, alloc: Global) -> Timekeeper {
     let mut keeper = opened(rt, alloc);
     for number in 1..=396 {

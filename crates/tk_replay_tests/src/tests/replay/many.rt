@@ -261,7 +261,7 @@ fn assert_or_memory(rt: &impl Abort, outcome: &Outcome, wanted: &Outcome) {
     }
 }
 
-/// These are the outcomes of `two`, but for those that memory was refused for.
+/// These are the outcomes of `two`, except for those that memory was refused for.
 fn assert_two(rt: &impl Abort, outcomes: &[Outcome], wanted: &[Outcome]) {
     assert_same(rt, &outcomes.len(), &2);
     if let ([whole, short], [whole_wanted, short_wanted]) = (outcomes, wanted) {
