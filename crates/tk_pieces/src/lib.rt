@@ -14,7 +14,5 @@ mod input;
 mod pieces;
 mod queues;
 mod stages;
-#[cfg(test)]
-mod tests;
 
 pub use pieces::{trace_all, trace_all_into};

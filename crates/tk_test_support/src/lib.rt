@@ -35,6 +35,3 @@ pub use random::next_random;
 pub use running::{Job, run_jobs};
 pub use steps::{STEP, reading_of, weighed, weight};
 pub use turn::{Effort, IN_MILLISECONDS, Turn};
-
-#[cfg(test)]
-mod tests;

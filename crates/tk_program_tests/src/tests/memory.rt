@@ -1,13 +1,15 @@
 //! Each request for the memory of a text refused in turn: the whole text, or Memory.
 
 use super::assert_same;
-use super::many_text::{SHORT, TEXT, WHOLE};
-use super::race_lines::{MIXED_TEXT, actors_in, raced};
 use std::alloc::Global;
 use std::process::Abort;
+use std::sync::Wait;
 use std::test::Fail;
+use std::thread::Threads;
+use tk_clock::{Command, Timespec};
+use tk_counter::CounterDesc;
 use tk_program::{many_text, race_text};
-use tk_replay::{Fault, RaceReport, report};
+use tk_replay::{Action, Fault, NoGate, RaceReport, race};
 use tk_script::ScriptError;
 use tk_test_support::Heap;
 
@@ -52,30 +54,59 @@ fn assert_whole_or_memory(
     Err("each text met a refusal".into())
 }
 
+/// A report, and the fault of a script.
+fn outcomes(rt: &(impl Abort + AllocGlobal)) -> [Result<Vec<u8>, ScriptError>; 2] {
+    let report = Vec::from_slice(rt.alloc(), b"open,32,16777216,24\nno,behind\n");
+    [
+        Ok(report.expect(rt, "memory")),
+        Err(ScriptError::Fields { row: 2 }),
+    ]
+}
+
+/// Their text.
+const TEXT: &[u8] = b"file,0\nopen,32,16777216,24\nno,behind\n\
+file,1\nfault,record 2: wrong number of fields\n";
+
 #[test]
 fn each_request_of_many_reports_refused_in_turn(rt: HostRuntime) -> Result<(), Fail> {
-    let alloc = rt.alloc();
-    let outcomes = vec![in alloc; report(alloc, WHOLE), report(alloc, SHORT)]?;
-    assert_whole_or_memory(&rt, &Text::Reports(outcomes.as_slice()), TEXT, 1)
+    assert_whole_or_memory(&rt, &Text::Reports(&outcomes(&rt)), TEXT, 1)
 }
 
 #[test]
-fn the_text_of_many_reports_takes_one_request(rt: HostRuntime) -> Result<(), Fail> {
-    let alloc = rt.alloc();
-    let heap = Heap::new(alloc);
-    let outcomes = vec![in alloc; report(alloc, WHOLE), report(alloc, SHORT)]?;
+fn the_text_of_many_reports_takes_one_request(rt: HostRuntime) {
+    let heap = Heap::new(rt.alloc());
     heap.refuse(2);
-    let text = many_text(&heap, outcomes.as_slice())?;
-    assert!(rt; heap.grant_all());
+    let text = many_text(&heap, &outcomes(&rt)).expect(&rt, "a text");
+    assert_same(&rt, &heap.grant_all(), &true);
     assert_same(&rt, &text.as_slice(), &TEXT);
     // at most 100 bytes for each heading and fault
-    assert!(rt; text.capacity() <= text.len() + 200);
-    Ok(())
+    assert_same(&rt, &(text.capacity() <= text.len() + 200), &true);
+}
+
+/// The race of three updates of one actor, and of two commands and two reads of another.
+fn raced(rt: &(impl Abort + AllocGlobal + Threads + Wait + Sync)) -> RaceReport {
+    let alloc = rt.alloc();
+    let real = Timespec {
+        sec: 1_700_000_000,
+        nsec: 0,
+    };
+    let desc = CounterDesc::new(32, 16_777_216, 24).expect(rt, "a counter");
+    let updates = [Action::Order(Command::Update); 3];
+    let mixed = [
+        Action::Look,
+        Action::Order(Command::Tai(100_001)),
+        Action::Glance,
+        Action::Order(Command::Tai(37)),
+    ];
+    let actors = [
+        Vec::from_slice(alloc, &updates).expect(rt, "memory"),
+        Vec::from_slice(alloc, &mixed).expect(rt, "memory"),
+    ];
+    race(alloc, rt, desc, 0, real, 1_000, &actors, &NoGate).expect(rt, "a report")
 }
 
 #[test]
 fn each_request_of_a_race_refused_in_turn(rt: HostRuntime) -> Result<(), Fail> {
-    let actors = actors_in(rt.alloc())?;
-    let report = raced(&rt, rt.alloc(), actors.as_slice()).ok_or("a report")?;
-    assert_whole_or_memory(&rt, &Text::Race(&report), MIXED_TEXT, 2)
+    let text = b"entries,4\nactor,0,3,0\nactor,1,1,1\n";
+    assert_whole_or_memory(&rt, &Text::Race(&raced(&rt)), text, 2)
 }

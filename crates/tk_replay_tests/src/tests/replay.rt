@@ -2,14 +2,11 @@
 //! all.
 
 mod fakes;
+mod faults;
 mod files;
-mod full;
-mod long_traces;
 mod many;
 mod marks;
 mod memory;
-mod reports;
-mod scenarios;
 mod streams;
 mod traces;
 

@@ -1,21 +1,17 @@
-mod bytes;
 mod commands;
 mod dates;
 mod faults;
-mod large;
 mod lines;
 mod memory;
 mod names;
 mod refused;
 mod scripts;
-mod stamps;
-mod ways;
 
 use super::{assert_lines, assert_same};
 use std::alloc::{AllocError, Global};
 use std::process::Abort;
 use tk_clock::{ClockId, Command, Timespec};
-use tk_script::{Row, Script, ScriptError, Stamps};
+use tk_script::{Row, Script};
 
 /// A counter of 32 bits at 1 ns per cycle, opened at reading 0.
 const OPENING: &[u8] = b"open,32,16777216,24,0,1700000000,0\n";
@@ -49,55 +45,10 @@ fn assert_opening(
     }
 }
 
-/// Stops the test unless a script has this fault.
-fn assert_fault(rt: &(impl Abort + AllocGlobal), bytes: &[u8], fault: ScriptError) {
-    let found = match Script::from_bytes(rt.alloc(), bytes) {
-        Ok(_) => None,
-        Err(error) => Some(error),
-    };
-    assert_same(rt, &found, &Some(fault));
-}
-
-/// Stops the test unless the bytes are a stamp file of these items.
-fn assert_stamps(rt: &(impl Abort + AllocGlobal), bytes: &[u8], fronts: &[u64], stamps: &[u64]) {
-    match Stamps::from_bytes(rt.alloc(), bytes) {
-        Ok(items) => {
-            assert_same(rt, &items.fronts.as_slice(), &fronts);
-            assert_same(rt, &items.stamps.as_slice(), &stamps);
-        }
-        Err(error) => assert_same(rt, &Some(error), &None),
-    }
-}
-
-/// Stops the test unless a stamp file has this fault.
-fn assert_stamps_fault(rt: &(impl Abort + AllocGlobal), bytes: &[u8], fault: ScriptError) {
-    let found = match Stamps::from_bytes(rt.alloc(), bytes) {
-        Ok(_) => None,
-        Err(error) => Some(error),
-    };
-    assert_same(rt, &found, &Some(fault));
-}
-
 /// Returns a text and a later one after it.
 fn joined(alloc: Global, first: &[u8], later: &[u8]) -> Result<Vec<u8>, AllocError> {
     let mut bytes = first.to_vec(alloc)?;
     bytes.extend_from_slice(later)?;
-    Ok(bytes)
-}
-
-/// Returns the text, followed by `many` copies of the record.
-fn repeated(alloc: Global, text: &[u8], record: &[u8], many: usize) -> Result<Vec<u8>, AllocError> {
-    let mut bytes = text.to_vec(alloc)?;
-    for _ in 0..many {
-        bytes.extend_from_slice(record)?;
-    }
-    Ok(bytes)
-}
-
-/// Returns the text, filled with line feeds up to `len` bytes.
-fn filled(alloc: Global, text: &[u8], len: usize) -> Result<Vec<u8>, AllocError> {
-    let mut bytes = text.to_vec(alloc)?;
-    bytes.resize(len, b'\n')?;
     Ok(bytes)
 }
 

@@ -1,4 +1,4 @@
-use super::{OPENING, act, assert_opening, assert_rows, joined, look, time};
+use super::{OPENING, act, assert_rows, joined, look, time};
 use std::process::Abort;
 use tk_clock::{ClockId, Command};
 use tk_script::Row;
@@ -74,68 +74,4 @@ fn reads_the_greatest_and_the_least_numbers(rt: HostRuntime) {
     ] {
         assert_row(&rt, record, row);
     }
-}
-
-const FREQUENCY: &[u8] = b"openhz,32,24000000,600,0,1700000000,0
-get,24000000,monotonic
-tai,24000000,37
-suspend,48000000
-update,48000001
-resume,7,5,500000000
-get,7,realtime
-get,7,boottime
-get,7,tai
-";
-
-#[test]
-fn reads_a_script_over_a_counter_of_24_megahertz(rt: HostRuntime) {
-    let counter = (32, 699_050_667, 24);
-    assert_opening(&rt, FREQUENCY, counter, 0, time(1_700_000_000, 0));
-    let rows = [
-        look(24_000_000, ClockId::Monotonic),
-        act(24_000_000, Command::Tai(37)),
-        act(48_000_000, Command::Suspend),
-        act(48_000_001, Command::Update),
-        act(7, Command::Resume(time(5, 500_000_000))),
-        look(7, ClockId::Realtime),
-        look(7, ClockId::Boottime),
-        look(7, ClockId::Tai),
-    ];
-    assert_rows(&rt, FREQUENCY, rows.as_slice());
-}
-
-const SETTINGS: &[u8] = b"open,32,16777216,24,0,1700000000,0
-set,0,8277292035,999999999
-set,0,8277292036,0
-step,0,-8277292035,0
-step,0,0,1000000000
-freq,0,65536000
-get,1000000000,monotonic
-freq,1000000000,-32768000
-get,1000000001,monotonic
-get,1000000001,monotonic_coarse
-tai,1000000000,100001
-tai,999999999,1
-resume,0,0,0
-get,4294967296,tai
-";
-
-#[test]
-fn reads_settings_and_steps(rt: HostRuntime) {
-    let rows = [
-        act(0, Command::SetTime(time(8_277_292_035, 999_999_999))),
-        act(0, Command::SetTime(time(8_277_292_036, 0))),
-        act(0, Command::Step(time(-8_277_292_035, 0))),
-        act(0, Command::Step(time(0, 1_000_000_000))),
-        act(0, Command::Freq(65_536_000)),
-        look(1_000_000_000, ClockId::Monotonic),
-        act(1_000_000_000, Command::Freq(-32_768_000)),
-        look(1_000_000_001, ClockId::Monotonic),
-        look(1_000_000_001, ClockId::MonotonicCoarse),
-        act(1_000_000_000, Command::Tai(100_001)),
-        act(999_999_999, Command::Tai(1)),
-        act(0, Command::Resume(time(0, 0))),
-        look(4_294_967_296, ClockId::Tai),
-    ];
-    assert_rows(&rt, SETTINGS, rows.as_slice());
 }
