@@ -5,11 +5,8 @@ mod openings;
 mod parts;
 mod reaching;
 mod reaching_random;
-mod refusals;
-mod settings;
 mod sleep;
 mod steering;
-mod updates;
 mod words;
 
 use super::{are_distinct, assert_same, assert_same_at, time};

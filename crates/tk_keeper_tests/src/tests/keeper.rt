@@ -9,14 +9,13 @@ mod past;
 mod refusals;
 mod replayed;
 mod runs;
-mod settings;
 mod sleep;
 mod steering;
 mod times;
 mod traces;
 
 use super::{ABOVE, assert_same, opened, put, steered};
-use std::alloc::{Allocator, Global};
+use std::alloc::Allocator;
 use std::process::Abort;
 use tk_clock::{ClockId, Command, Refusal, Snapshot, Timespec};
 use tk_keeper::{FrontError, Timekeeper};
@@ -123,19 +122,6 @@ fn answers(
         let returned = applied(rt, keeper, *reading, *cmd);
         assert_same(rt, &(*reading, *cmd, returned), &(*reading, *cmd, *answer));
     }
-}
-
-/// Opens a timekeeper, applies commands and checks the answer to each, and then reads clocks and
-/// checks the time of each.
-fn answers_and_reads(
-    rt: &impl Abort,
-    alloc: Global,
-    steps: &[(u64, Command, Result<u64, Refusal>)],
-    values: &[(ClockId, u64, Timespec)],
-) {
-    let mut keeper = opened(rt, alloc);
-    answers(rt, &mut keeper, steps);
-    reads(rt, &keeper.snapshot(), values);
 }
 
 /// Checks the time of MONOTONIC at a reading.

@@ -1,38 +1,10 @@
 use super::{answers, assert_same, assert_same_at, opened, reads, time};
-use std::process::Abort;
 use std::test::Fail;
 use tk_clock::ClockId::{Monotonic, MonotonicRaw};
 use tk_clock::Command::{Freq, Tick};
-use tk_clock::{Clock, Command, Refusal};
 
 /// The reading one second after the opening.
 const SECOND: u64 = 1_000_000_000;
-
-/// Applies a command and checks the multiplier after it.
-fn steers(rt: &impl Abort, clock: &mut Clock, reading: u64, cmd: Command, mult: u32) {
-    answers(rt, clock, reading, cmd, Ok(()));
-    assert_same_at(rt, &(cmd, reading), &clock.snapshot(0).mult(), &mult);
-}
-
-#[test]
-fn a_frequency_holds_from_its_reading_on(rt: HostRuntime) -> Result<(), Fail> {
-    let mut clock = opened()?;
-    steers(&rt, &mut clock, 0, Freq(65_536_000), 16_785_604);
-    reads(&rt, &clock, Monotonic, SECOND, time(1, 499_963));
-    steers(&rt, &mut clock, SECOND, Freq(-32_768_000), 16_768_827);
-    reads(&rt, &clock, Monotonic, SECOND, time(1, 499_963));
-    reads(&rt, &clock, Monotonic, SECOND + 1, time(1, 499_964));
-    Ok(())
-}
-
-#[test]
-fn any_frequency_is_held_to_500_ppm(rt: HostRuntime) -> Result<(), Fail> {
-    let mut clock = opened()?;
-    for (frequency, mult) in [(i64::MIN, 16_768_827), (i64::MAX, 16_785_604)] {
-        steers(&rt, &mut clock, 0, Freq(frequency), mult);
-    }
-    Ok(())
-}
 
 #[test]
 fn a_snapshot_used_beyond_its_life_may_give_more(rt: HostRuntime) -> Result<(), Fail> {
@@ -51,7 +23,8 @@ fn a_snapshot_used_beyond_its_life_may_give_more(rt: HostRuntime) -> Result<(), 
 #[test]
 fn a_tick_and_a_frequency_keep_each_other(rt: HostRuntime) -> Result<(), Fail> {
     let mut clock = opened()?;
-    steers(&rt, &mut clock, 0, Tick(11_000), 18_454_937);
+    answers(&rt, &mut clock, 0, Tick(11_000), Ok(()));
+    assert_same(&rt, &clock.snapshot(1).mult(), &18_454_937);
     reads(&rt, &clock, Monotonic, SECOND, time(1, 99_999_964));
     reads(&rt, &clock, MonotonicRaw, SECOND, time(1, 0));
     answers(&rt, &mut clock, SECOND, Freq(32_768_000), Ok(()));
@@ -74,19 +47,5 @@ fn a_tick_and_a_frequency_keep_each_other(rt: HostRuntime) -> Result<(), Fail> {
     );
     reads(&rt, &clock, Monotonic, SECOND + 1, time(1, 99_999_965));
     reads(&rt, &clock, MonotonicRaw, SECOND + 1, time(1, 1));
-    Ok(())
-}
-
-#[test]
-fn a_tick_is_of_9_to_11_milliseconds(rt: HostRuntime) -> Result<(), Fail> {
-    let mut clock = opened()?;
-    for (tick, answer) in [
-        (8_999, Err(Refusal::Invalid)),
-        (11_001, Err(Refusal::Invalid)),
-        (9_000, Ok(())),
-        (11_000, Ok(())),
-    ] {
-        answers(&rt, &mut clock, 0, Tick(tick), answer);
-    }
     Ok(())
 }
