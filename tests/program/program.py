@@ -1,11 +1,13 @@
-"""Runs the built program, in a folder of its own."""
+"""Runs the built program, or the one that TKCORE names, in a folder of its own."""
 import dataclasses
+import os
 import pathlib
 import subprocess
 import tempfile
 import unittest
 
-PROGRAM = pathlib.Path(__file__).resolve().parents[2] / "crates/tkcore/out/tkcore"
+BUILT = pathlib.Path(__file__).resolve().parents[2] / "crates/tkcore/out/tkcore"
+PROGRAM = os.environ.get("TKCORE", BUILT)
 SECONDS = 60
 
 # a counter of one nanosecond a cycle with readings of 32 bits, opened at reading 0

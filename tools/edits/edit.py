@@ -2,6 +2,7 @@
 import dataclasses
 import functools
 import pathlib
+import re
 
 from edits import source
 
@@ -68,6 +69,21 @@ class Edit:
             found.add(source.item_at(pair.file, text, line))
         return frozenset(found)
 
+    @functools.cached_property
+    def bodies(self):
+        """The texts of the functions that it changes."""
+        lines = {it.file: self.original(it.file).split("\n") for it in self.items - {None}}
+        return "\n".join("\n".join(lines[it.file][it.first:it.last]) for it in self.items - {None})
+
+    def calls(self, other):
+        """Whether a function that it changes calls, by its name, one that another edit changes."""
+        return any(re.search(rf"\b{it.name}\(", self.bodies) for it in other.items - {None})
+
+    @property
+    def paths(self):
+        """The paths of the functions that it changes."""
+        return sorted(it.path for it in self.items - {None})
+
     @property
     def is_inside_functions(self):
         """Whether it changes bodies alone. Proofs of other functions rest on all else."""
@@ -75,12 +91,14 @@ class Edit:
 
 
 def edits_in(folder):
-    """The edits of a folder, by their names."""
-    return [Edit(it) for it in sorted(folder.glob("*.edit"))]
+    """The edits of a folder, by the files that they change, and then by their names."""
+    found = [Edit(it) for it in folder.glob("*.edit")]
+    return sorted(found, key=lambda it: (next(it.pairs).file, it.path.name))
 
 
 def rounds(edits):
-    """Puts each edit into the first of some rounds in which no other changes the same function.
+    """Puts each edit into the first of some rounds in which no other changes the same function, or
+    one that calls it or that it calls.
 
     One that changes more than bodies has a round of its own.
     """
@@ -97,8 +115,9 @@ def rounds(edits):
 
 def goes_with(edit, chosen):
     """Whether an edit can be tried together with others."""
-    taken = {item for other in chosen for item in other.items}
-    if taken & edit.items or not all(it.is_inside_functions for it in [edit, *chosen]):
+    if not all(it.is_inside_functions for it in [edit, *chosen]):
+        return False
+    if any(it.items & edit.items or it.calls(edit) or edit.calls(it) for it in chosen):
         return False
     return together([*chosen, edit]) is not None
 

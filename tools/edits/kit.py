@@ -43,9 +43,14 @@ class Kit:
     def has_room(self):
         return self.rt.free() > ROOM
 
-    def check(self, name, texts):
-        """Checks a copy of the crate, with these texts, from nothing."""
-        return self.rt.checked(self.crates[name], texts, ["--jobs", "1"], None)
+    def check(self, name, texts, paths):
+        """Checks functions of a copy of the crate, with these texts, and what they call.
+
+        If one isn't found by its path, it checks the whole crate.
+        """
+        flags = ["--jobs", "1", *(f"--only={it}" for it in paths)]
+        ran = self.rt.checked(self.crates[name], texts, flags, None)
+        return self.check(name, texts, []) if paths and ran.returncode == 2 else ran
 
     def alone(self, name, edit):
         """Tries one edit as `rt must-fail` does: whether it is refused, and a line that says it."""

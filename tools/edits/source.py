@@ -10,7 +10,8 @@ BLOCK = re.compile(r"(?:pub(?:\([^)]*\))? )?(?:unsafe )?(impl|struct|enum|trait|
 class Item:
     """A function, or with the name "" a block around functions.
 
-    It has its lines, from 1 on, and a pattern of the names of its proof's files.
+    It has its lines, from 1 on, a pattern of the names of its proof's files, and the path by which
+    `rattle check --only` finds it.
     """
 
     file: str
@@ -18,6 +19,7 @@ class Item:
     first: int
     last: int
     proofs: str
+    path: str = ""
 
     def has_line(self, file, number):
         return file == self.file and self.first <= number <= self.last
@@ -33,14 +35,17 @@ def without_parameters(text):
     return text
 
 
-def folder_of(block):
-    """How the folder of an impl is named: by its type, its trait and the trait's parameters."""
+def names_of(block):
+    """How an impl is named: by its type, or Any if that is a parameter, its trait, and after that
+    perhaps by the trait's parameters."""
     words = re.findall(r"[\w:]+", without_parameters(block).split(" where ")[0])
     names = [it.rpartition("::")[2] for it in words]
-    if "for" in names:
-        at = names.index("for")
-        return rf"{names[at + 1]}{names[at - 1]}\w*"
-    return names[0] if names else r"\w+"
+    if "for" not in names:
+        return (names[0] if names else ""), ""
+    at = names.index("for")
+    is_any = re.match(rf"<[^>]*\b{names[at + 1]}\b", block)
+    has_parameters = re.search(rf"\b{names[at - 1]}<", block)
+    return ("Any" if is_any else names[at + 1]) + names[at - 1], r"\w+" if has_parameters else ""
 
 
 def end_of(lines, first):
@@ -61,6 +66,7 @@ def items(file, text):
     """
     module = re.sub(r"^src/((lib|main)\.rt$)?|\.rt$", "", file)
     at = f"proofs/{re.escape(module)}/" if module else "proofs/"
+    within = module.replace("/", "::")
     lines, found, block = text.split("\n"), [], None
     for number, line in enumerate(lines):
         head, outer = FUNCTION.match(line), BLOCK.match(line)
@@ -68,13 +74,18 @@ def items(file, text):
             continue
         span = number + 1, end_of(lines, number) + 1
         if outer:
-            folder = folder_of(outer[2]) if outer[1] == "impl" else r"\w+"
-            block = Item(file, "", *span, rf"proofs/(\w+/)*{folder}/.+\.antt")
+            named, more = names_of(outer[2]) if outer[1] == "impl" else ("", r"\w+")
+            # (a module's path stands for all functions in it)
+            block = Item(file, "", *span, rf"proofs/(\w+/)*{named}{more}/.+\.antt",
+                         within if more else named)
             found.append(block)
         else:
             is_inside = block and block.first <= span[0] <= block.last
             folder = block.proofs.removesuffix(r".+\.antt") if is_inside else at
-            found.append(Item(file, head[2], *span, rf"{folder}\+?{head[2]}/\w+\.antt"))
+            above = block.path if is_inside else within
+            path = (above if is_inside and above == within
+                    else "::".join(it for it in [above, head[2]] if it))
+            found.append(Item(file, head[2], *span, rf"{folder}\+?{head[2]}/\w+\.antt", path))
     return found
 
 

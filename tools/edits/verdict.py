@@ -21,6 +21,6 @@ def own_error(edit, lines):
 
 
 def is_judged(ran):
-    """Whether the prover reached a verdict, which is that the crate is not proved."""
+    """Whether the prover tried all functions, and did not prove each."""
     last = ran.stdout.rstrip("\n").rpartition("\n")[2]
-    return ran.returncode == 1 and last.startswith("logic=not-proved")
+    return ran.returncode == 1 and last.startswith(("only=", "logic=not-proved"))
