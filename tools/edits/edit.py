@@ -2,7 +2,6 @@
 import dataclasses
 import functools
 import pathlib
-import re
 
 from edits import source
 
@@ -69,15 +68,11 @@ class Edit:
             found.add(source.item_at(pair.file, text, line))
         return frozenset(found)
 
-    @functools.cached_property
-    def bodies(self):
-        """The texts of the functions that it changes."""
-        lines = {it.file: self.original(it.file).split("\n") for it in self.items - {None}}
-        return "\n".join("\n".join(lines[it.file][it.first:it.last]) for it in self.items - {None})
-
-    def calls(self, other):
-        """Whether a function that it changes calls, by its name, one that another edit changes."""
-        return any(re.search(rf"\b{it.name}\(", self.bodies) for it in other.items - {None})
+    def leads_to(self, other):
+        """Whether calls lead from a function that it changes to one that another edit changes."""
+        ways = source.reached(self.crate)
+        return any(there.name in ways.get(here.name, ()) for here in self.items - {None}
+                   for there in other.items - {None})
 
     @property
     def paths(self):
@@ -98,7 +93,7 @@ def edits_in(folder):
 
 def rounds(edits):
     """Puts each edit into the first of some rounds in which no other changes the same function, or
-    one that calls it or that it calls.
+    one that leads to it by calls, or to which it leads.
 
     One that changes more than bodies has a round of its own.
     """
@@ -117,7 +112,7 @@ def goes_with(edit, chosen):
     """Whether an edit can be tried together with others."""
     if not all(it.is_inside_functions for it in [edit, *chosen]):
         return False
-    if any(it.items & edit.items or it.calls(edit) or edit.calls(it) for it in chosen):
+    if any(it.items & edit.items or it.leads_to(edit) or edit.leads_to(it) for it in chosen):
         return False
     return together([*chosen, edit]) is not None
 

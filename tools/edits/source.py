@@ -1,5 +1,6 @@
 """The items of a Rattle source file that a wrong edit can change, and where their proofs stand."""
 import dataclasses
+import functools
 import re
 
 FUNCTION = re.compile(r'( *)(?:pub(?:\([^)]*\))? )?(?:const |unsafe |extern "C" )*fn (\w+)')
@@ -26,6 +27,9 @@ class Item:
 
     def has_proof(self, path):
         return re.fullmatch(self.proofs, path) is not None
+
+    def is_called(self, path):
+        return f"::{path}".endswith(f"::{self.path}") and path.endswith(self.name)
 
 
 def without_parameters(text):
@@ -93,3 +97,25 @@ def item_at(file, text, number):
     """The innermost item that holds a line, if one does."""
     inside = [it for it in items(file, text) if it.first <= number <= it.last]
     return inside[-1] if inside else None
+
+
+@functools.cache
+def reached(crate):
+    """For each name of a crate's functions, the names that calls lead to from it.
+
+    Functions of one name count as one, so it has more names than are really reached.
+    """
+    calls = {}
+    for path in sorted((crate / "src").rglob("*.rt")):
+        text = path.read_text(encoding="utf-8")
+        lines = text.split("\n")
+        for it in items(str(path.relative_to(crate)), text):
+            if it.name:
+                body = "\n".join(lines[it.first:it.last])
+                calls.setdefault(it.name, set()).update(re.findall(r"\b(\w+)\(", body))
+    found = {name: {it for it in called if it in calls} for name, called in calls.items()}
+    while any(more := [name for name, names in found.items()
+                       if not all(found[it] <= names for it in names)]):
+        for name in more:
+            found[name] = found[name].union(*(found[it] for it in found[name]))
+    return found

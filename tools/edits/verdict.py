@@ -3,8 +3,9 @@ import re
 
 NOT_PROVED = re.compile(r"note: (?:\./)?(src/\S+?):(\d+):\d+: it is not proved")
 ERROR = re.compile(r"(?:\./)?(proofs/\S+?):\d+:\d+: error: (.*)")
+UNFOUND = re.compile(r"fn \w+::(\S+): no proof: .*`search` did not prove")
 # an error that only follows from another: a proof names what was taken away, or isn't proved
-FOLLOWS = re.compile(r"has no field|is not in scope|has no `|was not admitted")
+FOLLOWS = re.compile(r"has no field|is not in scope|has no `|was not admitted|(is|are) not proved")
 
 
 def own_error(edit, lines):
@@ -16,6 +17,9 @@ def own_error(edit, lines):
                 return line
         elif found := ERROR.match(line):
             if not FOLLOWS.search(found[2]) and any(it.has_proof(found[1]) for it in items):
+                return line
+        elif found := UNFOUND.match(line):
+            if not FOLLOWS.search(line) and any(it.is_called(found[1]) for it in items):
                 return line
     return None
 
