@@ -1,8 +1,5 @@
 //! Tests values that contracts do not fix, the edges of each range, and threads.
 
-mod latch;
-mod now;
-mod page;
 mod race;
 mod shared;
 
