@@ -61,11 +61,12 @@ class Edit:
     @functools.cached_property
     def items(self):
         """The innermost item around each text that is replaced, None for one outside all."""
-        found = set()
+        found, texts = set(), {}
         for pair in self.pairs:
-            text = self.original(pair.file)
+            text = texts.get(pair.file) or self.original(pair.file)
             line = text.count("\n", 0, text.find(pair.old)) + 1
             found.add(source.item_at(pair.file, text, line))
+            texts[pair.file] = text.replace(pair.old, pair.new)
         return frozenset(found)
 
     def leads_to(self, other):
