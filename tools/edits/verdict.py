@@ -25,6 +25,6 @@ def own_error(edit, lines):
 
 
 def is_judged(ran):
-    """Whether the prover tried all functions, and did not prove each."""
+    """Whether the prover tried all functions, and gave a verdict."""
     last = ran.stdout.rstrip("\n").rpartition("\n")[2]
-    return ran.returncode == 1 and last.startswith(("only=", "logic=not-proved"))
+    return ran.returncode in (0, 1) and last.startswith(("only=", "logic="))
