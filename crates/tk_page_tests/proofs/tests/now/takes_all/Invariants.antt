@@ -1,5 +1,5 @@
 use Rattle.std.proofs.Common.{◌≡◌}
-use Rattle.tk_shared_tests.proofs.tests.now.takes_all.Given as goal
+use Rattle.tk_page_tests.proofs.tests.now.takes_all.Given as goal
 
 abbrev pub invariant-loop : goal.invariant-loop
 invariant-loop l = record { notice : l.watcher.notice ≡ l.initial.watcher.notice }

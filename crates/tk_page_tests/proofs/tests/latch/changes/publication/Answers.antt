@@ -1,7 +1,7 @@
 use Rattle.std.proofs.Common.{sym, subst}
 use Rattle.std.specs.Prelude.{◌≡◌, IfSome}
 use Rattle.tk_latch.proofs.Publications.{restored_parts}
-use Rattle.tk_shared_tests.proofs.tests.latch.changes.publication.Goals as goal
+use Rattle.tk_page_tests.proofs.tests.latch.changes.publication.Goals as goal
 
 pub returns : goal.returns
 returns c =

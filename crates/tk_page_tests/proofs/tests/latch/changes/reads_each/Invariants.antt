@@ -1,5 +1,5 @@
 use Rattle.std.proofs.Common.{◌≡◌, length}
-use Rattle.tk_shared_tests.proofs.tests.latch.changes.reads_each.Given as goal
+use Rattle.tk_page_tests.proofs.tests.latch.changes.reads_each.Given as goal
 
 abbrev pub invariant-loop-number : goal.invariant-loop-number
 invariant-loop-number l = record {

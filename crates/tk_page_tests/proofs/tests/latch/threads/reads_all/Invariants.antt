@@ -1,5 +1,5 @@
 use Rattle.std.proofs.Common.{◌≡◌}
-use Rattle.tk_shared_tests.proofs.tests.latch.threads.reads_all.Given as goal
+use Rattle.tk_page_tests.proofs.tests.latch.threads.reads_all.Given as goal
 
 abbrev pub invariant-loop : goal.invariant-loop
 invariant-loop l = record { latch : l.reader.latch ≡ l.initial.reader.latch }

@@ -1,5 +1,5 @@
 use Rattle.std.proofs.Common.{◌≡◌}
-use Rattle.tk_shared_tests.proofs.tests.page.many.publish_all.Given as goal
+use Rattle.tk_page_tests.proofs.tests.page.many.publish_all.Given as goal
 
 abbrev pub invariant-loop-number : goal.invariant-loop-number
 invariant-loop-number g l = l.desk.page ≡ l.page

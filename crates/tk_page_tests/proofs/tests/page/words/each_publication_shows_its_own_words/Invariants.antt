@@ -1,5 +1,5 @@
 use Rattle.std.proofs.Common.{◌≡◌}
-use Rattle.tk_shared_tests.proofs.tests.page.words.each_publication_shows_its_own_words.Given as goal
+use Rattle.tk_page_tests.proofs.tests.page.words.each_publication_shows_its_own_words.Given as goal
 
 abbrev pub invariant-loop-reading : goal.invariant-loop-reading
 invariant-loop-reading g l =
