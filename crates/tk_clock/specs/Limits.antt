@@ -1,5 +1,5 @@
 -- The limits of clocks and commands (include/linux/time64.h, include/linux/ktime.h).
-use Rattle.std.specs.Prelude.{ℕ, ◌-◌, ◌*◌, ◌^◌, ℤ, pos, Bool, true, false, not, ◌&&◌, ◌||◌, nat_lt, int_lt, int_le, ◌+ℤ◌}
+use Rattle.std.specs.Prelude.{ℕ, ◌-◌, ◌*◌, ◌/◌, ◌^◌, ℤ, pos, Bool, true, false, not, ◌&&◌, ◌||◌, nat_lt, int_lt, int_le, ◌+ℤ◌}
 use Rattle.tk_counter.specs.Counter.{seconds_end, least_tick, greatest_tick}
 use Rattle.tk_clock.specs.declared.timespec.Timespec.{Timespec}
 use Rattle.tk_clock.specs.declared.command.Command.{Command}
@@ -33,6 +33,10 @@ greatest_tai = 100000
 -- the most entries that a journal lists
 abbrev pub listed_most : ℕ
 listed_most = 1048576
+
+-- the most entries that a full journal is folded to: half of the most that a journal lists
+abbrev pub most_kept : ℕ
+most_kept = listed_most / 2
 
 -- the most commands that a journal counts: the greatest number of 63 bits
 abbrev pub counted_most : ℕ

@@ -6,6 +6,7 @@
 //! | `FrontError` | why a front has no snapshot |
 //! | `TraceError` | why a list of stamps isn't converted |
 //! | `LISTED_LIMIT` | the most entries that a journal lists |
+//! | `KEEP_LIMIT` | half of these: the most that a full journal is folded to |
 //! | `KEPT_EVERY` | the number of commands from one kept copy of the clocks to the next |
 //!
 //! Units are those of `tk_clock`: readings in cycles, clock times in s and ns. Entries are numbered
@@ -18,5 +19,5 @@ mod timekeeper;
 mod trace_error;
 
 pub use front_error::FrontError;
-pub use timekeeper::{KEPT_EVERY, LISTED_LIMIT, Timekeeper};
+pub use timekeeper::{KEEP_LIMIT, KEPT_EVERY, LISTED_LIMIT, Timekeeper};
 pub use trace_error::TraceError;

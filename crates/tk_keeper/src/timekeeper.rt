@@ -16,6 +16,10 @@ use tk_counter::CounterDesc;
 /// The most entries that a journal lists.
 pub const LISTED_LIMIT: usize = 1_048_576;
 
+/// The most entries that a full journal is folded to by `--keep`: half of what it lists, so that
+/// folding moves each entry at most once on average.
+pub const KEEP_LIMIT: u64 = LISTED_LIMIT as u64 / 2;
+
 /// The most commands that a journal counts, the folded ones included.
 const COUNTED_LIMIT: u64 = (1 << 63) - 1;
 

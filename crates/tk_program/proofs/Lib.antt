@@ -1,4 +1,3 @@
-pub mod Worked
 pub mod ManyText
 pub mod RaceLines
 pub mod FilesRead

@@ -1,19 +1,15 @@
 -- How the program ends.
 use Rattle.std.specs.Prelude.{◌≡◌, ℕ, List, ◌++◌, Option, IfSome, Result, Ok, Err, codes}
 use Rattle.std.specs.Io.KnownBytes.{Appends}
-use Rattle.clap.specs.declared.error.ErrorKind.{ErrorKind}
-use Rattle.clap.specs.declared.error.ErrorKind.TheVariants.{OutOfMemory}
-use Rattle.std.specs.declared.io.ErrorKind as io
-use Rattle.std.specs.declared.io.ErrorKind.TheVariants as kinds
 use Rattle.tk_script.specs.declared.script_error.ScriptError.{ScriptError}
 use Rattle.tk_script.specs.declared.script_error.ScriptError.TheVariants as scripts
 use Rattle.tk_race.specs.RaceError.{error_text}
-use Rattle.tk_replay.specs.declared.fault.Fault.{Fault}
-use Rattle.tk_replay.specs.declared.fault.Fault.TheVariants as faults
-use Rattle.tk_replay.specs.Fault.{fault_text}
-use Rattle.tk_replay.specs.ManyError.{many_text}
-use Rattle.tk_program.specs.declared.words_error.WordsError.{WordsError}
-use Rattle.tk_program.specs.declared.words_error.WordsError.TheVariants as errors
+use Rattle.tk_report.specs.declared.fault.Fault.{Fault}
+use Rattle.tk_report.specs.declared.fault.Fault.TheVariants as faults
+use Rattle.tk_report.specs.Fault.{fault_text}
+use Rattle.tk_report.specs.ManyError.{many_text}
+use Rattle.tk_command_line.specs.declared.words_error.WordsError.{WordsError}
+use Rattle.tk_command_line.specs.declared.words_error.WordsError.TheVariants as errors
 use Rattle.tk_program.specs.declared.ending.Ending.{Ending}
 use Rattle.tk_program.specs.declared.ending.Ending.TheVariants as endings
 
@@ -65,13 +61,3 @@ ending_of_file index (scripts.Number row) = endings.File index (scripts.Number r
 abbrev pub ending_at : WordsError → Ending
 ending_at errors.Refused = endings.Words
 ending_at errors.Memory = endings.Fault faults.Memory
-
--- why words ask for nothing, by the kind of their fault
-abbrev pub error_of : ErrorKind → WordsError
-error_of OutOfMemory = errors.Memory
-error_of _ = errors.Refused
-
--- why words can't be read, by the kind of the error
-abbrev pub unread_of : io.ErrorKind → WordsError
-unread_of kinds.OutOfMemory = errors.Memory
-unread_of _ = errors.Refused

@@ -3,9 +3,9 @@ use Rattle.std.specs.Prelude.{◌≡◌, ℕ, ◌<◌, List, [], length, map, Op
 use Rattle.std.specs.Borrow.{Bor}
 use Rattle.std.specs.List.{AllZip}
 use Rattle.std.specs.Global.{Vec}
-use Rattle.tk_replay.specs.declared.fault.Fault.{Fault}
-use Rattle.tk_replay.specs.declared.fault.Fault.TheVariants as faults
-use Rattle.tk_replay.specs.Reading.{IsReadToEnd, ReadFailed}
+use Rattle.tk_report.specs.declared.fault.Fault.{Fault}
+use Rattle.tk_report.specs.declared.fault.Fault.TheVariants as faults
+use Rattle.tk_report.specs.Reading.{IsReadToEnd, ReadFailed}
 
 -- of a folder and its files: the result of opening each name, the bytes of a file that are known,
 -- and the results of its reads

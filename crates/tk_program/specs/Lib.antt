@@ -1,5 +1,3 @@
-pub mod Request
-pub mod CommandLine
 pub mod Ending
 pub mod Running
 pub mod ManyText

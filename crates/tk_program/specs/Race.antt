@@ -10,8 +10,8 @@ use Rattle.tk_script.specs.declared.script.Script.{Script}
 use Rattle.tk_script.specs.declared.script_error.ScriptError.{ScriptError}
 use Rattle.tk_script.specs.Grammar.{Fails, parse_of}
 use Rattle.tk_script.specs.Script.{parse}
-use Rattle.tk_replay.specs.declared.fault.Fault.{Fault}
-use Rattle.tk_replay.specs.declared.fault.Fault.TheVariants as faults
+use Rattle.tk_report.specs.declared.fault.Fault.{Fault}
+use Rattle.tk_report.specs.declared.fault.Fault.TheVariants as faults
 use Rattle.tk_race.specs.declared.action.Action.{Action}
 use Rattle.tk_race.specs.declared.action.Action.TheVariants as actions
 use Rattle.tk_race.specs.declared.action.RaceReply.{RaceReply}

@@ -3,18 +3,25 @@ use Rattle.std.specs.Prelude.{◌≡◌, ◌⊎◌, ℕ, List, Option, Some, Non
 use Rattle.std.specs.Borrow.{Bor}
 use Rattle.clap.specs.Words.{Text}
 use Rattle.tk_clock.specs.declared.clock_id.ClockId.{ClockId}
-use Rattle.tk_replay.specs.declared.fault.Fault.{Fault}
-use Rattle.tk_replay.specs.declared.fault.Fault.TheVariants as faults
-use Rattle.tk_replay.specs.Reading.{ReadFailed}
-use Rattle.tk_replay.specs.Replay.{IsReplayed}
-use Rattle.tk_replay.specs.Trace.{EitherFailed, IsTraceDone}
+use Rattle.tk_report.specs.declared.fault.Fault.{Fault}
+use Rattle.tk_report.specs.declared.fault.Fault.TheVariants as faults
+use Rattle.tk_report.specs.Folding.{rule_of}
+use Rattle.tk_report.specs.Reading.{ReadFailed}
+use Rattle.tk_report.specs.Replay.{IsReplayed}
+use Rattle.tk_report.specs.Report.{IsReportBy}
+use Rattle.tk_report.specs.Trace.{EitherFailed, IsTraceDone}
 use Rattle.tk_program.specs.declared.ending.Ending.{Ending}
 use Rattle.tk_program.specs.declared.ending.Ending.TheVariants as endings
-use Rattle.tk_program.specs.CommandLine.{asked_of}
+use Rattle.tk_command_line.specs.CommandLine.{asked_of}
+use Rattle.tk_command_line.specs.Request.{Task, Replay, Trace, Many, Race}
 use Rattle.tk_program.specs.Ending.{ending_of}
 use Rattle.tk_program.specs.Many.{EndsMany}
 use Rattle.tk_program.specs.Race.{EndsRace}
-use Rattle.tk_program.specs.Request.{IsReportKeeping, Task, Replay, Trace, Many, Race}
+
+-- the report of a script with these bytes: a full journal refuses commands, or is folded to its
+-- last `keep` entries
+abbrev pub IsReportKeeping : Option ℕ → List ℕ → List ℕ → Type 0
+IsReportKeeping keep = IsReportBy (rule_of keep)
 
 -- of a writer, before and after: its bytes, if they are known, and the results of its calls
 module _ {W : Type 0} (contents : W → Option (List ℕ))

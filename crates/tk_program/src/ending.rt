@@ -1,10 +1,11 @@
 ghost use Rattle.std.specs.Prelude.{◌≡◌, OnOk};
 ghost use Rattle.tk_program.specs.Ending.{IsErrorLine, ending_at, ending_of, ending_of_file, status_of};
 
-use crate::words_error::WordsError;
 use std::io;
 use std::io::Write;
-use tk_replay::{Fault, ManyError, RaceError};
+use tk_command_line::WordsError;
+use tk_race::RaceError;
+use tk_report::{Fault, ManyError};
 use tk_script::ScriptError;
 
 /// Says how the program ends. Every variant with status 1 or 2, except `Faulty`, has one line of

@@ -4,7 +4,7 @@ ghost use Rattle.tk_program.specs.Files.{AreReadFrom, IsReadFrom, StopsFile, Sto
 
 use crate::folder::Folder;
 use std::alloc::Global;
-use tk_replay::{Fault, read_to_end};
+use tk_report::{Fault, read_to_end};
 
 /// Reads each file, in order, to its end or up to one byte more than the largest script.
 ///

@@ -3,7 +3,7 @@ ghost use Rattle.std.specs.Prelude.{ℕ, List, Option};
 
 use std::fs;
 use std::rt::Files;
-use tk_replay::Source;
+use tk_report::Source;
 
 /// Opens files by their names. Every runtime that reaches the system's files implements it; any
 /// other impl is for tests.

@@ -1,7 +1,7 @@
 //! Does the subcommand `many`.
 ghost use Rattle.std.specs.Prelude.{◌≡◌, ◌≤◌, is_ok};
 ghost use Rattle.std.specs.List.{list_all};
-ghost use Rattle.tk_replay.specs.Many.{most_workers};
+ghost use Rattle.tk_pieces.specs.Workers.{most_workers};
 ghost use Rattle.tk_program.specs.Many.{EndsMany, EndsTelling};
 
 use crate::ending::Ending;
@@ -11,7 +11,8 @@ use crate::reports_text::many_text;
 use std::alloc::Global;
 use std::sync::Wait;
 use std::thread::Threads;
-use tk_replay::{Fault, NoGate, Sink, replay_all, write_whole};
+use tk_race::NoGate;
+use tk_report::{Fault, Sink, replay_all, write_whole};
 use tk_script::ScriptError;
 
 /// Reads all files, makes the reports of their scripts on `workers` threads, and writes them.

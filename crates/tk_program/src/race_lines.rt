@@ -4,7 +4,8 @@ ghost use Rattle.tk_race.specs.Replies.{done_in};
 ghost use Rattle.tk_program.specs.RaceText.{actor_line, refused_in, race_lines};
 
 use std::alloc::{AllocError, Allocator};
-use tk_replay::{Fault, RaceReply, RaceReport};
+use tk_race::{RaceReply, RaceReport};
+use tk_report::Fault;
 
 /// Makes the lines of a race: `entries,NUMBER`, the number of accepted commands, then for each
 /// actor, from 0, `actor,ID,ACCEPTED,REFUSED`, the numbers of its orders.

@@ -13,7 +13,8 @@ use crate::scripts::read_scripts;
 use std::alloc::{AllocError, Global};
 use std::sync::Wait;
 use std::thread::Threads;
-use tk_replay::{Action, Fault, NoGate, RaceError, RaceReport, Sink, race, write_whole};
+use tk_race::{Action, NoGate, RaceError, RaceReport, race};
+use tk_report::{Fault, Sink, write_whole};
 use tk_script::{Row, Script};
 
 /// Reads and parses the files, races an actor for each script, and writes the result.

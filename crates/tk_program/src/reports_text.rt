@@ -5,7 +5,7 @@ ghost use Rattle.tk_program.specs.ManyText.{fault_line, heading, outcome_text, t
 use std::alloc::{AllocError, Allocator};
 use std::io;
 use std::io::Write;
-use tk_replay::Fault;
+use tk_report::Fault;
 use tk_script::ScriptError;
 
 /// More bytes than a heading and the line of a fault have.

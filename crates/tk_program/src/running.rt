@@ -1,15 +1,12 @@
 ghost use Rattle.std.specs.Prelude.{◌≡◌, ℕ, List, Option, Some, map, string_bytes};
 ghost use Rattle.std.specs.Process.{exit_status};
+ghost use Rattle.tk_command_line.specs.Request.{IsAllowed, task_of};
 ghost use Rattle.tk_program.specs.Ending.{status_of};
-ghost use Rattle.tk_program.specs.Request.{IsAllowed, task_of};
 ghost use Rattle.tk_program.specs.Running.{Ends, IsRun};
 ghost use Rattle.tk_program.specs.declared.ending.Ending.{Ending};
 
-use crate::command_line::asked;
 use crate::ending::Ending;
 use crate::folder::Folder;
-use crate::request::Request;
-use crate::words_error::WordsError;
 use crate::{many, racing, tracing};
 use std::alloc::Global;
 use std::env;
@@ -18,7 +15,8 @@ use std::process::ExitCode;
 use std::rt::Env;
 use std::sync::Wait;
 use std::thread::Threads;
-use tk_replay::{Sink, Source, replay_with};
+use tk_command_line::{Request, WordsError, asked};
+use tk_report::{Sink, Source, replay_with};
 
 /// Does what the words ask for, and returns how it ended. The first word is the program's name.
 ///

@@ -6,7 +6,7 @@ use crate::ending::Ending;
 use crate::files::read_file;
 use crate::folder::Folder;
 use std::alloc::Global;
-use tk_replay::Fault;
+use tk_report::Fault;
 use tk_script::Script;
 
 /// Reads and parses the script of each file, before it opens the next file.

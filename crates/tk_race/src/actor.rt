@@ -3,10 +3,10 @@ ghost use Rattle.std.specs.Prelude.{◌≡◌, ◌≤◌, [], length};
 ghost use Rattle.tk_race.specs.Actor.{IsAnswer, HasActed, IsReady};
 
 use crate::action::{Action, RaceReply};
-use crate::gate::Gate;
 use std::marker::Model;
 use std::sync::Wait;
 use tk_now::SharedTicker;
+use tk_pieces::Gate;
 use tk_shared::{Caller, Named, SharedKeeper, SharedReader};
 
 /// Contains an actor: its caller, and its replies so far.

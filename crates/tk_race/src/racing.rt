@@ -7,7 +7,6 @@ ghost use Rattle.tk_race.specs.Actor.{AreReady};
 
 use crate::action::{Action, RaceReply};
 use crate::actor::{Actor, RaceKeeper};
-use crate::gate::Gate;
 use crate::race_error::RaceError;
 use crate::report::RaceReport;
 use crate::starting::act_at_once;
@@ -18,6 +17,7 @@ use std::thread::Threads;
 use tk_clock::{Clock, Timespec};
 use tk_counter::CounterDesc;
 use tk_now::SharedTicker;
+use tk_pieces::Gate;
 use tk_shared::{Caller, Named, Prepared, SharedKeeper, SharedReader, prepare};
 
 /// The greatest number of actors of a race, which is that of callers of a keeper.

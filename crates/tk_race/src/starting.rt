@@ -4,13 +4,13 @@ ghost use Rattle.tk_race.specs.Actor.{HasActed, IsReady, HaveActed, AreReady};
 
 use crate::action::Action;
 use crate::actor::{Actor, RaceKeeper, act};
-use crate::gate::Gate;
 use crate::race_error::RaceError;
 use std::snapshot::Snapshot;
 use std::sync::Wait;
 use std::thread;
 use std::thread::{Promise, PromisedHandle, Scope, Threads};
 use tk_now::SharedTicker;
+use tk_pieces::Gate;
 use tk_shared::{Caller, Named};
 
 /// States what an actor's thread promises: that it has done these actions, starting from this

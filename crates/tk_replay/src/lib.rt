@@ -1,5 +1,6 @@
 //! Makes reports of scripts, one line for each record, and traces of stamp files, one line for each
-//! stamp.
+//! stamp; and runs races. It has no code of its own: it gathers what scripts are for from the crates
+//! below it, so that one name is enough for a caller.
 //!
 //! | Item | What it does |
 //! |---|---|
@@ -13,44 +14,26 @@
 //! | `trace` | reads a script and a stamp file, and writes a clock's value at each stamp |
 //! | `keeper_of`, `keeper_after` | return the clocks after all accepted commands of a script |
 //! | `convert` | makes the lines of stamps from a keeper's clocks |
-//! | `trace_all`, `trace_all_into` | convert lists of stamps on several threads; from `tk_pieces` |
 //! | `replay_all` | makes the reports of many scripts on several threads |
 //! | `WORKERS_LIMIT` | is the greatest number of workers |
 //! | `ManyError` | says why `replay_all` made no reports |
-//! | `Gate`, `NoGate` | are called before and after each piece of `replay_all` and `race`; from `tk_race` |
-//! | `race`, `RaceReport`, `RaceError` | actors in threads on one keeper; from `tk_race` |
-//! | `Action`, `RaceReply` | what an actor does, and the reply to it; from `tk_race` |
 //! | `read_to_end` | reads a whole input, up to one byte more than the largest script |
 //! | `write_whole` | writes a text and flushes |
 //! | `Fault` | says why `replay` or `trace` stopped, and how much of the text was written |
 //! | `Source`, `Sink` | stand for any reader and any writer |
+//! | `trace_all`, `trace_all_into` | convert lists of stamps on several threads; from `tk_pieces` |
+//! | `Gate`, `NoGate` | are called before and after each piece of `replay_all` and `race`; from `tk_pieces` |
+//! | `race`, `RaceReport`, `RaceError` | actors in threads on one keeper; from `tk_race` |
+//! | `Action`, `RaceReply` | what an actor does, and the reply to it; from `tk_race` |
 //!
-//! Units: readings in cycles; times in seconds and nanoseconds; texts and lengths in bytes.
+//! What has no crate in this table is from `tk_report`. Units: readings in cycles; times in seconds
+//! and nanoseconds; texts and lengths in bytes.
 #![tactic(auto)]
 
-mod applying;
-mod converting;
-mod fault;
-mod journaling;
-mod many;
-mod many_error;
-mod replaying;
-mod reporting;
-mod sink;
-mod source;
-mod tracing;
-mod worklist;
-
-pub use applying::KEEP_LIMIT;
-pub use converting::convert;
-pub use fault::Fault;
-pub use journaling::{keeper_after, keeper_of};
-pub use many::{WORKERS_LIMIT, replay_all};
-pub use many_error::ManyError;
-pub use replaying::{replay, replay_bounded, replay_with};
-pub use reporting::{report, report_bounded, report_rows};
-pub use sink::{Sink, write_whole};
-pub use source::{Source, read_to_end};
-pub use tk_pieces::{trace_all, trace_all_into};
-pub use tk_race::{Action, Gate, NoGate, RaceError, RaceReply, RaceReport, race};
-pub use tracing::trace;
+pub use tk_pieces::{Gate, NoGate, trace_all, trace_all_into};
+pub use tk_race::{Action, RaceError, RaceReply, RaceReport, race};
+pub use tk_report::{
+    Fault, KEEP_LIMIT, ManyError, Sink, Source, WORKERS_LIMIT, convert, keeper_after, keeper_of,
+    read_to_end, replay, replay_all, replay_bounded, replay_with, report, report_bounded,
+    report_rows, trace, write_whole,
+};

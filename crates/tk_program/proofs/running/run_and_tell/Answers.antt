@@ -1,8 +1,8 @@
 use Rattle.std.proofs.Common.{◌≡◌, ◌⊎◌, inl, inr, map, refl, string_bytes}
 use Rattle.std.specs.Prelude.{Some, None}
-use Rattle.tk_replay.specs.declared.fault.Fault.TheVariants as faults
-use Rattle.tk_program.specs.declared.words_error.WordsError.{WordsError}
-use Rattle.tk_program.specs.declared.words_error.WordsError.TheVariants as errors
+use Rattle.tk_report.specs.declared.fault.Fault.TheVariants as faults
+use Rattle.tk_command_line.specs.declared.words_error.WordsError.{WordsError}
+use Rattle.tk_command_line.specs.declared.words_error.WordsError.TheVariants as errors
 use Rattle.tk_program.specs.declared.ending.Ending.TheVariants as endings
 use Rattle.tk_program.specs.Ending.{ending_at}
 use Rattle.tk_program.proofs.running.run_and_tell.Goals as goal

@@ -1,0 +1,52 @@
+ghost use Rattle.std.specs.Prelude.{◌≡◌};
+ghost use Rattle.std.specs.IoError.{error_kind};
+ghost use Rattle.clap.specs.Words.{kind_of};
+ghost use Rattle.tk_command_line.specs.WordsError.{error_of, unread_of};
+ghost use Rattle.tk_command_line.specs.declared.words_error.WordsError.TheVariants.{Memory};
+
+use clap::error::ErrorKind;
+use std::alloc::AllocError;
+use std::io;
+
+/// Says why words ask for nothing.
+#[derive(Clone, Copy, Debug, PartialEq, Eq)]
+pub enum WordsError {
+    /// The words are not in the form that docs/TKCORE.md gives, or one of them isn't UTF-8.
+    Refused,
+    /// An allocation failed.
+    Memory,
+}
+
+impl From<AllocError> for WordsError {
+    ghost from_gives = { λ _ error. error ≡ Memory };
+
+    fn from(_error: AllocError) -> WordsError {
+        WordsError::Memory
+    }
+}
+
+/// Converts the error of words that don't parse: they are unknown, they ask for help, or an
+/// allocation failed.
+impl From<clap::Error> for WordsError {
+    ghost from_gives = { λ error words_error. words_error ≡ error_of (kind_of error) };
+
+    fn from(error: clap::Error) -> WordsError {
+        match error.kind() {
+            ErrorKind::OutOfMemory => WordsError::Memory,
+            _ => WordsError::Refused,
+        }
+    }
+}
+
+/// Converts the error of words that can't be read: one of them isn't UTF-8, or an allocation
+/// failed.
+impl From<io::Error> for WordsError {
+    ghost from_gives = { λ error words_error. words_error ≡ unread_of (error_kind error) };
+
+    fn from(error: io::Error) -> WordsError {
+        match error.kind() {
+            io::ErrorKind::OutOfMemory => WordsError::Memory,
+            _ => WordsError::Refused,
+        }
+    }
+}

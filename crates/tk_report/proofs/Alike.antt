@@ -1,0 +1,137 @@
+-- Two journals with the same number of commands and the same clocks give the same replies and
+-- lines.
+use Rattle.std.proofs.Common.{◌≡◌, ◌∙◌, ℕ, ◌+◌, List, refl, sym, ap, subst, Bool, true, false}
+use Rattle.std.specs.Prelude.{ℤ, Option, Some, None, Ok, not, nat_le, nat_lt, int_lt, if◌then◌else◌}
+use Rattle.tk_counter.specs.Counter.{mask}
+use Rattle.tk_clock.specs.declared.clock_id.ClockId.{ClockId}
+use Rattle.tk_clock.specs.declared.command.Entry.{Entry}
+use Rattle.tk_clock.specs.declared.refusal.Refusal.{Refusal}
+use Rattle.tk_clock.specs.declared.refusal.ReadError.{ReadError}
+use Rattle.tk_clock.specs.declared.refusal.ReadError.TheVariants.{Invalid, Range}
+use Rattle.tk_clock.specs.declared.refusal.Refusal.TheVariants.{Full}
+use Rattle.tk_clock.specs.Clocks.{clock_value}
+use Rattle.tk_clock.specs.Journal.{Journal, followed_by, accepted_count}
+use Rattle.tk_clock.specs.Limits.{limit, listed_most}
+use Rattle.tk_clock.specs.Monotonic.{monotonic}
+use Rattle.tk_clock.specs.Refusal.{clock_refusal}
+use Rattle.tk_clock.specs.Run.{reply_if}
+use Rattle.tk_clock.specs.State.{State, state_of}
+use Rattle.tk_clock.specs.Time.{timespec_of}
+use Rattle.tk_clock.proofs.Alike.{IsAlike-followed_by, IsAlike-trans, clock_refusal-alike, clock_value-alike, monotonic-alike}
+use Rattle.tk_keeper.specs.Read.{read_fault}
+use Rattle.tk_script.specs.declared.row.Row.{Row}
+use Rattle.tk_script.specs.declared.row.Row.TheVariants.{Act, Look}
+use Rattle.tk_script.specs.Lines.{ok_line}
+use Rattle.tk_clock.specs.Folding.{IsAlike}
+use Rattle.tk_report.specs.Folding.{counting_rule_of}
+use Rattle.tk_report.specs.Report.{IsLine, IsLookLine, after, event, reply_by, reply_line}
+
+-- a command that the rule accepts passes the tests of the clocks
+room_or_refusal : (full : Bool) (test : Option Refusal) → (if full then Some Full else test) ≡ None →
+    test ≡ None
+room_or_refusal true test passed = cc passed
+room_or_refusal false test passed = passed
+
+pub passes_clock : (keep : Option ℕ) (journal : Journal) (entry : Entry) →
+    counting_rule_of keep journal entry ≡ None → clock_refusal journal entry ≡ None
+passes_clock None journal entry passed =
+    room_or_refusal (nat_le listed_most (accepted_count journal)) (clock_refusal journal entry) passed
+passes_clock (Some keep) journal entry passed = passed
+
+-- both journals refuse the same commands
+rule-alike : (keep : Option ℕ) (journal whole : Journal) → IsAlike journal whole →
+    (entry : Entry) → counting_rule_of keep journal entry ≡ counting_rule_of keep whole entry
+rule-alike None journal whole alike entry =
+    let test : ℕ → Option Refusal → Option Refusal = λ n r.
+    if nat_le listed_most n then Some Full else r in
+    ap (λ n. test n (clock_refusal journal entry)) alike.count
+    ∙ ap (test (accepted_count whole)) (clock_refusal-alike journal whole alike.state entry)
+rule-alike (Some keep) journal whole alike entry =
+    clock_refusal-alike journal whole alike.state entry
+
+-- both journals refuse the same reads
+pub read_fault-alike : (journal whole : Journal) → IsAlike journal whole →
+    (clock : ClockId) (reading : ℕ) →
+    read_fault journal clock reading ≡ read_fault whole clock reading
+read_fault-alike journal whole alike clock reading =
+    let test : State → ℤ → Option ReadError = λ s value.
+    if nat_lt (mask s.base.counter) reading then Some Invalid
+    else if not (int_lt value (limit clock)) then Some Range
+    else None in
+    ap (λ s. test s (clock_value journal clock reading)) alike.state
+    ∙ ap (test (state_of whole)) (clock_value-alike journal whole alike.state clock reading)
+
+-- a reply leaves the journals alike, and its answer and its line are the same
+pub reply-alike : (journal whole : Journal) → IsAlike journal whole →
+    (entry : Entry) (test : Option Refusal) →
+    (test ≡ None → clock_refusal journal entry ≡ None) →
+    IsAlike (reply_if journal entry test).journal (reply_if whole entry test).journal
+reply-alike journal whole alike entry None accepted =
+    IsAlike-followed_by journal whole alike entry (accepted refl)
+reply-alike journal whole alike entry (Some refusal) refused = alike
+
+pub answer-alike : (journal whole : Journal) → IsAlike journal whole →
+    (entry : Entry) (test : Option Refusal) →
+    (reply_if journal entry test).answer ≡ (reply_if whole entry test).answer
+answer-alike journal whole alike entry None = ap (λ n. Ok (n + 1)) alike.count
+answer-alike journal whole alike entry (Some refusal) = refl
+
+line-alike : (journal whole : Journal) → IsAlike journal whole →
+    (entry : Entry) (test : Option Refusal) →
+    (test ≡ None → clock_refusal journal entry ≡ None) →
+    reply_line entry.reading (reply_if journal entry test)
+    ≡ reply_line entry.reading (reply_if whole entry test)
+line-alike journal whole alike entry None accepted =
+    let next = IsAlike-followed_by journal whole alike entry (accepted refl) in
+    ap (λ n. ok_line (n + 1) (timespec_of (monotonic (followed_by journal entry) entry.reading)))
+    alike.count
+    ∙ ap (λ n. ok_line (accepted_count whole + 1) (timespec_of n))
+    (monotonic-alike (followed_by journal entry) (followed_by whole entry) next.state entry.reading)
+line-alike journal whole alike entry (Some refusal) refused = refl
+
+IsLookLine-alike : (journal whole : Journal) → IsAlike journal whole →
+    (clock : ClockId) (reading : ℕ)
+    (test : Option ReadError) (line : List ℕ) → IsLookLine journal clock reading test line →
+    IsLookLine whole clock reading test line
+IsLookLine-alike journal whole alike clock reading None line (time, (nanos, value, split), text) = (
+  time,
+  (nanos, sym (clock_value-alike journal whole alike.state clock reading) ∙ value, split),
+  text,
+)
+IsLookLine-alike journal whole alike clock reading (Some error) line text = text
+
+-- the line of a record is the same for both journals
+pub IsLine-alike : (keep : Option ℕ) (journal whole : Journal) → IsAlike journal whole →
+    (row : Row) (line : List ℕ) → IsLine (counting_rule_of keep) journal row line →
+    IsLine (counting_rule_of keep) whole row line
+IsLine-alike keep journal whole alike (Act reading cmd) line test =
+    let entry = event reading cmd in
+    test
+    ∙ line-alike journal whole alike entry (counting_rule_of keep journal entry)
+    (passes_clock keep journal entry)
+    ∙ ap (λ r. reply_line reading (reply_if whole entry r))
+    (rule-alike keep journal whole alike entry)
+IsLine-alike keep journal whole alike (Look reading clock) line test =
+    subst (λ (r : Option ReadError). IsLookLine whole clock reading r line)
+    (read_fault-alike journal whole alike clock reading)
+    (IsLookLine-alike journal whole alike clock reading (read_fault journal clock reading) line
+    test)
+
+after-alike : (keep : Option ℕ) (journal whole : Journal) → IsAlike journal whole → (row : Row) →
+    IsAlike (after (counting_rule_of keep) journal row) (after (counting_rule_of keep) whole row)
+after-alike keep journal whole alike (Act reading cmd) =
+    let entry = event reading cmd in
+    let next = (reply_by (counting_rule_of keep) journal entry).journal in
+    subst (λ (r : Option Refusal). IsAlike next (reply_if whole entry r).journal)
+    (rule-alike keep journal whole alike entry)
+    (reply-alike journal whole alike entry (counting_rule_of keep journal entry)
+    (passes_clock keep journal entry))
+after-alike keep journal whole alike (Look reading clock) = alike
+
+-- the journals after a record are alike
+pub IsAlike-after : (keep : Option ℕ) (journal whole next : Journal) → IsAlike journal whole →
+    (row : Row) → IsAlike next (after (counting_rule_of keep) journal row) →
+    IsAlike next (after (counting_rule_of keep) whole row)
+IsAlike-after keep journal whole next alike row test =
+    IsAlike-trans next (after (counting_rule_of keep) journal row)
+    (after (counting_rule_of keep) whole row) test (after-alike keep journal whole alike row)

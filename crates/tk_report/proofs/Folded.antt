@@ -1,0 +1,124 @@
+-- A folded journal gives the same replies as the whole one.
+use Rattle.std.proofs.Common.{◌≡◌, ◌∙◌, ℕ, ◌-◌, ◌<◌, ◌≤◌, List, length, sym, ap, subst, arith, Bool, false}
+use Rattle.std.specs.Prelude.{Option, Some, Result, Ok, Err, max, nat_le, if◌then◌else◌}
+use Rattle.std.proofs.lemmas.Grind.{common_steps}
+use Rattle.std.proofs.lemmas.List.{take_all}
+use Rattle.tk_clock.specs.declared.command.Entry.{Entry}
+use Rattle.tk_clock.specs.declared.refusal.Refusal.{Refusal}
+use Rattle.tk_clock.specs.declared.refusal.Refusal.TheVariants.{Full, Asleep, Awake, Invalid, Behind, Range, Memory}
+use Rattle.tk_clock.specs.Journal.{Journal, accepted_count}
+use Rattle.tk_clock.specs.Refusal.{clock_refusal, is_full}
+use Rattle.tk_clock.specs.Run.{Reply, reply_if, reply_to}
+use Rattle.tk_clock.specs.State.{state_of}
+use Rattle.tk_keeper.specs.Keeper.{Keeper}
+use Rattle.tk_keeper.specs.Past.{IsFolded, at_front}
+use Rattle.tk_keeper.proofs.Running.{IsAnswer, reply-answer}
+use Rattle.tk_clock.specs.Folding.{IsAlike}
+use Rattle.tk_report.specs.Folding.{IsReplied, counted_refusal}
+use Rattle.tk_report.specs.Report.{reply_by}
+use Rattle.tk_clock.proofs.Alike.{clock_refusal-alike}
+use Rattle.tk_clock.proofs.Refusals.{first_refusal-room}
+use Rattle.tk_report.proofs.Alike.{answer-alike, reply-alike}
+use Rattle.tk_clock.specs.Limits.{listed_most, counted_most, most_kept}
+
+-- a journal, up to its own front, is itself
+at_front-last : (journal : Journal) → at_front (accepted_count journal) journal ≡ journal
+at_front-last journal =
+    ap (λ (es : List Entry). record journal { entries = es })
+    (take_all (accepted_count journal - journal.opening.count) journal.entries (omega arith))
+
+-- a folded journal is alike to the journal before the fold
+pub IsAlike-folded : (before after : Journal) → IsFolded before after → IsAlike after before
+IsAlike-folded before after folded = record {
+  state = sym (ap state_of (at_front-last after))
+      ∙ folded.states (accepted_count after) (omega arith)
+      ∙ ap (λ n. state_of (at_front n before)) folded.all
+      ∙ ap state_of (at_front-last before);
+  count = folded.all;
+}
+
+-- a journal that was folded to at most `most_kept` entries is not full
+pub has_room : (before after : Journal) (folded keep : ℕ) →
+    folded ≡ max before.opening.count (accepted_count before - keep) →
+    after.opening.count ≡ folded → IsAlike after before → keep ≤ most_kept →
+    accepted_count before < counted_most →
+    is_full after ≡ false
+has_room before after folded keep known same alike small few =
+    let listed : length after.entries < listed_most = omega (arith, alike.count) in
+    let counted : accepted_count after < counted_most = omega (arith, alike.count) in
+    grind (arith, common_steps)
+
+-- if the journal is not full, only the clocks refuse
+not_full : (journal : Journal) (entry : Entry) → is_full journal ≡ false →
+    reply_to journal entry ≡ reply_by clock_refusal journal entry
+not_full journal entry room =
+    ap (reply_if journal entry) (first_refusal-room journal entry room)
+
+-- without an allocation failure, the answer is the whole journal's
+replied : (whole : Journal) (kept after : Keeper) (entry : Entry) (result : Result ℕ Refusal) →
+    IsAlike kept.journal whole → is_full kept.journal ≡ false → IsAnswer kept entry result after →
+    (result ≡ Err Memory → ⊥) →
+    ((reply_by clock_refusal whole entry).answer ≡ result)
+    × IsAlike after.journal (reply_by clock_refusal whole entry).journal
+replied whole kept after entry result alike room answered enough =
+    let same : reply_by clock_refusal kept.journal entry ≡ record {
+      answer = result;
+      journal = after.journal;
+    } =
+    sym (not_full kept.journal entry room) ∙ reply-answer kept after entry result answered enough in
+    let known = clock_refusal-alike kept.journal whole alike.state entry in
+    let P : Option Refusal → Type 0 = λ r.
+    ((reply_if whole entry r).answer ≡ result)
+    × IsAlike after.journal (reply_if whole entry r).journal in
+    subst P known (
+      sym (answer-alike kept.journal whole alike entry (clock_refusal kept.journal entry))
+          ∙ ap (λ (r : Reply). r.answer) same,
+      subst (λ (r : Reply).
+          IsAlike r.journal (reply_if whole entry (clock_refusal kept.journal entry)).journal) same
+          (reply-alike kept.journal whole alike entry (clock_refusal kept.journal entry)
+          (λ none. none)),
+    )
+
+-- only an answer other than an allocation failure has to be that of the reply
+by_answer : (reply : Reply) (result : Result ℕ Refusal) (after : Journal) →
+    ((result ≡ Err Memory → ⊥) → (reply.answer ≡ result) × IsAlike after reply.journal) →
+    IsReplied reply result after
+by_answer reply (Ok number) after stated = stated (λ e. cc e)
+by_answer reply (Err Full) after stated = stated (λ e. cc e)
+by_answer reply (Err Asleep) after stated = stated (λ e. cc e)
+by_answer reply (Err Awake) after stated = stated (λ e. cc e)
+by_answer reply (Err Invalid) after stated = stated (λ e. cc e)
+by_answer reply (Err Behind) after stated = stated (λ e. cc e)
+by_answer reply (Err Range) after stated = stated (λ e. cc e)
+by_answer reply (Err Memory) after stated = tt
+
+pub IsReplied-folded : (whole : Journal) (kept after : Keeper) (entry : Entry)
+    (result : Result ℕ Refusal) →
+    IsAlike kept.journal whole → is_full kept.journal ≡ false → IsAnswer kept entry result after →
+    IsReplied (reply_by clock_refusal whole entry) result after.journal
+IsReplied-folded whole kept after entry result alike room answered =
+    by_answer (reply_by clock_refusal whole entry) result after.journal
+    (replied whole kept after entry result alike room answered)
+
+-- while fewer commands were accepted than a journal lists, the journal is not full, and the count
+-- alone refuses nothing
+counted_room : (journal : Journal) → accepted_count journal < listed_most →
+    is_full journal ≡ false
+counted_room journal few = grind (arith, common_steps)
+
+counted_clock : (journal : Journal) (entry : Entry) → accepted_count journal < listed_most →
+    reply_by clock_refusal journal entry ≡ reply_by counted_refusal journal entry
+counted_clock journal entry few =
+    let below : nat_le listed_most (accepted_count journal) ≡ false = grind (arith, common_steps) in
+    ap (λ (b : Bool).
+    reply_if journal entry (if b then Some Full else clock_refusal journal entry)) (sym below)
+
+pub IsReplied-counted : (whole : Journal) (kept after : Keeper) (entry : Entry)
+    (result : Result ℕ Refusal) →
+    IsAlike kept.journal whole → accepted_count whole < listed_most →
+    IsAnswer kept entry result after →
+    IsReplied (reply_by counted_refusal whole entry) result after.journal
+IsReplied-counted whole kept after entry result alike few answered =
+    let room = counted_room kept.journal (omega (arith, few, alike.count)) in
+    subst (λ (r : Reply). IsReplied r result after.journal) (counted_clock whole entry few)
+    (IsReplied-folded whole kept after entry result alike room answered)

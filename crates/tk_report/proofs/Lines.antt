@@ -1,0 +1,188 @@
+-- The lines of a report, one after the other.
+use Rattle.std.proofs.Common.{◌≡◌, ◌∙◌, ℕ, ◌+◌, ◌≤◌, List, [], ◌∷◌, ◌++◌, refl, sym, ap, subst, append_assoc, arith}
+use Rattle.std.specs.Prelude.{pos, Option, Some, None, Result, Ok, Err, MatchResult}
+use Rattle.std.proofs.lemmas.List.{append-nil, length_push}
+use Rattle.tk_clock.specs.declared.clock_id.ClockId.TheVariants.{Monotonic}
+use Rattle.tk_clock.specs.declared.command.Entry.{Entry}
+use Rattle.tk_clock.specs.declared.refusal.Refusal.{Refusal}
+use Rattle.tk_clock.specs.declared.timespec.Timespec.{Timespec}
+use Rattle.tk_clock.specs.Journal.{Journal, opened, accepted_count}
+use Rattle.tk_clock.specs.Monotonic.{monotonic}
+use Rattle.tk_clock.specs.Run.{Reply, reply_if}
+use Rattle.tk_clock.specs.Time.{timespec_of}
+use Rattle.tk_script.specs.declared.row.Row.{Row}
+use Rattle.tk_script.specs.declared.row.Row.TheVariants.{Act, Look}
+use Rattle.tk_script.specs.Coming.{opened_with, row_and}
+use Rattle.tk_script.specs.Grammar.{Fails, parse_of}
+use Rattle.tk_script.specs.Lines.{ok_line, open_line}
+use Rattle.tk_script.specs.declared.opening.Start.{Start}
+use Rattle.tk_script.specs.declared.script_error.ScriptError.{ScriptError}
+use Rattle.tk_script.specs.declared.script_error.ScriptError.TheVariants as errors
+use Rattle.tk_report.specs.Folding.{IsReplied, counting_rule_of, rule_of}
+use Rattle.tk_report.specs.Report.{Rule, IsLine, IsLines, IsReportBy, IsReportOfRows, IsTimeAt, after, answer_line, event, reply_line}
+use Rattle.tk_clock.specs.Folding.{IsAlike}
+use Rattle.tk_clock.proofs.Alike.{IsAlike-self, clock_value-alike}
+use Rattle.tk_report.proofs.Alike.{IsAlike-after, IsLine-alike}
+use Rattle.tk_report.proofs.Counted.{IsReportOf-counted}
+
+-- the line of an accepted command has the time that the kept journal gives
+pub reply_line-accepted : (reply : Reply) (kept : Journal) (reading number : ℕ)
+    (time : Timespec) →
+    IsReplied reply (Ok number) kept → IsTimeAt kept Monotonic reading time →
+    reply_line reading reply ≡ ok_line number time
+reply_line-accepted reply kept reading number time replied (nanos, value, split) =
+    let alike = replied.1 in
+    let same : pos (monotonic reply.journal reading) ≡ pos nanos =
+    sym (clock_value-alike kept reply.journal alike.state Monotonic reading) ∙ value in
+    let count : monotonic reply.journal reading ≡ nanos = cc in
+    ap (answer_line reply.journal reading) replied.0
+    ∙ ap (λ n. ok_line number (timespec_of n)) count
+    ∙ ap (ok_line number) (sym split)
+
+-- the rows of a reading, or its fault
+abbrev pub Rows : Type 0
+Rows = Result (List Row) ScriptError
+
+-- a text which becomes the report of all rows when the lines of the rows to come are appended; a
+-- fault of the rows to come is the fault of all rows
+pub record IsBegun (rule : Rule) (start : Start) (all : Rows) (journal : Journal) (to_come : Rows)
+    (text : List ℕ) : Type 0 where
+  pub gives : (rows : List Row) (rest : List ℕ) → to_come ≡ Ok rows →
+      IsLines rule journal rows rest →
+      IsReportOfRows rule start all (text ++ rest)
+  pub fails : (fault : ScriptError) → to_come ≡ Err fault → all ≡ Err fault
+
+-- one more line
+IsBegun-next : (rule : Rule) (start : Start) (all : Rows) (journal : Journal) (row : Row)
+    (to_come later : Rows)
+    (text line : List ℕ) →
+    IsBegun rule start all journal to_come text → to_come ≡ row_and row later →
+    IsLine rule journal row line →
+    IsBegun rule start all (after rule journal row) later (text ++ line)
+IsBegun-next rule start all journal row to_come later text line begun step isLine = record {
+  gives = λ rows rest e lines.
+      let R : List ℕ → Type 0 = λ whole. IsReportOfRows rule start all whole in
+      subst R (sym (append_assoc text line rest))
+      (begun.gives (row ∷ rows) (line ++ rest) (step ∙ ap (row_and row) e) (
+        line,
+        rest,
+        isLine,
+        lines,
+        refl,
+      ));
+  fails = λ fault e. begun.fails fault (step ∙ ap (row_and row) e);
+}
+
+-- no row is to come
+IsBegun-end : (rule : Rule) (start : Start) (all : Rows) (journal : Journal) (to_come : Rows)
+    (text : List ℕ) →
+    IsBegun rule start all journal to_come text → to_come ≡ Ok [] →
+    IsReportOfRows rule start all text
+IsBegun-end rule start all journal to_come text begun none =
+    let R : List ℕ → Type 0 = λ whole. IsReportOfRows rule start all whole in
+    subst R (append-nil text) (begun.gives [] [] none refl)
+
+-- the same for a kept journal that is alike to one which lists every command
+pub record IsBegunBy (keep : Option ℕ) (start : Start) (all : Rows) (kept : Journal)
+    (to_come : Rows) (text : List ℕ) :
+    Type 0 where
+  pub whole : Journal
+  pub alike : IsAlike kept whole
+  pub begun : IsBegun (counting_rule_of keep) start all whole to_come text
+
+-- after the opening's line, all rows are to come
+pub IsBegunBy-start : (keep : Option ℕ) (start : Start) (all : Rows) →
+    IsBegunBy keep start all (opened start.desc start.reading start.real) all (open_line start.desc)
+IsBegunBy-start keep start all = record {
+  whole = opened start.desc start.reading start.real;
+  alike = IsAlike-self (opened start.desc start.reading start.real);
+  begun = record {
+    gives = λ rows rest e lines. (_, ap (opened_with start) e, (rest, lines, refl));
+    fails = λ fault e. e;
+  };
+}
+
+pub IsBegunBy-next : (keep : Option ℕ) (start : Start) (all : Rows) (kept kept' : Journal)
+    (row : Row)
+    (to_come later : Rows) (text line : List ℕ) →
+    IsBegunBy keep start all kept to_come text → to_come ≡ row_and row later →
+    IsLine (counting_rule_of keep) kept row line →
+    IsAlike kept' (after (counting_rule_of keep) kept row) →
+    IsBegunBy keep start all kept' later (text ++ line)
+IsBegunBy-next keep start all kept kept' row to_come later text line begun step isLine moved =
+    record {
+      whole = after (counting_rule_of keep) begun.whole row;
+      alike = IsAlike-after keep kept begun.whole kept' begun.alike row moved;
+      begun = IsBegun-next (counting_rule_of keep) start all begun.whole row to_come later text line begun.begun
+          step
+          (IsLine-alike keep kept begun.whole begun.alike row line isLine);
+    }
+
+pub IsBegunBy-end : (keep : Option ℕ) (start : Start) (all : Rows) (kept : Journal) (to_come : Rows)
+    (text : List ℕ) →
+    IsBegunBy keep start all kept to_come text → to_come ≡ Ok [] →
+    IsReportOfRows (counting_rule_of keep) start all text
+IsBegunBy-end keep start all kept to_come text begun none =
+    IsBegun-end (counting_rule_of keep) start all begun.whole to_come text begun.begun none
+
+-- if `to` has every fault of `from`, it also allows every error that `from` allows
+pub Fails-from : (from to : Rows) (fault : ScriptError) →
+    ((error : ScriptError) → from ≡ Err error → to ≡ Err error) →
+    Fails fault from → Fails fault to
+Fails-from from to errors.Memory step fails = tt
+Fails-from from to errors.TooLarge step fails = step errors.TooLarge fails
+Fails-from from to errors.Empty step fails = step errors.Empty fails
+Fails-from from to (errors.Opening row) step fails = step (errors.Opening row) fails
+Fails-from from to (errors.Word row) step fails = step (errors.Word row) fails
+Fails-from from to (errors.Fields row) step fails = step (errors.Fields row) fails
+Fails-from from to (errors.Number row) step fails = step (errors.Number row) fails
+
+-- a fault of the rows to come is the fault of all rows
+pub IsBegunBy-fault : (keep : Option ℕ) (start : Start) (all : Rows) (kept : Journal)
+    (to_come : Rows) (text : List ℕ)
+    (fault : ScriptError) → IsBegunBy keep start all kept to_come text → Fails fault to_come →
+    Fails fault all
+IsBegunBy-fault keep start all kept to_come text fault begun fails =
+    Fails-from to_come all fault begun.begun.fails fails
+
+fails-opened : (bytes : List ℕ) (start : Start) (all : Rows) (fault : ScriptError) →
+    parse_of bytes ≡ opened_with start all → Fails fault all → Fails fault (parse_of bytes)
+fails-opened bytes start all errors.Memory opens fails = tt
+fails-opened bytes start all errors.TooLarge opens fails = opens ∙ ap (opened_with start) fails
+fails-opened bytes start all errors.Empty opens fails = opens ∙ ap (opened_with start) fails
+fails-opened bytes start all (errors.Opening row) opens fails = opens ∙ ap (opened_with start) fails
+fails-opened bytes start all (errors.Word row) opens fails = opens ∙ ap (opened_with start) fails
+fails-opened bytes start all (errors.Fields row) opens fails = opens ∙ ap (opened_with start) fails
+fails-opened bytes start all (errors.Number row) opens fails = opens ∙ ap (opened_with start) fails
+
+-- the report of the rows, or their fault, is that of the bytes which contain the opening and the
+-- rows
+pub report-opened : {A : Type 0} (keep : Option ℕ) (bytes : List ℕ) (start : Start) (all : Rows)
+    (text_of : A → List ℕ)
+    (result : Result A ScriptError) → parse_of bytes ≡ opened_with start all →
+    MatchResult result (λ text. IsReportOfRows (counting_rule_of keep) start all (text_of text))
+    (λ fault. Fails fault all) →
+    MatchResult result (λ text. IsReportBy (rule_of keep) bytes (text_of text))
+    (λ fault. Fails fault (parse_of bytes))
+report-opened keep bytes start all text_of (Ok text) opens (parse, known, report) =
+    (parse, opens ∙ known, IsReportOf-counted keep parse (text_of text) report)
+report-opened keep bytes start all text_of (Err fault) opens fails =
+    fails-opened bytes start all fault opens fails
+
+-- a record is at most one command
+counted : (journal : Journal) (entry : Entry) (refusal : Option Refusal) →
+    accepted_count (reply_if journal entry refusal).journal ≤ accepted_count journal + 1
+counted journal entry None = omega (arith, length_push journal.entries entry)
+counted journal entry (Some refusal) = omega arith
+
+pub counted_after : (rule : Rule) (journal : Journal) (row : Row) →
+    accepted_count (after rule journal row) ≤ accepted_count journal + 1
+counted_after rule journal (Act reading cmd) =
+    counted journal (event reading cmd) (rule journal (event reading cmd))
+counted_after rule journal (Look reading clock) = omega arith
+
+pub count_after : (keep : Option ℕ) (kept kept' : Journal) (row : Row) →
+    IsAlike kept' (after (counting_rule_of keep) kept row) →
+    accepted_count kept' ≤ accepted_count kept + 1
+count_after keep kept kept' row moved =
+    omega (arith, counted_after (counting_rule_of keep) kept row, moved.count)

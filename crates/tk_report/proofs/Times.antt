@@ -1,0 +1,91 @@
+-- A clock's value has exactly one time in seconds and nanoseconds.
+use Rattle.std.proofs.Common.{◌≡◌, ◌∙◌, ℕ, ◌+◌, ◌*◌, ◌%◌, ◌^◌, ◌<◌, refl, sym, ap, arith, Bool, true, false}
+use Rattle.std.specs.Prelude.{ℤ, pos, negsuc, ◌+ℤ◌, ◌*ℤ◌, ◌≤ℤ◌, ◌<ℤ◌, int_lt, unsigned_abs, not, Some, None, Result, Ok, Err, IsOk, if◌then◌else◌}
+use Rattle.std.proofs.lemmas.Int.{ints}
+use Rattle.std.proofs.lemmas.Nat.{div-mul-add, mod-mul-add}
+use Rattle.tk_clock.specs.declared.timespec.Timespec.{Timespec}
+use Rattle.tk_clock.specs.declared.clock_id.ClockId.{ClockId}
+use Rattle.tk_clock.specs.declared.clock_id.ClockId.TheVariants.{Realtime, Monotonic, Boottime, Tai, RealtimeCoarse, MonotonicCoarse, MonotonicRaw}
+use Rattle.tk_clock.specs.declared.refusal.ReadError.{ReadError}
+use Rattle.tk_clock.specs.declared.refusal.ReadError.TheVariants.{Invalid, Range}
+use Rattle.tk_clock.specs.Clocks.{clock_value}
+use Rattle.tk_clock.specs.Journal.{Journal}
+use Rattle.tk_clock.specs.Limits.{limit, clock_end}
+use Rattle.tk_clock.specs.Time.{nanoseconds, timespec_of}
+use Rattle.tk_clock.proofs.Settings.{below-of}
+use Rattle.tk_keeper.specs.Read.{IsRead, IsTimeOf, read_fault}
+use Rattle.tk_script.specs.Lines.{IsWritable}
+use Rattle.tk_report.specs.Report.{IsTimeAt}
+
+-- splitting nanoseconds gives back the seconds and nanoseconds that they were made of
+timespec_of-parts : (sec nsec : ℕ) → nsec < 10 ^ 9 →
+    timespec_of (sec * 10 ^ 9 + nsec) ≡ record { sec = pos sec; nsec = nsec }
+timespec_of-parts sec nsec low =
+    let from_parts : ℕ → ℕ → Timespec = λ s n. record { sec = pos s; nsec = n } in
+    ap (λ s. from_parts s ((sec * 10 ^ 9 + nsec) % 10 ^ 9)) (div-mul-add sec (10 ^ 9) nsec low)
+    ∙ ap (from_parts sec) (mod-mul-add sec (10 ^ 9) nsec low)
+
+is_time_at : (journal : Journal) (clock : ClockId) (reading : ℕ) (sec : ℤ) (nsec : ℕ) →
+    sec *ℤ pos (10 ^ 9) +ℤ pos nsec ≡ clock_value journal clock reading → nsec < 10 ^ 9 →
+    pos 0 ≤ℤ sec →
+    IsTimeAt journal clock reading (record { sec = sec; nsec = nsec })
+is_time_at journal clock reading (pos sec) nsec same low start =
+    let sum : pos sec *ℤ pos (10 ^ 9) +ℤ pos nsec ≡ pos (sec * 10 ^ 9 + nsec) = omega (arith, ints)
+    in
+    (sec * 10 ^ 9 + nsec, sym same ∙ sum, sym (timespec_of-parts sec nsec low))
+is_time_at journal clock reading (negsuc less) nsec same low start = absurd (omega (arith, ints))
+
+-- a time with as many nanoseconds as the clock's value is the clock's time
+pub IsTimeAt-nanoseconds : (journal : Journal) (clock : ClockId) (reading : ℕ) (time : Timespec) →
+    nanoseconds time ≡ clock_value journal clock reading → time.nsec < 10 ^ 9 → pos 0 ≤ℤ time.sec →
+    IsTimeAt journal clock reading time
+IsTimeAt-nanoseconds journal clock reading time same low start =
+    is_time_at journal clock reading time.sec time.nsec same low start
+
+-- no clock has a greater limit
+limit_most : (clock : ClockId) → limit clock ≤ℤ pos (clock_end * 10 ^ 9)
+limit_most Monotonic = omega (arith, ints)
+limit_most MonotonicCoarse = omega (arith, ints)
+limit_most Realtime = omega (arith, ints)
+limit_most RealtimeCoarse = omega (arith, ints)
+limit_most Boottime = omega (arith, ints)
+limit_most Tai = omega (arith, ints)
+limit_most MonotonicRaw = omega (arith, ints)
+
+below_end : (sec : ℤ) (nsec : ℕ) → (sec *ℤ pos (10 ^ 9) +ℤ pos nsec) <ℤ pos (clock_end * 10 ^ 9) →
+    pos 0 ≤ℤ sec →
+    (unsigned_abs sec < clock_end) × (sec ≡ pos (unsigned_abs sec))
+below_end (pos sec) nsec low start = (omega (arith, ints), refl)
+below_end (negsuc less) nsec low start = absurd (omega (arith, ints))
+
+not_past : (above below : Bool) →
+    (if above then Some Invalid else if not below then Some Range else None) ≡ None →
+    below ≡ true
+not_past true below known = cc
+not_past false true known = refl
+not_past false false known = cc
+
+-- the time of a read that is not refused can be written
+pub IsWritable-read : (journal : Journal) (clock : ClockId) (reading : ℕ) (time : Timespec) →
+    read_fault journal clock reading ≡ None → IsTimeOf (clock_value journal clock reading) time →
+    IsWritable time
+IsWritable-read journal clock reading time free known =
+    let value = clock_value journal clock reading in
+    let low : int_lt value (limit clock) ≡ true = not_past _ _ free in
+    let below = below-of value (limit clock) low in
+    let most = limit_most clock in
+    let end = below_end time.sec time.nsec (omega (arith, ints, known.0, below, most)) known.2 in
+    (end.0, end.1, known.1)
+
+-- this time is the clock's time at the reading
+pub IsTimeAt-read : (journal : Journal) (clock : ClockId) (reading : ℕ) (time : Timespec) →
+    IsTimeOf (clock_value journal clock reading) time → IsTimeAt journal clock reading time
+IsTimeAt-read journal clock reading time known =
+    IsTimeAt-nanoseconds journal clock reading time known.0 known.1 known.2
+
+-- a read without a fault gives a time
+pub IsOk-read : (journal : Journal) (clock : ClockId) (reading : ℕ)
+    (result : Result Timespec ReadError) →
+    IsRead journal clock reading result → read_fault journal clock reading ≡ None → IsOk result
+IsOk-read journal clock reading (Ok time) known free = refl
+IsOk-read journal clock reading (Err error) known free = absurd (cc (sym known ∙ free))

@@ -1,0 +1,10 @@
+use Rattle.tk_script.specs.Coming.{coming}
+use Rattle.tk_report.proofs.Lines.{report-opened}
+use Rattle.tk_report.proofs.reporting.report_by.Goals as goal
+
+pub returns : goal.returns
+returns c =
+    let opened = c.in_ok-start.ensures.gives in
+    report-opened c.args.keep c.args.script.now c.in_ok-start.start
+    (coming c.in_ok-start.rows) (λ text. text.items)
+    c.report_rows.result opened.1 c.report_rows.ensures

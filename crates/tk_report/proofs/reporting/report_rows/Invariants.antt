@@ -1,0 +1,18 @@
+use Rattle.std.proofs.Common.{◌≤◌, ◌+◌, ◌^◌}
+use Rattle.tk_clock.specs.Journal.{accepted_count}
+use Rattle.tk_script.specs.Coming.{IsReady, coming, records_left}
+use Rattle.tk_report.proofs.Lines.{IsBegunBy}
+use Rattle.tk_report.proofs.reporting.report_rows.Given as goal
+
+-- the lines so far, followed by those of the rows to come, are the report; each record is at most
+-- one command
+abbrev pub invariant-rows : goal.invariant-rows
+invariant-rows g l = record {
+  ready : IsReady l.rows;
+  begun : IsBegunBy l.keep l.fn.start (coming l.fn.rows) l.keeper.journal
+      (coming l.rows) l.text.items;
+  count : accepted_count l.keeper.journal + records_left l.rows ≤ 2 ^ 32;
+}
+
+abbrev pub decreases-rows : goal.decreases-rows
+decreases-rows g l = records_left l.rows

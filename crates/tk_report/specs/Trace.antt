@@ -1,0 +1,106 @@
+-- A trace: the journal that a script leaves, the items of a stamp file, and a line for the value of
+-- each item; and the result of reading both inputs, converting the items and writing the lines.
+use Rattle.std.specs.Prelude.{◌≡◌, ◌≢◌, ℕ, List, [], ◌∷◌, ◌++◌, flat_map, codes, decimal, Option, Bool, Result, Ok, Err, IsOk, ◌⊎◌}
+use Rattle.tk_clock.specs.declared.clock_id.ClockId.{ClockId}
+use Rattle.tk_clock.specs.Journal.{Journal, opened}
+use Rattle.tk_clock.specs.Refusal.{first_refusal}
+use Rattle.tk_keeper.specs.declared.trace_error.TraceError.{TraceError}
+use Rattle.tk_keeper.specs.Trace.{IsConverted, IsFirstFault}
+use Rattle.tk_script.specs.declared.row.Row.{Row}
+use Rattle.tk_script.specs.declared.script_error.ScriptError.{ScriptError}
+use Rattle.tk_script.specs.declared.script_error.ScriptError.TheVariants as errors
+use Rattle.tk_script.specs.Grammar.{Parse, parse_of}
+use Rattle.tk_script.specs.Stamps.{Items, stamps_of}
+use Rattle.tk_report.specs.declared.fault.Fault.{Fault}
+use Rattle.tk_report.specs.declared.fault.Fault.TheVariants as faults
+use Rattle.tk_report.specs.Reading.{IsReadToEnd, IsReadWithin}
+use Rattle.tk_report.specs.Replay.{CameTo}
+use Rattle.tk_report.specs.Report.{after}
+
+-- the journal after all rows, each applied to the journal that the rows before it left
+abbrev pub after_all : Journal → List Row → Journal
+after_all journal [] = journal
+after_all journal (row ∷ rows) = after_all (after first_refusal journal row) rows
+
+-- the journal after the rows of a reading, or the fault of that reading
+abbrev pub journal_after : Journal → Result (List Row) ScriptError → Result Journal ScriptError
+journal_after journal (Ok rows) = Ok (after_all journal rows)
+journal_after journal (Err error) = Err error
+
+-- the journal that a script leaves, or its fault: each accepted command becomes an entry, and a
+-- full journal refuses every command
+abbrev pub journal_of : Result Parse ScriptError → Result Journal ScriptError
+journal_of (Ok parse) =
+    Ok (after_all (opened parse.counter parse.reading parse.real) parse.rows)
+journal_of (Err error) = Err error
+
+-- the line of a value, in nanoseconds
+abbrev pub value_line : ℕ → List ℕ
+value_line nanos = decimal nanos ++ codes "\n"
+
+-- the text of items: a line for the value of each item, in order
+abbrev pub IsItemsText : ClockId → Journal → Items → List ℕ → Type 0
+IsItemsText clock journal items text =
+    (values : List ℕ) × IsConverted journal clock items.fronts items.stamps values
+    × (text ≡ flat_map value_line values)
+
+-- the fault of items: that of the first item which has one
+abbrev pub IsItemsFault : ClockId → Journal → Items → TraceError → Type 0
+IsItemsFault clock journal items error =
+    (index : ℕ) × IsFirstFault journal clock items.fronts items.stamps index error
+
+-- a script's journal and the items of a stamp file, if neither has a fault, and a fact about both
+abbrev pub AreRead : List ℕ → List ℕ → (Journal → Items → Type 0) → Type 0
+AreRead script stamps Holds =
+    (journal : Journal) × (items : Items)
+    × (journal_of (parse_of script) ≡ Ok journal) × (stamps_of stamps ≡ Ok items)
+    × Holds journal items
+
+-- the trace of a script with these bytes and of a stamp file with these bytes
+abbrev pub IsTrace : ClockId → List ℕ → List ℕ → List ℕ → Type 0
+IsTrace clock script stamps text =
+    AreRead script stamps (λ journal items. IsItemsText clock journal items text)
+
+-- the fault of such bytes, in this order: the script's, that of the stamp file, that of the items
+abbrev pub IsTraceFault : ClockId → List ℕ → List ℕ → Fault → Type 0
+IsTraceFault clock script stamps (faults.Script error) =
+    (parse_of script ≡ Err error) × (error ≢ errors.Memory)
+IsTraceFault clock script stamps (faults.Stamps error) =
+    IsOk (parse_of script) × (stamps_of stamps ≡ Err error) × (error ≢ errors.Memory)
+IsTraceFault clock script stamps (faults.Trace error) =
+    AreRead script stamps (λ journal items. IsItemsFault clock journal items error)
+IsTraceFault clock script stamps faults.Read = ⊥
+IsTraceFault clock script stamps faults.Memory = ⊥
+IsTraceFault clock script stamps (faults.Write written) = ⊥
+
+-- the bytes that were read from one input and then from another, each to its end or to the reading
+-- limit, and a fact about both
+abbrev pub AreReadToEnd : (unread left later_unread later_left : Option (List ℕ)) →
+    (List ℕ → List ℕ → Type 0) → Type 0
+AreReadToEnd unread left later_unread later_left Holds =
+    (first : List ℕ) × (later : List ℕ)
+    × IsReadToEnd unread left first × IsReadToEnd later_unread later_left later
+    × Holds first later
+
+-- the last read of two inputs failed: that of the first input, and the other input is unchanged; or
+-- that of the other input, after the first one was read to its end or to the reading limit
+abbrev pub EitherFailed : Option (List ℕ) → Option (List ℕ) → Type 0 → Type 0 → Type 0 → Type 0
+EitherFailed unread left failed same later_failed =
+    (failed × same) ⊎ (((bytes : List ℕ) × IsReadToEnd unread left bytes) × later_failed)
+
+-- the result of a trace: `unread` and `left` are the bytes that the script's reader had before and
+-- has after, `stamps_unread` and `stamps_left` those of the stamps' reader, and `read` states that
+-- the last read of them failed
+pub record IsTraceDone
+    {W : Type 0} (clock : ClockId)
+    (unread left stamps_unread stamps_left : Option (List ℕ)) (read : Type 0)
+    (contents : W → Option (List ℕ)) (write_gives : W → List ℕ → Option ℕ → W → Type 0)
+    (flush_gives : W → Bool → W → Type 0) (old new : W) (result : Result Unit Fault) : Type 0 where
+  pub script_within : IsReadWithin unread left
+  pub stamps_within : IsReadWithin stamps_unread stamps_left
+  pub came_to : CameTo
+      (λ text. AreReadToEnd unread left stamps_unread stamps_left
+      (λ script stamps. IsTrace clock script stamps text))
+      (λ fault. AreReadToEnd unread left stamps_unread stamps_left
+      (λ script stamps. IsTraceFault clock script stamps fault))
+      read contents write_gives flush_gives old new result

@@ -1,0 +1,74 @@
+//! Makes the clocks that the commands of a script leave.
+ghost use Rattle.std.specs.Prelude.{◌≡◌, ◌<◌, IfErr, None, OnOk};
+ghost use Rattle.tk_clock.specs.Journal.{accepted_count, opened};
+ghost use Rattle.tk_clock.specs.Limits.{counted_most};
+ghost use Rattle.tk_clock.specs.Refusal.{first_refusal, opening_refusal};
+ghost use Rattle.tk_script.specs.Coming.{IsReady, coming};
+ghost use Rattle.tk_script.specs.Grammar.{Gives, parse_of};
+ghost use Rattle.tk_report.specs.Report.{after};
+ghost use Rattle.tk_report.specs.Trace.{journal_after, journal_of};
+
+use crate::applying::CALLER;
+use std::alloc::{Allocator, Global};
+use tk_clock::Refusal;
+use tk_keeper::Timekeeper;
+use tk_script::{Row, RowReader, ScriptError, Start};
+
+/// Opens clocks as a script says, applies its commands, and returns them with their journal.
+///
+/// Refused commands and reads of clocks are skipped. Nothing is folded, so every command after
+/// 1,048,576 accepted ones is refused as `Full`.
+///
+/// # Errors
+///
+/// Returns the script's first fault, in the order of `ScriptError`. `Memory` may replace any other
+/// result.
+pub fn keeper_of(alloc: Global, script: &[u8]) -> Result<Timekeeper, ScriptError>
+    ensures { Gives (λ keeper. keeper.journal) result (journal_of (parse_of script.now)) }
+{
+    let (start, mut rows) = RowReader::open(alloc, script)?;
+    keeper_after(alloc, start, &mut rows)
+}
+
+/// Opens clocks as `start` says, applies the commands that `rows` still has, and returns the
+/// clocks.
+///
+/// `start` and `rows` are those that one `RowReader::open` returned. The journal is allocated from
+/// `alloc`; the reader of the rows allocates from its own allocator. Otherwise it does what
+/// `keeper_of` does.
+///
+/// # Errors
+///
+/// Returns the first fault of the rows. `Memory` may replace any other result.
+pub fn keeper_after<A: Allocator + Copy>(
+    alloc: A,
+    start: Start,
+    rows: &mut RowReader<'_>,
+) -> Result<Timekeeper<A>, ScriptError>
+    requires opens { opening_refusal start.desc start.reading start.real ≡ None }
+    requires ready { IsReady rows.old }
+    ensures { Gives (λ keeper. keeper.journal) result
+        (journal_after (opened start.desc start.reading start.real) (coming rows.old)) }
+{
+    let mut keeper = Timekeeper::open(alloc, start.desc, start.reading, start.real).unwrap();
+    'rows: while let Some(row) = rows.next_row()? {
+        obey(&mut keeper, row)?;
+    }
+    Ok(keeper)
+}
+
+/// Applies a record's command. A refused command and a read change nothing.
+fn obey<A: Allocator + Copy>(keeper: &mut Timekeeper<A>, row: Row) -> Result<(), ScriptError>
+    requires { accepted_count keeper.old.journal < counted_most }
+    ensures after { OnOk result
+        (keeper.new.journal ≡ after first_refusal keeper.old.journal row) }
+    ensures err { IfErr result (λ error. error ≡ ScriptError.Memory) }
+{
+    let Row::Act { reading, cmd } = row else {
+        return Ok(());
+    };
+    match keeper.apply(CALLER, reading, cmd) {
+        Err(Refusal::Memory) => Err(ScriptError::Memory),
+        _ => Ok(()),
+    }
+}

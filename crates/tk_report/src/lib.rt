@@ -1,0 +1,51 @@
+//! Makes reports of scripts, one line for each record, and traces of stamp files, one line for each
+//! stamp.
+//!
+//! | Item | What it does |
+//! |---|---|
+//! | `report` | makes the report of a script's bytes |
+//! | `report_bounded` | makes it with no limit on the number of commands, from a bounded journal |
+//! | `report_rows` | makes it from rows that are still to be read, in the caller's memory |
+//! | `replay` | reads a script to its end and writes its report |
+//! | `replay_bounded` | does the same with `report_bounded` |
+//! | `replay_with` | does either, by an optional number of entries to keep |
+//! | `KEEP_LIMIT` | is the greatest number of entries to keep; from `tk_keeper` |
+//! | `trace` | reads a script and a stamp file, and writes a clock's value at each stamp |
+//! | `keeper_of`, `keeper_after` | return the clocks after all accepted commands of a script |
+//! | `convert` | makes the lines of stamps from a keeper's clocks |
+//! | `replay_all` | makes the reports of many scripts on several threads |
+//! | `WORKERS_LIMIT` | is the greatest number of workers; from `tk_pieces` |
+//! | `ManyError` | says why `replay_all` made no reports |
+//! | `read_to_end` | reads a whole input, up to one byte more than the largest script |
+//! | `write_whole` | writes a text and flushes |
+//! | `Fault` | says why `replay` or `trace` stopped, and how much of the text was written |
+//! | `Source`, `Sink` | stand for any reader and any writer |
+//!
+//! Units: readings in cycles; times in seconds and nanoseconds; texts and lengths in bytes.
+#![tactic(auto)]
+
+mod applying;
+mod converting;
+mod fault;
+mod journaling;
+mod many;
+mod many_error;
+mod replaying;
+mod reporting;
+mod sink;
+mod source;
+mod tracing;
+mod worklist;
+
+pub use converting::convert;
+pub use fault::Fault;
+pub use journaling::{keeper_after, keeper_of};
+pub use many::replay_all;
+pub use many_error::ManyError;
+pub use replaying::{replay, replay_bounded, replay_with};
+pub use reporting::{report, report_bounded, report_rows};
+pub use sink::{Sink, write_whole};
+pub use source::{Source, read_to_end};
+pub use tk_keeper::KEEP_LIMIT;
+pub use tk_pieces::WORKERS_LIMIT;
+pub use tracing::trace;

@@ -1,0 +1,31 @@
+ghost use Rattle.std.specs.Prelude.{Some};
+ghost use Rattle.tk_report.specs.ManyError.{many_text};
+
+use std::error::Error;
+use std::fmt;
+
+/// Says why `replay_all` made no reports. If more than one cause holds, the first of this list is
+/// returned. `Display` prints the program's text.
+#[derive(Clone, Copy, Debug, PartialEq, Eq)]
+pub enum ManyError {
+    /// The number of workers is 0 or more than 64.
+    Count,
+    /// An allocation failed before a thread was started.
+    Memory,
+    /// A thread could not be started. An allocation failure at its start is one cause.
+    Threads,
+}
+
+impl fmt::Display for ManyError {
+    ghost output = { λ error. Some (many_text error) };
+
+    fn fmt<W: fmt::Write>(&self, f: &mut fmt::Formatter<W>) -> fmt::Result {
+        match self {
+            ManyError::Count => write!(f, "count out of range"),
+            ManyError::Memory => write!(f, "out of memory"),
+            ManyError::Threads => write!(f, "cannot start a thread"),
+        }
+    }
+}
+
+impl Error for ManyError {}
