@@ -8,12 +8,12 @@ use std::thread::Threads;
 use std::time::{Clock as Hours, Instant};
 use tk_clock::{Command, Timespec};
 use tk_counter::CounterDesc;
-use tk_keeper::Timekeeper;
+use tk_keeper::{LISTED_LIMIT, Timekeeper};
 
 const COMMANDS: u64 = 10_000_000;
 
 /// The most entries that a journal lists.
-const LISTED: u64 = 1_048_576;
+const LISTED: u64 = LISTED_LIMIT as u64;
 
 /// The entries that a full journal keeps in a fold: three quarters.
 const KEPT: u64 = 786_432;

@@ -6,13 +6,13 @@ mod settings;
 
 use crate::amount::Amount;
 use crate::command::Command;
-use crate::limits::{USUAL_TICK, is_settable, is_well_formed};
+use crate::limits::{is_settable, is_well_formed};
 use crate::read_base::ReadBase;
 use crate::refusal::Refusal;
 use crate::snapshot::Snapshot;
 use crate::timespec::{Timespec, nanos_of};
 use std::marker::Model;
-use tk_counter::CounterDesc;
+use tk_counter::{CounterDesc, USUAL_TICK};
 
 /// Keeps the running clocks of a counter, as the kernel's `struct timekeeper`.
 ///

@@ -27,12 +27,6 @@ pub(crate) const SHORTEST_TICK: i64 = 9_000;
 /// The longest tick that may be set, in microseconds.
 pub(crate) const LONGEST_TICK: i64 = 11_000;
 
-/// The lowest frequency that takes effect, in `2^-16` ppm: 500 ppm slow (`MAXFREQ_SCALED`).
-pub(crate) const SLOWEST_FREQUENCY: i64 = -32_768_000;
-
-/// The usual tick, in microseconds: a hundredth of a second (`USER_TICK_USEC`).
-pub(crate) const USUAL_TICK: i64 = 10_000;
-
 /// The greatest TAI offset, in seconds (`MAX_TAI_OFFSET`).
 pub(crate) const TAI_OFFSET_MOST: i64 = 100_000;
 

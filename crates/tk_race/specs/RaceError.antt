@@ -5,12 +5,13 @@ use Rattle.tk_clock.specs.declared.timespec.Timespec.{Timespec}
 use Rattle.tk_clock.specs.Limits.{is_settable}
 use Rattle.tk_shared.specs.declared.fault.OpenError.{OpenError}
 use Rattle.tk_shared.specs.declared.fault.OpenError.TheVariants as faults
+use Rattle.tk_shared.specs.Opening.{most_callers}
 use Rattle.tk_race.specs.declared.race_error.RaceError.{RaceError}
 use Rattle.tk_race.specs.declared.race_error.RaceError.TheVariants.{Count, Invalid, Memory, Threads}
 
--- the greatest number of actors of a race
+-- the greatest number of actors of a race: each is a caller of the keeper
 abbrev pub most_actors : ℕ
-most_actors = 64
+most_actors = most_callers
 
 -- the error of a race with `actors` actors, on clocks opened at this reading with this REALTIME, if
 -- there is one

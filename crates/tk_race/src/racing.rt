@@ -18,10 +18,7 @@ use tk_clock::{Clock, Timespec};
 use tk_counter::CounterDesc;
 use tk_now::SharedTicker;
 use tk_pieces::Gate;
-use tk_shared::{Caller, Named, Prepared, SharedKeeper, SharedReader, prepare};
-
-/// The greatest number of actors of a race, which is that of callers of a keeper.
-const ACTORS_LIMIT: usize = 64;
+use tk_shared::{CALLERS_LIMIT, Caller, Named, Prepared, SharedKeeper, SharedReader, prepare};
 
 /// Runs a race: each actor does its actions in its own thread, all on one keeper. Returns the
 /// keeper and the replies, which are those of `SharedKeeper`'s `command`, `read`, `fast_read` and
@@ -55,7 +52,7 @@ pub fn race<G: Gate + Sync, R: Threads + Wait + Sync>(
         (map (λ r. r.items) report.replies.items))
         (λ error. IsRaceError (length actors.now) desc reading real error) }
 {
-    if actors.is_empty() || actors.len() > ACTORS_LIMIT {
+    if actors.is_empty() || actors.len() > CALLERS_LIMIT {
         return Err(RaceError::Count);
     }
     let Ok(_) = Clock::open(desc, reading, real) else {

@@ -9,7 +9,7 @@ use Rattle.tk_clock.specs.Limits.{is_settable}
 use Rattle.tk_clock.specs.Snapshot.{snapshot_of}
 use Rattle.tk_page.specs.History.{History, Sight}
 use Rattle.tk_now.specs.Views.{Announcing, opened_announcer}
-use Rattle.tk_latch.specs.Latch.{LatchId, Published, Learnt, opened_writer, opened_reader}
+use Rattle.tk_latch.specs.Latch.{LatchId, Published, Learnt, most_readers, opened_writer, opened_reader}
 use Rattle.tk_shared.specs.declared.fault.OpenError.{OpenError}
 use Rattle.tk_shared.specs.declared.fault.OpenError.TheVariants.{Count, Invalid, Memory}
 
@@ -38,9 +38,9 @@ no_page =
 abbrev pub no_latch : LatchId
 no_latch = record { table = no_page; counter = record { bits = 0; mult = 0; shift = 0 } }
 
--- the most callers of a keeper
+-- the most callers of a keeper: each has a reader of the latch
 abbrev pub most_callers : ℕ
-most_callers = 64
+most_callers = most_readers
 
 -- why a keeper can't be opened, unless an allocation fails: too few callers or too many, then a
 -- time that REALTIME may not be set to

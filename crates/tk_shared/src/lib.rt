@@ -3,6 +3,7 @@
 //! | Item | What it is |
 //! |---|---|
 //! | `prepare`, `Prepared` | makes all that a shared keeper needs |
+//! | `CALLERS_LIMIT` | the greatest number of callers |
 //! | `SharedKeeper` | the lock, the page and the latch: commands, reads, folds, closing |
 //! | `Caller` | gives commands and reads the clocks |
 //! | `Closed`, `Missing` | the result of closing, and what a failed closing returns |
@@ -39,6 +40,6 @@ pub use locked::Locked;
 pub use named::Named;
 pub use never_back::now_never_falls;
 pub use now_fault::{Late, NowFault};
-pub use prepared::{Prepared, prepare};
+pub use prepared::{CALLERS_LIMIT, Prepared, prepare};
 pub use shared_keeper::SharedKeeper;
 pub use shared_reader::SharedReader;

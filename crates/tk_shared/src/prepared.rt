@@ -14,12 +14,12 @@ use std::sync::ledger::Blank;
 use tk_clock::{Clock, Timespec};
 use tk_counter::CounterDesc;
 use tk_keeper::Timekeeper;
-use tk_latch::{Latch, LatchReader, LatchWriter};
+use tk_latch::{Latch, LatchReader, LatchWriter, READERS_LIMIT};
 use tk_now::{Announcer, Notice};
 use tk_page::{Page, Publisher, Viewer};
 
-/// The greatest number of callers of a keeper.
-const CALLERS_LIMIT: usize = 64;
+/// The greatest number of callers of a keeper, each of which has a reader of the latch.
+pub const CALLERS_LIMIT: usize = READERS_LIMIT;
 
 /// Contains a keeper whose clocks were just opened, with its page, its latch and its notice.
 #[derive(Drop)]

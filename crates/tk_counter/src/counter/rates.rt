@@ -3,6 +3,13 @@ ghost use Rattle.tk_counter.specs.Counter.{clamped, least_tick, greatest_tick};
 
 use super::CounterDesc;
 
+/// The usual tick, in microseconds: a hundredth of a second (`USER_TICK_USEC`).
+pub const USUAL_TICK: i64 = 10_000;
+
+/// The greatest frequency that takes effect, in `2^-16` ppm: 500 ppm (adjtimex(2),
+/// `MAXFREQ_SCALED`).
+pub const GREATEST_FREQUENCY: i64 = 32_768_000;
+
 impl CounterDesc {
     ghost use Rattle.tk_counter.specs.Counter.{fastest, multiplier, usual_tick};
 
@@ -15,7 +22,7 @@ impl CounterDesc {
         ensures value { result ≡ multiplier self.now freq usual_tick }
         ensures most { result ≤ fastest self.now }
     {
-        self.mult_at(freq, 10_000)
+        self.mult_at(freq, USUAL_TICK)
     }
 
     /// Returns the multiplier at a frequency, in `2^-16` ppm, and a tick, in microseconds, 9,000 to
@@ -44,7 +51,7 @@ fn rate(freq: i64, tick: i64) -> u64
     ensures value { result ≡ unsigned_abs (tick *ℤ pos 6553600 +ℤ clamped freq) }
     ensures most { result ≤ 72122368000 }
 {
-    (rate_of_tick(tick) + freq.clamp(-32_768_000, 32_768_000)) as u64
+    (rate_of_tick(tick) + freq.clamp(-GREATEST_FREQUENCY, GREATEST_FREQUENCY)) as u64
 }
 
 /// Returns the rate at a tick alone.
