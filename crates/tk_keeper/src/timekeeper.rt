@@ -76,6 +76,13 @@ impl<A: Allocator> Model for Timekeeper<A> {
         × HasKept (journal_from a.folded a.start a.entries.items) a.start a.kept.items };
 }
 
+impl<A: Allocator> Timekeeper<A> {
+    /// Returns the allocator that the keeper was opened with.
+    pub fn allocator(&self) -> &A {
+        self.entries.allocator()
+    }
+}
+
 impl<A: Allocator + Copy> Timekeeper<A> {
     ghost use Rattle.tk_clock.specs.Journal.{opened, accepted_count};
     ghost use Rattle.tk_clock.specs.Legal.{IsLegal};

@@ -19,7 +19,6 @@ use std::alloc::Allocator;
 use std::marker::{PhantomData, Send, Sync};
 use std::thread;
 use std::thread::Threads;
-use tk_clock::ClockId;
 use tk_keeper::{Timekeeper, TraceError};
 
 /// Converts the piece that begins at `at`. It has as many items as there are words, up to the end
@@ -129,12 +128,6 @@ fn append_all<N: NamesTrace, A: Allocator + Copy, B: Allocator>(
     Ok(values)
 }
 
-/// Returns the keeper's allocator: that of an empty list from `trace`.
-fn heap_of<A: Allocator + Copy>(keeper: &Timekeeper<A>) -> Result<A, TraceError> {
-    let none = keeper.trace(&[], &[], ClockId::Monotonic)?;
-    Ok(*none.allocator())
-}
-
 /// Creates both threads' ends of the queues, and the words of the pieces that the calling thread
 /// converts. `None` means that an allocation failed.
 fn prepared<N: NamesTrace, A: Allocator + Copy>(
@@ -142,7 +135,7 @@ fn prepared<N: NamesTrace, A: Allocator + Copy>(
 ) -> Option<(Supply<N, A>, Intake<N, A>, Vec<u64, A>)>
     ensures { IfSome result (λ ready. 0 < length ready.2.items) }
 {
-    let heap = heap_of(keeper).ok()?;
+    let heap = *keeper.allocator();
     let words = vec![in heap; 0; PIECE].ok()?;
     let (supply, intake) = ends(heap).ok()?;
     Some((supply, intake, words))
