@@ -17,7 +17,7 @@ use tk_clock::{Clock, Refusal, Timespec};
 use tk_counter::CounterDesc;
 
 /// The most commands that are counted: the greatest number of 63 bits.
-const COUNTED_MOST: u64 = (1 << 63) - 1;
+const COUNTED_LIMIT: u64 = (1 << 63) - 1;
 
 /// The number of an update among the commands.
 const UPDATE: u32 = 0;
@@ -107,7 +107,7 @@ fn apply_numbered(
     let Some(cmd) = command_named(command, number, nsec) else {
         return Code::BadCommand.number();
     };
-    if clock.front >= COUNTED_MOST {
+    if clock.front >= COUNTED_LIMIT {
         return Code::from(Refusal::Full).number();
     }
     match clock.clock.apply(reading, cmd) {

@@ -7,19 +7,19 @@ use crate::command::Command;
 use crate::timespec::Timespec;
 
 /// The end of MONOTONIC, in seconds: 30 years of 365 days (`TIME_UPTIME_SEC_MAX`).
-pub(crate) const MONOTONIC_SEC_LIMIT: u64 = 946_080_000;
+pub(crate) const MONOTONIC_END: u64 = 946_080_000;
 
 /// The bound of MONOTONIC_RAW, in seconds: it stays below this while MONOTONIC is below its limit.
 /// It gains most on MONOTONIC at the least tick and frequency.
-pub(crate) const RAW_SEC_LIMIT: u64 = 1_060_000_000;
+pub(crate) const RAW_END: u64 = 1_060_000_000;
 
 /// The end of the other clocks, in seconds: the most that 63 bits of nanoseconds hold
 /// (`KTIME_SEC_MAX`).
-const CLOCK_SEC_LIMIT: i64 = 9_223_372_036;
+const CLOCK_END: i64 = 9_223_372_036;
 
 /// The end of the times that REALTIME may be set to, in seconds: 30 years before its own end
 /// (`TIME_SETTOD_SEC_MAX`).
-const SETTABLE_SEC_LIMIT: i64 = 8_277_292_036;
+const SETTABLE_END: i64 = 8_277_292_036;
 
 /// The shortest tick that may be set, in microseconds.
 pub(crate) const SHORTEST_TICK: i64 = 9_000;
@@ -28,7 +28,7 @@ pub(crate) const SHORTEST_TICK: i64 = 9_000;
 pub(crate) const LONGEST_TICK: i64 = 11_000;
 
 /// The greatest TAI offset, in seconds (`MAX_TAI_OFFSET`).
-pub(crate) const TAI_OFFSET_MOST: i64 = 100_000;
+pub(crate) const TAI_OFFSET_LIMIT: i64 = 100_000;
 
 /// Returns the end of a clock, in ns.
 #[inline(always)]
@@ -37,8 +37,8 @@ pub(crate) fn limit(clock: ClockId) -> u64
     ensures most { result ≤ clock_end * 10 ^ 9 }
 {
     match clock {
-        ClockId::Monotonic | ClockId::MonotonicCoarse => MONOTONIC_SEC_LIMIT * NANOS_PER_SECOND,
-        _ => CLOCK_SEC_LIMIT as u64 * NANOS_PER_SECOND,
+        ClockId::Monotonic | ClockId::MonotonicCoarse => MONOTONIC_END * NANOS_PER_SECOND,
+        _ => CLOCK_END as u64 * NANOS_PER_SECOND,
     }
 }
 
@@ -46,7 +46,7 @@ pub(crate) fn limit(clock: ClockId) -> u64
 pub(crate) fn settable_limit() -> u64
     ensures { result ≡ settable_end * 10 ^ 9 }
 {
-    SETTABLE_SEC_LIMIT as u64 * NANOS_PER_SECOND
+    SETTABLE_END as u64 * NANOS_PER_SECOND
 }
 
 /// Returns whether REALTIME may be set to this time.
@@ -54,7 +54,7 @@ pub(crate) fn settable_limit() -> u64
 pub(crate) fn is_settable(time: Timespec) -> bool
     ensures { result ≡ is_settable time }
 {
-    time.sec >= 0 && time.sec < SETTABLE_SEC_LIMIT && time.nsec < 1_000_000_000
+    time.sec >= 0 && time.sec < SETTABLE_END && time.nsec < 1_000_000_000
 }
 
 /// Returns whether a suspension may have this length.
@@ -62,7 +62,7 @@ pub(crate) fn is_settable(time: Timespec) -> bool
 fn is_suspension(away: Timespec) -> bool
     ensures { result ≡ is_suspension away }
 {
-    away.sec >= 0 && away.sec < CLOCK_SEC_LIMIT && away.nsec < 1_000_000_000
+    away.sec >= 0 && away.sec < CLOCK_END && away.nsec < 1_000_000_000
 }
 
 /// Returns whether a command's numbers are in their ranges.
@@ -74,7 +74,7 @@ pub(crate) fn is_well_formed(cmd: Command) -> bool
         Command::SetTime(time) => is_settable(time),
         Command::Step(by) => by.nsec < 1_000_000_000,
         Command::Tick(tick) => (SHORTEST_TICK..=LONGEST_TICK).contains(&tick),
-        Command::Tai(seconds) => (0..=TAI_OFFSET_MOST).contains(&seconds),
+        Command::Tai(seconds) => (0..=TAI_OFFSET_LIMIT).contains(&seconds),
         Command::Resume(away) => is_suspension(away),
         Command::Update | Command::Freq(_) | Command::Suspend => true,
     }

@@ -9,7 +9,7 @@ use crate::limits::{SHORTEST_TICK, limit};
 use crate::refusal::ReadError;
 use crate::timespec::{Timespec, timespec_of};
 use std::marker::Model;
-use tk_counter::{CounterDesc, GREATEST_FREQUENCY};
+use tk_counter::{CounterDesc, FREQUENCY_LIMIT};
 
 /// Holds the state that a read of the clocks needs, as the kernel's `struct tk_read_base`.
 #[repr(C)]
@@ -159,7 +159,7 @@ impl ReadBase {
     pub fn is_rated(&self) -> bool
         ensures { IsTrue result ↔ IsRated self.now }
     {
-        let slowest = self.desc.mult_at(-GREATEST_FREQUENCY, SHORTEST_TICK);
+        let slowest = self.desc.mult_at(-FREQUENCY_LIMIT, SHORTEST_TICK);
         self.raw.units(&self.desc) * u128::from(slowest)
             <= self.monotonic.units(&self.desc) * u128::from(self.desc.mult())
     }

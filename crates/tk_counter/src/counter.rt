@@ -6,7 +6,7 @@ mod gaps;
 mod rates;
 
 use crate::desc_error::DescError;
-pub use rates::{GREATEST_FREQUENCY, USUAL_TICK};
+pub use rates::{FREQUENCY_LIMIT, USUAL_TICK};
 use std::marker::Model;
 
 /// Describes a counter: a reading has `bits` bits, and a cycle lasts `mult / 2^shift` nanoseconds.

@@ -5,7 +5,7 @@
 //! |---|---|
 //! | `CounterDesc` | the bits of a reading, and the length of a cycle |
 //! | `DescError` | why numbers describe no counter |
-//! | `GREATEST_FREQUENCY` | the greatest frequency that takes effect |
+//! | `FREQUENCY_LIMIT` | the greatest frequency that takes effect |
 //! | `USUAL_TICK` | the tick of a clock that no command has set |
 //!
 //! Units: readings and gaps in cycles; amounts of time in `2^-shift` ns; a counter's own rate in
@@ -15,5 +15,5 @@
 mod counter;
 mod desc_error;
 
-pub use counter::{CounterDesc, GREATEST_FREQUENCY, USUAL_TICK};
+pub use counter::{CounterDesc, FREQUENCY_LIMIT, USUAL_TICK};
 pub use desc_error::DescError;

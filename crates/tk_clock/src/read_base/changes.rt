@@ -11,7 +11,7 @@ use super::ReadBase;
 use crate::amount::{Amount, NARROW_CYCLES};
 use crate::clock_id::ClockId;
 use crate::command::Command;
-use crate::limits::{MONOTONIC_SEC_LIMIT, limit, sets_real};
+use crate::limits::{MONOTONIC_END, limit, sets_real};
 
 impl ReadBase {
     /// Returns the base with its amounts brought forward to a reading (`timekeeping_forward_now`).
@@ -66,7 +66,7 @@ impl ReadBase {
             (monotonic_end * 10 ^ 9 ≤ after.amount / 2 ^ after.counter.shift)
             (λ base. (base ≡ after) × IsRated base) }
     {
-        if monotonic.sec >= MONOTONIC_SEC_LIMIT {
+        if monotonic.sec >= MONOTONIC_END {
             return None;
         }
         Some(ReadBase {

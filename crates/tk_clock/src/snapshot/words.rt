@@ -5,7 +5,7 @@ ghost use Rattle.tk_clock.specs.Words.{words_of, restored, are_in_range};
 use super::Snapshot;
 use super::known_words::base_of_words;
 use crate::command::Command;
-use crate::limits::{MONOTONIC_SEC_LIMIT, RAW_SEC_LIMIT, TAI_OFFSET_MOST};
+use crate::limits::{MONOTONIC_END, RAW_END, TAI_OFFSET_LIMIT};
 use tk_counter::CounterDesc;
 
 impl Snapshot {
@@ -68,8 +68,8 @@ fn are_in_range(desc: &CounterDesc, words: &[u64; 10]) -> bool
         && words[2] >= 1
         && words[2] <= u64::from(desc.mult()) + u64::from(desc.max_adj())
         && words[3] < desc.second()
-        && words[4] < MONOTONIC_SEC_LIMIT
-        && words[7] / 2 <= TAI_OFFSET_MOST as u64
+        && words[4] < MONOTONIC_END
+        && words[7] / 2 <= TAI_OFFSET_LIMIT as u64
         && words[8] < desc.second()
-        && words[9] < RAW_SEC_LIMIT
+        && words[9] < RAW_END
 }

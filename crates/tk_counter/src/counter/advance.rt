@@ -3,7 +3,7 @@ ghost use Rattle.std.specs.Prelude.{◌≡◌, ℕ, ◌+◌, ◌*◌, ◌/◌, �
 use super::{CounterDesc, NANOS_PER_SECOND};
 
 /// The seconds at which `advance` returns `None`: no clock reaches them.
-const SECONDS_LIMIT: u64 = 9_223_372_036;
+const SECONDS_END: u64 = 9_223_372_036;
 
 impl CounterDesc {
     ghost use Rattle.tk_counter.specs.Counter.{second, seconds_end};
@@ -24,7 +24,7 @@ impl CounterDesc {
             Some(units) => self.split(units),
             None => self.split_long(frac, delta, mult)?,
         };
-        if seconds >= SECONDS_LIMIT {
+        if seconds >= SECONDS_END {
             return None;
         }
         Some((seconds, rest))

@@ -8,7 +8,7 @@ pub const USUAL_TICK: i64 = 10_000;
 
 /// The greatest frequency that takes effect, in `2^-16` ppm: 500 ppm (adjtimex(2),
 /// `MAXFREQ_SCALED`).
-pub const GREATEST_FREQUENCY: i64 = 32_768_000;
+pub const FREQUENCY_LIMIT: i64 = 32_768_000;
 
 impl CounterDesc {
     ghost use Rattle.tk_counter.specs.Counter.{fastest, multiplier, usual_tick};
@@ -51,7 +51,7 @@ fn rate(freq: i64, tick: i64) -> u64
     ensures value { result ≡ unsigned_abs (tick *ℤ pos 6553600 +ℤ clamped freq) }
     ensures most { result ≤ 72122368000 }
 {
-    (rate_of_tick(tick) + freq.clamp(-GREATEST_FREQUENCY, GREATEST_FREQUENCY)) as u64
+    (rate_of_tick(tick) + freq.clamp(-FREQUENCY_LIMIT, FREQUENCY_LIMIT)) as u64
 }
 
 /// Returns the rate at a tick alone.

@@ -9,12 +9,12 @@ use Rattle.tk_clock.proofs.Units.{end_nanos}
 use Rattle.tk_clock.proofs.Rates.{IsRated-forwarded, raw_low, fewer_seconds, below_seconds, at_least_seconds}
 use Rattle.tk_clock.proofs.read_base.ReadBase.with_amounts.Goals as goal
 
-pub returns-then-monotonic-ge-MONOTONIC_SEC_LIMIT : goal.returns-then-monotonic-ge-MONOTONIC_SEC_LIMIT
-returns-then-monotonic-ge-MONOTONIC_SEC_LIMIT c =
+pub returns-then-monotonic-ge-MONOTONIC_END : goal.returns-then-monotonic-ge-MONOTONIC_END
+returns-then-monotonic-ge-MONOTONIC_END c =
     let counter = c.args.self.now.counter in
     let monotonic = c.args.monotonic in
     let many = at_least_seconds monotonic.sec monotonic.frac monotonic_end
-    (second counter) c.if-monotonic-ge-MONOTONIC_SEC_LIMIT.true in
+    (second counter) c.if-monotonic-ge-MONOTONIC_END.true in
     end_nanos monotonic_end _ counter.shift
     (subst (λ n. monotonic_end * second counter ≤ n) c.requires.monotonic.0 many)
 
@@ -32,7 +32,7 @@ invariant_of-result c =
     let raw_amount = rw (← c.self.view_is) at c.requires.raw in
     let low = subst (λ n. n < monotonic_end * second base.desc) amount.0
     (below_seconds monotonic.sec monotonic.frac monotonic_end
-    (second base.desc) c.if-monotonic-ge-MONOTONIC_SEC_LIMIT.false amount.1) in
+    (second base.desc) c.if-monotonic-ge-MONOTONIC_END.false amount.1) in
     let below = raw_low after held.described
     (IsRated-forwarded before c.args.reading steered rated) low in
     record {
@@ -41,7 +41,7 @@ invariant_of-result c =
       mult_some = held.mult_some;
       mult_low = held.mult_low;
       frac_low = amount.1;
-      sec_low = c.if-monotonic-ge-MONOTONIC_SEC_LIMIT.false;
+      sec_low = c.if-monotonic-ge-MONOTONIC_END.false;
       raw_frac_low = raw_amount.1;
       raw_sec_low = fewer_seconds raw.sec raw.frac raw_end (second base.desc)
           (subst (λ n. n < raw_end * second base.desc) (sym raw_amount.0) below);
