@@ -1,6 +1,6 @@
 //! Makes reports of scripts, one line for each record, and traces of stamp files, one line for each
-//! stamp; and runs races. It has no code of its own: it gathers what scripts are for from the crates
-//! below it, so that one name is enough for a caller.
+//! stamp; and runs races. It has no code. It re-exports calls and types of the crates below it, so
+//! that a caller can import them by one name.
 //!
 //! | Item | What it does |
 //! |---|---|
