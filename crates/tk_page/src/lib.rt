@@ -12,6 +12,7 @@
 //! A front is the number of entries of a journal.
 #![tactic(auto)]
 
+mod cell;
 mod page;
 mod page_error;
 mod publisher;

@@ -47,9 +47,10 @@ ghost use Rattle.tk_page.specs.declared.view.View.TheVariants.{Comparing, Fresh,
 ghost use Rattle.tk_page.specs.History.{Begins, IsOpening, opened_by};
 ghost use Rattle.tk_page.specs.Views.{journal_of, reads_of};
 
+use crate::cell::{Cell, Pass, join, load, split, store};
 use crate::page_error::PageError;
 use crate::publisher::Publisher;
-use crate::rule::{Cell, Compares, Copies, KeepsLonger, Leaves, NamesJournal, Notes, Opens, Pass};
+use crate::rule::{Compares, Copies, KeepsLonger, Leaves, NamesJournal, Notes, Opens};
 use crate::viewer::Viewer;
 use std::alloc::Global;
 use std::marker::{Brand, Model};
@@ -99,7 +100,7 @@ impl Page {
         take_opening::<Brand, R>(rt, &cell, &mut pass, snapshot);
         let viewer = Viewer {
             // Step 5.
-            pass: cell.split_pass::<Copies>(&mut pass),
+            pass: split::<Copies>(&cell, &mut pass),
             desc: snapshot.desc(),
             front: 0,
         };
@@ -119,7 +120,7 @@ impl Page {
     {
         // Step 7.
         note(&self.cell, &mut publisher.pass, &mut viewer.pass);
-        let words = self.cell.load_as::<Compares, R>(rt, &mut publisher.pass);
+        let words = load::<Compares, R>(rt, &self.cell, &mut publisher.pass);
         self.extend(publisher, viewer, words[0]);
     }
 
@@ -134,9 +135,9 @@ impl Page {
         ensures publisher { publisher.new ≡ publisher.old }
         ensures viewer { viewer.new ≡ record viewer.old { journal = publisher.old.journal } }
     {
-        let known = self.cell.split_pass::<Leaves>(&mut viewer.pass);
-        let mut whole = self.cell.split_pass::<Copies>(&mut publisher.pass);
-        self.cell.join_pass::<KeepsLonger>(&mut whole, known);
+        let known = split::<Leaves>(&self.cell, &mut viewer.pass);
+        let mut whole = split::<Copies>(&self.cell, &mut publisher.pass);
+        join::<KeepsLonger>(&self.cell, &mut whole, known);
         viewer.pass = whole;
         viewer.front = front;
     }
@@ -156,8 +157,8 @@ pub(crate) fn note(cell: &Cell, publisher: &mut Pass, viewer: &mut Pass)
         ≡ Comparing (journal_of (cell_view publisher.old)) (journal_of (cell_view viewer.old)) }
     ensures same { cell_view viewer.new ≡ cell_view viewer.old }
 {
-    let noted = cell.split_pass::<Copies>(viewer);
-    cell.join_pass::<Notes>(publisher, noted);
+    let noted = split::<Copies>(cell, viewer);
+    join::<Notes>(cell, publisher, noted);
 }
 
 /// Makes the first pass the publisher's, by a store of the words that the cell already has.
@@ -169,5 +170,5 @@ fn take_opening<J: NamesJournal, R: Wait>(rt: &R, cell: &Cell, pass: &mut Pass, 
     ensures cell { pass.new.table_id ≡ pass.old.table_id }
     ensures view { cell_view pass.new ≡ Publishing (opened_by snapshot) }
 {
-    cell.swap_as::<Opens<J>, R>(rt, pass, snapshot.words());
+    store::<Opens<J>, R>(rt, cell, pass, snapshot.words());
 }

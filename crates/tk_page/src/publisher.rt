@@ -6,8 +6,9 @@ ghost use Rattle.tk_page.specs.declared.view.View.TheVariants.{Comparing, Publis
 ghost use Rattle.tk_page.specs.History.{Begins};
 ghost use Rattle.tk_page.specs.Views.{journal_of, noted_of};
 
+use crate::cell::{Cell, Pass, join, split, store};
 use crate::page::{Page, note};
-use crate::rule::{Cell, Copies, NamesEntry, Notes, Pass, Publishes};
+use crate::rule::{Copies, NamesEntry, Notes, Publishes};
 use crate::viewer::Viewer;
 use std::marker::{Brand, Model};
 use std::sync::Wait;
@@ -48,8 +49,8 @@ impl Publisher {
         requires snapshot { snapshot ≡ snapshot_of (followed_by self.old.journal entry) }
         ensures { self.new ≡ record self.old { journal = followed_by self.old.journal entry } }
     {
-        let own = page.cell.split_pass::<Copies>(&mut self.pass);
-        page.cell.join_pass::<Notes>(&mut self.pass, own);
+        let own = split::<Copies>(&page.cell, &mut self.pass);
+        join::<Notes>(&page.cell, &mut self.pass, own);
         publish_entry::<Brand, R>(rt, &page.cell, &mut self.pass, entry, &snapshot);
     }
 
@@ -100,5 +101,5 @@ fn publish_entry<E: NamesEntry, R: Wait>(
     ensures begins { Begins (noted_of (cell_view pass.old)) (journal_of (cell_view pass.old)) }
 {
     // Step 2.
-    cell.swap_as::<Publishes<E>, R>(rt, pass, snapshot.words());
+    store::<Publishes<E>, R>(rt, cell, pass, snapshot.words());
 }

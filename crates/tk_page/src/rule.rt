@@ -1,21 +1,14 @@
 //! The rule of the page's cell, and the outcome of each step on it.
+use crate::cell::Words;
 use crate::view::View;
 use atomic_table::{Join, Split};
-use crossbeam_utils::atomic::seq_cell;
-use crossbeam_utils::atomic::seq_cell::RuledSeqCell;
 use crossbeam_utils::rule::{Outcome, Protocol};
 use std::marker::{Brand, PhantomData};
-
-/// The page's cell: ten words and a version word.
-pub type Cell = RuledSeqCell<[u64; 10], View, Law, 10>;
-
-/// The access to the cell that a publisher or a viewer holds. It has no bytes.
-pub type Pass = seq_cell::Pass<[u64; 10], View>;
 
 /// States the rule of the cell: what is true of its words and passes between any two steps.
 pub struct Law;
 
-impl Protocol<[u64; 10], View> for Law {
+impl Protocol<Words, View> for Law {
     ghost use Rattle.tk_page.specs.Views.{Kept};
     ghost use Rattle.tk_page.specs.declared.view.View.TheVariants.{Fresh};
 
@@ -55,7 +48,7 @@ pub struct Opens<J> {
     journal: PhantomData<J>,
 }
 
-impl<J: NamesJournal> Outcome<[u64; 10], View> for Opens<J> {
+impl<J: NamesJournal> Outcome<Words, View> for Opens<J> {
     ghost use Rattle.tk_page.specs.Views.{Opened};
 
     ghost then = { Opened J.journal };
@@ -66,7 +59,7 @@ pub struct Publishes<E> {
     entry: PhantomData<E>,
 }
 
-impl<E: NamesEntry> Outcome<[u64; 10], View> for Publishes<E> {
+impl<E: NamesEntry> Outcome<Words, View> for Publishes<E> {
     ghost use Rattle.tk_page.specs.Views.{Published};
 
     ghost then = { Published E.entry };
@@ -75,7 +68,7 @@ impl<E: NamesEntry> Outcome<[u64; 10], View> for Publishes<E> {
 /// The load that is a viewer's read.
 pub struct Reads;
 
-impl Outcome<[u64; 10], View> for Reads {
+impl Outcome<Words, View> for Reads {
     ghost use Rattle.tk_page.specs.Views.{Seen};
 
     ghost then = { Seen };
@@ -84,7 +77,7 @@ impl Outcome<[u64; 10], View> for Reads {
 /// The load that shows that the noted journal begins the publisher's.
 pub struct Compares;
 
-impl Outcome<[u64; 10], View> for Compares {
+impl Outcome<Words, View> for Compares {
     ghost use Rattle.tk_page.specs.Views.{Compared};
 
     ghost then = { Compared };

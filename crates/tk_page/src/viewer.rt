@@ -2,8 +2,9 @@ ghost use Rattle.std.specs.Prelude.{◌≡◌, ◌+◌, length};
 ghost use Rattle.tk_clock.specs.Snapshot.{snapshot_of};
 ghost use Rattle.tk_page.specs.History.{Begins, longer};
 
+use crate::cell::{Pass, join, load, split};
 use crate::page::Page;
-use crate::rule::{Copies, KeepsLonger, Leaves, Pass, Reads};
+use crate::rule::{Copies, KeepsLonger, Leaves, Reads};
 use std::marker::Model;
 use std::sync::Wait;
 use tk_clock::Snapshot;
@@ -54,7 +55,7 @@ impl Viewer {
         ensures answer { result ≡ snapshot_of self.new.journal }
     {
         // Step 3 or 4.
-        let words = page.cell.load_as::<Reads, R>(rt, &mut self.pass);
+        let words = load::<Reads, R>(rt, &page.cell, &mut self.pass);
         self.front = words[0];
         Snapshot::from_known_words(self.desc, words)
     }
@@ -82,7 +83,7 @@ impl Viewer {
             front,
         } = self;
         // Step 5.
-        let other = page.cell.split_pass::<Copies>(&mut pass);
+        let other = split::<Copies>(&page.cell, &mut pass);
         (
             Viewer { pass, desc, front },
             Viewer {
@@ -113,8 +114,8 @@ impl Viewer {
         let mut left = other.pass;
         // Steps 5 and 6: a pass that has read can't itself be joined, so a new pass gets what it
         // knows first.
-        let whole = page.cell.split_pass::<Leaves>(&mut left);
-        page.cell.join_pass::<KeepsLonger>(&mut pass, whole);
+        let whole = split::<Leaves>(&page.cell, &mut left);
+        join::<KeepsLonger>(&page.cell, &mut pass, whole);
         Viewer {
             pass,
             desc,

@@ -1,4 +1,4 @@
-use Rattle.std.proofs.Common.{rules, ◌∙◌, sym, ap}
+use Rattle.std.proofs.Common.{◌∙◌, sym, ap}
 use Rattle.crossbeam_utils.specs.Seq.{cell_view}
 use Rattle.tk_clock.specs.declared.command.Entry.{Entry}
 use Rattle.tk_clock.specs.Journal.{followed_by}
@@ -8,19 +8,10 @@ use Rattle.tk_page.proofs.Shown.{shows}
 use Rattle.tk_page.proofs.Steps.{publishes_as}
 use Rattle.tk_page.proofs.publisher.publish_entry.Goals as goal
 
-pub swap_as-requires : goal.swap_as-requires
-swap_as-requires g c =
+pub store-requires-clause-rule : goal.store-requires-clause-rule
+store-requires-clause-rule g c =
     let words = c.words.ensures in
     let own = journal_of (cell_view c.args.pass.now) in
     let of = c.requires.snapshot
-    ∙ ap (λ (e : Entry). snapshot_of (followed_by own e)) (sym c.requires.entry) in (
-      search rules,
-      (
-        search rules,
-        (
-          search rules,
-          publishes_as _ _ _ _ c.requires.view
-              (shows _ _ _ words.value words.back of),
-        ),
-      ),
-    )
+    ∙ ap (λ (e : Entry). snapshot_of (followed_by own e)) (sym c.requires.entry) in
+    publishes_as _ _ _ _ c.requires.view (shows _ _ _ words.value words.back of)

@@ -15,11 +15,5 @@ ruled-requires g c =
       ),
     )
 
-pub split_pass-requires : goal.split_pass-requires
-split_pass-requires g c = (
-  search rules,
-  (
-    search rules,
-    (search rules, publisher_copies_as _ _ _ c.take_opening.ensures.view),
-  ),
-)
+pub split-requires-clause-rule : goal.split-requires-clause-rule
+split-requires-clause-rule g c = publisher_copies_as _ _ _ c.take_opening.ensures.view
