@@ -5,7 +5,8 @@ use Rattle.std.proofs.lemmas.List.{map-append, length-map, take_more}
 use Rattle.std.proofs.lemmas.Slice.Zip.{AllZip-long}
 use Rattle.tk_shared.specs.Callers.{Known}
 use Rattle.tk_race.specs.declared.action.Action.{Action}
-use Rattle.tk_race.specs.Actor.{Actor, AreReady, HasActed, HaveActed, IsReady}
+use Rattle.tk_race.specs.declared.action.RaceReply.{RaceReply}
+use Rattle.tk_race.specs.Actor.{Actor, AreReady, HasActed, HaveActed, HaveDone, IsReady}
 
 module _ {A B : Type 0} (R : A → B → Type 0) where
   zip_push : (xs : List A) (x : A) (ys : List B) (y : B) → AllZip R xs ys → R x y →
@@ -118,3 +119,12 @@ pub many_acted : {A : Type 0} (f : A → List Action) (xs : List A) (olds news :
 many_acted f xs olds news are have =
     acted_length (map f xs) olds news have ∙ AllZip-long IsReady (map f xs) olds are
     ∙ length-map xs f
+
+-- as many callers come back as were sent
+pub many_done : (actions : List (List Action)) (before after : List Known)
+    (replies : List (List RaceReply)) → HaveDone actions before after replies →
+    length after ≡ length before
+many_done actions before after replies done =
+    ap length done.ended ∙ length-map done.news (λ (a : Actor). a.caller)
+    ∙ acted_length actions done.olds done.news done.acted
+    ∙ sym (length-map done.olds (λ (a : Actor). a.caller)) ∙ ap length done.began

@@ -1,5 +1,5 @@
 -- An actor between its actions, and the result of all of its actions.
-use Rattle.std.specs.Prelude.{◌≡◌, ℕ, ◌+◌, ◌≤◌, List, [], ◌∷◌, length}
+use Rattle.std.specs.Prelude.{◌≡◌, ℕ, ◌+◌, ◌≤◌, List, [], ◌∷◌, length, map}
 use Rattle.std.specs.List.{AllZip}
 use mathlib.Core.List.{IsPrefix}
 use Rattle.tk_clock.specs.Journal.{Journal}
@@ -85,3 +85,13 @@ HaveActed [] [] [] = Unit {0}
 HaveActed (actions ∷ others) (old ∷ olds) (new ∷ news) =
     HasActed old.caller new.caller actions new.replies × HaveActed others olds news
 HaveActed _ _ _ = ⊥
+
+-- callers that knew `before` have done their actions, and know `after`; each has its list of replies
+pub record HaveDone (actions : List (List Action)) (before after : List Known)
+    (replies : List (List RaceReply)) : Type 0 where
+  pub olds : List Actor
+  pub news : List Actor
+  pub acted : HaveActed actions olds news
+  pub began : map (λ a. a.caller) olds ≡ before
+  pub ended : after ≡ map (λ a. a.caller) news
+  pub replied : replies ≡ map (λ a. a.replies) news

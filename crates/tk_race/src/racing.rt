@@ -3,7 +3,7 @@ ghost use Rattle.tk_clock.specs.Limits.{listed_most};
 ghost use Rattle.tk_shared.specs.Opening.{IsNamed};
 ghost use Rattle.tk_race.specs.Race.{IsRaced, IsOutcome, orders_in};
 ghost use Rattle.tk_race.specs.RaceError.{IsRaceError, IsLate, race_error};
-ghost use Rattle.tk_race.specs.Actor.{AreReady};
+ghost use Rattle.tk_race.specs.Actor.{AreReady, HaveDone};
 
 use crate::action::{Action, RaceReply};
 use crate::actor::{Actor, RaceKeeper};
@@ -92,8 +92,7 @@ fn orders_of(actions: &[Action]) -> usize
 
 /// Opens the keeper, lets all actors act, and closes it.
 ///
-/// The keeper has capacity for every order, or for as many as a journal lists. The rest of the
-/// memory is allocated before the first thread is started.
+/// The keeper has capacity for every order, or for as many as a journal lists.
 fn raced<L: Named + Send + Sync, G: Gate + Sync, R: Threads + Wait + Sync>(
     alloc: Global,
     rt: &R,
@@ -115,11 +114,7 @@ fn raced<L: Named + Send + Sync, G: Gate + Sync, R: Threads + Wait + Sync>(
     let Ok((keeper, callers)) = RaceKeeper::<L>::open(alloc, prepared) else {
         return Err(RaceError::Memory);
     };
-    let mut back = Vec::with_capacity(alloc, actions.len())?;
-    let mut replies = Vec::with_capacity(alloc, actions.len())?;
-    let actors = ready(alloc, actions, callers)?;
-    let acted = act_at_once(rt, &keeper, counter, gate, actions, actors)?;
-    part(acted, &mut back, &mut replies);
+    let (back, replies) = act_all(alloc, rt, &keeper, counter, gate, actions, callers)?;
     let Ok(closed) = keeper.close(rt, back) else {
         unreachable!()
     };
@@ -127,6 +122,32 @@ fn raced<L: Named + Send + Sync, G: Gate + Sync, R: Threads + Wait + Sync>(
         keeper: closed.keeper,
         replies,
     })
+}
+
+/// Lets the callers act, each in its own thread. Returns them and their replies.
+///
+/// All memory is allocated before the first thread is started.
+fn act_all<L: Named + Send + Sync, G: Gate + Sync, R: Threads + Wait + Sync>(
+    alloc: Global,
+    rt: &R,
+    keeper: &RaceKeeper<'_, L>,
+    counter: &SharedTicker,
+    gate: &G,
+    actions: &[Vec<Action>],
+    callers: Vec<Caller<L>>,
+) -> Result<(Vec<Caller<L>>, Vec<Vec<RaceReply>>), RaceError>
+    requires { vec_len callers ≡ length actions.now }
+    ensures { MatchResult result
+        (λ done. HaveDone (map (λ a. a.items) actions.now) callers.items done.0.items
+        (map (λ r. r.items) done.1.items))
+        IsLate }
+{
+    let mut back = Vec::with_capacity(alloc, actions.len())?;
+    let mut replies = Vec::with_capacity(alloc, actions.len())?;
+    let actors = ready(alloc, actions, callers)?;
+    let acted = act_at_once(rt, keeper, counter, gate, actions, actors)?;
+    part(acted, &mut back, &mut replies);
+    Ok((back, replies))
 }
 
 /// Makes an actor for each caller, with room for its replies.
