@@ -1,6 +1,6 @@
 //! Parses the words on the command line.
 ghost use Rattle.std.specs.Prelude.{◌≡◌, ◌≢◌, Some, None, [], false, map, codes, string_bytes, IfErr, IfOk, IfSome, option_map};
-ghost use Rattle.clap.specs.Words.{all_of, app_of, fault_of, first_of, found_of, rows_of, rule_of, subcommand_of, subcommand_rows_of};
+ghost use Rattle.clap.specs.Words.{App, all_of, app_of, fault_of, first_of, found_of, rows_of, rule_of, subcommand_of, subcommand_rows_of, with_subcommand};
 ghost use Rattle.clap.specs.declared.builder.command.Command.TheViews.{out-Command};
 ghost use Rattle.tk_command_line.specs.CommandLine.{Asks, IsAsked, bare_words, files_rule, files_words, keep_rule, one_script_words, program_words, replay_words, task_by, task_found, trace_words, word_rule};
 ghost use Rattle.tk_command_line.specs.Request.{IsAllowed, keep_of, many_by, race_by, replay_by, task_of, trace_by, workers_of};
@@ -196,18 +196,29 @@ fn race_asked<'a>(
 fn program<'a>(alloc: Global) -> Result<Command<'a>, AllocError>
     ensures { IfOk result (λ command. app_of command ≡ program_words) }
 {
-    one_script_program(alloc)?
-        .subcommand(files_command(alloc, "many", "WORKERS")?)?
-        .subcommand(files_command(alloc, "race", "STEP")?)
+    let command = one_script_program(alloc)?;
+    let command = and_words(command, files_command(alloc, "many", "WORKERS"))?;
+    and_words(command, files_command(alloc, "race", "STEP"))
 }
 
 /// Makes the part of the grammar that is about one script.
 fn one_script_program<'a>(alloc: Global) -> Result<Command<'a>, AllocError>
     ensures { IfOk result (λ command. app_of command ≡ one_script_words) }
 {
-    bare_program(alloc)
-        .subcommand(replay_command(alloc)?)?
-        .subcommand(trace_command(alloc)?)
+    let command = and_words(bare_program(alloc), replay_command(alloc))?;
+    and_words(command, trace_command(alloc))
+}
+
+/// Adds the grammar of a subcommand, if it was made.
+fn and_words<'a>(
+    command: Command<'a>,
+    words: Result<Command<'a>, AllocError>,
+) -> Result<Command<'a>, AllocError>
+    requires { IfOk words (λ made. (out-Command made).has_globals ≡ false) }
+    ensures { (app : App) → IfOk words.entry (λ made. app_of made ≡ app) →
+        IfOk result (λ whole. app_of whole ≡ with_subcommand (app_of command.entry) app.top) }
+{
+    command.subcommand(words?)
 }
 
 /// Makes the grammar without subcommands. No word asks for help.
