@@ -3,7 +3,6 @@ use Rattle.std.proofs.Common.{◌≡◌, ◌≤◌, ℕ, ◌+◌, ◌*◌, arith
 use Rattle.std.proofs.lemmas.Bool.{le-ltb}
 use Rattle.std.specs.Prelude.{nat_lt, if◌then◌else◌, ℤ, pos, ◌+ℤ◌}
 use Rattle.std.proofs.lemmas.Int.{ints}
-use Rattle.std.proofs.lemmas.List.{append-nil}
 use mathlib.Core.List.{IsPrefix}
 use Rattle.tk_counter.specs.Counter.{Counter, multiplier}
 use Rattle.tk_clock.specs.declared.command.Entry.{Entry}
@@ -11,19 +10,22 @@ use Rattle.tk_clock.specs.declared.timespec.Timespec.{Timespec}
 use Rattle.tk_clock.specs.Journal.{Journal, opened, followed_by}
 use Rattle.tk_clock.specs.Snapshot.{snapshot_of}
 use Rattle.tk_clock.specs.Time.{nanoseconds}
+use Rattle.tk_clock.proofs.Lists.{prefix_self, prefix_trans}
 use Rattle.tk_page.specs.History.{Begins, IsOpening, opened_by, longer}
 
 module _ {X : Type 0} where
-  prefix-self : (xs : List X) → IsPrefix xs xs
-  prefix-self xs = ([], append-nil xs)
-
   prefix-more : (xs ys more : List X) → IsPrefix xs ys → IsPrefix xs (ys ++ more)
   prefix-more xs ys more begins =
       (begins.0 ++ more, sym (append_assoc xs begins.0 more) ∙ ap (λ l. l ++ more) begins.1)
 
 -- a journal begins itself
 pub begins-self : (journal : Journal) → Begins journal journal
-begins-self journal = (refl, prefix-self journal.entries)
+begins-self journal = (refl, prefix_self journal.entries)
+
+-- a journal begins all that a later one begins
+pub begins-trans : (one two three : Journal) → Begins one two → Begins two three → Begins one three
+begins-trans one two three p q =
+    (q.0 ∙ p.0, prefix_trans one.entries two.entries three.entries p.1 q.1)
 
 -- a journal that begins another one also begins it with one more entry
 pub begins-followed_by : (before journal : Journal) (entry : Entry) → Begins before journal →

@@ -12,7 +12,7 @@ use Rattle.tk_race.specs.declared.action.Action.{Action}
 use Rattle.tk_race.specs.declared.action.RaceReply.{RaceReply}
 use Rattle.tk_race.specs.Actor.{IsAnswer, IsHistoryOf, IsLater, HasActed, Knows, last_front, last_mark}
 use Rattle.tk_race.specs.Replies.{AreReplies, IsReply, front_after, mark_after, done_by, reads_by, times_by}
-use Rattle.tk_race.proofs.Answering.{begins_trans}
+use Rattle.tk_page.proofs.Beginnings.{begins-trans}
 
 -- a history of what a caller knows is one of what it knew before
 history_before : (now next : Known) (done looks times : ℕ) (history : Journal)
@@ -20,7 +20,7 @@ history_before : (now next : Known) (done looks times : ℕ) (history : Journal)
     IsHistoryOf next history commands → IsHistoryOf now history commands
 history_before now next done looks times history commands later is = record {
   whole = is.whole;
-  begins = begins_trans now.seen next.seen history later.seen is.begins;
+  begins = begins-trans now.seen next.seen history later.seen is.begins;
   learnt = snapshots_prefix history now.learnt.publications next.learnt.publications is.learnt
       later.learnt;
   watched = record {
@@ -35,7 +35,7 @@ later_twice : (start now next : Known) (one other both saw more all asked again 
     all ≡ saw + more → times ≡ asked + again → IsLater start next both all times
 later_twice start now next one other both saw more all asked again times p q sum total counted = record {
   id = q.id ∙ p.id;
-  seen = begins_trans start.seen now.seen next.seen p.seen q.seen;
+  seen = begins-trans start.seen now.seen next.seen p.seen q.seen;
   learnt = prefix_trans start.learnt.publications now.learnt.publications next.learnt.publications
       p.learnt q.learnt;
   counted = (let first = p.counted in let rest = q.counted in omega (arith, first, rest, sum));

@@ -19,13 +19,6 @@ use Rattle.tk_race.specs.declared.action.Action.TheVariants.{Order}
 use Rattle.tk_race.specs.declared.action.RaceReply.TheVariants.{Done, Refused}
 use Rattle.tk_race.specs.Actor.{IsAnswer}
 
--- beginnings of journals
-pub begins_self : (journal : Journal) → Begins journal journal
-begins_self journal = (refl, prefix_self journal.entries)
-
-pub begins_trans : (a b d : Journal) → Begins a b → Begins b d → Begins a d
-begins_trans a b d p q = (q.0 ∙ p.0, prefix_trans a.entries b.entries d.entries p.1 q.1)
-
 pub begins_length : (a b : Journal) → Begins a b → length a.entries ≤ length b.entries
 begins_length a b p = prefix_length a.entries b.entries p.1
 

@@ -14,7 +14,7 @@ use Rattle.tk_race.specs.declared.action.RaceReply.{RaceReply}
 use Rattle.tk_race.specs.Actor.{Actor, HasActed, HaveActed, IsHistoryOf}
 use Rattle.tk_race.specs.Race.{HaveAll, IsOutcome}
 use Rattle.tk_race.specs.Replies.{IsActed, done_in}
-use Rattle.tk_race.proofs.Answering.{begins_trans}
+use Rattle.tk_page.proofs.Beginnings.{begins-trans}
 
 -- the newcomers with the numbers k, k + 1 and so on
 newcomers_from : LatchId → TableId → Journal → ℕ → ℕ → List Known
@@ -165,7 +165,7 @@ module _ (latch : LatchId) (notice : TableId) (start : Journal) where
   begins_all history [] news some have parts = absurd (omega (arith, some))
   begins_all history (a ∷ acts) [] some have parts = absurd have
   begins_all history (a ∷ acts) (new ∷ news) some have parts =
-      begins_trans start new.caller.seen history have.0.later.seen
+      begins-trans start new.caller.seen history have.0.later.seen
       (parts 0 new.caller (omega arith)).begins
 
   pub outcome : (journal : Journal) (n : ℕ) (actions : List (List Action)) (olds news : List Actor)

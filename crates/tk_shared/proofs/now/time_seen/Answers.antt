@@ -1,5 +1,7 @@
 use Rattle.std.proofs.Common.{ap, ◌∙◌}
 use Rattle.tk_counter.specs.Counter.{mask}
+use Rattle.tk_clock.proofs.Lists.{prefix_trans}
+use Rattle.tk_page.proofs.Beginnings.{begins-trans}
 use Rattle.tk_shared.proofs.Times.{seen_by}
 use Rattle.tk_shared.proofs.now.time_seen.Goals as goal
 
@@ -12,3 +14,31 @@ returns-then-front-timed-clause-answer g c =
     c.if-front-timed.true
     c.front.ensures.value c.read-snapshot.ensures.answer
     (c.mask.ensures.value ∙ ap mask c.desc.ensures) c.time.ensures.life c.get.ensures
+
+pub returns-then-front-timed-clause-begins : goal.returns-then-front-timed-clause-begins
+returns-then-front-timed-clause-begins g c =
+    begins-trans _ _ _ c.loop.invariant.begins c.read-snapshot.ensures.begins
+
+pub returns-then-front-timed-clause-watched : goal.returns-then-front-timed-clause-watched
+returns-then-front-timed-clause-watched g c = (
+  prefix_trans _ _ _ c.loop.invariant.commands c.time.ensures.extends.0,
+  prefix_trans _ _ _ c.loop.invariant.log c.time.ensures.extends.1,
+)
+
+pub loop-preserved-in_default : goal.loop-preserved-in_default
+loop-preserved-in_default g c = record {
+  page = c.read-snapshot.ensures.page ∙ c.loop.invariant.page;
+  notice = c.time.ensures.notice ∙ c.loop.invariant.notice;
+  begins = begins-trans _ _ _ c.loop.invariant.begins c.read-snapshot.ensures.begins;
+  commands = prefix_trans _ _ _ c.loop.invariant.commands c.time.ensures.extends.0;
+  log = prefix_trans _ _ _ c.loop.invariant.log c.time.ensures.extends.1;
+}
+
+pub loop-preserved : goal.loop-preserved
+loop-preserved g c = record {
+  page = c.read-snapshot.ensures.page ∙ c.loop.invariant.page;
+  notice = c.time.ensures.notice ∙ c.loop.invariant.notice;
+  begins = begins-trans _ _ _ c.loop.invariant.begins c.read-snapshot.ensures.begins;
+  commands = prefix_trans _ _ _ c.loop.invariant.commands c.time.ensures.extends.0;
+  log = prefix_trans _ _ _ c.loop.invariant.log c.time.ensures.extends.1;
+}
