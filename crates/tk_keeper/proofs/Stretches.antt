@@ -72,6 +72,16 @@ fault_at journal clock fronts stamps values index (errors.Invalid place) low so_
 fault_at journal clock fronts stamps values index (errors.Range place) low so_far fault =
     (index, first_fault journal clock fronts stamps values index _ low so_far fault)
 
+-- items that are written after others
+pub written_after : (journal : Journal) (clock : ClockId) (fronts stamps : List ℕ) (first end : ℕ)
+    (start old new : List ℕ) → first ≤ end → IsWritten journal clock fronts stamps first start old →
+    IsWritten journal clock fronts stamps end old new →
+    IsWritten journal clock fronts stamps end start new
+written_after journal clock fronts stamps first end start old new low before after = record {
+  values = after.values;
+  others = λ k above. after.others k above ∙ before.others k (omega (arith, low, above));
+}
+
 -- the items of a list that were all lent, after they are given back
 pub taken_back : (n k : ℕ) (xs ys : List ℕ) → length xs ≡ n → k < n →
     get_or (take n (xs ++ ys)) k 0 ≡ get_or xs k 0

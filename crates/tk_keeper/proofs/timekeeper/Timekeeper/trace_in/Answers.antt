@@ -1,9 +1,19 @@
-use Rattle.std.proofs.Common.{Ok, get_or, sym, ap, subst, ◌∙◌, arith}
+use Rattle.std.proofs.Common.{Ok, [], get_or, sym, ap, subst, ◌∙◌, arith}
 use Rattle.std.specs.Prelude.{pos}
+use Rattle.std.proofs.lemmas.Bool.{eqb-false}
 use Rattle.std.proofs.lemmas.Result.{err_from_is_err_and}
 use Rattle.tk_keeper.specs.Trace.{ConvertsItems}
 use Rattle.tk_keeper.proofs.Stretches.{fault_at, taken_back}
 use Rattle.tk_keeper.proofs.timekeeper.Timekeeper.trace_in.Goals as goal
+
+pub returns-in_err-item_snapshot : goal.returns-in_err-item_snapshot
+returns-in_err-item_snapshot g c =
+    let p = err_from_is_err_and c.from_residual.result c.from_residual.ensures.1 in
+    let some = eqb-false _ _ (sym c.is_empty.ensures ∙ c.if-is_empty.false) in
+    rw (p.1, p.2) (fault_at c.args.self.now.journal c.args.clock c.args.fronts.now
+    c.args.stamps.now [] 0 _ (omega (arith, some))
+    (λ k early. absurd (omega (arith, early)))
+    (c.in_err-item_snapshot.ensures.converts c.args.clock (get_or c.args.stamps.now 0 0)))
 
 pub returns-in_err-bring_to : goal.returns-in_err-bring_to
 returns-in_err-bring_to g c =
