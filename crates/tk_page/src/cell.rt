@@ -1,7 +1,7 @@
 //! The page's cell, and the calls on it.
 //!
-//! The cell's calls in crossbeam_utils are generic in words, knowledge and rule. Each is called
-//! here alone, since a proof takes 5 to 20 s longer wherever one is.
+//! The calls of crossbeam_utils on a cell are generic in words, knowledge and rule. A proof takes 3
+//! to 20 s longer wherever one is, so they are called here alone, except to make the cell.
 ghost use Rattle.std.specs.Prelude.{◌≡◌, []};
 ghost use Rattle.crossbeam_utils.specs.Register.{Forks, Merges, Turns};
 ghost use Rattle.crossbeam_utils.specs.Seq.{cell_view, IsSamePass};
