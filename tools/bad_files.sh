@@ -1,7 +1,7 @@
 #!/usr/bin/env bash
 # Runs the built program on files that are missing, are no files, or have faults, with `trace`,
 # `many` and `race`. It prints a line for each case, and exits with status 1 at the first that
-# differs. `rt run < /dev/null` in crates/tkcore builds the program.
+# differs. The program is the one that TKCORE names, or that tools/build_program built.
 set -u
 # shellcheck source=expect.sh
 . "$(dirname "$0")/expect.sh"

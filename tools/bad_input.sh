@@ -1,8 +1,8 @@
 #!/usr/bin/env bash
 # Runs the built program on bad words and bytes, on input and output that fail, and on the largest
 # scripts, each within 20 seconds and 800 MB of address space. It prints a line for each case, and
-# exits with status 1 at the first that differs. `rt run < /dev/null` in crates/tkcore
-# builds the program.
+# exits with status 1 at the first that differs. The program is the one that TKCORE names, or that
+# tools/build_program built.
 set -u
 # shellcheck source=expect.sh
 . "$(dirname "$0")/expect.sh"

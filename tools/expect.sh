@@ -1,10 +1,11 @@
 #!/usr/bin/env bash
-# Sourced by bad_input.sh and bad_files.sh: finds the built program, makes a folder for files, and
-# defines how a case runs. Each case has 20 seconds and 800 MB of address space. A script prints a
-# line for each case, and exits with status 1 at the first that differs.
+# Sourced by bad_input.sh and bad_files.sh: finds the program that TKCORE names, or that
+# tools/build_program built, makes a folder for files, and defines how a case runs. Each case has 20
+# seconds and 800 MB of address space. A script prints a line for each case, and exits with status 1
+# at the first that differs.
 set -u
 cd "$(dirname "$0")/../crates/tkcore" || exit 1
-export program=$PWD/out/tkcore row=$PWD/stdin opening='open,32,16777216,24,0,1700000000,0'
+export program=${TKCORE-$PWD/../../dist/bin/tkcore} row=$PWD/stdin opening='open,32,16777216,24,0,1700000000,0'
 work=$(mktemp -d)
 export work
 trap 'rm -rf "$work"' EXIT

@@ -11,8 +11,7 @@
 # output, and a trace must write the whole output. N counts up from 1 until a run meets no refusal. A
 # refused request for memory is reported as a thread that can't be started once for each thread.
 #
-# It ends with status 1 at the first run that does anything else. It needs gcc and glibc. `rt run
-# < /dev/null` in crates/tkcore builds the program, as crates/tkcore/out/tkcore.
+# It ends with status 1 at the first run that does anything else. It needs gcc and glibc.
 set -u
 program=$(realpath "$1")
 cd "$(dirname "$0")" || exit 1

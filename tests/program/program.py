@@ -1,4 +1,4 @@
-"""Runs the built program, or the one that TKCORE names, in a folder of its own."""
+"""Runs the program that tools/build_program built, or the one that TKCORE names, in a new folder."""
 import dataclasses
 import os
 import pathlib
@@ -6,7 +6,7 @@ import subprocess
 import tempfile
 import unittest
 
-BUILT = pathlib.Path(__file__).resolve().parents[2] / "crates/tkcore/out/tkcore"
+BUILT = pathlib.Path(__file__).resolve().parents[2] / "dist/bin/tkcore"
 PROGRAM = os.environ.get("TKCORE", BUILT)
 SECONDS = 60
 

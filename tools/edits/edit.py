@@ -1,4 +1,4 @@
-"""Wrong edits: what each replaces, and which items it changes."""
+"""Wrong edits: what each replaces, and which functions it changes."""
 import dataclasses
 import functools
 import pathlib
@@ -8,7 +8,7 @@ from edits import source
 
 @dataclasses.dataclass(frozen=True)
 class Pair:
-    """A text that stands once in a file, and what replaces it."""
+    """A text that a file contains once, and its replacement."""
 
     file: str
     old: str
@@ -17,7 +17,7 @@ class Pair:
 
 @dataclasses.dataclass(frozen=True)
 class Edit:
-    """An edit of a crate."""
+    """A file `.edit` of a crate."""
 
     path: pathlib.Path
 
@@ -30,99 +30,91 @@ class Edit:
         return f"{self.crate.name}/{self.path.name}"
 
     @functools.cached_property
-    def text(self):
-        return self.path.read_text(encoding="utf-8")
-
-    @property
     def pairs(self):
-        file = old = None
-        for line in self.text.splitlines():
-            word, _, rest = line.partition(": ")
+        file, old, found = None, None, []
+        for line in self.path.read_text(encoding="utf-8").splitlines():
+            word, _, rest = line.partition(":")
             if word == "file":
                 file = rest.strip()
             elif word == "old":
-                old = rest
-            elif word in ("new", "new:"):
-                yield Pair(file, old, rest)
+                old = rest.removeprefix(" ")
+            elif word == "new":
+                found.append(Pair(file, old, rest.removeprefix(" ")))
+        return found
 
-    def original(self, file):
-        return (self.crate / file).read_text(encoding="utf-8")
+    def text(self, file, texts):
+        return texts[file] if file in texts else (self.crate / file).read_text(encoding="utf-8")
 
-    def applied(self, texts):
-        """The texts with this edit's replacements, by file, or why one can't be made."""
-        changed = dict(texts)
+    def steps(self, texts):
+        """Makes the replacements in `texts`, by file, and gives each with the text before it.
+
+        Raises ValueError if an old text isn't in its file exactly once.
+        """
         for pair in self.pairs:
-            text = changed.get(pair.file) or self.original(pair.file)
+            text = self.text(pair.file, texts)
             if (count := text.count(pair.old)) != 1:
-                return None, f"its old text is in {pair.file} {count} times, and not once"
-            changed[pair.file] = text.replace(pair.old, pair.new)
-        return changed, None
+                raise ValueError(f"its old text is in {pair.file} {count} times, and not once")
+            yield pair, text
+            texts[pair.file] = text.replace(pair.old, pair.new)
+
+    def apply(self, texts):
+        """Makes the replacements in `texts`, by file."""
+        for _ in self.steps(texts):
+            pass
 
     @functools.cached_property
-    def items(self):
-        """The innermost item around each text that is replaced, None for one outside all."""
-        found, texts = set(), {}
-        for pair in self.pairs:
-            text = texts.get(pair.file) or self.original(pair.file)
-            line = text.count("\n", 0, text.find(pair.old)) + 1
-            found.add(source.item_at(pair.file, text, line))
-            texts[pair.file] = text.replace(pair.old, pair.new)
-        return frozenset(found)
-
-    def leads_to(self, other):
-        """Whether calls lead from a function that it changes to one that another edit changes."""
-        ways = source.reached(self.crate)
-        return any(there.name in ways.get(here.name, ()) for here in self.items - {None}
-                   for there in other.items - {None})
-
-    @property
-    def paths(self):
-        """The paths of the functions that it changes."""
-        return sorted(it.path for it in self.items - {None})
+    def functions(self):
+        """The functions around its replacements, with None for one that is outside of functions."""
+        return frozenset(source.function_at(pair.file, text, text.find(pair.old))
+                         for pair, text in self.steps({}))
 
     @property
     def is_inside_functions(self):
-        """Whether it changes bodies alone. Proofs of other functions rest on all else."""
-        return all(it and it.name for it in self.items)
+        """Whether it changes only bodies and signatures. Other proofs rest on anything else."""
+        return None not in self.functions
+
+    def goes_with(self, other):
+        """Whether no function that either changes leads by calls to one that the other changes."""
+        calls = source.reached(self.crate)
+        here, there = ({it.name for it in edit.functions} for edit in (self, other))
+        return not any(there & (calls[name] | {name}) for name in here) and \
+            not any(here & calls[name] for name in there)
 
 
-def edits_in(folder):
-    """The edits of a folder, by the files that they change, and then by their names."""
-    found = [Edit(it) for it in folder.glob("*.edit")]
-    return sorted(found, key=lambda it: (next(it.pairs).file, it.path.name))
+def edits_of(folder):
+    """Returns the edits of a crate's folder, by the files that they change, and then by name."""
+    found = [Edit(it) for it in (folder / "must-fail-together").glob("*.edit")]
+    return sorted(found, key=lambda it: (it.pairs[0].file, it.path.name))
 
 
-def rounds(edits):
-    """Puts each edit into the first of some rounds in which no other changes the same function, or
-    one that leads to it by calls, or to which it leads.
-
-    One that changes more than bodies has a round of its own.
-    """
-    made = []
-    for edit in edits:
-        for chosen in made:
-            if goes_with(edit, chosen):
-                chosen.append(edit)
-                break
-        else:
-            made.append([edit])
-    return made
-
-
-def goes_with(edit, chosen):
-    """Whether an edit can be tried together with others."""
+def fits(edit, chosen):
+    """Whether an edit can be tried together with others in one check."""
     if not all(it.is_inside_functions for it in [edit, *chosen]):
         return False
-    if any(it.items & edit.items or it.leads_to(edit) or edit.leads_to(it) for it in chosen):
+    if not all(edit.goes_with(it) for it in chosen):
         return False
-    return together([*chosen, edit]) is not None
+    try:
+        together([*chosen, edit])
+    except ValueError:
+        return False
+    return True
 
 
 def together(edits):
-    """The texts of the files that these edits change, by file; None if they don't fit together."""
+    """Returns the texts of the files that these edits change, by file."""
     texts = {}
     for edit in edits:
-        texts, why = edit.applied(texts)
-        if why:
-            return None
+        edit.apply(texts)
     return texts
+
+
+def rounds(edits, most):
+    """Puts each edit into the first round with which it goes and that has fewer than `most`."""
+    made = []
+    for edit in edits:
+        chosen = next((it for it in made if len(it) < most and fits(edit, it)), None)
+        if chosen is None:
+            made.append([edit])
+        else:
+            chosen.append(edit)
+    return made

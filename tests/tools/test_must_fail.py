@@ -1,0 +1,88 @@
+"""What a check's status and lines say of the wrong edits that it was tried with."""
+from tools import LOGIC, Case
+
+SOURCE = """impl Clock {
+    pub fn first(&self) -> u64 {
+        1
+    }
+
+    pub fn second(&self) -> u64 {
+        2
+    }
+}
+"""
+FIRST = "file: src/lib.rt\nold:         1\nnew:         3\n"
+SECOND = "file: src/lib.rt\nold:         2\nnew:         4\n"
+
+
+class MustFail(Case):
+    def setUp(self):
+        super().setUp()
+        self.stand_in("rt", f'echo "rattle-kit-99z logic {LOGIC}"')
+        self.top = self.copy()
+        (self.top / "crates.txt").write_text("low:\n", encoding="utf-8")
+        self.write("src/lib.rt", SOURCE)
+
+    def write(self, name, text):
+        path = self.top / "crates" / "low" / name
+        path.parent.mkdir(parents=True, exist_ok=True)
+        path.write_text(text, encoding="utf-8")
+
+    def tried(self, rattle):
+        """Tries the edits with a rattle of this script. Returns the status and the sorted lines."""
+        self.stand_in("rattle", f"echo \"$*\" >>{self.room}/calls\n{rattle}")
+        status, said, errors = self.run_tool("tools/must_fail", "low", top=self.top)
+        self.assertEqual("", errors)
+        return status, sorted(said.splitlines())
+
+    def calls(self):
+        return (self.room / "calls").read_text(encoding="utf-8").splitlines()
+
+    def test_edits_whose_functions_are_named_are_refused_in_one_check(self):
+        self.write("must-fail-together/first.edit", FIRST)
+        self.write("must-fail-together/second.edit", SECOND)
+        found = self.tried('echo "fn low::Clock::first: not proved"\n'
+                           'echo "fn low::Clock::second: no proof, as search found none"\nexit 1')
+        self.assertEqual((0, ["low/first.edit: refused", "low/second.edit: refused",
+                              "must_fail: 2 edits of 1 crates refused, 0 not"]), found)
+        self.assertEqual(1, len(self.calls()))
+        self.assertIn("--only=Clock::first --only=Clock::second", self.calls()[0])
+
+    def test_an_edit_that_is_not_named_is_tried_in_a_check_of_the_whole_crate(self):
+        self.write("must-fail-together/first.edit", FIRST)
+        found = self.tried('case "$*" in *--only*) exit 0 ;; esac\n'
+                           'echo "fn low::Clock::other: not proved"\nexit 1')
+        self.assertEqual((0, ["low/first.edit: refused, in a check of the whole crate",
+                              "must_fail: 1 edits of 1 crates refused, 0 not"]), found)
+        self.assertEqual(2, len(self.calls()))
+
+    def test_an_edit_with_which_the_crate_is_proved_is_not_refused(self):
+        self.write("must-fail-together/first.edit", FIRST)
+        found = self.tried("exit 0")
+        self.assertEqual((1, ["low/first.edit: NOT REFUSED: the crate is still proved with it",
+                              "must_fail: 0 edits of 1 crates refused, 1 not"]), found)
+
+    def test_a_check_that_names_no_function_judges_nothing(self):
+        self.write("must-fail-together/first.edit", FIRST)
+        for status in 1, 2, 3:
+            with self.subTest(status):
+                ended, said = self.tried(f"echo 'error: expected an expression'\nexit {status}")
+                self.assertEqual(1, ended)
+                why = f"low/first.edit: NOT REFUSED: the check judged nothing (status {status}):"
+                self.assertIn(why, said)
+
+    def test_functions_of_which_one_calls_the_other_are_tried_in_two_checks(self):
+        self.write("src/lib.rt", SOURCE.replace("        1\n", "        1 + self.second()\n"))
+        self.write("must-fail-together/first.edit", FIRST.replace("1\n", "1 +\n", 1)
+                   .replace("3\n", "3 +\n"))
+        self.write("must-fail-together/second.edit", SECOND)
+        status, said = self.tried('echo "fn low::Clock::first: not proved"\n'
+                                  'echo "fn low::Clock::second: not proved"\nexit 1')
+        self.assertEqual((0, 3), (status, len(said)))
+        self.assertEqual(2, len(self.calls()))
+
+    def test_an_edit_that_no_longer_applies_is_listed(self):
+        self.write("must-fail-together/first.edit", FIRST.replace("1\n", "5\n", 1))
+        status, _, errors = self.run_tool("tools/must_fail", "--apply", top=self.top)
+        self.assertEqual((1, "crates/low/must-fail-together/first.edit: its old text is in "
+                             "src/lib.rt 0 times, and not once\n"), (status, errors))

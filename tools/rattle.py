@@ -1,0 +1,149 @@
+"""The commands of the Rattle toolchain, composed from crates.txt as one would call rustc.
+
+It uses only documented interfaces: `rt version` and `rt doc`, the toolchain's folder rlibs, and the
+flags that `rattle build --help`, `rattle check --help` and `rattle-link` list. Any toolchain of the
+logic LOGIC serves; as a program, `rattle.py TOOL` ends with status 2 if the logic is another.
+"""
+import dataclasses
+import functools
+import os
+import pathlib
+import subprocess
+import sys
+import time
+from concurrent import futures
+
+ROOT = pathlib.Path(__file__).resolve().parent.parent
+LOGIC = "dac8208d650f15bf"
+PARTS = ("src", "specs", "proofs")
+
+
+def rt(verb):
+    """Returns what `rt VERB` prints, or "" if there is no `rt`."""
+    ran = subprocess.run(["sh", "-c", f"rt {verb}"], capture_output=True, text=True, check=False)
+    return ran.stdout.strip()
+
+
+def require_logic(tool):
+    """Ends a tool with one sentence and status 2 if the toolchain has another logic."""
+    version = rt("version") or "nothing"
+    if f"logic {LOGIC}" not in version:
+        print(f"{tool}: needs logic {LOGIC}, rt version prints {version}", file=sys.stderr)
+        sys.exit(2)
+
+
+@functools.cache
+def kit():
+    """Returns the folder of the toolchain."""
+    return pathlib.Path(rt("doc")).parent
+
+
+def processors():
+    """Returns how many checks to run side by side: each takes up to 3 GB."""
+    return min(len(os.sched_getaffinity(0)), 8)
+
+
+@dataclasses.dataclass(frozen=True)
+class Crate:
+    """A line of crates.txt."""
+
+    name: str
+    kind: str  # "staticlib", or "" for a library or a program
+    uses: tuple  # the names after the colon
+
+    @property
+    def folder(self):
+        return ROOT / "crates" / self.name
+
+    @property
+    def is_program(self):
+        return (self.folder / "src" / "main.rt").is_file()
+
+    @functools.cached_property
+    def below(self):
+        """The crates of the repository that this one uses, also through others, lowest first."""
+        own = [crates()[name] for name in self.uses if name in crates()]
+        return list(dict.fromkeys(low for it in own for low in (*it.below, it)))
+
+    def changed(self):
+        """Returns when a file of the crate, or of one below it, was last changed."""
+        return max(path.stat().st_mtime for it in (*self.below, self) for part in PARTS
+                   for path in (it.folder / part).rglob("*"))
+
+    def arguments(self, libraries, folder):
+        """Returns rattle's arguments for the crate's files in a folder, over built libraries."""
+        rlibs = kit() / "rlibs"
+        places = [(it, libraries if it in crates() else rlibs) for it in ("std", *self.uses)]
+        kind = [f"--crate-type={self.kind}"] if self.kind else []
+        return [f"--crate-name={self.name}", f"-Ldependency={rlibs}", f"-Ldependency={libraries}",
+                *(f"--extern={name}={place / name}.rlib" for name, place in places), *kind,
+                f"--antt-project={kit() / 'rattle' / 'logic' / 'antt-project.json'}",
+                f"--logic-built={kit() / 'logic_built'}",
+                f"{folder}/src/{'main' if self.is_program else 'lib'}.rt"]
+
+    def run(self, command, libraries, *more, folder=None):
+        """Runs `rattle COMMAND` on the crate's files, and returns its status and its output."""
+        given = ["rattle", command, *self.arguments(libraries, folder or self.folder), *more]
+        ran = subprocess.run(given, cwd=folder or self.folder, check=False, errors="replace",
+                             stdin=subprocess.DEVNULL, stdout=subprocess.PIPE,
+                             stderr=subprocess.STDOUT)
+        return ran.returncode, ran.stdout
+
+    def build(self, libraries):
+        """Proves the crate and puts NAME.rlib, or a program's NAME, into a folder of libraries."""
+        if not self.is_program:
+            return self.run("build", libraries, f"--jobs={min(processors(), 4)}", "--statements",
+                            f"-o={libraries / self.name}.rlib")
+        # (a program has few functions, and a second process would load its libraries again)
+        made, toolchain = libraries / f"{self.name}.o", kit() / "toolchain"
+        status, said = self.run("build", libraries, f"--toolchain={toolchain}", f"-o={made}")
+        if status:
+            return status, said
+        given = ["--target", "x86_64-unknown-linux-gnu", "--toolchain", toolchain,
+                 "-o", libraries / self.name, made, *sorted((kit() / "c").glob("lib*.a"))]
+        ran = subprocess.run([kit() / "bin" / "rattle-link", *given], check=False, text=True,
+                             stderr=subprocess.PIPE)
+        return ran.returncode, ran.stderr
+
+    def is_built(self, libraries):
+        built = libraries / (self.name if self.is_program else f"{self.name}.rlib")
+        return built.exists() and built.stat().st_mtime > self.changed()
+
+
+@functools.cache
+def crates():
+    """Returns the crates of crates.txt by their names."""
+    lines = (ROOT / "crates.txt").read_text(encoding="utf-8").splitlines()
+    parts = [line.partition("#")[0].partition(":") for line in lines]
+    heads = [(head.split(), uses.split()) for head, _, uses in parts if head.strip()]
+    return {name: Crate(name, " ".join(kind), tuple(uses)) for (name, *kind), uses in heads}
+
+
+def prove(crate, libraries):
+    """Builds a crate unless it is built, with a line that says so. Returns whether it is proved."""
+    if crate.is_built(libraries):
+        return True
+    started = time.monotonic()
+    status, said = crate.build(libraries)
+    what = f"{'NOT PROVED' if status else 'proved'} in {time.monotonic() - started:.0f} s"
+    print(f"{said if status else ''}{crate.name} {what}", flush=True)
+    return status == 0
+
+
+def build_all(wanted, libraries):
+    """Builds crates, each once those below it are built. Returns whether all are proved."""
+    waiting, running, done = list(wanted), {}, set()
+    with futures.ThreadPoolExecutor(len(waiting) or 1) as pool:
+        while True:
+            for it in [it for it in waiting if done.issuperset(it.below)]:
+                waiting.remove(it)
+                running[pool.submit(prove, it, libraries)] = it
+            if not running:
+                return not waiting and len(done) == len(wanted)
+            ended = futures.wait(running, return_when="FIRST_COMPLETED").done
+            done |= {crate for crate, is_proved in
+                     [(running.pop(it), it.result()) for it in ended] if is_proved}
+
+
+if __name__ == "__main__":
+    require_logic(*sys.argv[1:])
