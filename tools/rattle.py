@@ -67,8 +67,8 @@ class Crate:
 
     def changed(self):
         """Returns when a file of the crate, or of one below it, was last changed."""
-        return max(path.stat().st_mtime for it in (*self.below, self) for part in PARTS
-                   for path in (it.folder / part).rglob("*"))
+        files = [path for it in (*self.below, self) for path in it.folder.glob("[sp]*/**/*.*t")]
+        return max(path.stat().st_mtime for path in files)
 
     def arguments(self, libraries, folder):
         """Returns rattle's arguments for the crate's files in a folder, over built libraries."""
