@@ -16,27 +16,38 @@
  *     code = tkc_page_now(&page, TKC_CLOCK_MONOTONIC, read_counter, NULL, &time);     a reader
  *
  * Which one
- *   - A page: MONOTONIC never goes back for any reader, because the writer reads the counter after
- *     tkc_page_begin, and tkc_page_now before its second look. A reader waits while a writer
- *     writes, so a handler that may interrupt the writer must not read the page. If the writer
- *     ends between tkc_page_begin and tkc_page_publish, readers wait forever.
+ *   - A page: MONOTONIC never goes back for any reader, if the clocks get a command at least once
+ *     in each half of the counter's range (tkcore.h, "Limits"). For this the writer reads the
+ *     counter after tkc_page_begin, and tkc_page_now reads it before the reader's second look. A
+ *     reader waits while a writer is between tkc_page_begin and tkc_page_publish, so a handler that
+ *     may interrupt the writer must not read the page. If the writer ends there, readers wait
+ *     forever.
  *   - A latch: a reader never waits for a writer that it interrupted, so an NMI or a signal handler
- *     may read it. MONOTONIC may go back by what the rate changed since the writer's reading
- *     (as in ktime_get_mono_fast_ns in kernel/time/timekeeping.c).
+ *     may read it. MONOTONIC may go back by the change of the rate times the time since the
+ *     writer's reading (as in ktime_get_mono_fast_ns in kernel/time/timekeeping.c).
  *
  * What is proved
- *   This header isn't proved. It follows the steps of the crates tk_page and tk_latch, whose pages
- *   are. Each read passes the words to tkc_counter_new and tkc_snapshot_from_words, which validate
- *   them, so neither a fault here nor another process that overwrites the memory can produce an
+ *   Nothing in this header is proved. The crates tk_page, tk_latch and tk_now are, and the steps
+ *   below are theirs, with these differences:
+ *   - In the crates, a reader reads the counter after it has read the page or the latch, between
+ *     two looks at a separate word, the notice (tk_now). A command makes the notice odd before it
+ *     reads the counter. Here there is no notice. tkc_page_now and tkc_latch_now read the counter
+ *     between the two looks at the sequence. tkc_page_begin makes the page's sequence odd before
+ *     the command reads the counter; nothing does that for a latch.
+ *   - After a failed try, a reader tries again. A reader of tk_page then takes the page for itself,
+ *     and tk_latch returns Moved.
+ *   - Loads, stores and fences have a weaker order. In the crates all are sequentially consistent.
+ *   - A latch stores all words. tk_latch stores only the words that changed.
+ *   Each read passes the words to tkc_counter_new and tkc_snapshot_from_words, which validate them.
+ *   So neither a fault in this header nor another process that overwrites the memory can produce an
  *   invalid snapshot.
  *
  * The counter
- *   read_counter(context) returns a reading. It is called between the two looks of a reader, so it
- *   must read the counter there and nowhere else: neither before the loads that precede the call,
- *   nor after the loads that follow it.
- *   - x86-64: "lfence; rdtsc; lfence" or "rdtscp; lfence" (the second lfence keeps the second look
- *     from running before the reading), if the TSC is constant and the same on all processors.
- *   - Arm: "isb; mrs cntvct_el0; isb".
+ *   read_counter(context) returns a reading. The function must read the counter after the loads
+ *   that precede its call and before the loads that follow it. If the processor may reorder the
+ *   reading, the function must prevent that:
+ *   - x86-64: "lfence; rdtsc; lfence" or "rdtscp; lfence", if the TSC is constant and the same on
+ *     all processors. The last lfence keeps the second look from running before the reading.
  *   - A device: a load that the device orders with memory.
  */
 #ifndef TKCORE_PAGE_H
@@ -58,12 +69,12 @@ typedef _Atomic uint64_t tkc_word;
 #define TKC_FENCE(order) atomic_thread_fence(memory_order_##order)
 #endif
 
-/* The ten words of a snapshot (tkc_snapshot_words). */
+/* The ten 64-bit words of a snapshot (tkc_snapshot_words). */
 struct tkc_page_words {
 	tkc_word words[TKC_WORDS];
 };
 
-/* The numbers of the counter (tkc_counter_numbers), which don't change. */
+/* The numbers of the counter (tkc_counter_numbers). They don't change. */
 struct tkc_page_counter {
 	uint32_t bits, mult, shift, padding;
 };
@@ -92,7 +103,7 @@ struct tkc_page {
  *           3. makes the sequence even: readers take copy 0.
  *           4. writes copy 1.
  *   Reader: 5. loads the sequence: the first look.
- *           6. loads the words of the copy that the sequence names, and reads the counter.
+ *           6. loads the words of the copy that the sequence selects, and reads the counter.
  *           7. loads the sequence again: the second look. Starts again if it has changed.
  */
 struct tkc_latch {
@@ -139,8 +150,9 @@ static inline void tkc_page_counter_store(struct tkc_page_counter *stored,
 }
 
 /*
- * Makes a page with its first snapshot. No other thread may use the page before this returns. Pass
- * it on by a call that orders memory, such as pthread_create or an atomic store.
+ * Makes a page with its first snapshot. No other thread may use the page before this call returns.
+ * Pass the page to other threads by a call that orders memory, such as pthread_create or an atomic
+ * store.
  */
 static inline void tkc_page_init(struct tkc_page *page, const struct tkc_counter *counter,
 				 const struct tkc_snapshot *snapshot)
@@ -154,15 +166,15 @@ static inline void tkc_page_init(struct tkc_page *page, const struct tkc_counter
 }
 
 /*
- * Does the writer's step 1. Read the counter for the command after this call. Between this call
- * and tkc_page_publish readers wait, so do nothing else there. One writer at a time: the caller's
- * lock must exclude others.
+ * Does the writer's step 1. Read the counter for the command after this call. Readers wait between
+ * this call and tkc_page_publish, so do nothing else there. The caller's lock must exclude other
+ * writers.
  *
- * The fence is a full one. Each reader must be able to see the odd sequence before the writer reads
- * the counter: otherwise a reader may still accept the old words with a reading after the
- * command's, and see a time that the new words put later. A release fence doesn't order a store
- * before a later load, nor before rdtsc. The lfence of read_counter then keeps rdtsc after the full
- * fence.
+ * The fence must be a full one: all readers must be able to see the odd sequence before the writer
+ * reads the counter. Otherwise a reader may accept the old words with a reading after the command's
+ * reading, and return a time that is later than the new words give. A release fence doesn't order a
+ * store before a later load, nor before rdtsc. The lfence of read_counter keeps rdtsc after the
+ * full fence.
  */
 static inline void tkc_page_begin(struct tkc_page *page)
 {
@@ -172,7 +184,7 @@ static inline void tkc_page_begin(struct tkc_page *page)
 	TKC_FENCE(seq_cst);
 }
 
-/* Does the writer's steps 3 and 4. After a refused command it publishes the same snapshot again. */
+/* Does the writer's steps 3 and 4. After a refused command, publish the same snapshot again. */
 static inline void tkc_page_publish(struct tkc_page *page, const struct tkc_snapshot *snapshot)
 {
 	uint64_t sequence = TKC_LOAD(&page->sequence, relaxed);
@@ -191,9 +203,9 @@ static inline int tkc_page_moved(const tkc_word *sequence, uint64_t first)
 }
 
 /*
- * Reads the latest snapshot. With a reading that is taken after this call returns, its times may be
- * past those of a later snapshot: use tkc_page_now to read a clock. Returns TKC_BAD_WORDS, or
- * TKC_BAD_BITS to TKC_BAD_ADJUST, if something else than these calls wrote the page.
+ * Reads the latest snapshot. At a reading that is taken after this call, it may give a later time
+ * than the next snapshot gives. So use tkc_page_now to read a clock. Returns TKC_BAD_WORDS, or
+ * TKC_BAD_BITS to TKC_BAD_ADJUST, if anything else than these calls wrote the page.
  */
 static inline enum tkc_code tkc_page_read(const struct tkc_page *page, struct tkc_snapshot *out)
 {
@@ -208,7 +220,7 @@ static inline enum tkc_code tkc_page_read(const struct tkc_page *page, struct tk
 
 /*
  * Reads a clock now: reads the counter while the words are the latest, and stores the clock's time
- * at that reading. Returns the codes of tkc_page_read and then those of tkc_snapshot_get.
+ * at that reading. Returns the codes of tkc_page_read and then the codes of tkc_snapshot_get.
  */
 static inline enum tkc_code tkc_page_now(const struct tkc_page *page, uint32_t clock,
 					 tkc_read_counter *read_counter, void *context,
@@ -241,9 +253,9 @@ static inline void tkc_latch_init(struct tkc_latch *latch, const struct tkc_coun
 }
 
 /*
- * Does the writer's steps. Each sequence is stored after the copy that it names is whole, and
- * before the other copy is written (raw_write_seqcount_latch in include/linux/seqlock.h). One
- * writer at a time.
+ * Does the writer's steps. It stores a sequence after the copy that the sequence selects is whole,
+ * and before it writes the other copy (raw_write_seqcount_latch in include/linux/seqlock.h). The
+ * caller's lock must exclude other writers.
  */
 static inline void tkc_latch_publish(struct tkc_latch *latch, const struct tkc_snapshot *snapshot)
 {

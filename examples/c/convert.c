@@ -29,9 +29,9 @@ static bool is_done(uint32_t code, const char *call)
 }
 
 /*
- * Makes a snapshot of clocks over a counter of 48 bits. The clocks are slowed by
- * 20 ppm a quarter of a second after the opening, and stepped forward by 1.5 s
- * half a second after it.
+ * Makes a snapshot of the clocks of a counter of 48 bits. The clocks are slowed
+ * by 20 ppm a quarter of a second after the opening, and stepped forward by
+ * 1.5 s half a second after it.
  */
 static bool make_snapshot(struct tkc_snapshot *snapshot)
 {

@@ -1,15 +1,15 @@
 /* SPDX-License-Identifier: MIT OR Apache-2.0 */
 /*
  * Publishes snapshots on a page of include/tkcore_page.h. One thread applies
- * commands and publishes each snapshot. Readers read MONOTONIC without a lock,
- * as the kernel's readers do under tk_core.seq (kernel/time/timekeeping.c,
- * Documentation/locking/seqlock.rst).
+ * commands and publishes a snapshot after each. Readers read MONOTONIC without
+ * a lock, as the kernel's readers do under tk_core.seq
+ * (kernel/time/timekeeping.c, Documentation/locking/seqlock.rst).
  *
  * The writer reads the counter after tkc_page_begin, and tkc_page_now reads it
  * before its second look. So a reader never combines a snapshot with a reading
- * later than that of the next command, and it never sees MONOTONIC go back.
+ * later than the next command's reading, and it never sees MONOTONIC go back.
  *
- * The counter here is a word in memory. tests/c/page_tsc.c does the same over
+ * The counter here is a word in memory. tests/c/page_tsc.c does the same with
  * the TSC.
  */
 #include <inttypes.h>
@@ -29,10 +29,10 @@ enum {
 
 struct machine {
 	struct tkc_page page;
-	_Atomic uint64_t cycles; /* what the counter shows */
+	_Atomic uint64_t cycles; /* the counter's reading */
 	atomic_bool is_done;
 	struct tkc_counter counter;
-	struct tkc_clock clock; /* used by the writer alone */
+	struct tkc_clock clock; /* used only by the writer */
 };
 
 struct reader {
@@ -42,7 +42,7 @@ struct reader {
 	const char *wrong;
 };
 
-/* Returns the counter's reading. `context` is the word that it shows. */
+/* Returns the counter's reading. `context` is the counter's word. */
 static uint64_t read_counter(void *context)
 {
 	_Atomic uint64_t *cycles = context;
@@ -88,7 +88,7 @@ static uint32_t write_all(struct machine *machine)
 	return code;
 }
 
-/* Reads the front of the page's snapshot. Returns what is wrong, or NULL. */
+/* Reads the front of the page's snapshot. Returns the fault, or NULL. */
 static const char *look_front(struct reader *reader)
 {
 	uint64_t words[TKC_WORDS];
@@ -103,7 +103,7 @@ static const char *look_front(struct reader *reader)
 	return NULL;
 }
 
-/* Reads MONOTONIC, and then the front. Returns what is wrong, or NULL. */
+/* Reads MONOTONIC, and then the front. Returns the fault, or NULL. */
 static const char *look(struct reader *reader)
 {
 	struct machine *machine = reader->machine;
@@ -165,7 +165,7 @@ static int start_readers(struct reader readers[READERS],
 	return started;
 }
 
-/* Returns whether each reader saw what it should. */
+/* Returns whether no reader found a fault. */
 static bool join_readers(struct reader readers[READERS], int started)
 {
 	bool is_right = true;

@@ -11,7 +11,7 @@
 #include <stdint.h>
 #include <string.h>
 
-/* The most fields of a record in a script: those of an opening with its word. */
+/* The most fields that a record of a script has: an opening's, with its word. */
 enum { FIELDS_MOST = 7 };
 
 /* The part of a text that isn't read yet. */

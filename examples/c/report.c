@@ -3,8 +3,8 @@
  * Prints the report of the tkcore script on standard input. Each command and
  * each read of the script is one call of the library.
  *
- * The library keeps no journal, so it refuses no command as full when tkcore's
- * journal is full. The report is that of `tkcore replay --keep`.
+ * The library keeps no journal, so no command is refused because a journal is
+ * full. So the report equals the report of `tkcore replay --keep N`.
  */
 #define _POSIX_C_SOURCE 200809L
 

@@ -102,7 +102,7 @@ static const struct shape *find_shape(const struct field *word)
 	return NULL;
 }
 
-/* Parses a record. Returns what is wrong with it, or NULL. */
+/* Parses a record. Returns its fault, or NULL. */
 static const char *parse_row(const struct record *record, struct row *row)
 {
 	const struct shape *shape = find_shape(&record->fields[0]);

@@ -1,8 +1,8 @@
 /* SPDX-License-Identifier: MIT OR Apache-2.0 */
 /*
- * Parses the scripts of tkcore. A script has an opening and the rows after it.
- * Each row is a command or a read of a clock. crates/tk_script/README.md
- * describes the format.
+ * Parses the scripts of tkcore. A script begins with an opening; each row after
+ * it is a command or a read of a clock. crates/tk_script/README.md describes the
+ * format.
  */
 #ifndef SCRIPT_H
 #define SCRIPT_H
@@ -19,10 +19,10 @@ enum { SCRIPT_LIMIT = 16777216 };
 struct row {
 	bool is_read;
 	uint64_t reading;
-	uint32_t command; /* as tkc_clock_apply takes it, with its numbers */
+	uint32_t command; /* an argument of tkc_clock_apply, as number and nsec are */
 	int64_t number;
 	uint32_t nsec;
-	uint32_t clock; /* as tkc_snapshot_get takes it */
+	uint32_t clock; /* an argument of tkc_snapshot_get */
 };
 
 /* The clocks as the first record opens them, and the rows after it. */

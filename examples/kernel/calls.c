@@ -1,5 +1,5 @@
 // SPDX-License-Identifier: GPL-2.0
-/* The call that uses SSE registers, and those that go by words and by times. */
+/* The call that uses SSE registers, and the calls with words and with times. */
 #define pr_fmt(fmt) "tkc: " fmt
 
 #include "trial.h"
@@ -20,7 +20,7 @@ static void end_sse(void)
 		kernel_fpu_end();
 }
 
-/* Converts a list, and returns whether its times are those of single reads. */
+/* Converts a list, and returns whether single reads give the same times. */
 static bool convert(const struct tkc_snapshot *snapshot, u64 reading)
 {
 	u64 stamps[STAMPS], out[STAMPS];

@@ -1,7 +1,7 @@
 /* SPDX-License-Identifier: GPL-2.0 */
 /*
  * Clocks for a kernel: commands under a lock, and snapshots for readers in any
- * context, as kernel/time/timekeeping.c has them.
+ * context, as in kernel/time/timekeeping.c.
  */
 #ifndef CLOCKS_H
 #define CLOCKS_H

@@ -9,7 +9,7 @@
 
 #include <linux/delay.h>
 
-/* What a phase found: the differences, and the time outside ktime_get(). */
+/* The results of a phase: the differences, and the time outside ktime_get(). */
 struct found {
 	u64 count;
 	struct times least, most;
@@ -166,9 +166,9 @@ bool compare_steered(unsigned int milliseconds)
 }
 
 /*
- * Sets REALTIME by do_settimeofday64() and by SET_TIME. Each sets it at its
- * own reading, so what is compared is how each moves REALTIME against
- * MONOTONIC: by the time that was set less MONOTONIC at the command.
+ * Sets REALTIME by do_settimeofday64() and by SET_TIME, at different readings.
+ * So it compares the changes of REALTIME minus MONOTONIC: afterwards this
+ * difference must be the set time minus MONOTONIC at the command.
  */
 bool compare_set(const struct timespec64 *time)
 {

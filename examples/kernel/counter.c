@@ -1,5 +1,5 @@
 // SPDX-License-Identifier: GPL-2.0
-/* The counter that the clocks run over, and the clocks' opening. */
+/* The counter of the clocks, and the clocks' opening. */
 #define pr_fmt(fmt) "tkc: " fmt
 
 #include "trial.h"

@@ -2,10 +2,10 @@
 /*
  * /proc/tkcore/script    the trial's commands and reads, as a script of tkcore
  * /proc/tkcore/report    their results
- * /proc/tkcore/replay    takes a script, and gives its report
- * /proc/tkcore/command   takes "step SEC NSEC", "freq NUMBER", "tick NUMBER" or
- *                        "tai NUMBER", and applies it; or "set SEC NSEC", which
- *                        also sets the kernel's REALTIME
+ * /proc/tkcore/replay    accepts a script, and contains its report
+ * /proc/tkcore/command   accepts "step SEC NSEC", "freq NUMBER", "tick NUMBER"
+ *                        or "tai NUMBER", and applies it; or "set SEC NSEC",
+ *                        which also sets the kernel's REALTIME
  * /proc/tkcore/compare   the module's MONOTONIC_RAW, MONOTONIC, REALTIME,
  *                        BOOTTIME and TAI minus the kernel's, in ns
  */

@@ -2,8 +2,8 @@
 /*
  * Runs the clocks of the library in a kernel. A timer applies a command each
  * millisecond, process, softirq, hardirq and NMI context read, and both are
- * compared with the kernel's own clocks. insmod reports what was found, and
- * fails if anything is wrong. The files of /proc/tkcore then allow more.
+ * compared with the kernel's own clocks. insmod reports the results, and fails
+ * if anything is wrong. The files of /proc/tkcore then allow more.
  */
 #define pr_fmt(fmt) "tkc: " fmt
 

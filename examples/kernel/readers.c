@@ -19,7 +19,7 @@ enum context { PROCESS, SOFTIRQ, HARDIRQ, NMI, CONTEXTS };
 static const char *const CONTEXT_WORDS[] = { "process", "softirq", "hardirq",
 					     "nmi" };
 
-/* What a context's reads on one processor found. */
+/* The results of a context's reads on one processor. */
 struct seen {
 	u64 reads, refused, wrong, amid, back, most_back;
 };
@@ -40,7 +40,7 @@ static void raise_latest(u64 value)
 		;
 }
 
-/* MONOTONIC_RAW follows the counter's description alone, to the nanosecond. */
+/* MONOTONIC_RAW depends only on the counter's description, to the nanosecond. */
 static bool is_raw(const struct tkc_snapshot *snapshot, u64 reading)
 {
 	struct tkc_time raw;

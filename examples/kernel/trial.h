@@ -1,5 +1,5 @@
 /* SPDX-License-Identifier: GPL-2.0 */
-/* What the files of the trial share. */
+/* The declarations that the files of the trial share. */
 #ifndef TRIAL_H
 #define TRIAL_H
 

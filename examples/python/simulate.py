@@ -4,13 +4,13 @@
 
     tools/build_c && examples/python/simulate.py dist
 
-Each poll asks the reference for the true time. The machine steps its clock by the first offset.
-Each later offset shows how far the frequency is off. The clocks are those of the library, so they
-keep each nanosecond and follow each rule of the kernel's. The table's columns are:
+A poll asks the reference for the true time. The machine steps its clock by the first offset. A
+later offset shows the error of the frequency. The clocks are the library's, so they lose no
+nanosecond and follow the rules of the kernel. The table's columns are:
 
 - seconds of true time;
 - REALTIME minus true time, in ns;
-- the frequency in force from there on, in ppm.
+- the frequency after the poll, in ppm.
 
 The program ends with status 1 if the clocks don't get within a microsecond of the true time.
 """
@@ -20,7 +20,7 @@ import sys
 import tkcore
 
 HZ = 24_000_000
-OFF_PPB = 37_250  # how much too fast the oscillator runs, in parts of 10^9
+OFF_PPB = 37_250  # the oscillator is too fast by this, in parts of 10^9
 STARTED = 1_700_000_000 * tkcore.NANOS
 POLL = 16 * tkcore.NANOS
 POLLS = 8
@@ -29,7 +29,7 @@ PPM = 65_536  # one ppm, in a frequency's unit of 2^-16 ppm
 
 
 class Machine:
-    """Clocks over an oscillator. They are opened 2.5 s behind the true time."""
+    """The clocks of an oscillator. They are opened 2.5 s behind the true time."""
 
     def __init__(self, library):
         counter = library.counter_from_hz(bits=48, hz=HZ, maxsec=600)

@@ -4,8 +4,8 @@
 
     stamps.py now >SCRIPT                     the clocks of this machine, for perf record -k
     stamps.py clock [READING] <META >SCRIPT   the clock of a CTF trace's metadata
-    stamps.py perf SCRIPT <TEXT >STAMPS       TEXT is what perf script --ns -F time prints
-    stamps.py ctf SCRIPT <TEXT >STAMPS        TEXT is what babeltrace2 --clock-cycles prints
+    stamps.py perf SCRIPT <TEXT >STAMPS       TEXT is the output of perf script --ns -F time
+    stamps.py ctf SCRIPT <TEXT >STAMPS        TEXT is the output of babeltrace2 --clock-cycles
 
 `now` opens the clocks at the present reading of MONOTONIC_RAW, in ns, and steers REALTIME as the
 kernel does at present. `clock` opens them at READING, 0 if it isn't given. `perf` and `ctf` write a
@@ -14,7 +14,7 @@ reading isn't after the stamp, so SCRIPT must have no command that tkcore refuse
 that is below the one before it.
 
 The program ends with status 1 and a line on standard error if it can't read its input, or if a
-stamp lies before SCRIPT's opening. docs/PERF.md has the whole recipe.
+stamp is before SCRIPT's opening. docs/TRACERS.md describes all steps.
 """
 import argparse
 import bisect
@@ -25,7 +25,7 @@ import sys
 import time
 
 NANOS = 1_000_000_000
-READS = 100  # how often `now` reads the clocks; it takes the closest readings
+READS = 100  # `now` reads the clocks this many times, and takes the closest readings
 NEUTRAL = {"tick": 10_000, "freq": 0, "tai": 0}
 LONGS = ("maxerror esterror status constant precision tolerance sec usec tick ppsfreq jitter shift "
          "stabil jitcnt calcnt errcnt stbcnt tai").split()
@@ -45,14 +45,14 @@ class Timex(ctypes.Structure):
 
 
 def opening(hz, reading, realtime):
-    """Returns the record that opens the clocks over a counter of 64 bits, with the finest mult."""
+    """Returns the record that opens the clocks of a counter of 64 bits, with the finest mult."""
     if not 0 <= realtime:
         raise Fault("REALTIME at the opening is before 1970")
     return f"openhz,64,{hz},1,{reading},{realtime // NANOS},{realtime % NANOS}"
 
 
 def steering():
-    """Returns the kernel's tick in us, its frequency in 2^-16 ppm, and TAI less UTC in s."""
+    """Returns the kernel's tick in us, its frequency in 2^-16 ppm, and TAI minus UTC in s."""
     timex = Timex()
     if ctypes.CDLL(None).adjtimex(ctypes.byref(timex)) < 0:
         raise Fault("adjtimex failed")
@@ -82,7 +82,7 @@ def without_comments(text):
 
 
 def clock(metadata, reading):
-    """Returns the script of the only clock that the metadata has."""
+    """Returns the script of the metadata's clock, which must be the only one."""
     blocks = re.findall(r"\bclock\s*\{(.*?)\}", without_comments(metadata), re.S)
     if len(blocks) != 1:
         raise Fault(f"the metadata has {len(blocks)} clocks instead of one")

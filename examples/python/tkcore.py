@@ -70,7 +70,7 @@ class Library:
             raise Refused(code)
 
     def counter(self, bits, mult, shift):
-        """Returns the counter that has these numbers."""
+        """Returns the counter with these numbers."""
         counter = self.counter_value()
         self.call("tkc_counter_new", byref(counter), U32(bits), U32(mult), U32(shift))
         return counter

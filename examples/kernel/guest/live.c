@@ -22,13 +22,13 @@ enum {
 	FREQUENCY = 100 << 16, /* 100 ppm */
 	TICK_US = 10100,
 	TAI_SEC = 37,
-	/* what the kernel's discipline of its rate may add in the meantime */
+	/* the most that the kernel's discipline of its rate adds in the meantime */
 	NEAR_NS = 100000,
 	/* a tick of 1 % more, given to one clock some time before the other */
 	TICK_NEAR_NS = 1000000,
 	/* a rate is compared again if the host paused the guest between the two */
 	TRIES = 10,
-	/* what the kernel may count between its suspend and the module's */
+	/* the most that the kernel counts between its suspend and the module's */
 	AWAKE_NS = 1000000000,
 };
 
@@ -82,8 +82,8 @@ static long long changed(const struct times *from, const struct times *to,
 	return to->of[clock] - from->of[clock];
 }
 
-/* Returns whether each clock differs from the kernel's as it did, except for
- * `near` ns. */
+/* Returns whether the clocks differ from the kernel's as before, up to `near`
+ * ns. */
 static bool is_same(const char *what, const struct times *from, long long near)
 {
 	struct times now = compare();
@@ -123,7 +123,7 @@ static void usual_rate(void)
 	pause_a_while();
 }
 
-/* The trial at insmod steered the module's clocks alone. */
+/* The trial at insmod steered only the module's clocks. */
 static void begin(void)
 {
 	struct timex timex = { .modes = ADJ_TAI };
@@ -199,8 +199,8 @@ static void tai(void)
 /*
  * Suspends the system up to the point at which the firmware would be called.
  * The kernel counts for a while between the module's SUSPEND and its own
- * suspend, and so before the module's RESUME: by that while alone, which is
- * the same for all clocks, the module's clocks then lag.
+ * suspend, and between its own resume and the module's RESUME. The module's
+ * clocks then lag by exactly that time, the same for all clocks.
  */
 static void suspend(void)
 {
