@@ -1,6 +1,6 @@
 /* SPDX-License-Identifier: MIT OR Apache-2.0 */
 /*
- * Compares the conversions that docs/PERF.md describes with perf's own rule,
+ * Compares the conversions that docs/TRACERS.md describes with perf's own rule,
  * which include/uapi/linux/perf_event.h gives in 64 bits that wrap.
  *
  *     perf_rule CASES

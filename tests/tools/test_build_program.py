@@ -15,7 +15,11 @@ echo "$name" >>%s/calls
 mkdir -p "$(dirname "$made")"
 case $made in *.rlib) mkdir "$made" ;; *) echo made >"$made" ;; esac
 """
-LINK = '#!/bin/sh\nwhile [ "$1" != -o ]; do shift; done\nprintf "#!/bin/sh\\ncat\\n" >"$2"\nchmod +x "$2"\n'
+LINK = r"""#!/bin/sh
+while [ "$1" != -o ]; do shift; done
+printf '#!/bin/sh\ncat\n' >"$2"
+chmod +x "$2"
+"""
 
 
 class BuildProgram(Case):

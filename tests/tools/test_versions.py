@@ -5,7 +5,7 @@ import unittest
 from tools import LOGIC, Case
 
 TOOLS = ("tools/build_program", "tools/must_fail", "tools/build_c", "tools/check_c",
-         "tools/check_using", "tools/check_program", "tools/check_kernel", ".ci/run")
+         "tools/check_using", "tools/check_program", "tools/check_kernel", "bench/run", ".ci/run")
 
 
 class Versions(Case):
