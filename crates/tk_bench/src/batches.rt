@@ -68,7 +68,7 @@ pub(crate) fn run_batches(rt: &(impl Threads + Hours + Sync), bench: &Bench<'_>)
     run_forms(rt, bench, snapshot, 10_000_000, 1, names)
 }
 
-/// Times the jobs of these names, over a list of `count` stamps, converted `times` times in a turn.
+/// Times the jobs of these names, with a list of `count` stamps, converted `times` times in a turn.
 fn run_forms(
     rt: &(impl Threads + Hours + Sync),
     bench: &Bench<'_>,

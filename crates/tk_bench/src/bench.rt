@@ -10,7 +10,7 @@ use std::time::{Clock as Hours, Instant};
 /// The number of turns of a job whose time isn't printed.
 const CHECKED_TURNS: u32 = 2;
 
-/// Describes something to be timed. Each turn does the same work.
+/// Describes a timed job. All turns do the same work.
 pub(crate) trait Job {
     /// Prepares a turn. This isn't timed.
     fn ready(&mut self) {}
@@ -28,7 +28,7 @@ pub(crate) trait Job {
     fn check(&self) -> u64;
 }
 
-/// Names what a figure measures.
+/// Names the unit of a figure.
 #[derive(Clone, Copy)]
 pub(crate) enum Unit {
     /// Nanoseconds per item: the number of items in a turn, and their name.
@@ -39,14 +39,14 @@ pub(crate) enum Unit {
     Whole,
 }
 
-/// Names what is printed for each job.
+/// Names the printed columns of a job.
 #[derive(Clone, Copy, PartialEq, Eq)]
 enum Telling {
     Checks,
     Times,
 }
 
-/// Describes what the program's words ask for.
+/// Describes the program's arguments.
 #[derive(Clone, Copy)]
 pub(crate) struct Bench<'a> {
     rt: &'a HostRuntime,
@@ -58,11 +58,11 @@ pub(crate) struct Bench<'a> {
 }
 
 impl<'a> Bench<'a> {
-    /// Returns what the program's words ask for. The first word is the program's own name.
+    /// Parses the program's arguments. The first one is the program's name.
     ///
     /// # Errors
     ///
-    /// Fails if the second word isn't `time`.
+    /// Fails if the second argument isn't `time`.
     pub(crate) fn of_words(rt: &'a HostRuntime, words: &'a [String]) -> Result<Bench<'a>> {
         let (telling, names) = match words {
             [_, word, names @ ..] if word.as_str() == "time" => (Telling::Times, names),
@@ -87,7 +87,7 @@ impl<'a> Bench<'a> {
         self.unknown
     }
 
-    /// Returns whether a job is asked for whose name begins with `beginning`.
+    /// Returns whether the arguments name a job whose name begins with `beginning`.
     pub(crate) fn wants_any(&self, beginning: &str) -> bool {
         for name in self.names {
             if name.as_str().starts_with(beginning) {
@@ -97,7 +97,7 @@ impl<'a> Bench<'a> {
         self.names.is_empty()
     }
 
-    /// Returns whether the job of this name is asked for.
+    /// Returns whether the arguments name this job.
     fn wants(&self, name: &str) -> bool {
         for wanted in self.names {
             if wanted.as_str() == name {
@@ -107,7 +107,7 @@ impl<'a> Bench<'a> {
         self.names.is_empty()
     }
 
-    /// Runs a job if it is asked for, and prints its line.
+    /// Runs a job if the arguments name it, and prints its line.
     pub(crate) fn run<R: Threads + Hours + Sync, J: Job>(
         &self,
         rt: &R,

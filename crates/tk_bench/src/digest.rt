@@ -1,4 +1,4 @@
-//! Computes checks from lists. A check depends on each item and its place.
+//! Computes checks from lists. A check depends on all items and their places.
 
 use tk_clock::Snapshot;
 

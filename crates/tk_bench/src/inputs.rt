@@ -9,7 +9,7 @@ pub(crate) const OPENING: u64 = 12_345;
 /// The number of commands in the script of a trace.
 pub(crate) const COMMANDS: u64 = 1_000;
 
-/// The factor of the sequences that have no order.
+/// The factor of the unordered sequences.
 const FACTOR: u64 = 6364136223846793005;
 
 /// Returns a list of `count` times the number.
@@ -17,7 +17,7 @@ pub(crate) fn repeated(alloc: Global, count: usize, number: u64) -> Result<Vec<u
     vec![in alloc; number; count]
 }
 
-/// Returns stamps in no order in the 275 seconds after the opening, at a nanosecond a cycle.
+/// Returns unordered stamps in the 275 seconds after the opening, at a nanosecond a cycle.
 pub(crate) fn stamps(alloc: Global, count: usize) -> Result<Vec<u64>, AllocError> {
     let mut stamps = repeated(alloc, count, 0)?;
     let mut state = 88172645463325252u64;
@@ -42,18 +42,18 @@ pub(crate) fn script(alloc: Global, updates: u64, clock: Option<&str>) -> Result
     Ok(script)
 }
 
-/// The fronts of a stamp file: how many commands of the script each stamp follows.
+/// The fronts of a stamp file: the numbers of commands of the script before the stamps.
 #[derive(Clone, Copy)]
 pub(crate) enum Fronts {
     /// The whole script for every stamp.
     Equal,
-    /// One more for each thousand stamps.
+    /// One more after every thousand stamps.
     Thousands,
-    /// One more for each ten stamps, up to 999 and then from 0 again.
+    /// One more after every ten stamps, up to 999 and then from 0 again.
     Tens,
-    /// One more for each stamp, up to 999 and then from 0 again.
+    /// One more after every stamp, up to 999 and then from 0 again.
     Ones,
-    /// In no order, below 1,000.
+    /// Unordered, below 1,000.
     Random,
 }
 

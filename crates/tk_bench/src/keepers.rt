@@ -56,7 +56,8 @@ impl Job for Commands {
     }
 }
 
-/// Applies the same commands with memory reserved first, and times each together with its fold.
+/// Applies the same commands with memory reserved first, and times every command together with its
+/// fold.
 #[derive(Drop)]
 struct LongestCommand {
     commands: Commands,

@@ -1,10 +1,10 @@
 //! Times the calls of one thread, lists of stamps and whole texts: the least time of some turns.
 //!
-//! | Words | What it prints |
+//! | Arguments | Output |
 //! |---|---|
 //! | none | for each job a line `JOB<tab>CHECK`, after few turns |
 //! | `time` | for each job a line `JOB<tab>NUMBER<tab>UNIT<tab>CHECK` |
-//! | `time JOB..` | the lines of `time` for these jobs alone |
+//! | `time JOB..` | the lines of `time` only for these jobs |
 //!
 //! NUMBER is the least figure of some turns. A turn's figure is its time, in ns for each item that
 //! UNIT names or in ms for the whole, or the time of its longest item, in us.

@@ -30,7 +30,7 @@ impl Job for Report {
     }
 }
 
-/// Converts each stamp of a file into TAI.
+/// Converts the stamps of a file into TAI.
 #[derive(Drop)]
 struct Trace {
     alloc: Global,
@@ -80,7 +80,7 @@ pub(crate) fn run_texts(rt: &(impl Threads + Hours + Sync), bench: &Bench<'_>) -
     run_text_traces(rt, bench)
 }
 
-/// Times traces of a million and 100,000 stamps, with fronts of each kind.
+/// Times traces of a million and 100,000 stamps, with all kinds of fronts.
 fn run_text_traces(rt: &(impl Threads + Hours + Sync), bench: &Bench<'_>) -> Result<()> {
     let alloc = bench.alloc();
     for (name, stamps, fronts) in [

@@ -67,7 +67,7 @@ impl Job for Trace {
     }
 }
 
-/// Times each form at 100,000, a million and ten million stamps.
+/// Times all forms at 100,000, a million and ten million stamps.
 pub(crate) fn run_traces(rt: &(impl Threads + Hours + Sync), bench: &Bench<'_>) -> Result<()> {
     if !bench.wants_any("trace_") && !bench.wants_any("pieces_") {
         return Ok(());
@@ -95,7 +95,7 @@ pub(crate) fn run_traces(rt: &(impl Threads + Hours + Sync), bench: &Bench<'_>) 
     run_forms(rt, bench, 10_000_000, 5, names)
 }
 
-/// Times the jobs of these names, over `count` stamps.
+/// Times the jobs of these names, with `count` stamps.
 fn run_forms(
     rt: &(impl Threads + Hours + Sync),
     bench: &Bench<'_>,

@@ -10,7 +10,7 @@ use std::time::{Clock as Hours, Duration, Instant};
 use tk_latch::{Latch, LatchReader};
 use tk_test_support::{Effort, Turn, weight};
 
-/// The number of reads in a full turn; the next constant is that of publications.
+/// The number of reads in a full turn; the next constant is the number of publications.
 const READS: u64 = 10_000_000;
 
 const PUBLICATIONS: u64 = 1_000_000;
@@ -114,7 +114,7 @@ fn publications(latch: &Latch, desk: &mut LatchDesk, count: u64) -> Option<()>
     Some(())
 }
 
-/// Times updates of clocks, each published. Returns `None` if a call fails.
+/// Times updates of clocks with their publications. Returns `None` if a call fails.
 pub fn publishing<R: Hours>(rt: &R, alloc: Global, effort: Effort) -> Option<Turn> {
     let (latch, mut desk, mut reader) = opened(alloc)?;
     let count = effort.of(PUBLICATIONS);

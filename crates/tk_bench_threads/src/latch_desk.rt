@@ -6,9 +6,9 @@ use tk_clock::{Clock, Command};
 use tk_latch::{Latch, LatchReader, LatchWriter};
 use tk_test_support::{OPENED_TIME, nanosecond_counter, reading_of};
 
-/// Updates clocks and publishes each update in a latch.
+/// Updates clocks and publishes every update in a latch.
 ///
-/// In contracts its value is that of its writer: the latch, and what was published in it.
+/// Contracts see it as its writer: the latch, and the publications in it.
 #[derive(Drop)]
 pub struct LatchDesk {
     clock: Clock,
@@ -29,8 +29,8 @@ impl Model for LatchDesk {
         × (d.front + 1 ≡ length d.writer.publications) };
 }
 
-/// Opens clocks and a latch over them, and returns the latch, its desk and one reader. Returns
-/// `None` if a call fails.
+/// Opens clocks and a latch of their snapshot, and returns the latch, its desk and one reader.
+/// Returns `None` if a call fails.
 pub fn opened(alloc: Global) -> Option<(Latch, LatchDesk, LatchReader)>
     ensures desk { IfSome result (λ opened. opened.1.latch ≡ opened.0) }
     ensures reader { IfSome result (λ opened. opened.2.latch ≡ opened.0) }

@@ -1,14 +1,14 @@
-//! Times what threads share: pages, latches, a shared keeper with concurrent reads, reports of many
-//! scripts, and a race; and updates of clocks alone.
+//! Times work that threads share: pages, latches, a shared keeper with concurrent reads, reports of
+//! many scripts, and a race; and updates of clocks that aren't published.
 //!
-//! | Words | The line of each job |
+//! | Arguments | The line of a job |
 //! |---|---|
 //! | none | `JOB`, `CHECK`, after short turns: the same line each time |
 //! | `time` | `JOB`, `NUMBER`, `UNIT`, `CHECK`: the least time of its turns |
-//! | `time JOB..` | the line of `time`, for these jobs alone |
+//! | `time JOB..` | the line of `time`, only for these jobs |
 //!
 //! Tabs separate the columns. The status is 1 if a job failed or its turns gave different checks,
-//! and 2 for other words.
+//! and 2 for other arguments.
 #![tactic(auto)]
 
 mod latch;

@@ -1,5 +1,5 @@
 //! Times the time now of a shared keeper: by the page, by the latch, and by the parts of such a
-//! call; alone, and with a thousand commands a second in another thread.
+//! call; without commands, and with a thousand commands a second in another thread.
 ghost use Rattle.tk_shared.specs.Opening.{IsNamed};
 
 use std::alloc::Global;
@@ -16,13 +16,13 @@ use tk_test_support::{Effort, OPENED_TIME, Turn, nanosecond_counter};
 /// The number of calls of a full turn.
 const CALLS: u64 = 3_000_000;
 
-/// The number of commands that the keeper has room for.
+/// The number of commands for which the keeper has capacity.
 const ROOM: usize = 100_000;
 
 /// The cycles from one reading of the counter to the next.
 const CYCLES: u64 = 10;
 
-/// Names what a call asks for.
+/// Names a kind of call.
 #[derive(Clone, Copy)]
 pub enum Asked {
     /// The time now, by the page.
@@ -70,7 +70,7 @@ impl Tally {
     }
 }
 
-/// Returns the time now without waiting. Calls again while a command comes between.
+/// Returns the time now without waiting. Calls again after a command in between.
 #[inline(always)]
 fn fast<L: Named, C: Counter, S: SharedCounter>(
     keeper: &SharedKeeper<L, C>,
@@ -85,8 +85,8 @@ fn fast<L: Named, C: Counter, S: SharedCounter>(
     None
 }
 
-/// Asks for MONOTONIC `count` times, and returns the tally of the answers. `look` is one of
-/// the time before the notice, since the parts announce nothing.
+/// Asks for MONOTONIC `count` times, and returns the tally of the answers. `look` is one from
+/// before the notice, because the parts announce nothing.
 fn asks<L: Named, C: Counter, S: SharedCounter, R: Wait>(
     rt: &R,
     keeper: &SharedKeeper<L, C>,
@@ -192,7 +192,7 @@ fn timed<L: Named + Send + Sync, S: SharedCounter + Sync, R: Threads + Wait + Ho
     Some((start.elapsed(rt).ok()?, tally))
 }
 
-/// Prepares a keeper over the counter, opens it and times the calls.
+/// Prepares a keeper with the counter, opens it and times the calls.
 fn tallied<S: SharedCounter + Sync, R: Threads + Wait + Hours + Sync>(
     rt: &R,
     alloc: Global,
@@ -207,7 +207,7 @@ fn tallied<S: SharedCounter + Sync, R: Threads + Wait + Hours + Sync>(
     timed::<Brand, S, R>(rt, alloc, prepared, counter, asked, beside, count)
 }
 
-/// Times calls over a counter that each read moves on. The check is the sum of the answers or,
+/// Times calls with a counter that every read advances. The check is the sum of the answers or,
 /// with updates, the number of those that aren't below the one before. Returns `None` if a call
 /// fails.
 pub fn turn<R: Threads + Wait + Hours + Sync>(
@@ -227,8 +227,8 @@ pub fn turn<R: Threads + Wait + Hours + Sync>(
     Some(Turn { time, count, check })
 }
 
-/// Times calls over the host's monotonic clock. The check is the number of answers that aren't below
-/// the one before. Returns `None` if a call fails.
+/// Times calls with the host's monotonic clock. The check is the number of answers that aren't
+/// below the one before. Returns `None` if a call fails.
 pub fn by_host<R: Threads + Wait + Hours + Sync>(
     rt: &R,
     alloc: Global,

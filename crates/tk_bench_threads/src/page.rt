@@ -11,7 +11,7 @@ use tk_clock::Command;
 use tk_page::{Page, Viewer};
 use tk_test_support::{Effort, PageDesk, Turn, opened_page, reading_of, weight};
 
-/// The number of reads in a full turn; the next constant is that of publications.
+/// The number of reads in a full turn; the next constant is the number of publications.
 const READS: u64 = 10_000_000;
 
 const PUBLICATIONS: u64 = 1_000_000;
@@ -122,7 +122,7 @@ fn publications<R: Wait>(rt: &R, page: &Page, desk: &mut PageDesk, count: u64) -
     Some(())
 }
 
-/// Times updates of clocks, each published. Returns `None` if a call fails.
+/// Times updates of clocks with their publications. Returns `None` if a call fails.
 pub fn publishing<R: Wait + Hours>(rt: &R, alloc: Global, effort: Effort) -> Option<Turn> {
     let (page, mut desk, mut viewer) = opened_page(rt, alloc)?;
     let count = effort.of(PUBLICATIONS);

@@ -14,13 +14,13 @@ use tk_test_support::{Effort, OPENED_TIME, STEP, Turn, nanosecond_counter, weigh
 /// The number of commands of a full turn, in all threads together.
 const COMMANDS: u64 = 300_000;
 
-/// The number of commands that the keeper has room for.
+/// The number of commands for which the keeper has capacity.
 const ROOM: usize = 300_000;
 
 /// The number of reads between two tests of whether the other threads have ended.
 const READS_BETWEEN: u64 = 64;
 
-/// Names what is timed.
+/// Names the timed work.
 #[derive(Clone, Copy)]
 pub enum Work {
     OneThread,
@@ -75,7 +75,7 @@ fn timed<L: Named + Send + Sync, R: Threads + Wait + Hours + Sync>(
     })
 }
 
-/// Counts what was done.
+/// Counts the work that was done.
 #[derive(Clone, Copy)]
 struct Done {
     /// The number of timed operations.
@@ -96,14 +96,14 @@ impl Done {
         }
     }
 
-    /// Returns the difference between the sum and that of the same number of snapshots of the usual
-    /// weight: 0 if each snapshot was whole.
+    /// Returns the difference between the sum and the sum of the same number of snapshots of the
+    /// usual weight: 0 if all snapshots were whole.
     fn off(&self, usual: u64) -> u64 {
         self.sum.wrapping_sub(self.read.wrapping_mul(usual))
     }
 }
 
-/// Does the work, and returns what was done.
+/// Does the work, and returns its counts.
 fn does<L: Named + Send + Sync, R: Threads + Wait + Sync>(
     rt: &R,
     keeper: &SharedKeeper<L, Ticker>,
@@ -190,7 +190,8 @@ fn quarters<L: Named + Send + Sync, R: Threads + Wait + Sync>(
     );
 }
 
-/// Reads while four threads give the commands, until these have ended. Returns what was read.
+/// Reads while four threads give the commands, until these have ended. Returns the counts of the
+/// reads.
 fn beside<L: Named + Send + Sync, R: Threads + Wait + Sync>(
     rt: &R,
     keeper: &SharedKeeper<L, Ticker>,

@@ -3,10 +3,11 @@ use tk_test_support::Job;
 /// Names a job.
 #[derive(Clone, Copy)]
 pub enum TimedJob {
-    /// Reads of a page, alone, and with a thousand publications a second in another thread.
+    /// Reads of a page: without publications, and with a thousand publications a second in another
+    /// thread.
     PageRead,
     PageReadBeside,
-    /// Updates of clocks, each published on a page.
+    /// Updates of clocks with their publications on a page.
     PagePublish,
     /// The same three jobs with a latch.
     LatchRead,
@@ -14,7 +15,7 @@ pub enum TimedJob {
     LatchPublish,
     /// Updates of clocks with their snapshots, which aren't published.
     UpdateUnpublished,
-    /// The same; the peers' clocks stay in memory, as these do.
+    /// The same updates; the peers' clocks stay in memory, as these do.
     UpdateInMemory,
     /// Commands of a shared keeper, by one thread and by four.
     SharedCommand1,

@@ -1,7 +1,7 @@
 -- Ten words that are stored one by one.
 use Rattle.std.proofs.Common.{◌≡◌, ℕ, ◌∙◌, arith, refl, List, [], ◌∷◌, length, slice_index_or, slice_set}
 
--- each word is overwritten, in the order of the stores
+-- every word is overwritten, in the order of the stores
 set_each : (words : List ℕ) (a b c d e f g h i j : ℕ) → length words ≡ 10 →
     slice_set (slice_set (slice_set (slice_set (slice_set (slice_set (slice_set (slice_set
     (slice_set (slice_set words 0 a) 2 c) 4 e) 6 g) 8 i) 1 b) 3 d) 5 f) 7 h) 9 j
@@ -39,7 +39,7 @@ loaded (a ∷ b ∷ []) all = absurd (omega arith)
 loaded (a ∷ []) all = absurd (omega arith)
 loaded [] all = absurd (omega arith)
 
--- ten words that are stored over ten others are those words
+-- ten words that overwrite ten others are the same words
 pub stored : (words stated : List ℕ) → length words ≡ 10 → length stated ≡ 10 →
     slice_set (slice_set (slice_set (slice_set (slice_set (slice_set (slice_set (slice_set
     (slice_set (slice_set words 0 (slice_index_or stated 0 0)) 2 (slice_index_or stated 2 0))

@@ -16,7 +16,7 @@ code_of_answer (Ok done) = Done
 code_of_answer (Err (errors.Invalid index)) = Invalid
 code_of_answer (Err (errors.Range index)) = Range
 
--- how many of `count` stamps are converted: all, or those before the first that is refused
+-- the number of converted stamps: all `count` of them, or the stamps before the first refused one
 abbrev pub converted_of : ℕ → Result ⊤ BatchError → ℕ
 converted_of count (Ok done) = count
 converted_of count (Err (errors.Invalid index)) = index

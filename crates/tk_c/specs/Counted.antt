@@ -24,8 +24,8 @@ counted_effect counted reading cmd = record {
   front = counted.front + 1;
 }
 
--- the code that a call returns for the command of a number, if there is one, and the clocks after the
--- call: a refusal leaves them
+-- the code that a call returns for the command with a number, if there is one, and the clocks after
+-- the call: a refusal doesn't change them
 abbrev pub IsApplied : CountedClock → ℕ → Option Command → ℕ → CountedClock → Type 0
 IsApplied old reading named code new =
     MatchOption named

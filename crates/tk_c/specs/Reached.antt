@@ -1,4 +1,4 @@
--- When a clock reaches a time, as a C caller gets it.
+-- The reading at which a clock reaches a time, as a C caller gets it.
 use Rattle.std.specs.Prelude.{◌≡◌, ◌⊎◌, ℕ, ℤ, ⊤, MatchOption, Some}
 use Rattle.tk_clock.specs.declared.clock_id.ClockId.{ClockId}
 use Rattle.tk_clock.specs.Reach.{IsFirstReached, IsNeverReached, IsReadAt, GivesAgain}

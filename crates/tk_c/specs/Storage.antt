@@ -46,7 +46,7 @@ snapshot_storage snapshot = record {
   base = base_storage snapshot.base;
 }
 
--- clocks that have accepted `front` commands
+-- clocks after `front` accepted commands
 abbrev pub clock_storage : ℕ → State → ClockStorage
 clock_storage front clock = record {
   base = base_storage clock.base;

@@ -16,10 +16,10 @@ use crate::storage::{ClockStorage, CounterStorage, SnapshotStorage};
 use tk_clock::{Clock, Refusal, Timespec};
 use tk_counter::CounterDesc;
 
-/// The most commands that are counted: the greatest number of 63 bits.
+/// The most commands that are counted: 2^63 - 1.
 const COUNTED_LIMIT: u64 = (1 << 63) - 1;
 
-/// The number of an update among the commands.
+/// The number of the command `Update`.
 const UPDATE: u32 = 0;
 
 /// Opens clocks at a reading of the counter and writes them to `out` (`Clock::open`).
@@ -29,8 +29,8 @@ const UPDATE: u32 = 0;
 ///
 /// # Errors
 ///
-/// Returns `Code::Invalid`, and leaves `out`, if the reading is above the mask or the time is out
-/// of its range.
+/// Returns `Code::Invalid`, and doesn't write `out`, if the reading is above the mask or the time
+/// is out of its range.
 #[unsafe(no_mangle)]
 pub extern "C" fn tkc_clock_open(
     out: &mut ClockStorage,
@@ -54,14 +54,14 @@ pub extern "C" fn tkc_clock_open(
     }
 }
 
-/// Applies the command of a number to the clocks and counts it (`Clock::apply`).
+/// Applies the command with this number to the clocks and counts it (`Clock::apply`).
 ///
-/// `number` and `nsec` are the command's numbers, in the units of `enum tkc_command` in
-/// include/tkcore.h. A number that the command doesn't use may have any value.
+/// `number` and `nsec` are the command's arguments, in the units of `enum tkc_command` in
+/// include/tkcore.h. An argument that the command doesn't use may have any value.
 ///
 /// # Errors
 ///
-/// A refused command leaves the clocks. Returns, in this order:
+/// A refused command doesn't change the clocks. Returns, in this order:
 ///
 /// - `Code::BadCommand` if no command has the number `command`;
 /// - `Code::Full` if 2^63 - 1 commands were accepted;
@@ -77,8 +77,8 @@ pub extern "C" fn tkc_clock_apply(
 ) -> u32
     ensures { IsApplied clock.old reading (command_named command number nsec) result clock.new }
 {
-    // Updates, the most frequent commands, get machine code of their own. It makes no room on the
-    // stack for other commands.
+    // Updates are the most frequent commands. Their separate machine code reserves no stack for
+    // other commands.
     if command == UPDATE {
         return apply_numbered(clock, reading, command, number, nsec);
     }
@@ -93,7 +93,7 @@ fn apply_other(clock: &mut CountedClock, reading: u64, command: u32, number: i64
     apply_numbered(clock, reading, command, number, nsec)
 }
 
-/// Applies the command of a number to the clocks and counts it.
+/// Applies the command with this number to the clocks and counts it.
 #[inline(always)]
 fn apply_numbered(
     clock: &mut CountedClock,
@@ -128,8 +128,8 @@ pub extern "C" fn tkc_clock_snapshot(out: &mut SnapshotStorage, clock: &CountedC
       base = clock.now.clock.base;
     }) }
 {
-    // fields one by one, without neighbours in a row: the rattle backend would copy two neighbours
-    // by an SSE register, which an interrupt in a kernel must not use
+    // one field at a time, and never two neighbours in sequence: the rattle backend would copy two
+    // neighbours with an SSE register, which an interrupt in a kernel must not use
     let snapshot = clock.clock.snapshot(clock.front);
     out.front = snapshot.front();
     out.base.counter = CounterStorage::from(snapshot.desc());

@@ -4,26 +4,26 @@ ghost use Rattle.tk_c.specs.Codes.{number_of, code_of_refusal, code_of_read, cod
 use tk_clock::{ReadError, Refusal};
 use tk_counter::DescError;
 
-/// Names what a call returns, with the numbers of `enum tkc_code` in include/tkcore.h.
+/// Lists the codes that calls return, with the numbers of `enum tkc_code` in include/tkcore.h.
 #[derive(Clone, Copy)]
 pub enum Code {
     /// The call is done.
     Done = 0,
-    /// 2^63 - 1 commands were accepted, and no more can be counted.
+    /// The front is 2^63 - 1 or more: no further command can be counted.
     Full = 1,
     /// The clocks are asleep, and the command is not `Resume`.
     Asleep = 2,
     /// The clocks are awake, and the command is `Resume`.
     Awake = 3,
-    /// The reading or a number is out of its range, or REALTIME can't have the resulting value.
+    /// The reading or an argument is out of its range, or REALTIME can't have the resulting value.
     Invalid = 4,
-    /// The reading is behind that of the last accepted command.
+    /// The reading is behind the last accepted command's reading.
     Behind = 5,
     /// A clock would be at or past its limit.
     Range = 6,
-    /// An allocation failed. No call of this crate returns it, because none allocates.
+    /// An allocation failed. No call of this crate returns it.
     Memory = 7,
-    /// No reading that may be searched gives the time or a later one.
+    /// The clock doesn't reach the time at any reading that `tkc_snapshot_reading` searches.
     NotReached = 8,
     /// No command has this number.
     BadCommand = 16,
@@ -31,7 +31,7 @@ pub enum Code {
     BadClock = 17,
     /// The words represent no snapshot, or no running clocks.
     BadWords = 18,
-    /// There is room for fewer results than there are stamps.
+    /// `out` has fewer elements than `stamps`.
     BadRoom = 19,
     /// A reading would have fewer than 8 bits or more than 64.
     BadBits = 32,
@@ -41,7 +41,7 @@ pub enum Code {
     BadMult = 34,
     /// The mult plus 11 percent doesn't fit in 32 bits.
     BadAdjust = 35,
-    /// The frequency is 0 Hz, or the span is not 1 to 600 seconds.
+    /// The frequency is 0 Hz or above 2^32 - 1 Hz, or the span is not 1 to 600 seconds.
     BadRate = 36,
 }
 

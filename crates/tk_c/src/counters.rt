@@ -11,7 +11,7 @@ use crate::code::Code;
 use crate::storage::CounterStorage;
 use tk_counter::CounterDesc;
 
-/// Writes the counter that has these numbers to `out` (`CounterDesc::new`).
+/// Writes the counter with these numbers to `out` (`CounterDesc::new`).
 ///
 /// A reading has 8 to 64 bits, and a cycle lasts `mult / 2^shift` ns.
 ///
@@ -76,7 +76,7 @@ pub extern "C" fn tkc_counter_from_hz(
 }
 
 /// Writes the numbers of a counter (`CounterDesc::bits`, `mult` and `shift`): the bits of a
-/// reading, and the mult and shift of a cycle, which lasts `mult / 2^shift` ns.
+/// reading, and the mult and shift of a cycle, which takes `mult / 2^shift` ns.
 ///
 /// `tkc_counter_new` makes the same counter from these numbers.
 #[unsafe(no_mangle)]

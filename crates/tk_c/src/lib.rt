@@ -1,7 +1,7 @@
 //! Offers the clocks to C: the functions of include/tkcore.h, a thin layer over tk_clock and
 //! tk_lanes.
 //!
-//! | Item | What it is |
+//! | Item | Its meaning |
 //! |---|---|
 //! | `tkc_counter_*` | make counters from numbers, and store a counter's numbers |
 //! | `tkc_clock_*` | open the running clocks, apply commands, convert clocks to and from words |
@@ -11,7 +11,8 @@
 //! | `CounterStorage`, `ClockStorage`, `SnapshotStorage`, `TimeStorage` | memory that a value is written to |
 //! | `Code` | the codes that calls return |
 //!
-//! Units are those of tk_clock; include/tkcore.h states them for C. No call allocates or waits.
+//! Units are the same as in tk_clock; include/tkcore.h states them for C. No call allocates or
+//! waits.
 #![tactic(auto)]
 
 mod clocks;

@@ -4,7 +4,7 @@ ghost use Rattle.tk_c.specs.Named.{command_named, clock_named};
 
 use tk_clock::{ClockId, Command, Timespec};
 
-/// Returns the command that has a number of `enum tkc_command`, or `None` if no command has it.
+/// Returns the command with a number of `enum tkc_command`, or `None` if there is none.
 pub(crate) fn command_named(command: u32, number: i64, nsec: u32) -> Option<Command>
     ensures { result ≡ command_named command number nsec }
 {
@@ -22,8 +22,8 @@ pub(crate) fn command_named(command: u32, number: i64, nsec: u32) -> Option<Comm
     }
 }
 
-/// Returns the clock that has a number of `enum tkc_clock_id`, or `None` if no clock has it. The
-/// numbers are those of clock_gettime(2).
+/// Returns the clock with a number of `enum tkc_clock_id`, or `None` if there is none. The numbers
+/// are the clock ids of clock_gettime(2).
 pub(crate) fn clock_named(clock: u32) -> Option<ClockId>
     ensures { result ≡ clock_named clock }
 {

@@ -1,4 +1,4 @@
-//! Finds the readings at which clocks reach times.
+//! Finds the readings at which clocks reach given times.
 ghost use Rattle.tk_clock.specs.Time.{nanoseconds};
 ghost use Rattle.tk_clock.specs.declared.timespec.Timespec.{Timespec};
 ghost use Rattle.tk_c.specs.Reached.{IsReachedBy, IsReachedAgain};
@@ -7,12 +7,12 @@ use crate::code::Code;
 use crate::named::clock_named;
 use tk_clock::{Snapshot, Timespec};
 
-/// Writes the first reading at which a clock has reached a time to `out`
-/// (`Snapshot::reading_at`): at which `tkc_snapshot_get` gives `sec` s plus `nsec` ns or a later
-/// time. `clock` is a number of `enum tkc_clock_id`.
+/// Writes to `out` the first reading at which a clock has reached a time (`Snapshot::reading_at`).
+/// At this reading `tkc_snapshot_get` writes `sec` s plus `nsec` ns or a later time. `clock` is a
+/// number of `enum tkc_clock_id`.
 ///
-/// It looks at the last command's reading and as far as half the counter's range after it. `sec`
-/// and `nsec` may be any numbers.
+/// It searches from the last command's reading to half the counter's range after it. `sec` and
+/// `nsec` may be any numbers.
 ///
 /// # Errors
 ///

@@ -49,9 +49,9 @@ pub extern "C" fn tkc_snapshot_get(
     }
 }
 
-/// Writes the time of the clock that has a number, as `tkc_snapshot_get` does for any number.
+/// Writes the time of the clock with a number, as `tkc_snapshot_get` does for any number.
 ///
-/// `tkc_snapshot_get` itself has separate branches for the two clocks that are read most. This
+/// `tkc_snapshot_get` itself contains separate branches for the two most frequent clocks. This
 /// function is out of line, so that those branches don't start with a jump table.
 #[inline(never)]
 fn get_named(out: &mut TimeStorage, snapshot: &Snapshot, clock: u32, reading: u64) -> u32
@@ -69,7 +69,7 @@ fn get_named(out: &mut TimeStorage, snapshot: &Snapshot, clock: u32, reading: u6
     }
 }
 
-/// Writes a clock's time at a reading, or returns the code of the test that fails.
+/// Writes a clock's time at a reading, or returns the code of the first test that fails.
 #[inline(always)]
 fn get_known(out: &mut TimeStorage, snapshot: &Snapshot, clock: ClockId, reading: u64) -> u32
     ensures { MatchOption (read_refusal snapshot.now.base clock reading)
@@ -80,7 +80,7 @@ fn get_known(out: &mut TimeStorage, snapshot: &Snapshot, clock: ClockId, reading
 {
     match snapshot.get(clock, reading) {
         Ok(time) => {
-            // three stores, two of them of the fields as the read returned them
+            // three stores, two of which write fields unchanged as the read returned them
             out.sec = time.sec;
             out.nsec = time.nsec;
             out.padding = 0;
@@ -90,12 +90,11 @@ fn get_known(out: &mut TimeStorage, snapshot: &Snapshot, clock: ClockId, reading
     }
 }
 
-/// Converts each of `count` stamps into a clock's time in ns, and writes the times to `out`
-/// (`lane_batch`).
+/// Converts `count` stamps to a clock's times in ns, and writes the times to `out` (`lane_batch`).
 ///
-/// Writes the number of converted stamps to `done`: all of them, or those before the first refused
-/// one. `out` has room for `room` numbers, and those after the converted ones stay. If `room` is 0,
-/// `out` may be NULL; if `count` is 0, `stamps` may be NULL.
+/// Writes the number of converted stamps to `done`: all of them, or the stamps before the first
+/// refused one. `out` has capacity for `room` numbers. The numbers after the converted ones don't
+/// change. If `room` is 0, `out` may be NULL; if `count` is 0, `stamps` may be NULL.
 ///
 /// # Errors
 ///
@@ -103,8 +102,8 @@ fn get_known(out: &mut TimeStorage, snapshot: &Snapshot, clock: ClockId, reading
 ///
 /// - `Code::BadClock` if no clock has the number `clock`: nothing is written;
 /// - `Code::BadRoom` if `room` is below `count`: nothing is written;
-/// - `Code::Invalid` or `Code::Range` if a read at stamp number `done` is refused so: the times of
-///   the stamps before it are written.
+/// - `Code::Invalid` or `Code::Range` if a read at stamp number `done` is refused with this code:
+///   the times of the stamps before it are written.
 #[unsafe(no_mangle)]
 pub unsafe extern "C" fn tkc_snapshot_convert(
     out: *mut u64,
@@ -152,7 +151,7 @@ fn convert_none(done: &mut usize, clock: u32) -> u32
     Code::Done.number()
 }
 
-/// Returns why one stamp or more can't be converted into an empty list.
+/// Returns the code that says why one or more stamps can't be converted into an empty list.
 fn convert_into_none(clock: u32) -> u32
     ensures { (base : ReadBase) (stamps : List ℕ) (done : ℕ) → 0 < length stamps →
         IsAnswered base clock stamps [] [] done done result }

@@ -1,6 +1,7 @@
-//! Describes the memory that values are written to. Its bytes need not be a value before the write.
+//! Describes the memory that values are written to. Before the write it may contain any bytes.
 //!
-//! Each storage has its value's fields in the value's order, so what is written is that value.
+//! A storage contains the fields of its value in the value's order, so the written bytes are that
+//! value.
 ghost use Rattle.std.specs.Prelude.{◌≡◌};
 ghost use Rattle.tk_c.specs.Storage.{counter_storage, base_storage, snapshot_storage, clock_storage};
 
@@ -36,7 +37,7 @@ pub struct CounterStorage {
 pub struct BaseStorage {
     /// The counter.
     pub counter: CounterStorage,
-    /// What a cycle adds to MONOTONIC, in `2^-shift` ns.
+    /// The amount that a cycle adds to MONOTONIC, in `2^-shift` ns.
     pub mult: u32,
     /// The reading of the last accepted command, or of the opening.
     pub last: u64,
@@ -64,7 +65,7 @@ pub struct BaseStorage {
 pub struct SnapshotStorage {
     /// The number of accepted commands.
     pub front: u64,
-    /// What reads use.
+    /// The part that reads use.
     pub base: BaseStorage,
 }
 
@@ -72,7 +73,7 @@ pub struct SnapshotStorage {
 #[repr(C)]
 #[derive(Clone, Copy)]
 pub struct ClockStorage {
-    /// What reads use.
+    /// The part that reads use.
     pub base: BaseStorage,
     /// The frequency as it was set, in `2^-16` ppm.
     pub frequency: i64,
@@ -90,7 +91,7 @@ pub struct TimeStorage {
     pub sec: i64,
     /// The nanoseconds below a second.
     pub nsec: u32,
-    /// The bytes after them, 0 once a time is written.
+    /// The padding, 0 once a time is written.
     pub padding: u32,
 }
 

@@ -1,4 +1,4 @@
-//! Converts values to words, and words back to values with every test.
+//! Converts values to 64-bit words, and words back to values after every test.
 ghost use Rattle.std.specs.Prelude.{◌≡◌, ◌⊎◌, MatchOption, Some};
 ghost use Rattle.tk_clock.specs.Running.{IsRunning};
 ghost use Rattle.tk_clock.specs.Snapshot.{Snapshot};
@@ -28,8 +28,8 @@ pub extern "C" fn tkc_snapshot_words(words: &mut [u64; 10], snapshot: &Snapshot)
 ///
 /// # Errors
 ///
-/// Returns `Code::BadWords`, and leaves `out`, if a word is out of its range, or if REALTIME,
-/// BOOTTIME or TAI would be at or past its limit at the last reading.
+/// Returns `Code::BadWords`, and doesn't write `out`, if a word is out of its range, or if
+/// REALTIME, BOOTTIME or TAI would be at or past its limit at the last reading.
 #[unsafe(no_mangle)]
 pub extern "C" fn tkc_snapshot_from_words(
     out: &mut SnapshotStorage,
@@ -75,8 +75,8 @@ pub extern "C" fn tkc_clock_words(
 ///
 /// # Errors
 ///
-/// Returns `Code::BadWords`, and leaves `out`, if the words represent no snapshot of the counter,
-/// or if running clocks of this frequency and tick never have this snapshot.
+/// Returns `Code::BadWords`, and doesn't write `out`, if the words represent no snapshot of the
+/// counter, or if no running clocks with this frequency and tick have this snapshot.
 #[unsafe(no_mangle)]
 pub extern "C" fn tkc_clock_from_words(
     out: &mut ClockStorage,
@@ -102,10 +102,10 @@ pub extern "C" fn tkc_clock_from_words(
     Code::Done.number()
 }
 
-/// Loads ten words, and computes every second one.
+/// Loads ten words, and recomputes every second one.
 ///
-/// The rattle backend would copy two neighbours by an SSE register, which an interrupt in a kernel
-/// must not use.
+/// Otherwise the rattle backend would copy two neighbours with an SSE register, which an interrupt
+/// in a kernel must not use.
 #[inline(always)]
 fn loaded(words: &[u64; 10]) -> [u64; 10]
     ensures { result ≡ words.now }
@@ -135,8 +135,8 @@ fn computed(number: u64) -> u64
 
 /// Stores ten words one by one, without neighbours in a row.
 ///
-/// The rattle backend would copy two neighbours by an SSE register, which an interrupt in a kernel
-/// must not use.
+/// Otherwise the rattle backend would copy two neighbours with an SSE register, which an interrupt
+/// in a kernel must not use.
 fn store(words: &mut [u64; 10], source: &[u64; 10])
     ensures { words.new ≡ source.now }
 {

@@ -14,7 +14,7 @@ use Rattle.tk_clock.specs.State.{ReadBase, State, state_of, base_value, base_mon
 use Rattle.tk_clock.proofs.Ledger.{base_value-base_of, clock_refusal-state}
 use Rattle.tk_clock.proofs.Legal.{state_of-followed_by}
 
--- each clock has the same value at each reading
+-- all clocks have the same values at all readings
 pub clock_value-alike : (journal other : Journal) → state_of journal ≡ state_of other →
     (clock : ClockId) (reading : ℕ) →
     clock_value journal clock reading ≡ clock_value other clock reading
@@ -46,16 +46,16 @@ state_of-next journal other same entry accepted =
     passes)
     ∙ state_of-followed_by other (state_of journal) entry.who entry.reading entry.cmd same passes
 
--- a journal is like itself
+-- a journal agrees with itself
 pub IsAlike-self : (journal : Journal) → IsAlike journal journal
 IsAlike-self journal = record { state = refl; count = refl }
 
--- if a is like b and b is like c, a is like c
+-- if a agrees with b and b agrees with c, a agrees with c
 pub IsAlike-trans : (a b c : Journal) → IsAlike a b → IsAlike b c → IsAlike a c
 IsAlike-trans a b c first second =
     record { state = first.state ∙ second.state; count = first.count ∙ second.count }
 
--- one more accepted entry leaves them alike
+-- they still agree after one more accepted entry
 pub IsAlike-followed_by : (journal other : Journal) → IsAlike journal other →
     (entry : Entry) → clock_refusal journal entry ≡ None →
     IsAlike (followed_by journal entry) (followed_by other entry)
@@ -69,7 +69,7 @@ IsAlike-followed_by journal other alike entry accepted = record {
   );
 }
 
--- journals that are alike have the same snapshot
+-- journals that agree have the same snapshot
 pub snapshot_of-alike : (journal other : Journal) → IsAlike journal other →
     snapshot_of journal ≡ snapshot_of other
 snapshot_of-alike journal other alike =

@@ -19,7 +19,7 @@ use Rattle.tk_clock.specs.Effect.{IsEarly, IsEffect, IsSettled, is_settled_past}
 use Rattle.tk_clock.proofs.Forwarding.{base_monotonic-last}
 use Rattle.tk_clock.proofs.Values.{now_of}
 
--- what the early tests show if they pass
+-- the facts that follow if the early tests pass
 early_split : (asleep resumes above well behind : Bool) →
     first_of (if asleep && not resumes then Some Asleep else if not asleep
     && resumes then Some Awake else None)
@@ -68,7 +68,7 @@ cycles-ahead counter asleep last reading awake ahead =
     else gap counter last reading) awake
     ∙ ap (λ b. if b then 0 else gap counter last reading) ahead
 
--- so MONOTONIC before the command, at its reading, is that of the forwarded base
+-- so MONOTONIC before the command, at its reading, equals the forwarded base's
 pub monotonic-before : (state : State) (reading : ℕ) (cmd : Command) → IsEarly state reading cmd →
     is_resume cmd ≡ false →
     base_monotonic state.base reading ≡ now_of (forwarded state.base reading)
@@ -91,7 +91,7 @@ effect-last state reading (Tai seconds) = refl
 effect-last state reading Suspend = refl
 effect-last state reading (Resume away) = refl
 
--- MONOTONIC after a command is that of the forwarded base, unless the command wakes the clocks
+-- MONOTONIC after a command equals the forwarded base's, unless the command wakes the clocks
 monotonic-after : (state : State) (reading : ℕ) (cmd : Command) → is_resume cmd ≡ false →
     base_monotonic (effect state reading cmd).base reading ≡ now_of (forwarded state.base reading)
 monotonic-after state reading Update awake = base_monotonic-last (effect state reading Update).base
@@ -162,7 +162,7 @@ plain_good before (Tai seconds) plain = refl
 plain_good before Suspend plain = refl
 plain_good before (Resume away) plain = refl
 
--- the result of such a command is that of settling its state
+-- the result of such a command is the result of settling its state
 settled_result : (state : State) (reading : ℕ) (cmd : Command) (result : Result State Refusal) →
     sets_real cmd ≡ false →
     is_settled_past (effect state reading cmd) cmd
@@ -189,7 +189,7 @@ settled_effect state reading cmd after result plain e stated =
     (effect-last state reading cmd))
     there
 
--- the state of a base from which on this frequency and tick are in force
+-- the state with this base, frequency and tick
 abbrev pub steered : ℤ → ℤ → ReadBase → State
 steered frequency tick base =
     record {

@@ -15,7 +15,7 @@ use Rattle.tk_clock.proofs.Alike.{clock_refusal-alike, snapshot_of-alike}
 use Rattle.tk_clock.proofs.Later.{extended_by, Follows, Follows-accepted, Follows-take, Follows-alike, IsAccepted-extended, state_of-alike}
 use Rattle.tk_clock.proofs.Start.{state_of-started}
 
--- the entries that are left are accepted after the folded ones
+-- the remaining entries are accepted after the folded ones
 left : (journal : Journal) (n : ℕ) → IsAccepted journal →
     Follows (prefix n journal) (drop n journal.entries)
 left journal n all =
@@ -39,7 +39,7 @@ state_of-folded journal n p all =
 none_listed : (k : ℕ) (entry : Entry) → slice_get [] k ≡ Some entry → ⊥
 none_listed k entry e = cc e
 
--- each entry that is left is accepted as before
+-- the remaining entries are accepted as before
 accepted-folded : (journal : Journal) (n : ℕ) → IsAccepted journal →
     IsAccepted (folded_by n journal)
 accepted-folded journal n all =
@@ -103,7 +103,7 @@ state_of-whole journal n within all =
     (take_all (n + length rest) journal.entries (omega arith)) in
     sym (ap state_of after) ∙ state_of-folded journal n (length rest) all ∙ ap state_of before
 
--- a folded journal is like the journal before the fold
+-- a folded journal agrees with the journal before the fold
 pub IsAlike-folded : (journal : Journal) (n : ℕ) → n ≤ length journal.entries → IsAccepted journal →
     IsAlike (folded_by n journal) journal
 IsAlike-folded journal n within all = record {
@@ -136,7 +136,7 @@ pub tick-folded : (journal : Journal) (n : ℕ) → n ≤ length journal.entries
     current_tick (folded_by n journal) ≡ current_tick journal
 tick-folded journal n within all = ap (λ (s : State). s.tick) (state_of-whole journal n within all)
 
--- folding nothing leaves a legal journal as it is
+-- folding no entry doesn't change a legal journal
 pub folded_by-nothing : (journal : Journal) → IsLegal journal → folded_by 0 journal ≡ journal
 folded_by-nothing journal legal =
     let whole = legal.past.0 in

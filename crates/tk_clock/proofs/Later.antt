@@ -1,4 +1,4 @@
--- Entries after a journal: the state that they leave depends on the journal's state alone.
+-- Entries after a journal: the state after them depends only on the journal's state.
 use Rattle.std.proofs.Common.{◌≡◌, ℕ, zero, suc, List, [], ◌∷◌, ◌++◌, length, take, refl, sym, ◌∙◌, ap, subst, append_assoc}
 use Rattle.std.specs.Prelude.{Some, None, slice_get}
 use Rattle.std.proofs.lemmas.List.{append-nil}
@@ -15,13 +15,13 @@ use Rattle.tk_clock.proofs.Legal.{IsAccepted-followed_by}
 abbrev pub extended_by : Journal → List Entry → Journal
 extended_by journal entries = record journal { entries = journal.entries ++ entries }
 
--- each of the entries is accepted after the journal and those before it
+-- each of the entries is accepted after the journal and the entries before it
 abbrev pub Follows : Journal → List Entry → Type 0
 Follows journal [] = Unit {0}
 Follows journal (entry ∷ entries) = (clock_refusal journal entry ≡ None)
     × Follows (followed_by journal entry) entries
 
--- to append entries is to append the first one, and then the others
+-- appending entries equals appending the first one, and then the others
 regroup : (journal : Journal) (entry : Entry) (entries : List Entry) →
     extended_by journal (entry ∷ entries) ≡ extended_by (followed_by journal entry) entries
 regroup journal entry entries =

@@ -86,7 +86,7 @@ cycles_asleep journal reading asleep =
 pub no_more : (x : ℤ) → x +ℤ pos 0 ≡ x
 no_more x = omega (arith, ints)
 
--- what each command except Resume does to the amount
+-- the effect of every command except Resume on the amount
 grown : (journal : Journal) (entry : Entry) → false ≡ is_asleep journal →
     monotonic_units (followed_by journal entry)
     ≡ monotonic_units journal + gap journal.opening.counter
@@ -96,7 +96,7 @@ grown journal entry awake =
     ∙ ap (λ k. monotonic_units journal + k * current_multiplier journal)
     (cycles_awake journal entry.reading awake)
 
--- what each command except Resume does to the raw amount
+-- the effect of every command except Resume on the raw amount
 raw_grown : (journal : Journal) (entry : Entry) → false ≡ is_asleep journal →
     raw_units (followed_by journal entry)
     ≡ raw_units journal + gap journal.opening.counter
@@ -122,7 +122,7 @@ multiplier_left journal cmd =
     (tick_left journal cmd)
     else current_multiplier journal
 
--- what every command except Resume has in common; REALTIME and sleep depend on the command
+-- the common effect of all commands except Resume; REALTIME and sleep depend on the command
 forward : (journal : Journal) (entry : Entry) (real' : ℤ) (asleep' : Bool) →
     false ≡ is_asleep journal →
     boot_amount entry.cmd ≡ pos 0 → real_offset (followed_by journal entry) ≡ real' →
@@ -200,7 +200,7 @@ ledger journal who reading (Resume away) asleep =
     (tai_offset-followed_by journal entry) (is_asleep-followed_by journal entry)
     (current_frequency-followed_by journal entry) (current_tick-followed_by journal entry)
 
--- the value of a journal's clock is that of its read base
+-- the value of a journal's clock equals its read base's
 pub base_value-base_of : (journal : Journal) (clock : ClockId) (reading : ℕ) →
     base_value (base_of journal) clock reading ≡ clock_value journal clock reading
 base_value-base_of journal Realtime reading = refl
@@ -211,7 +211,7 @@ base_value-base_of journal RealtimeCoarse reading = refl
 base_value-base_of journal MonotonicCoarse reading = refl
 base_value-base_of journal MonotonicRaw reading = refl
 
--- an accepted command comes at the right time: a resume while asleep, another one while awake
+-- an accepted command fits the state: a resume while asleep, another one while awake
 pub fits_sleep : (asleep resumes : Bool) (later : Option Refusal) →
     first_of (if asleep && not resumes then Some Asleep else if not asleep
     && resumes then Some Awake else None) later ≡ None →
@@ -227,7 +227,7 @@ by_first : (early x y : Option Refusal) → (early ≡ None → x ≡ y) →
 by_first None x y same = same refl
 by_first (Some refusal) x y same = refl
 
--- the tests of a journal are those of its state
+-- the tests of a journal are the tests of its state
 pub clock_refusal-state : (journal : Journal) (who reading : ℕ) (cmd : Command) →
     clock_refusal journal (record { who = who; reading = reading; cmd = cmd })
     ≡ state_refusal (state_of journal) reading cmd

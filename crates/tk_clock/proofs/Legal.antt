@@ -25,7 +25,7 @@ early_none : (early later : Option Refusal) → first_of early later ≡ None �
 early_none None later e = refl
 early_none (Some refusal) later e = e
 
--- a journal that has room refuses an entry for the reason that its state gives
+-- a journal that isn't full refuses an entry for the same reason as its state
 pub first_refusal-state : (journal : Journal) (state : State) (who reading : ℕ) (cmd : Command)
     (stated : Option Refusal) →
     state ≡ state_of journal → is_full journal ≡ false → state_refusal state reading cmd ≡ stated →
@@ -97,7 +97,7 @@ slice_get-take (suc n) [] k x e = e
 slice_get-take (suc n) (y ∷ xs) zero x e = e
 slice_get-take (suc n) (y ∷ xs) (suc k) x e = slice_get-take n xs k x e
 
--- if each entry of a journal was accepted, so was each entry of a prefix
+-- if all entries of a journal were accepted, so were all entries of a prefix
 pub IsAccepted-prefix : (journal : Journal) (n : ℕ) → IsAccepted journal →
     IsAccepted (prefix n journal)
 IsAccepted-prefix journal n all =
@@ -138,7 +138,7 @@ IsWhole-prefix journal n whole = record {
   accepted = IsAccepted-prefix journal n whole.accepted;
 }
 
--- a journal without entries has the state of its opening
+-- the state of a journal without entries is the state of its opening
 nothing : (u : ℕ) → 0 + (0 - 0) * u ≡ 0
 nothing u = omega arith
 

@@ -24,7 +24,7 @@ module _ {A : Type 0} where
   pub prefix_length : (xs ys : List A) → IsPrefix xs ys → length xs ≤ length ys
   prefix_length xs ys p = omega (arith, sym (ap length p.1) ∙ length-append xs p.0)
 
-  -- what holds of each item after one of them has changed
+  -- a fact about all items holds after one of them has changed
   pub each_after : (P : ℕ → A → Type 0) (xs : List A) (i : ℕ) (x : A) → P i x →
       ((j : ℕ) (y : A) → j ≢ i → get_elem? xs j ≡ some y → P j y) →
       (j : ℕ) (y : A) → get_elem? (set xs i x) j ≡ some y → P j y

@@ -1,4 +1,4 @@
--- Units that don't fit a word of 64 bits, in halves of 32 bits.
+-- Units that don't fit in 64 bits, in halves of 32 bits.
 use Rattle.std.proofs.Common.{◌≡◌, ℕ, ◌+◌, ◌-◌, ◌*◌, ◌/◌, ◌%◌, ◌^◌, ◌<◌, ◌≤◌, sym, ◌∙◌, ap, arith}
 use Rattle.std.proofs.lemmas.Nat.{pow_pos, pow-add, div_below}
 use Rattle.std.proofs.Math.Nat.{div-add-mod, mul-add-div, mul-le-mul_left, mul-le-mul_right, mod-lt}
@@ -11,7 +11,7 @@ gathered : (frac mult cycles upper lower product high low : ℕ) →
 gathered frac mult cycles upper lower product high low e f g =
     let spread = ap (λ c. c * mult) e in omega arith
 
--- the units, as those of the upper half and the rest
+-- the units, as the units of the upper half and the rest
 pub units_by_halves : (frac mult cycles : ℕ) →
     4294967296 * (cycles / 4294967296 * mult + cycles % 4294967296 * mult / 4294967296)
     + (cycles % 4294967296 * mult % 4294967296 + frac)
@@ -36,7 +36,7 @@ long_nanos-parts upper rest shift low =
     turned : (a b upper rest : ℕ) → a * b * upper + rest ≡ a * (upper * b) + rest
     turned a b upper rest = omega arith
 
--- as nanoseconds, an upper half below the test's bound fits 63 bits, and a greater one doesn't
+-- as nanoseconds, an upper half below the test's bound fits in 63 bits, and a greater one doesn't
 powers : (shift : ℕ) → shift ≤ 32 → 2 ^ (31 + shift) * 2 ^ (32 - shift) ≡ 2 ^ 63
 powers shift low =
     let whole : 31 + shift + (32 - shift) ≡ 63 = omega arith in
@@ -97,7 +97,7 @@ far_nanos-parts frac cycles mult shift =
     ∙ ap (λ n. n / p)
     (spread frac mult cycles p (cycles / p) (cycles % p) (div-add-mod cycles p))
 
--- the rest has at most as many nanoseconds as a cycle and the amount have units
+-- the rest has at most one nanosecond for each unit of a cycle and of the amount
 pub far_rest-low : (frac cycles mult shift : ℕ) →
     (frac + cycles % 2 ^ shift * mult) / 2 ^ shift < frac + mult + 1
 far_rest-low frac cycles mult shift =

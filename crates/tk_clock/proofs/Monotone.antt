@@ -86,7 +86,7 @@ pub units_at-≤ : (journal : Journal) (reading : ℕ) →
     monotonic_units journal ≤ monotonic_units_at journal reading
 units_at-≤ journal reading = omega arith
 
--- up to its end a prefix has the values of the journal
+-- up to its end a prefix gives the same values as the journal
 taken : {X : Type 0} (x d : X) (f : Entry → X) (entries : List Entry) (n : ℕ) → n ≤ length entries →
     get_or (x ∷ map f (take n entries)) n d ≡ get_or (x ∷ map f entries) n d
 taken x d f entries zero within = refl

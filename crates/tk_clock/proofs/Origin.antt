@@ -1,4 +1,4 @@
--- The value of a clock after the last reading, by what it has counted there.
+-- The value of a clock after the last reading, by its amount there.
 use Rattle.std.proofs.Common.{◌≡◌, ℕ, ◌+◌, ◌*◌, ◌/◌, ◌^◌, ◌≤◌, Bool, true, false, refl, sym, ap, ◌∙◌, arith}
 use Rattle.std.specs.Prelude.{pos, ◌+ℤ◌, ◌≤ℤ◌, ◌||◌, if◌then◌else◌}
 use Rattle.std.proofs.lemmas.Bool.{le-ltb}
@@ -23,7 +23,7 @@ same_units false true counter last stamp u =
     let none = cycles_since-self counter false last in rw none (omega arith)
 same_units false false counter last stamp u = refl
 
--- what a clock counts at a stamp, in nanoseconds, without its offset
+-- the amount of a clock at a stamp, in nanoseconds, without its offset
 abbrev pub counted : ReadBase → ClockId → ℕ → ℕ
 counted base clock stamp =
     (units_at_last base clock

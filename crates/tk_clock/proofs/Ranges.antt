@@ -1,4 +1,4 @@
--- What the tests of times show if they pass.
+-- The facts that follow if the tests of times pass.
 use Rattle.std.proofs.Common.{◌≡◌, ℕ, ◌^◌, ◌<◌, arith, true}
 use Rattle.std.specs.Prelude.{ℤ, pos, ◌≤ℤ◌, ◌<ℤ◌, ◌&&◌, int_le, int_lt, nat_lt}
 use Rattle.std.proofs.lemmas.Grind.{common_steps}
@@ -16,7 +16,7 @@ pub record IsTimeBelow (time : Timespec) (end : ℕ) : Type 0 where
   pub until : time.sec <ℤ pos end
   pub rest : time.nsec < 10 ^ 9
 
--- what the test of a time against a bound shows
+-- the facts that follow from the test of a time against a bound
 time-below : (time : Timespec) (end : ℕ) →
     (int_le (pos 0) time.sec && int_lt time.sec (pos end) && nat_lt time.nsec (10 ^ 9)) ≡ true →
     IsTimeBelow time end
@@ -31,14 +31,14 @@ pub settable-below : (time : Timespec) → is_settable time ≡ true → IsTimeB
 unfolding is_settable
 settable-below time e = time-below time settable_end e
 
--- a setting that passes the early tests has a time to which REALTIME may be set
+-- REALTIME may be set to the time of a setting that passes the early tests
 pub set-below : (state : State) (reading : ℕ) (time : Timespec) →
     IsEarly state reading (SetTime time) → IsTimeBelow time settable_end
 unfolding is_well_formed
 set-below state reading time early =
     settable-below time (ready state reading (SetTime time) early).well
 
--- such a resume has a suspension shorter than the clocks last
+-- the suspension of such a resume is shorter than the range of the clocks
 pub resumed-below : (state : State) (reading : ℕ) (away : Timespec) →
     IsEarly state reading (Resume away) → IsTimeBelow away clock_end
 unfolding is_well_formed is_suspension

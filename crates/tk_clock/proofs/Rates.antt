@@ -17,7 +17,7 @@ swapped cycles mult units slow low =
     let e : cycles * units * mult ≡ cycles * mult * units = omega arith in
     rw e (mul-le-mul_left (cycles * mult) low)
 
--- a base that is forwarded at the slowest multiplier or a greater one stays rated
+-- a base that is forwarded at the slowest multiplier or a faster one stays rated
 pub IsRated-forwarded : (base : ReadBase) (reading : ℕ) → slowest base.counter ≤ base.mult →
     IsRated base → IsRated (forwarded base reading)
 IsRated-forwarded base reading slow rated =
@@ -57,7 +57,7 @@ pub fewer_seconds : (sec frac end second : ℕ) → sec * second + frac < end * 
 fewer_seconds sec frac end second low =
     lt_of_mul-lt-mul_left second (omega arith)
 
--- an amount with fewer than `end` whole seconds, and a rest below a second, is below `end` seconds
+-- an amount with fewer than `end` whole seconds, and a part below a second, is below `end` seconds
 pub below_seconds : (sec frac end second : ℕ) → sec < end → frac < second →
     sec * second + frac < end * second
 below_seconds sec frac end second few rest =

@@ -99,7 +99,7 @@ module _ (base : ReadBase) (clock : ClockId) (nanos : ℤ) where
         below : (a b c : ℤ) → a ≤ℤ b → b <ℤ c → a ≤ℤ c
         below a b c low high = omega (arith, ints, low, high)
 
-    -- the clock is at its limit there and from there on
+    -- the clock is at its limit there and after it
     pub is_never : (refusal : ReadError) → read_refusal base clock reading ≡ Some refusal →
         IsNeverReached base clock nanos
     is_never refusal stated other ahead reached =
@@ -121,7 +121,7 @@ module _ (base : ReadBase) (clock : ClockId) (nanos : ℤ) where
         along : (a b c : ℤ) → a ≤ℤ b → b ≤ℤ c → a ≤ℤ c
         along a b c low high = omega (arith, ints, low, high)
 
-  -- a time that a read gives is given again by the first reading that has reached it
+  -- a time that a read returns is returned again at the first reading that has reached it
   pub gives_again : (result : Option ℕ) →
       MatchOption result (IsNeverReached base clock nanos)
       (λ first. IsFirstReached base clock nanos first) →

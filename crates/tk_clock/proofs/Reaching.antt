@@ -1,4 +1,4 @@
--- When a clock reaches a time: the units that are missing, the cycles that add them, the reading.
+-- When a clock reaches a time: the missing units, the cycles that add them, the reading.
 use Rattle.std.proofs.Common.{◌≡◌, ℕ, ◌+◌, ◌-◌, ◌*◌, ◌/◌, ◌%◌, ◌^◌, ◌<◌, ◌≤◌, bit_and, sym, ◌∙◌, ap, subst, arith}
 use Rattle.std.specs.Prelude.{ℤ, pos, ◌+ℤ◌, ◌<ℤ◌, ◌≤ℤ◌}
 use Rattle.std.specs.Int.{◌∣◌, int_max}
@@ -7,7 +7,7 @@ use Rattle.std.proofs.lemmas.Nat.{pow_pos, div_below, le-div, and_mask}
 use Rattle.std.proofs.Math.Nat.{mod-mod, mod-mod_of_dvd, dvd-mul_right, div-mul-le_self}
 use Rattle.tk_counter.proofs.Gaps.{counted_gap, word_split}
 
--- a clock that gains the units that are missing is at the time or later
+-- a clock that gains the missing units is at the time or later
 pub enough_units : (nanos offset counted missing units shift : ℕ) (time from : ℤ) →
     pos nanos ≡ int_max (pos 0) time → pos offset ≡ from →
     missing ≡ (nanos - offset) * 2 ^ shift - counted → missing ≤ units →
@@ -46,7 +46,7 @@ sum_gap d last cycles some near =
     ∙ counted_gap d last (last + cycles) some (omega arith) (omega (arith, near))
     ∙ more
 
--- a greater amount has as many nanoseconds or more
+-- a greater amount has at least the same number of nanoseconds
 pub nanos-rise : (a b shift : ℕ) → a ≤ b → a / 2 ^ shift ≤ b / 2 ^ shift
 nanos-rise a b shift more =
     le-div (a / 2 ^ shift) b (2 ^ shift) (pow_pos shift)

@@ -1,4 +1,5 @@
--- Which refusals report a lack of room or of memory, and which the clocks' own tests give.
+-- Which refusals report a full journal or an allocation failure, and which ones the clocks' own
+-- tests return.
 use Rattle.std.proofs.Common.{◌≡◌, ◌∙◌, refl, sym, ap, Bool, true, false}
 use Rattle.std.specs.Prelude.{Option, Some, None, not, ◌&&◌, nat_lt, ◌||◌, if◌then◌else◌}
 use Rattle.tk_counter.specs.Counter.{mask, half, gap}
@@ -11,7 +12,7 @@ use Rattle.tk_clock.specs.Journal.{Journal, followed_by, is_asleep, last_reading
 use Rattle.tk_clock.specs.Limits.{is_well_formed, is_past_limit, is_bad_setting}
 use Rattle.tk_clock.specs.Refusal.{first_of, clock_refusal, first_refusal, is_full, IsRefusal}
 
--- whether a refusal reports a lack of room or of memory
+-- whether a refusal reports a full journal or an allocation failure
 abbrev tells_want : Option Refusal → Bool
 tells_want (Some Full) = true
 tells_want (Some Memory) = true
@@ -30,7 +31,7 @@ tests_alone false false false false true f = refl
 tests_alone false false false false false true = refl
 tests_alone false false false false false false = refl
 
--- the clocks' own tests give neither Full nor Memory
+-- the clocks' own tests return neither Full nor Memory
 never_want : (journal : Journal) (entry : Entry) → tells_want (clock_refusal journal entry) ≡ false
 never_want journal entry =
     tests_alone
@@ -50,7 +51,7 @@ pub never_memory : (journal : Journal) (entry : Entry) →
     clock_refusal journal entry ≡ Some Memory → ⊥
 never_memory journal entry stated = cc (sym (never_want journal entry) ∙ ap tells_want stated)
 
--- a journal with room has the refusal of the clocks' tests
+-- a journal that isn't full refuses as the clocks' tests do
 pub first_refusal-room : (journal : Journal) (entry : Entry) → is_full journal ≡ false →
     first_refusal journal entry ≡ clock_refusal journal entry
 first_refusal-room journal entry room =
@@ -72,7 +73,8 @@ pub is_full-refused : (journal : Journal) (entry : Entry) →
 is_full-refused journal entry refused =
     full_if (is_full journal) (clock_refusal journal entry) (never_full journal entry) refused
 
--- if the refusal is not Full, the journal has room, and the refusal is that of the clocks' tests
+-- if the refusal isn't Full, the journal isn't full, and the refusal is the one of the clocks'
+-- tests
 pub has_room : (journal : Journal) (entry : Entry) (stated : Option Refusal) →
     (stated ≡ Some Full → ⊥) → first_refusal journal entry ≡ stated → is_full journal ≡ false
 has_room journal entry stated other answered =
@@ -84,7 +86,7 @@ pub clock_refusal-stated : (journal : Journal) (entry : Entry) (stated : Option 
 clock_refusal-stated journal entry stated other answered =
     sym (first_refusal-room journal entry (has_room journal entry stated other answered)) ∙ answered
 
--- if an entry is not refused, the journal has room, and the entry passes the clocks' tests
+-- if an entry isn't refused, the journal isn't full, and the entry passes the clocks' tests
 pub accepts_room : (journal : Journal) (entry : Entry) → first_refusal journal entry ≡ None →
     is_full journal ≡ false
 accepts_room journal entry accepted = has_room journal entry None (λ e. cc e) accepted

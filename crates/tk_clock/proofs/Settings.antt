@@ -28,7 +28,7 @@ not_below x y high = grind (arith, common_steps, ints)
 pub below-of : (x y : ℤ) → int_lt x y ≡ true → x <ℤ y
 below-of x y e = grind (arith, common_steps, ints)
 
--- what the test of limits shows if it passes
+-- the facts that follow if the test of limits passes
 pub both : (a b c : Bool) → (not a || not b || c) ≡ false → (a ≡ true) × (b ≡ true) × (c ≡ false)
 both true true false e = (refl, refl, refl)
 both true true true e = absurd cc
@@ -114,7 +114,7 @@ pub setting_range : {state : State} {now : ReadBase} (cmd : Command) → sets_re
 setting_range {state} {now} cmd sets e past =
     stated_range _ _ _ (setting_past state now cmd true sets e past)
 
--- MONOTONIC before the command is that of the forwarded base
+-- MONOTONIC before the command equals the forwarded base's
 same_now : (state : State) (now : ReadBase) (cmd : Command) → IsForwarded state now →
     base_monotonic state.base now.last ≡ now_of (forwarded state.base now.last) →
     base_monotonic state.base now.last ≡ now_of now

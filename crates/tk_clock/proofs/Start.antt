@@ -1,4 +1,4 @@
--- A journal that begins in a state, and has no entries, has that state.
+-- The state of a journal without entries is the state in which it begins.
 use Rattle.std.proofs.Common.{◌≡◌, ℕ, zero, suc, ◌+◌, ◌-◌, ◌*◌, ◌≤◌, List, [], length, refl, sym, ◌∙◌, ap, subst, arith}
 use Rattle.std.specs.Prelude.{ℤ, pos, ◌+ℤ◌, if◌then◌else◌}
 use Rattle.std.proofs.lemmas.Int.{ints}
@@ -16,13 +16,13 @@ use Rattle.tk_clock.proofs.Stretches.{current_multiplier-followed_by, current_fr
 use Rattle.tk_clock.proofs.Monotone.{prefix-next}
 use Rattle.tk_clock.specs.Folding.{journal_from}
 
--- the multiplier is that of the frequency and tick in force
+-- the multiplier follows from the frequency and tick in force
 abbrev IsSteered : Journal → Type 0
 IsSteered journal =
     current_multiplier journal ≡ multiplier journal.opening.counter (current_frequency journal)
     (current_tick journal)
 
--- each command keeps the multiplier so
+-- this stays true after every command
 steered : (counter : Counter) (cmd : Command) (mult : ℕ) (frequency tick : ℤ) →
     mult ≡ multiplier counter frequency tick →
     (if sets_multiplier cmd then multiplier counter
@@ -98,7 +98,7 @@ same_parts : (state : State) (mult amount raw : ℕ) (real boot : ℤ) → state
     }
 same_parts state mult amount raw real boot p q r s t = rw (← p, q, r, s, t) refl
 
--- a journal without entries that begins in the state of another journal has that state
+-- the state of a journal without entries that begins in the state of another journal is that state
 pub state_of-started : (count : ℕ) (journal : Journal) →
     state_of (journal_from count (state_of journal) []) ≡ state_of journal
 state_of-started count journal =

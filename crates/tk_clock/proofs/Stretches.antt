@@ -24,7 +24,7 @@ is_asleep-followed_by journal entry =
     at_place-last journal.opening.asleep (λ (e : Entry). is_suspend e.cmd) journal.entries entry _
     (length_push journal.entries entry)
 
--- cycles up to the journal's end stay as they are
+-- cycles up to the journal's end don't change
 pub awake_cycles-within : (journal : Journal) (entry : Entry) (k : ℕ) → k ≤ length journal.entries →
     awake_cycles (followed_by journal entry) k ≡ awake_cycles journal k
 awake_cycles-within journal entry zero within = refl

@@ -80,7 +80,7 @@ IsRunning-opened counter reading mult real same low =
       };
     }
 
--- the frequency and the tick of running clocks fit words
+-- the frequency and the tick of running clocks fit in 64-bit words
 pub running_words : {base : ReadBase} {frequency tick : ℤ} → IsRunning base frequency tick →
     (to_z w64 (of_z w64 frequency) ≡ frequency) × (to_z w64 (of_z w64 tick) ≡ tick)
 running_words held = (

@@ -1,4 +1,4 @@
--- Ten words and the snapshot that they encode.
+-- Ten 64-bit words and the snapshot that they encode.
 use Rattle.std.proofs.Common.{◌≡◌, ℕ, ◌+◌, ◌*◌, ◌/◌, ◌%◌, ◌<◌, ◌≤◌, ◌∙◌, refl, ap, arith, Bool, true, false, List, [], ◌∷◌, length, get_or}
 use Rattle.std.specs.Prelude.{ℤ, zero, suc, ◌==◌, pos, ◌<ℤ◌, int_lt, ◌&&◌, ◌||◌, not, Some, None, IsSome, if◌then◌else◌}
 use Rattle.std.proofs.lemmas.Int.{ints}
@@ -19,7 +19,7 @@ use Rattle.tk_clock.proofs.Values.{monotonic-last}
 use Rattle.tk_clock.proofs.Settings.{both, either, is_below, below-of}
 use Rattle.tk_clock.specs.Words.{words_of, are_in_range, is_within, snapshot_of_words, restored}
 
--- the words of a snapshot, from the parts that the code keeps
+-- the words of a snapshot, from the parts that the code stores
 abbrev pub parts : ℕ → ℕ → ℕ → Amount → Amount → ℕ → ℕ → ℕ → List ℕ
 parts front last mult monotonic raw real boot tai =
     front ∷ last ∷ mult ∷ monotonic.frac ∷ monotonic.sec ∷ real ∷ boot ∷ tai ∷ raw.frac ∷ raw.sec
@@ -74,7 +74,7 @@ shared n =
     bit_is (suc zero) low = refl
     bit_is (suc (suc r)) low = absurd (omega arith)
 
--- what the test of ranges shows if it passes
+-- the facts that follow if the test of ranges passes
 pub record IsInRange (counter : Counter) (words : List ℕ) : Type 0 where
   pub last_low : get_or words 1 0 ≤ mask counter
   pub mult_some : 1 ≤ get_or words 2 0
@@ -179,7 +179,7 @@ monotonic_within base monotonic e sec_low frac_low =
     let low = below_nanos monotonic_end base.amount base.counter.shift units in
     rw (monotonic-last base) (omega (arith, ints, low))
 
--- the words of the snapshot that ten words encode are those words
+-- the words of the snapshot that ten words encode are the same ten words
 ten : (words : List ℕ) → length words ≡ 10 →
     get_or words 0 0 ∷ get_or words 1 0 ∷ get_or words 2 0 ∷ get_or words 3 0 ∷ get_or words 4 0
     ∷ get_or words 5 0 ∷ get_or words 6 0
@@ -285,7 +285,7 @@ is_within-stated base e =
       tai_low = below-of (at TaiClock) (limit TaiClock) (then_true _ _ e);
     }
 
--- what is known of words that encode a snapshot
+-- facts about words that encode a snapshot
 pub record IsTold (counter : Counter) (words : List ℕ) : Type 0 where
   pub range : are_in_range counter words ≡ true
   pub within : is_within (snapshot_of_words counter words).base ≡ true

@@ -16,11 +16,11 @@ use Rattle.tk_clock.specs.State.{base_of, state_of}
 use Rattle.tk_clock.specs.Limits.{settable_end, clock_end, monotonic_end, is_settable, is_suspension, is_well_formed, is_past_limit, is_bad_setting}
 use Rattle.tk_clock.specs.Refusal.{first_refusal, read_refusal, opening_refusal}
 
--- a counter of one nanosecond a cycle, with readings of 32 bits
+-- a counter of one nanosecond a cycle, with 32-bit readings
 abbrev nanosecond_counter : Counter
 nanosecond_counter = record { bits = 32; mult = 16777216; shift = 24 }
 
--- a slow counter of 4,194,304 nanoseconds a cycle, with readings of 64 bits
+-- a slow counter of 4,194,304 nanoseconds a cycle, with 64-bit readings
 abbrev wide_counter : Counter
 wide_counter = record { bits = 64; mult = 4194304; shift = 0 }
 
@@ -41,7 +41,7 @@ wide_journal entries = record (opened wide_counter 0 (time (pos 1700000000) 0)) 
   entries = entries;
 }
 
--- the end of the settable times is the end of the clocks less the end of MONOTONIC
+-- the end of the settable times is the end of the clocks minus the end of MONOTONIC
 settable_until : settable_end ≡ clock_end - monotonic_end
 settable_until = refl
 
@@ -85,7 +85,7 @@ wraps = refl
 wraps-monotonic : monotonic (record near_wrap { entries = at 10 Update ∷ [] }) 10 ≡ 16
 wraps-monotonic = refl
 
--- a reading behind the last command gets the value at that command; a coarse clock always has that
+-- a read behind the last command returns the value at that command; a coarse clock always has that
 -- value
 
 stands-behind : monotonic (journal_of (at 100 Update ∷ [])) 99 ≡ 100
@@ -134,7 +134,7 @@ slower-values : ((base_of slower).mult ≡ 16768827) × (monotonic slower 100000
     × (monotonic slower 1000000001 ≡ 1000499964)
 slower-values = (refl, refl, refl)
 
--- a snapshot that is used beyond its life may give more than a later one
+-- a snapshot that is used beyond its life may return more than a later one
 
 beyond_life : monotonic (journal_of (at 0 (Freq (pos 32768000)) ∷ [])) 1000000000 ≡ 1000499963
 beyond_life = refl
@@ -169,7 +169,7 @@ negative-tai : first_refusal (journal_of []) (at 0 (Tai (negsuc 0))) ≡ Some In
 unfolding is_well_formed is_past_limit is_bad_setting
 negative-tai = refl
 
--- while asleep, the clocks stand still and accept only a resume
+-- while asleep, the clocks don't advance and accept only a resume
 
 abbrev asleep : Journal
 asleep = journal_of (at 1000 Suspend ∷ [])

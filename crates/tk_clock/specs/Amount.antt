@@ -1,4 +1,4 @@
--- An amount of time as whole seconds and a rest below a second.
+-- An amount of time as whole seconds and a part below a second.
 use Rattle.std.specs.Prelude.{◌≡◌, ℕ, ◌+◌, ◌*◌, ◌/◌, ◌%◌, ◌<◌}
 use Rattle.std.proofs.Common.{ap, ◌∙◌}
 use Rattle.std.proofs.lemmas.Nat.{div-mul-add, mod-mul-add}
@@ -9,7 +9,7 @@ use Rattle.tk_clock.specs.declared.amount.Amount.{Amount}
 abbrev pub units_of : Counter → Amount → ℕ
 units_of counter amount = amount.sec * second counter + amount.frac
 
--- the amount is this number of units, and its rest is below a second
+-- the amount is this number of units, and its part below a second is in range
 abbrev pub IsAmountOf : Counter → Amount → ℕ → Type 0
 IsAmountOf counter amount units = (units_of counter amount ≡ units) × (amount.frac < second counter)
 
@@ -17,7 +17,7 @@ IsAmountOf counter amount units = (units_of counter amount ≡ units) × (amount
 abbrev pub amount_of : Counter → ℕ → Amount
 amount_of counter units = record { sec = units / second counter; frac = units % second counter }
 
--- an amount with a rest below a second is the amount of its units
+-- an amount whose part below a second is in range is the amount of its units
 pub amount_of-units_of : (counter : Counter) (amount : Amount) → amount.frac < second counter →
     amount_of counter (units_of counter amount) ≡ amount
 amount_of-units_of counter amount low =

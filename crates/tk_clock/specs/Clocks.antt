@@ -19,7 +19,7 @@ sum_of (x ∷ xs) = x +ℤ sum_of xs
 abbrev pub set_place : Journal → ℕ
 set_place journal = latest 0 (places (λ (e : Entry). is_some (time_set e.cmd)) 0 journal.entries)
 
--- the offset that the entry at a place sets, in nanoseconds: the time that it sets, less MONOTONIC
+-- the offset that the entry at a place sets, in nanoseconds: the time that it sets, minus MONOTONIC
 -- at its reading; at place 0, the offset of the opening
 abbrev pub offset_set : Journal → ℕ → ℤ
 offset_set journal place =
@@ -28,19 +28,19 @@ offset_set journal place =
     (time_set e.cmd) (pos 0))
     journal.entries place
 
--- REALTIME less MONOTONIC, in nanoseconds: the offset that was set last, plus all steps and
--- suspensions since
+-- REALTIME minus MONOTONIC, in nanoseconds: the offset that was set last, plus all later steps and
+-- suspensions
 abbrev pub real_offset : Journal → ℤ
 real_offset journal =
     offset_set journal (set_place journal)
     +ℤ sum_of (map (λ (e : Entry). real_amount e.cmd) (drop (set_place journal) journal.entries))
 
--- BOOTTIME less MONOTONIC, in nanoseconds: the offset of the opening, plus all suspensions
+-- BOOTTIME minus MONOTONIC, in nanoseconds: the offset of the opening, plus all suspensions
 abbrev pub boot_offset : Journal → ℤ
 boot_offset journal =
     journal.opening.boot_offset +ℤ sum_of (map (λ (e : Entry). boot_amount e.cmd) journal.entries)
 
--- TAI less REALTIME, in seconds: the last offset set, or that of the opening
+-- TAI minus REALTIME, in seconds: the last offset that was set, or the opening's
 abbrev pub tai_offset : Journal → ℤ
 tai_offset journal =
     latest journal.opening.tai (filter_map (λ (e : Entry). tai_set e.cmd) journal.entries)

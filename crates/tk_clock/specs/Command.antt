@@ -1,4 +1,4 @@
--- What each command does to the clocks (kernel/time/timekeeping.c).
+-- The effects of commands on the clocks (kernel/time/timekeeping.c).
 use Rattle.std.specs.Prelude.{ℤ, pos, Bool, true, false, Option, Some, None}
 use Rattle.tk_clock.specs.declared.command.Command.{Command}
 use Rattle.tk_clock.specs.declared.command.Command.TheVariants.{SetTime, Step, Freq, Tick, Tai, Suspend, Resume}
@@ -40,8 +40,8 @@ abbrev pub time_set : Command → Option ℤ
 time_set (SetTime time) = Some (nanoseconds time)
 time_set _ = None
 
--- how far the command moves REALTIME against MONOTONIC, in nanoseconds (timekeeping_inject_offset);
--- a setting of the time is not counted here
+-- the amount by which the command moves REALTIME against MONOTONIC, in nanoseconds
+-- (timekeeping_inject_offset); a setting of the time is not counted here
 abbrev pub real_amount : Command → ℤ
 real_amount (Step by) = nanoseconds by
 real_amount (Resume away) = nanoseconds away

@@ -1,4 +1,4 @@
--- The results of a command that passed the tests before those of the clocks' values.
+-- The results of a command that passed the tests which don't depend on a clock's value.
 use Rattle.std.specs.Prelude.{◌≡◌, ℕ, Bool, true, false, Result, None, Some, MatchResult}
 use Rattle.tk_clock.specs.declared.command.Command.{Command}
 use Rattle.tk_clock.specs.declared.refusal.Refusal.{Refusal}
@@ -13,7 +13,7 @@ pub record IsForwarded (state : State) (base : ReadBase) : Type 0 where
   pub stated : base ≡ forwarded state.base base.last
   pub rated : IsRated base
 
--- the command passes the tests that need no clock's value
+-- the command passes the tests that don't depend on a clock's value
 abbrev pub IsEarly : State → ℕ → Command → Type 0
 IsEarly state reading cmd =
     early_refusal state.base.counter state.base.asleep state.base.last reading cmd ≡ None

@@ -1,4 +1,4 @@
--- Folding puts the first entries of a journal into its opening, so that each later value stays.
+-- Folding moves the first entries of a journal into its opening, and changes no later value.
 use Rattle.std.specs.Prelude.{◌≡◌, ℕ, ◌+◌, List, drop}
 use Rattle.tk_clock.specs.declared.command.Entry.{Entry}
 use Rattle.tk_clock.specs.Journal.{Journal, prefix, accepted_count}

@@ -19,10 +19,10 @@ pub record Opening : Type 0 where
   -- the frequency in force, in 2^-16 ppm, and the tick, in microseconds
   pub frequency : ℤ
   pub tick : ℤ
-  -- REALTIME and BOOTTIME less MONOTONIC, in nanoseconds
+  -- REALTIME and BOOTTIME, both minus MONOTONIC, in nanoseconds
   pub real_offset : ℤ
   pub boot_offset : ℤ
-  -- TAI less REALTIME, in seconds
+  -- TAI minus REALTIME, in seconds
   pub tai : ℤ
   pub asleep : Bool
 
@@ -64,7 +64,8 @@ prefix n journal = record journal { entries = take n journal.entries }
 abbrev pub followed_by : Journal → Entry → Journal
 followed_by journal entry = record journal { entries = journal.entries ++ entry ∷ [] }
 
--- the value of f for the entry at a place; places count from 1, and place 0 has the opening's value
+-- the value of f for the entry at a place; places count from 1, and place 0 gives the opening's
+-- value
 abbrev pub at_place : {X : Type 0} → X → (Entry → X) → List Entry → ℕ → X
 at_place opening f entries place = get_or (opening ∷ map f entries) place opening
 
@@ -73,8 +74,8 @@ abbrev pub reading_at : Journal → ℕ → ℕ
 reading_at journal place =
     at_place journal.opening.reading (λ (e : Entry). e.reading) journal.entries place
 
--- whether the clocks are asleep from a place on: the entry there is a suspend, or at place 0 the
--- opening says so. A resume is the next entry that can be accepted
+-- whether the clocks are asleep after a place: the entry there is a suspend, or at place 0 the
+-- opening is asleep. A resume is the next entry that can be accepted
 abbrev pub is_asleep_at : Journal → ℕ → Bool
 is_asleep_at journal place =
     at_place journal.opening.asleep (λ (e : Entry). is_suspend e.cmd) journal.entries place

@@ -1,5 +1,4 @@
--- Which journals can exist: the opening is one that some whole journal leaves, and each entry was
--- accepted.
+-- Which journals can exist: some whole journal leaves the opening, and all entries were accepted.
 use Rattle.std.specs.Prelude.{◌≡◌, ℕ, length, slice_get, Some, None}
 use Rattle.tk_counter.specs.Counter.{IsCounter}
 use Rattle.tk_clock.specs.declared.timespec.Timespec.{Timespec}
@@ -8,7 +7,7 @@ use Rattle.tk_clock.specs.Journal.{Opening, Journal, opened, prefix}
 use Rattle.tk_clock.specs.State.{State, state_of}
 use Rattle.tk_clock.specs.Refusal.{clock_refusal, opening_refusal}
 
--- each entry was accepted after those before it
+-- each entry was accepted after the entries before it
 abbrev pub IsAccepted : Journal → Type 0
 IsAccepted journal =
     (k : ℕ) (entry : Entry) → slice_get journal.entries k ≡ Some entry →
@@ -38,7 +37,7 @@ folded_opening n state = record {
   asleep = state.base.asleep;
 }
 
--- a journal that begins in the state that some whole journal leaves, and of which each entry was
+-- a journal that begins in the state that some whole journal leaves, and whose entries were all
 -- accepted; if no entry was folded, the whole journal has no entries
 pub record IsLegal (journal : Journal) : Type 0 where
   pub past : (whole : Journal) × IsWhole whole

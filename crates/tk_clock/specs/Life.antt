@@ -6,7 +6,7 @@ use Rattle.tk_clock.specs.Monotonic.{monotonic}
 
 -- a reading after the first n entries is in their life if it is no later than the next entry's
 -- reading. Any reading is in their life if there is no next entry, if the clocks are asleep there,
--- or if the reading is behind that of the n-th entry
+-- or if the reading is behind the n-th entry's
 abbrev pub IsInLife : Journal → ℕ → ℕ → Type 0
 IsInLife journal n reading =
     (n ≡ length journal.entries) ⊎ (is_asleep_at journal n ≡ true)

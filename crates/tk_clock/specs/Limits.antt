@@ -8,7 +8,7 @@ use Rattle.tk_clock.specs.declared.clock_id.ClockId.{ClockId}
 use Rattle.tk_clock.specs.declared.clock_id.ClockId.TheVariants.{Realtime, Monotonic, Boottime, Tai as TaiClock, RealtimeCoarse, MonotonicCoarse, MonotonicRaw}
 use Rattle.tk_clock.specs.Time.{nanoseconds}
 
--- the end of the clocks, in seconds: 63 bits of nanoseconds hold this many (KTIME_SEC_MAX)
+-- the end of the clocks, in seconds: 63 bits of nanoseconds can represent this many (KTIME_SEC_MAX)
 abbrev pub clock_end : ℕ
 clock_end = seconds_end
 
@@ -16,12 +16,12 @@ clock_end = seconds_end
 abbrev pub monotonic_end : ℕ
 monotonic_end = 946080000
 
--- a bound of MONOTONIC_RAW, in seconds, while MONOTONIC is below its end: MONOTONIC_RAW gains most
--- on MONOTONIC at the least tick and frequency
+-- a bound of MONOTONIC_RAW, in seconds, while MONOTONIC is below its end: MONOTONIC_RAW runs ahead
+-- of MONOTONIC fastest at the least tick and frequency
 abbrev pub raw_end : ℕ
 raw_end = 1060000000
 
--- the end of the times that REALTIME may be set to, in seconds: the end of REALTIME less the 30
+-- the end of the times that REALTIME may be set to, in seconds: the end of REALTIME minus the 30
 -- years of MONOTONIC (TIME_SETTOD_SEC_MAX)
 abbrev pub settable_end : ℕ
 settable_end = 8277292036
@@ -38,11 +38,11 @@ listed_most = 1048576
 abbrev pub most_kept : ℕ
 most_kept = listed_most / 2
 
--- the most commands that a journal counts: the greatest number of 63 bits
+-- the most commands that a journal counts: 2^63 - 1
 abbrev pub counted_most : ℕ
 counted_most = 2 ^ 63 - 1
 
--- the limit of a clock, in nanoseconds: a read gives only values below it
+-- the limit of a clock, in nanoseconds: a read returns only values below it
 abbrev pub limit : ClockId → ℤ
 limit Monotonic = pos (monotonic_end * 10 ^ 9)
 limit MonotonicCoarse = pos (monotonic_end * 10 ^ 9)

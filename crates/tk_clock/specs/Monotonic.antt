@@ -1,5 +1,5 @@
--- MONOTONIC: the sum over the stretches of a journal of each stretch's awake cycles times its
--- multiplier (Documentation/core-api/timekeeping.rst: it stops during suspend).
+-- MONOTONIC: the awake cycles of each stretch of a journal, times its multiplier, summed
+-- (Documentation/core-api/timekeeping.rst: it stops during suspend).
 use Rattle.std.specs.Prelude.{ℕ, zero, suc, ◌+◌, ◌-◌, ◌*◌, ◌/◌, ◌^◌, ℤ, List, [], ◌∷◌, take, length, Bool, ◌||◌, nat_lt, if◌then◌else◌}
 use Rattle.std.specs.List.{filter_map}
 use Rattle.tk_counter.specs.Counter.{Counter, gap, half, multiplier}
@@ -16,19 +16,19 @@ awake_cycles journal (suc place) =
     + (if is_asleep_at journal place then 0
     else gap journal.opening.counter (reading_at journal place) (reading_at journal (suc place)))
 
--- the frequency in force from a place on, in 2^-16 ppm: the last one set up to that place
+-- the frequency in force after a place, in 2^-16 ppm: the last one set up to that place
 abbrev pub frequency_at : Journal → ℕ → ℤ
 frequency_at journal place =
     latest journal.opening.frequency
     (filter_map (λ (e : Entry). frequency_set e.cmd) (take place journal.entries))
 
--- the tick in force from a place on, in microseconds
+-- the tick in force after a place, in microseconds
 abbrev pub tick_at : Journal → ℕ → ℤ
 tick_at journal place =
     latest journal.opening.tick
     (filter_map (λ (e : Entry). tick_set e.cmd) (take place journal.entries))
 
--- the multiplier from a place on: the units of 2^-shift nanoseconds that a cycle adds
+-- the multiplier after a place: the units of 2^-shift nanoseconds that a cycle adds
 abbrev pub multiplier_at : Journal → ℕ → ℕ
 multiplier_at journal place =
     multiplier journal.opening.counter (frequency_at journal place) (tick_at journal place)

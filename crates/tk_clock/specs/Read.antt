@@ -5,7 +5,7 @@ use Rattle.tk_clock.specs.declared.refusal.ReadError.{ReadError}
 use Rattle.tk_clock.specs.State.{ReadBase, base_value}
 use Rattle.tk_clock.specs.Refusal.{read_refusal}
 
--- the value, unless the read is refused
+-- the value, or the error of a refused read
 abbrev pub unless_refused : Option ReadError → ℤ → Result ℕ ReadError
 unless_refused (Some refusal) value = Err refusal
 unless_refused None value = Ok (unsigned_abs value)

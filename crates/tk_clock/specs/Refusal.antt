@@ -20,8 +20,8 @@ abbrev pub first_of : Option Refusal → Option Refusal → Option Refusal
 first_of (Some refusal) later = Some refusal
 first_of None later = later
 
--- the refusal of a command at the wrong time: asleep, the clocks accept only a resume; awake, they
--- accept no resume
+-- the refusal of a command because of sleep: while asleep, the clocks accept only a resume; while
+-- awake, they accept no resume
 abbrev pub sleep_refusal : Bool → Command → Option Refusal
 sleep_refusal asleep cmd =
     if asleep && not (is_resume cmd) then Some Asleep
@@ -47,7 +47,7 @@ value_refusal before after cmd =
     else if is_bad_setting before cmd then Some Invalid
     else None
 
--- the first refusal of the tests that need no clock's value
+-- the first refusal of the tests that don't depend on a clock's value
 abbrev pub early_refusal : Counter → Bool → ℕ → ℕ → Command → Option Refusal
 early_refusal counter asleep last reading cmd =
     first_of (sleep_refusal asleep cmd)

@@ -28,7 +28,7 @@ pub record Run : Type 0 where
   pub answers : List (Result ℕ Refusal)
   pub journal : Journal
 
--- answers the events in order, each after the journal that the earlier ones left
+-- answers the events in order, each one after the journal of the earlier ones
 abbrev pub run : Journal → List Entry → Run
 run journal [] = record { answers = []; journal = journal }
 run journal (event ∷ events) =

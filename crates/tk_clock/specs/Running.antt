@@ -23,18 +23,17 @@ pub record IsReadBase (counter : Counter) (last mult : ℕ) (monotonic raw : Amo
 abbrev pub slowest : Counter → ℕ
 slowest counter = multiplier counter (neg_ℤ greatest_frequency) least_tick
 
--- MONOTONIC_RAW is at most MONOTONIC times the counter's own multiplier over the slowest one
+-- MONOTONIC_RAW is at most MONOTONIC times the counter's own multiplier, divided by the slowest one
 abbrev pub IsRated : ReadBase → Type 0
 IsRated base = base.raw_amount * slowest base.counter ≤ base.amount * base.counter.mult
 
--- two seconds or more are full, once the cycles are added to the part of an amount that is below a
--- second
+-- the cycles and the part of an amount below a second last two seconds or more
 abbrev pub IsTwoSeconds : Counter → ℕ → ℕ → ℕ → Type 0
 IsTwoSeconds counter amount cycles mult =
     2 * second counter ≤ amount % second counter + cycles * mult
 
--- why a base takes the long way to a reading: the cycles don't fit 31 bits, MONOTONIC or
--- MONOTONIC_RAW gains two whole seconds, or MONOTONIC would be at its limit
+-- why the short computation doesn't apply to a base and a reading: the cycles don't fit in 31 bits,
+-- MONOTONIC or MONOTONIC_RAW gains two whole seconds, or MONOTONIC would be at its limit
 abbrev pub IsFar : ReadBase → ℕ → Type 0
 IsFar base reading =
     let cycles = gap base.counter base.last reading in
@@ -50,7 +49,7 @@ pub record IsWithin (base : ReadBase) : Type 0 where
   pub boot_low : base_value base Boottime base.last <ℤ limit Boottime
   pub tai_low : base_value base Tai base.last <ℤ limit Tai
 
--- the clocks run: the multiplier is that of the frequency and tick, and no clock is at its limit
+-- the clocks run: the multiplier follows from the frequency and tick, and no clock is at its limit
 pub record IsRunning (base : ReadBase) (frequency tick : ℤ) : Type 0 where
   pub steered : base.mult ≡ multiplier base.counter frequency tick
   pub frequency_low : neg_ℤ (pos (2 ^ 63)) ≤ℤ frequency

@@ -1,4 +1,4 @@
--- A snapshot: what a reader of the clocks gets.
+-- A snapshot: the state that a reader of the clocks gets.
 use Rattle.std.specs.Prelude.{ℕ}
 use Rattle.tk_clock.specs.Journal.{Journal, accepted_count}
 use Rattle.tk_clock.specs.State.{ReadBase, base_of}

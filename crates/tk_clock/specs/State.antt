@@ -1,4 +1,4 @@
--- The running state: what a journal leaves, and what a command does to it
+-- The running state: the state that a journal leaves, and the effect of a command on it
 -- (kernel/time/timekeeping.c).
 use Rattle.std.specs.Prelude.{ℕ, ◌+◌, ◌*◌, ◌/◌, ◌^◌, ℤ, pos, ◌+ℤ◌, ◌-ℤ◌, ◌*ℤ◌, Bool, true, false}
 use Rattle.tk_counter.specs.Counter.{Counter, gap, multiplier}
@@ -14,16 +14,16 @@ use Rattle.tk_clock.specs.Clocks.{real_offset, boot_offset, tai_offset, raw_unit
 -- the numbers needed to read the clocks, like the kernel's struct tk_read_base
 pub record ReadBase : Type 0 where
   pub counter : Counter
-  -- the last reading, and the multiplier from it on: the units that a cycle adds
+  -- the last reading, and the multiplier after it: the units that a cycle adds
   pub last : ℕ
   pub mult : ℕ
   -- MONOTONIC and MONOTONIC_RAW at the last reading, in units of 2^-shift nanoseconds
   pub amount : ℕ
   pub raw_amount : ℕ
-  -- REALTIME and BOOTTIME less MONOTONIC, in nanoseconds
+  -- REALTIME and BOOTTIME, both minus MONOTONIC, in nanoseconds
   pub real_offset : ℤ
   pub boot_offset : ℤ
-  -- TAI less REALTIME, in seconds
+  -- TAI minus REALTIME, in seconds
   pub tai : ℤ
   pub asleep : Bool
 
@@ -90,7 +90,7 @@ forwarded base reading =
       last = reading;
     }
 
--- what a command at a reading does to the clocks
+-- the effect of a command at a reading on the clocks
 abbrev pub effect : State → ℕ → Command → State
 effect state reading Update = record state { base = forwarded state.base reading }
 effect state reading (SetTime time) =

@@ -1,4 +1,4 @@
--- A snapshot as ten words, for a page that is read without the lock.
+-- A snapshot as ten 64-bit words, for a page that is read without the keeper's lock.
 use Rattle.std.specs.Prelude.{ℕ, ◌+◌, ◌*◌, ◌/◌, ◌%◌, ◌==◌, pos, unsigned_abs, List, [], ◌∷◌, slice_index, Bool, ◌&&◌, nat_lt, nat_le, int_lt, Option, Some, None, if◌then◌else◌}
 use Rattle.tk_counter.specs.Counter.{Counter, mask, fastest, second}
 use Rattle.tk_clock.specs.declared.clock_id.ClockId.TheVariants.{Realtime, Boottime, Tai as TaiClock}
@@ -8,8 +8,8 @@ use Rattle.tk_clock.specs.Snapshot.{Snapshot}
 
 -- the words of a snapshot: word 0 is the front, 1 the last reading, 2 the multiplier; 3 and 4 are
 -- MONOTONIC at that reading, as units of 2^-shift nanoseconds below a second and as seconds; 5 and
--- 6 are REALTIME and BOOTTIME less MONOTONIC, in nanoseconds; 7 is the TAI offset in seconds times
--- 2, plus 1 while asleep; 8 and 9 are MONOTONIC_RAW, in the form of MONOTONIC
+-- 6 are REALTIME and BOOTTIME, both minus MONOTONIC, in nanoseconds; 7 is the TAI offset in seconds
+-- times 2, plus 1 while asleep; 8 and 9 are MONOTONIC_RAW, in the form of MONOTONIC
 abbrev pub words_of : Snapshot → List ℕ
 words_of snapshot =
     let base = snapshot.base in
@@ -24,7 +24,7 @@ words_of snapshot =
 abbrev pub tai_of_words : List ℕ → ℕ
 tai_of_words words = slice_index words 7 / 2
 
--- whether each word is in its range
+-- whether all words are in their ranges
 unfoldable pub are_in_range : Counter → List ℕ → Bool
 are_in_range counter words =
     nat_le (slice_index words 1) (mask counter)
@@ -57,8 +57,8 @@ is_within base =
     && int_lt (base_value base Realtime base.last) (limit Realtime)
     && int_lt (base_value base TaiClock base.last) (limit TaiClock)
 
--- the snapshot that the words encode, if each word is in its range, and REALTIME, BOOTTIME and TAI
--- are below their limits
+-- the snapshot that the words encode, if all words are in their ranges, and REALTIME, BOOTTIME and
+-- TAI are below their limits
 abbrev pub restored : Counter → List ℕ → Option Snapshot
 restored counter words =
     if are_in_range counter words && is_within (snapshot_of_words counter words).base

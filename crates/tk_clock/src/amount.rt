@@ -7,23 +7,25 @@ use tk_counter::CounterDesc;
 /// Counts the nanoseconds of a second.
 pub(crate) const NANOS_PER_SECOND: u64 = 1_000_000_000;
 
-/// Replaces an amount of ns that doesn't fit 63 bits. Every such amount is beyond every clock's
+/// Replaces an amount of ns that doesn't fit in 63 bits. All such amounts are beyond every clock's
 /// limit.
 const TOO_MANY_NANOS: u64 = 1 << 63;
 
-/// Bounds the cycles that fit a word at any multiplier: fewer have less than 2^63 units.
+/// Bounds the cycles whose units fit in 64 bits at any multiplier: fewer cycles add less than 2^63
+/// units.
 pub(crate) const NARROW_CYCLES: u64 = 1 << 31;
 
-/// Counts the values of half a word.
+/// Counts the values of 32 bits.
 pub(crate) const HALF_WORD: u64 = 1 << 32;
 
-/// Represents an amount of time: whole seconds, and the rest in units of `2^-shift` ns.
+/// Represents an amount of time: whole seconds, and the part below a second in units of `2^-shift`
+/// ns.
 #[repr(C)]
 #[derive(Clone, Copy, Debug, PartialEq, Eq)]
 pub(crate) struct Amount {
     /// Whole seconds.
     pub sec: u64,
-    /// The rest, below a second, in units of `2^-shift` ns.
+    /// The part below a second, in units of `2^-shift` ns.
     pub frac: u64,
 }
 
@@ -58,7 +60,7 @@ impl Amount {
         })
     }
 
-    /// Returns what `grown` returns for fewer than 2^31 cycles. Returns `None` if `frac` and the
+    /// Returns the result of `grown` for fewer than 2^31 cycles. Returns `None` if `frac` and the
     /// cycles last two seconds or longer.
     pub fn grown_soon(self, desc: &CounterDesc, cycles: u64, mult: u32) -> Option<Amount>
         requires rest { self.frac < second desc.now }
@@ -107,7 +109,8 @@ impl Amount {
     }
 
     /// Returns the amount plus `cycles` at `mult`, in whole nanoseconds. If that is 2^63 ns or
-    /// more, which is beyond every clock's limit, the result may be another number that is.
+    /// more, which is beyond every clock's limit, the result may be a different number of at least
+    /// 2^63.
     pub fn nanos_after(self, desc: &CounterDesc, cycles: u64, mult: u32) -> u64
         requires rest { self.frac < second desc.now }
         requires few { self.sec ≤ raw_end }
@@ -119,8 +122,8 @@ impl Amount {
     }
 }
 
-/// Returns `frac` plus `cycles` at `mult`, in whole ns. If that doesn't fit 63 bits, the result may
-/// be another number that doesn't.
+/// Returns `frac` plus `cycles` at `mult`, in whole ns. If that doesn't fit in 63 bits, the result
+/// may be a different number that doesn't either.
 fn gained_nanos(frac: u64, cycles: u64, mult: u32, shift: u32) -> u64
     requires rest { frac < 2 ^ 62 }
     requires shift { shift ≤ 32 }
@@ -151,7 +154,8 @@ fn far_nanos(frac: u64, cycles: u64, mult: u32, shift: u32) -> u64
     full * u64::from(mult) + (few_units(frac, rest, mult) >> shift)
 }
 
-/// Returns `frac` plus `cycles` at `mult`, in units. Fewer than 2^31 cycles fit a word.
+/// Returns `frac` plus `cycles` at `mult`, in units. For fewer than 2^31 cycles the result fits in
+/// 64 bits.
 fn few_units(frac: u64, cycles: u64, mult: u32) -> u64
     requires rest { frac < 2 ^ 62 }
     requires narrow { cycles < 2 ^ 31 }
@@ -161,7 +165,7 @@ fn few_units(frac: u64, cycles: u64, mult: u32) -> u64
     frac + cycles * u64::from(mult)
 }
 
-/// Computes `gained_nanos` if the units may not fit 64 bits.
+/// Computes `gained_nanos` if the units may not fit in 64 bits.
 ///
 /// `2^32` units are `2^(32 - shift)` ns, a whole number, so no division is needed.
 #[cold]
@@ -180,7 +184,7 @@ fn long_nanos(frac: u64, cycles: u64, mult: u32, shift: u32) -> u64
     (upper << (32 - shift)) + (rest >> shift)
 }
 
-/// Splits `frac` plus `cycles` at `mult` into a number of `2^32` units and further units.
+/// Splits `frac` plus `cycles` at `mult` into multiples of `2^32` units and the remaining units.
 fn halves(frac: u64, cycles: u64, mult: u32) -> (u64, u64)
     requires { frac < 2 ^ 62 }
     ensures value { 2 ^ 32 * result.0 + result.1 ≡ frac + cycles * mult }

@@ -16,12 +16,11 @@ use tk_counter::{CounterDesc, USUAL_TICK};
 
 /// Keeps the running clocks of a counter, as the kernel's `struct timekeeper`.
 ///
-/// It has no source of time: the caller passes the counter's reading with each command. No command
-/// allocates.
+/// It has no source of time: the caller passes the counter's reading with each command.
 #[repr(C)]
 #[derive(Clone, Copy, Debug)]
 pub struct Clock {
-    /// The state that a read needs.
+    /// The part of the state that a read needs.
     base: ReadBase,
     /// The frequency in force, in `2^-16` ppm, as it was set.
     frequency: i64,
@@ -84,13 +83,13 @@ impl Clock {
         })
     }
 
-    /// Applies a command at `reading`, in cycles. A refused command leaves the clocks as they were.
+    /// Applies a command at `reading`, in cycles. A refused command doesn't change the clocks.
     ///
-    /// `Command` names the kernel's functions and the ranges of each command's numbers.
+    /// `Command` lists the kernel's functions, and the ranges of the numbers of all commands.
     ///
     /// # Errors
     ///
-    /// The first test that fails, in this order. `Full` and `Memory` are never returned.
+    /// Returns the first test that fails, in this order. It never returns `Full` or `Memory`.
     ///
     /// - `Asleep`: the clocks are asleep, and the command is not `Resume`.
     /// - `Awake`: the clocks are awake, and the command is `Resume`.
@@ -114,8 +113,9 @@ impl Clock {
         self.apply_any(reading, cmd)
     }
 
-    /// Applies an update of the usual kind: fewer than 2^31 cycles after the last command, and with
-    /// at most one second full since. Returns whether it did; otherwise nothing changes.
+    /// Applies an update of the usual kind: fewer than 2^31 cycles after the last command, during
+    /// which neither MONOTONIC nor MONOTONIC_RAW gains two whole seconds. Returns whether it did
+    /// so; if not, nothing changes.
     #[inline(always)]
     fn update_soon(&mut self, reading: u64) -> bool
         ensures { ((result ≡ true) × (state_refusal self.old reading Command.Update ≡ None)
@@ -135,7 +135,7 @@ impl Clock {
         true
     }
 
-    /// Applies any command, as `apply` does. It is out of line, so that most updates need none of
+    /// Applies any command, as `apply` does. It is out of line, so that most updates don't reserve
     /// its stack.
     #[inline(never)]
     fn apply_any(&mut self, reading: u64, cmd: Command) -> Result<(), Refusal>
@@ -150,7 +150,7 @@ impl Clock {
         Ok(())
     }
 
-    /// Runs the tests that need no clock's value, in the order of `apply`.
+    /// Runs the tests that don't depend on a clock's value, in the order of `apply`.
     #[inline(always)]
     fn check(&self, reading: u64, cmd: Command) -> Result<(), Refusal>
         ensures { MatchResult result
@@ -174,8 +174,8 @@ impl Clock {
         Ok(())
     }
 
-    /// Returns the snapshot of the clocks with `front`, the number of commands accepted so far. The
-    /// caller counts them: the clocks don't.
+    /// Returns the snapshot of the clocks. `front` is the number of commands accepted so far, which
+    /// the caller counts.
     pub fn snapshot(&self, front: u64) -> Snapshot
         ensures { result ≡ record { front = front; base = self.now.base } }
     {

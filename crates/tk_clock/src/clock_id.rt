@@ -12,9 +12,9 @@ pub enum ClockId {
     Boottime,
     /// Counts REALTIME plus the TAI offset.
     Tai,
-    /// Gives REALTIME at the last command.
+    /// Keeps REALTIME at the last command.
     RealtimeCoarse,
-    /// Gives MONOTONIC at the last command.
+    /// Keeps MONOTONIC at the last command.
     MonotonicCoarse,
     /// Counts the awake cycles at the counter's own rate, which no frequency or tick changes.
     MonotonicRaw,

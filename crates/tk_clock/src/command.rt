@@ -1,10 +1,10 @@
 use crate::timespec::Timespec;
 
-/// Changes the clocks at a reading. Each command except `Resume` first brings them forward to its
+/// Changes the clocks at a reading. Every command except `Resume` first advances them to its
 /// reading.
 #[derive(Clone, Copy, Debug, PartialEq, Eq)]
 pub enum Command {
-    /// Changes nothing more (`update_wall_time`).
+    /// Makes no other change (`update_wall_time`).
     Update,
     /// Sets REALTIME at the reading to exactly this time (`do_settimeofday64`). The time is
     /// from 0 s to below 8,277,292,036 s, `nsec` is below 10^9, and it may not be below MONOTONIC.
@@ -12,19 +12,20 @@ pub enum Command {
     /// Moves REALTIME by this amount (`timekeeping_inject_offset`). `sec` may be negative, and
     /// `nsec` is below 10^9. REALTIME must stay at or above MONOTONIC and below 8,277,292,036 s.
     Step(Timespec),
-    /// Sets the frequency from the reading on, in `2^-16` ppm, and keeps the tick (adjtimex(2),
-    /// ADJ_FREQUENCY). Beyond 500 ppm either way it has the effect of 500 ppm.
+    /// Sets the frequency, in `2^-16` ppm, starting at the reading, and keeps the tick
+    /// (adjtimex(2), ADJ_FREQUENCY). A frequency above 500 ppm or below -500 ppm has the effect of
+    /// that limit.
     Freq(i64),
-    /// Sets the tick from the reading on, in microseconds, 9,000 to 11,000, and keeps the frequency
-    /// (adjtimex(2), ADJ_TICK).
+    /// Sets the tick, in microseconds, 9,000 to 11,000, starting at the reading, and keeps the
+    /// frequency (adjtimex(2), ADJ_TICK).
     Tick(i64),
-    /// Sets TAI less REALTIME, in seconds, 0 to 100,000 (adjtimex(2), ADJ_TAI).
+    /// Sets TAI minus REALTIME, in seconds, 0 to 100,000 (adjtimex(2), ADJ_TAI).
     Tai(i64),
     /// Puts the clocks to sleep: no clock advances until `Resume` (`timekeeping_suspend`).
     Suspend,
-    /// Wakes the clocks, which count from the reading on (`timekeeping_resume`). REALTIME and
-    /// BOOTTIME, and so TAI, move by this suspension. It is from 0 s to below 9,223,372,036 s, and
-    /// `nsec` is below 10^9.
+    /// Wakes the clocks, which count starting at the reading (`timekeeping_resume`). REALTIME and
+    /// BOOTTIME, and so TAI, advance by this suspension. It is from 0 s to below 9,223,372,036 s,
+    /// and `nsec` is below 10^9.
     Resume(Timespec),
 }
 
@@ -33,8 +34,8 @@ pub enum Command {
 pub struct Entry {
     /// Identifies the caller that gave the command.
     pub who: u32,
-    /// Holds the counter's reading at the command, in cycles.
+    /// Contains the counter's reading at the command, in cycles.
     pub reading: u64,
-    /// Holds the command itself.
+    /// Contains the command itself.
     pub cmd: Command,
 }

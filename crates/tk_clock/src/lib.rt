@@ -1,7 +1,7 @@
 //! Keeps the clocks of a free-running counter: commands, the journal's definitions, the running
 //! state and its snapshots.
 //!
-//! | Item | What it is |
+//! | Item | Its meaning |
 //! |---|---|
 //! | `Clock` | the running clocks: opened at a reading, changed by commands |
 //! | `Snapshot` | a reader's copy of the clocks: converts readings to times |
@@ -11,7 +11,7 @@
 //! | `Timespec` | seconds and nanoseconds |
 //!
 //! Units: readings in cycles; amounts of time inside in `2^-shift` ns; offsets in ns; frequencies
-//! in `2^-16` ppm; ticks in microseconds; the TAI offset in seconds.
+//! in `2^-16` ppm; ticks in microseconds; the TAI offset in seconds. No call allocates or waits.
 #![tactic(auto)]
 
 mod amount;

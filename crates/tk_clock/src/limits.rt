@@ -10,10 +10,10 @@ use crate::timespec::Timespec;
 pub(crate) const MONOTONIC_END: u64 = 946_080_000;
 
 /// The bound of MONOTONIC_RAW, in seconds: it stays below this while MONOTONIC is below its limit.
-/// It gains most on MONOTONIC at the least tick and frequency.
+/// It runs ahead of MONOTONIC fastest at the least tick and frequency.
 pub(crate) const RAW_END: u64 = 1_060_000_000;
 
-/// The end of the other clocks, in seconds: the most that 63 bits of nanoseconds hold
+/// The end of the other clocks, in seconds: the most that 63 bits of nanoseconds can represent
 /// (`KTIME_SEC_MAX`).
 const CLOCK_END: i64 = 9_223_372_036;
 

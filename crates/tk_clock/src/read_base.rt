@@ -11,25 +11,26 @@ use crate::timespec::{Timespec, timespec_of};
 use std::marker::Model;
 use tk_counter::{CounterDesc, FREQUENCY_LIMIT};
 
-/// Holds the state that a read of the clocks needs, as the kernel's `struct tk_read_base`.
+/// Contains the part of the state that a read of the clocks needs, as the kernel's `struct
+/// tk_read_base`.
 #[repr(C)]
 #[derive(Clone, Copy, Debug)]
 pub(crate) struct ReadBase {
     /// The counter.
     pub desc: CounterDesc,
-    /// What a cycle after the last reading adds, in `2^-shift` ns.
+    /// The amount that a cycle after the last reading adds, in `2^-shift` ns.
     pub mult: u32,
     /// The last reading, in cycles.
     pub last: u64,
-    /// REALTIME less MONOTONIC, in ns.
+    /// REALTIME minus MONOTONIC, in ns.
     pub real_offset: u64,
     /// MONOTONIC at the last reading.
     pub monotonic: Amount,
     /// MONOTONIC_RAW at the last reading.
     pub raw: Amount,
-    /// BOOTTIME less MONOTONIC, in ns.
+    /// BOOTTIME minus MONOTONIC, in ns.
     pub boot_offset: u64,
-    /// TAI less REALTIME, in seconds.
+    /// TAI minus REALTIME, in seconds.
     pub tai: u32,
     /// Whether the clocks are asleep.
     pub asleep: bool,
@@ -98,7 +99,8 @@ impl ReadBase {
         self.leads_back(self.desc.gap(self.last, reading))
     }
 
-    /// Returns the cycles from the last reading to another: 0 while asleep, or if it is behind.
+    /// Returns the cycles from the last reading to another one: 0 while the clocks are asleep, or
+    /// if the other one is behind.
     fn cycles_since(&self, reading: u64) -> u64
         ensures { result ≡ base_cycles self.now reading }
     {
@@ -110,8 +112,8 @@ impl ReadBase {
         }
     }
 
-    /// Returns whether a gap leads back. It does if it exceeds its distance to the mask, which
-    /// `CounterDesc::is_behind` tests for any number.
+    /// Returns whether a gap leads back: whether it is greater than the mask minus the gap.
+    /// `CounterDesc::is_behind` gives the same result, and takes any number.
     fn leads_back(&self, gap: u64) -> bool
         requires { gap ≤ mask self.now.counter }
         ensures { result ≡ nat_lt (half self.now.counter) gap }
@@ -119,8 +121,8 @@ impl ReadBase {
         self.desc.mask() - gap < gap
     }
 
-    /// Returns MONOTONIC at a reading, in ns. If that is beyond every clock's limit, the result may
-    /// be another number that is.
+    /// Returns MONOTONIC at a reading, in ns. If the exact value is 2^63 ns or more, which is
+    /// beyond every clock's limit, the result may be a different number of at least 2^63.
     fn monotonic_at(&self, reading: u64) -> u64
         ensures stated { let nanos = base_monotonic self.now reading in
             (result ≡ nanos) ⊎ ((2 ^ 63 ≤ nanos) × (2 ^ 63 ≤ result)) }
@@ -154,8 +156,7 @@ impl ReadBase {
         self.raw
     }
 
-    /// Returns whether MONOTONIC_RAW is no further ahead of MONOTONIC than the slowest rate brings
-    /// it.
+    /// Returns whether MONOTONIC_RAW is no further ahead of MONOTONIC than the slowest rate allows.
     pub fn is_rated(&self) -> bool
         ensures { IsTrue result ↔ IsRated self.now }
     {
@@ -164,7 +165,7 @@ impl ReadBase {
             <= self.monotonic.units(&self.desc) * u128::from(self.desc.mult())
     }
 
-    /// Encodes the base and a front as ten words.
+    /// Encodes the base and a front as ten 64-bit words.
     pub fn words(&self, front: u64) -> [u64; 10]
         ensures value { result ≡ words_of (record { front = front; base = self.now }) }
         ensures back { IsWithin self.now → restored self.now.counter
@@ -195,7 +196,7 @@ impl ReadBase {
         self.monotonic.nanos(&self.desc)
     }
 
-    /// Returns TAI less REALTIME, in ns.
+    /// Returns TAI minus REALTIME, in ns.
     fn tai_nanos(&self) -> u64
         ensures value { pos result ≡ self.now.tai *ℤ pos (10 ^ 9) }
         ensures low { result ≤ greatest_tai * 10 ^ 9 }
@@ -203,8 +204,8 @@ impl ReadBase {
         u64::from(self.tai) * NANOS_PER_SECOND
     }
 
-    /// Returns a clock at a reading, in ns. If that is at its limit or beyond, the result may be
-    /// another number that is.
+    /// Returns a clock's value at a reading, in ns. If the exact value is at the clock's limit or
+    /// beyond it, the result may be a different number at or beyond the limit.
     #[inline(always)]
     fn value(&self, clock: ClockId, reading: u64) -> u64
         ensures { let nanos = base_value self.now clock reading in
@@ -225,7 +226,7 @@ impl ReadBase {
 
     /// Returns a clock's time at a reading, or the first test that fails.
     ///
-    /// Each clock has its own copy of the steps, so that the clock is tested only once.
+    /// Every clock has its own copy of the code, so that the clock is tested only once.
     #[inline(always)]
     pub fn get(&self, clock: ClockId, reading: u64) -> Result<Timespec, ReadError>
         ensures { MatchResult result
@@ -245,7 +246,7 @@ impl ReadBase {
         }
     }
 
-    /// Does what `get` does, for a clock that the compiler knows.
+    /// Returns the result of `get` for a clock that the compiler knows.
     #[inline(always)]
     fn time_of(&self, clock: ClockId, reading: u64) -> Result<Timespec, ReadError>
         ensures { MatchResult result

@@ -4,7 +4,7 @@ ghost use Rattle.tk_clock.specs.Refusal.{refusal_of};
 /// Says why a command is refused: the first test that fails. A refused command changes nothing.
 ///
 /// The tests run in this order: `Full`, `Asleep` or `Awake`, `Invalid` for numbers out of range,
-/// `Behind`, `Range`, `Invalid` for a setting that REALTIME can't have, `Memory`.
+/// `Behind`, `Range`, `Invalid` for a time that REALTIME can't be set to, `Memory`.
 #[derive(Clone, Copy, Debug, PartialEq, Eq)]
 pub enum Refusal {
     /// The journal has no capacity for another entry.
@@ -16,7 +16,7 @@ pub enum Refusal {
     /// The reading is above the mask, a number of the command is out of its range, or REALTIME
     /// would be below MONOTONIC or beyond what may be set.
     Invalid,
-    /// The reading is behind that of the last accepted command.
+    /// The reading is behind the last accepted command's.
     Behind,
     /// A clock would be at its limit or beyond it.
     Range,
@@ -36,7 +36,7 @@ pub enum ReadError {
 impl From<ReadError> for Refusal {
     ghost from_gives = { λ error refusal. refusal ≡ refusal_of error };
 
-    /// Converts the refusal of a read to that of a command with the same name.
+    /// Converts the refusal of a read to a command's refusal with the same name.
     fn from(error: ReadError) -> Refusal {
         match error {
             ReadError::Invalid => Refusal::Invalid,

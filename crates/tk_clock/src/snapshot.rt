@@ -10,8 +10,8 @@ use crate::timespec::Timespec;
 use std::marker::Model;
 use tk_counter::CounterDesc;
 
-/// Converts readings to times. It holds the number of accepted commands, and the state after them
-/// that a read needs.
+/// Converts readings to times. It contains the number of accepted commands, and the part of the
+/// state after them that a read needs.
 ///
 /// A snapshot may be used until the reading of the next accepted command. With a later reading it
 /// may give a greater time than a later snapshot does, as in the kernel.
@@ -20,7 +20,7 @@ use tk_counter::CounterDesc;
 pub struct Snapshot {
     /// The number of accepted commands.
     pub(crate) front: u64,
-    /// The state after them that a read needs.
+    /// The part of the state after them that a read needs.
     pub(crate) base: ReadBase,
 }
 
@@ -47,12 +47,12 @@ impl Snapshot {
 
     /// Returns a clock's time at `reading`, in cycles (clock_gettime(2)).
     ///
-    /// A reading behind the last command gets the value at that command. So does every reading
-    /// while the clocks are asleep.
+    /// For a reading behind the last command, it returns the value at that command. While the
+    /// clocks are asleep it does so for every reading.
     ///
     /// # Errors
     ///
-    /// The first of these that holds:
+    /// Returns the first of these that applies:
     ///
     /// - `Invalid`: `reading` is above the mask, for every clock.
     /// - `Range`: the clock is at its limit or beyond it. The limit is 946,080,000 s for MONOTONIC
@@ -68,15 +68,15 @@ impl Snapshot {
         self.base.get(clock, reading)
     }
 
-    /// Returns the first reading, in cycles, at which the clock has reached `time`: at which `get`
-    /// gives `time` or a later time. A timer is set to it.
+    /// Returns the first reading, in cycles, at which the clock has reached `time`: at this reading
+    /// `get` returns `time` or a later time. A program can set a timer to it.
     ///
-    /// It looks at the last command's reading and as far as half the counter's range after it. If
-    /// the clock has reached `time` at the last command, the result is that command's reading.
-    /// `time` may be any number of seconds and nanoseconds.
+    /// It searches from the last command's reading to half the counter's range after it. If the
+    /// clock has reached `time` at the last command, the result is that command's reading. `time`
+    /// may be any number of seconds and nanoseconds.
     ///
-    /// Returns `None` if `get` gives no such time in that range: because the clocks are asleep, the
-    /// clock is a coarse one, the range is too short, or the clock reaches its limit first.
+    /// Returns `None` if `get` returns no such time in that range: because the clocks are asleep,
+    /// the clock is a coarse one, the range is too short, or the clock reaches its limit first.
     pub fn reading_at(&self, clock: ClockId, time: Timespec) -> Option<u64>
         ensures first { let nanos = nanoseconds time in
             MatchOption result
@@ -110,7 +110,7 @@ impl Snapshot {
         self.base.last
     }
 
-    /// Returns what a cycle after the last reading adds to MONOTONIC, in `2^-shift` ns.
+    /// Returns the amount that a cycle after the last reading adds to MONOTONIC, in `2^-shift` ns.
     pub fn mult(&self) -> u32
         ensures { result ≡ self.now.base.mult }
     {
@@ -131,21 +131,21 @@ impl Snapshot {
         self.base.monotonic_amount().sec
     }
 
-    /// Returns REALTIME less MONOTONIC, in ns. It is never negative.
+    /// Returns REALTIME minus MONOTONIC, in ns. It is never negative.
     pub fn real_offset(&self) -> u64
         ensures { pos result ≡ self.now.base.real_offset }
     {
         self.base.real_offset
     }
 
-    /// Returns BOOTTIME less MONOTONIC, in ns: the sum of all suspensions.
+    /// Returns BOOTTIME minus MONOTONIC, in ns: the sum of all suspensions.
     pub fn boot_offset(&self) -> u64
         ensures { pos result ≡ self.now.base.boot_offset }
     {
         self.base.boot_offset
     }
 
-    /// Returns TAI less REALTIME, in seconds, 0 to 100,000.
+    /// Returns TAI minus REALTIME, in seconds, 0 to 100,000.
     pub fn tai(&self) -> u32
         ensures { pos result ≡ self.now.base.tai }
     {

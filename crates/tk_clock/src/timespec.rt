@@ -15,7 +15,7 @@ pub struct Timespec {
     /// Counts whole seconds.
     pub sec: i64,
     /// Counts the nanoseconds after `sec`, below 10^9. An opening or a command with 10^9 or more is
-    /// refused with `Invalid`.
+    /// refused as `Invalid`.
     pub nsec: u32,
 }
 

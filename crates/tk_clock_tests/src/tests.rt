@@ -27,7 +27,7 @@ fn time(sec: i64, nsec: u32) -> Timespec {
     Timespec { sec, nsec }
 }
 
-/// Checks that each value is equal to its clone, and to no other value of the list.
+/// Checks that every value is equal to its clone, and to no other value of the list.
 fn are_distinct<T: Copy + PartialEq>(rt: &impl Abort, values: &[T]) -> Result<(), Fail> {
     assert_same(rt, &mixed_up(values)?, &None);
     Ok(())

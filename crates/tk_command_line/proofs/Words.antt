@@ -6,7 +6,7 @@ use Rattle.clap.specs.declared.builder.arg.Arg.{Arg}
 use Rattle.clap.specs.declared.builder.command.Command.{Command}
 use Rattle.clap.specs.declared.builder.command.Command.TheViews.{out-Command}
 
--- the grammar and, since the argument isn't global, whether it has arguments that are
+-- the grammar and, because the argument isn't global, whether the grammar contains global arguments
 pub with_argument : (old : Command) (argument : Arg) (new : Command) (app : App) (rule : Rule) →
     AddsArg old argument new → rule_of argument ≡ rule → argument.global ≡ false →
     app_of old ≡ app → (out-Command old).has_globals ≡ false →

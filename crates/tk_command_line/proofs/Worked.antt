@@ -1,4 +1,4 @@
--- What words ask for, computed by the definitions alone.
+-- Requests of worked command lines, computed from the definitions only.
 use Rattle.std.proofs.Common.{◌≡◌, List, [], ◌∷◌, codes, refl}
 use Rattle.std.specs.Prelude.{Option, Some, None}
 use Rattle.clap.specs.Words.{Text}
@@ -7,7 +7,7 @@ use Rattle.tk_clock.specs.declared.clock_id.ClockId.TheVariants.{MonotonicRaw, T
 use Rattle.tk_command_line.specs.Request.{Task, Replay, Trace, Many, Race}
 use Rattle.tk_command_line.specs.CommandLine.{asked_by}
 
--- what the words after the program's own ask for
+-- the request of the arguments after the program's name
 abbrev ask_for : List Text → Option Task
 unfolding asked_by
 ask_for words = asked_by (codes "tkcore" ∷ words)
@@ -49,7 +49,7 @@ traced : (ask_for (codes "trace" ∷ codes "tai" ∷ codes "a" ∷ codes "b" ∷
 unfolding asked_by clap_on_literals
 traced = (refl, refl, refl)
 
--- `trace` takes the word of a clock and exactly two files
+-- `trace` takes the name of a clock and exactly two files
 not_traced : (ask_for (codes "trace" ∷ codes "time" ∷ codes "a" ∷ codes "b" ∷ []) ≡ None)
     × (ask_for (codes "trace" ∷ codes "tai" ∷ codes "a" ∷ []) ≡ None)
     × (ask_for (codes "trace" ∷ codes "tai" ∷ codes "a" ∷ codes "b" ∷ codes "c" ∷ []) ≡ None)

@@ -1,4 +1,4 @@
--- What the words on the command line say: a function of the words, by the definitions of `clap`.
+-- The meaning of the command line: a function of its arguments, by the definitions of `clap`.
 use Rattle.std.specs.Prelude.{◌≡◌, List, [], ◌∷◌, Option, Some, None, true, Result, Ok, Err, bytes_eq, codes, if◌then◌else◌}
 use Rattle.clap.specs.Words.{App, Row, Rule, Text, all_of, fault_of, first_of, new_app, new_rule, subcommand_of, with_rule, with_subcommand}
 use Rattle.clap.specs.Kinds.{Kinds}
@@ -12,11 +12,11 @@ use Rattle.tk_command_line.specs.Request.{Task, Replay, many_by, race_by, replay
 abbrev pub keep_rule : Rule
 keep_rule = record (new_rule (codes "keep")) { long = Some (codes "keep"); action = Some Set }
 
--- a word of this name, which must be there
+-- a required argument of this name
 abbrev pub word_rule : Text → Rule
 word_rule name = record (new_rule name) { required = true; action = Some Set }
 
--- one word or more
+-- one or more arguments
 abbrev pub files_rule : Rule
 files_rule = record (new_rule (codes "FILE")) { required = true; action = Some Append }
 
@@ -34,7 +34,7 @@ trace_words =
 abbrev pub files_words : Text → Text → App
 files_words name number = with_rule (with_rule (new_app name) (word_rule number)) files_rule
 
--- the program without its subcommands: no word asks for help
+-- the program without its subcommands: it has no flag and no subcommand for help
 abbrev pub bare_words : App
 bare_words = record {
   top = record (new_app (codes "tkcore")).top {
@@ -44,18 +44,18 @@ bare_words = record {
   subs = [];
 }
 
--- its words that are about one script
+-- the program with the subcommands for one script
 abbrev pub one_script_words : App
 one_script_words = with_subcommand (with_subcommand bare_words replay_words.top) trace_words.top
 
--- the program's words
+-- the program's grammar
 abbrev pub program_words : App
 program_words =
     with_subcommand (with_subcommand one_script_words
     (files_words (codes "many") (codes "WORKERS")).top)
     (files_words (codes "race") (codes "STEP")).top
 
--- what a subcommand of this name asks for, by what was found after it
+-- the request of a subcommand of this name, by the arguments that were found after it
 abbrev pub task_by : Text → List Row → Option Task
 task_by name rows =
     if bytes_eq name (codes "replay") then replay_by (first_of (codes "keep") rows)
@@ -68,32 +68,33 @@ task_by name rows =
     then race_by (first_of (codes "STEP") rows) (all_of (codes "FILE") rows)
     else None)))
 
--- what is asked for by a subcommand that was found; without one it is a replay
+-- the request of a subcommand that was found; without a subcommand it is a replay
 abbrev pub task_found : Option (Text × List Row) → Option Task
 task_found None = Some (Replay None)
 task_found (Some found) = task_by found.0 found.1
 
--- what is asked for if nothing is wrong with the words
+-- the request if the arguments have no fault
 abbrev pub task_if : Kinds → Option (Text × List Row) → Option Task
 task_if [] found = task_found found
 task_if (kind ∷ kinds) found = None
 
--- what these words ask for, the first of which is the program's own; `None` if they are refused
+-- the request of these arguments, the first of which is the program's name; `None` if they are
+-- refused
 unfoldable pub asked_by : List Text → Option Task
 asked_by words = task_if (fault_of program_words words) (subcommand_of program_words words)
 
--- words of which one isn't UTF-8 ask for nothing
+-- arguments are refused if one of them isn't UTF-8
 abbrev pub asked_of : Option (List Text) → Option Task
 asked_of None = None
 asked_of (Some words) = asked_by words
 
--- the result is the request that is asked for, or `Refused` if there is none; `Memory` may replace
+-- the result is the request of the arguments, or `Refused` if there is none; `Memory` may replace
 -- either
 abbrev pub Asks : Option Task → Result Request WordsError → Type 0
 Asks task (Ok request) = task ≡ Some (task_of request)
 Asks task (Err errors.Refused) = task ≡ None
 Asks task (Err errors.Memory) = Unit {0}
 
--- what the words ask for, or that they are refused
+-- the request of the arguments, or that they are refused
 abbrev pub IsAsked : List Text → Result Request WordsError → Type 0
 IsAsked words result = Asks (asked_by words) result

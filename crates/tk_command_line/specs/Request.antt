@@ -1,4 +1,4 @@
--- What the program is asked for.
+-- The requests to the program.
 use Rattle.std.specs.Prelude.{ℕ, ◌≤◌, List, Option, Some, None, map, nat_le, option_map, ◌&&◌, if◌then◌else◌}
 use Rattle.tk_clock.specs.declared.clock_id.ClockId.{ClockId}
 use Rattle.tk_clock.specs.Limits.{most_kept}
@@ -8,14 +8,14 @@ use Rattle.tk_pieces.specs.Workers.{most_workers}
 use Rattle.tk_command_line.specs.declared.request.Request.{Request}
 use Rattle.tk_command_line.specs.declared.request.Request.TheVariants as requests
 
--- a subcommand with what it is given, as texts and numbers
+-- a subcommand with its arguments, as texts and numbers
 pub data Task : Type 0 where
   Replay : Option ℕ → Task
   Trace : ClockId → List ℕ → List ℕ → Task
   Many : ℕ → List (List ℕ) → Task
   Race : ℕ → List (List ℕ) → Task
 
--- what a request asks for, regardless of the place of its texts in memory
+-- a request, regardless of the place of its texts in memory
 abbrev pub task_of : Request → Task
 task_of (requests.Replay keep) = Replay keep
 task_of (requests.Trace clock script stamps) = Trace clock script.now stamps.now
@@ -27,36 +27,37 @@ abbrev pub between : ℕ → ℕ → Option ℕ → Option ℕ
 between least most None = None
 between least most (Some n) = if nat_le least n && nat_le n most then Some n else None
 
--- how many entries a text says to keep: a number as in scripts, from 1 to the greatest
+-- the number of entries to keep, by the text of `--keep`: a number as in scripts, from 1 to the
+-- greatest
 abbrev pub keep_of : List ℕ → Option ℕ
 keep_of text = between 1 most_kept (number_of text)
 
--- how many threads a text says: a number as in scripts, from 1 to the most
+-- the number of threads, by the text of WORKERS: a number as in scripts, from 1 to the most
 abbrev pub workers_of : List ℕ → Option ℕ
 workers_of text = between 1 most_workers (number_of text)
 
--- the replay that is asked for, by the text of `--keep`, if there is one
+-- the replay, by the text of `--keep`, if there is one
 abbrev pub replay_by : Option (List ℕ) → Option Task
 replay_by None = Some (Replay None)
 replay_by (Some text) = option_map (λ keep. Replay (Some keep)) (keep_of text)
 
--- the trace that is asked for, by the texts of CLOCK, SCRIPT and STAMPS
+-- the trace, by the texts of CLOCK, SCRIPT and STAMPS
 abbrev pub trace_by : Option (List ℕ) → Option (List ℕ) → Option (List ℕ) → Option Task
 trace_by (Some clock) (Some script) (Some stamps) =
     option_map (λ c. Trace c script stamps) (clock_of clock)
 trace_by _ _ _ = None
 
--- the reports that are asked for, by the texts of WORKERS and FILE..
+-- the reports of many scripts, by the texts of WORKERS and FILE..
 abbrev pub many_by : Option (List ℕ) → Option (List (List ℕ)) → Option Task
 many_by (Some workers) (Some files) = option_map (λ n. Many n files) (workers_of workers)
 many_by _ _ = None
 
--- the race that is asked for, by the texts of STEP and FILE..
+-- the race, by the texts of STEP and FILE..
 abbrev pub race_by : Option (List ℕ) → Option (List (List ℕ)) → Option Task
 race_by (Some step) (Some files) = option_map (λ n. Race n files) (number_of step)
 race_by _ _ = None
 
--- a folded journal keeps an entry at least, and half of what it lists at most
+-- a folded journal keeps at least one entry, and at most half of the entries that it can list
 abbrev pub IsKeep : Option ℕ → Type 0
 IsKeep None = Unit {0}
 IsKeep (Some keep) = (1 ≤ keep) × (keep ≤ most_kept)

@@ -1,4 +1,4 @@
--- Why words ask for nothing.
+-- Why arguments aren't accepted.
 use Rattle.clap.specs.declared.error.ErrorKind.{ErrorKind}
 use Rattle.clap.specs.declared.error.ErrorKind.TheVariants.{OutOfMemory}
 use Rattle.std.specs.declared.io.ErrorKind as io
@@ -6,12 +6,12 @@ use Rattle.std.specs.declared.io.ErrorKind.TheVariants as kinds
 use Rattle.tk_command_line.specs.declared.words_error.WordsError.{WordsError}
 use Rattle.tk_command_line.specs.declared.words_error.WordsError.TheVariants as errors
 
--- why words ask for nothing, by the kind of their fault
+-- why arguments aren't accepted, by the kind of their fault
 abbrev pub error_of : ErrorKind → WordsError
 error_of OutOfMemory = errors.Memory
 error_of _ = errors.Refused
 
--- why words can't be read, by the kind of the error
+-- why arguments can't be read, by the kind of the error
 abbrev pub unread_of : io.ErrorKind → WordsError
 unread_of kinds.OutOfMemory = errors.Memory
 unread_of _ = errors.Refused

@@ -1,4 +1,4 @@
-//! Parses the words on the command line.
+//! Parses the command line.
 ghost use Rattle.std.specs.Prelude.{◌≡◌, ◌≢◌, Some, None, [], false, map, codes, string_bytes, IfErr, IfOk, IfSome, option_map};
 ghost use Rattle.clap.specs.Words.{App, all_of, app_of, fault_of, first_of, found_of, rows_of, rule_of, subcommand_of, subcommand_rows_of, with_subcommand};
 ghost use Rattle.clap.specs.declared.builder.command.Command.TheViews.{out-Command};
@@ -13,14 +13,15 @@ use tk_keeper::KEEP_LIMIT;
 use tk_pieces::WORKERS_LIMIT;
 use tk_script::{clock_word, number};
 
-/// Parses the words of a command line, the first of which is the program's name.
+/// Parses the arguments of a command line. The first one is the program's name.
 ///
-/// The numbers of the request are within their ranges.
+/// All numbers of the returned request are within their ranges.
 ///
 /// # Errors
 ///
-/// - `Refused`: the words ask for nothing; calls for help are such words
-/// - `Memory`: an allocation failed; it may replace any other result
+/// - `Refused`: the arguments don't follow the grammar, or a value is out of its range. The program
+///   has no option for help, so `--help` is refused too.
+/// - `Memory`: an allocation failed. This error may replace any other result.
 #[tactic(auto, unfolding(crate::specs::CommandLine::asked_by))]
 pub fn asked<'a>(alloc: Global, words: &'a [String]) -> Result<Request<'a>, WordsError>
     ensures asked { IsAsked (map string_bytes words.entry.now) result }
@@ -32,7 +33,7 @@ pub fn asked<'a>(alloc: Global, words: &'a [String]) -> Result<Request<'a>, Word
     }
 }
 
-/// Parses the words by the program's grammar.
+/// Parses the arguments by the program's grammar.
 fn parsed<'a>(alloc: Global, words: &'a [String]) -> Result<ArgMatches<'a>, WordsError>
     ensures ok { IfOk result (λ matches.
         (fault_of program_words (map string_bytes words.entry.now) ≡ [])
@@ -45,7 +46,7 @@ fn parsed<'a>(alloc: Global, words: &'a [String]) -> Result<ArgMatches<'a>, Word
     Ok(matches)
 }
 
-/// Makes the request of parsed words.
+/// Makes the request from parsed arguments.
 fn request_in<'a>(alloc: Global, matches: &ArgMatches<'a>) -> Result<Request<'a>, WordsError>
     ensures asked { Asks (task_found (subcommand_rows_of matches.now)) result }
     ensures allowed { IfOk result IsAllowed }
@@ -56,7 +57,7 @@ fn request_in<'a>(alloc: Global, matches: &ArgMatches<'a>) -> Result<Request<'a>
     }
 }
 
-/// Makes the request of a subcommand, from what was found after it.
+/// Makes the request of a subcommand from the arguments after it.
 fn request_by<'a>(
     alloc: Global,
     name: &str,
@@ -96,7 +97,7 @@ fn files_in<'a, 'b>(found: &'b ArgMatches<'a>) -> Option<&'b [&'a str]>
     found.get_strs("FILE")
 }
 
-/// Makes the replay that the text of `--keep` asks for, if there is one.
+/// Makes the replay request, with the value of `--keep` if it was found.
 fn replay_asked<'a>(keep: Option<&str>) -> Option<Request<'a>>
     ensures asked { option_map task_of result ≡ replay_by (option_map (λ t. t.now) keep.entry) }
     ensures allowed { IfSome result IsAllowed }
@@ -117,7 +118,7 @@ fn keep_in(text: &str) -> Option<u64>
     number(text.as_bytes()).filter(|keep| (1..=KEEP_LIMIT).contains(keep))
 }
 
-/// Makes the trace that three texts ask for, if all are there.
+/// Makes the trace request from the texts of its three arguments, if all were found.
 fn trace_asked<'a>(
     clock: Option<&'a str>,
     script: Option<&'a str>,
@@ -141,7 +142,7 @@ fn trace_asked<'a>(
     }
 }
 
-/// Makes the request that the texts of WORKERS and of FILE.. ask for, if they are there.
+/// Makes the request of `many` from the texts of WORKERS and FILE.., if they were found.
 fn many_asked<'a>(
     alloc: Global,
     workers: Option<&str>,
@@ -170,7 +171,7 @@ fn workers_in(text: &str) -> Option<u64>
     number(text.as_bytes()).filter(|workers| (1..=WORKERS_LIMIT as u64).contains(workers))
 }
 
-/// Makes the race that the texts of STEP and of FILE.. ask for, if they are there.
+/// Makes the race request from the texts of STEP and FILE.., if they were found.
 fn race_asked<'a>(
     alloc: Global,
     step: Option<&str>,
@@ -192,7 +193,7 @@ fn race_asked<'a>(
     }
 }
 
-/// Makes the grammar of the program's words.
+/// Makes the grammar of the program's arguments.
 fn program<'a>(alloc: Global) -> Result<Command<'a>, AllocError>
     ensures { IfOk result (λ command. app_of command ≡ program_words) }
 {
@@ -201,7 +202,7 @@ fn program<'a>(alloc: Global) -> Result<Command<'a>, AllocError>
     and_words(command, files_command(alloc, "race", "STEP"))
 }
 
-/// Makes the part of the grammar that is about one script.
+/// Makes the part of the grammar for one script: `replay` and `trace`.
 fn one_script_program<'a>(alloc: Global) -> Result<Command<'a>, AllocError>
     ensures { IfOk result (λ command. app_of command ≡ one_script_words) }
 {
@@ -209,7 +210,7 @@ fn one_script_program<'a>(alloc: Global) -> Result<Command<'a>, AllocError>
     and_words(command, trace_command(alloc))
 }
 
-/// Adds the grammar of a subcommand, if it was made.
+/// Adds the grammar of a subcommand. Returns the error if it could not be made.
 fn and_words<'a>(
     command: Command<'a>,
     words: Result<Command<'a>, AllocError>,
@@ -221,7 +222,7 @@ fn and_words<'a>(
     command.subcommand(words?)
 }
 
-/// Makes the grammar without subcommands. No word asks for help.
+/// Makes the grammar without subcommands. It has no flag and no subcommand for help.
 fn bare_program<'a>(alloc: Global) -> Command<'a>
     ensures { app_of result ≡ bare_words }
 {
@@ -272,7 +273,7 @@ fn files_command<'a>(
         .arg(files_argument(alloc))
 }
 
-/// Makes a word that is required.
+/// Makes a required argument.
 fn word_argument<'a>(alloc: Global, name: &'a str) -> Arg<'a>
     ensures rule { rule_of result ≡ word_rule name.entry.now }
     ensures local { result.global ≡ false }
@@ -280,7 +281,7 @@ fn word_argument<'a>(alloc: Global, name: &'a str) -> Arg<'a>
     Arg::new(alloc, name).required(true).action(ArgAction::Set)
 }
 
-/// Makes `FILE..`, one word or more.
+/// Makes `FILE..`, one or more arguments.
 fn files_argument<'a>(alloc: Global) -> Arg<'a>
     ensures rule { rule_of result ≡ files_rule }
     ensures local { result.global ≡ false }

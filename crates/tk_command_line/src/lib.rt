@@ -1,12 +1,12 @@
-//! Parses the words on the command line of the program `tkcore`.
+//! Parses the command line of the program `tkcore`.
 //!
-//! | Item | What it is |
+//! | Item | Its meaning |
 //! |---|---|
-//! | `asked` | parses words into a request |
-//! | `Request` | what the words ask for: a variant for each subcommand |
-//! | `WordsError` | says why words ask for nothing |
+//! | `asked` | parses arguments into a request |
+//! | `Request` | a parsed command line: a variant for each subcommand |
+//! | `WordsError` | says why arguments aren't accepted |
 //!
-//! docs/TKCORE.md describes the words.
+//! docs/TKCORE.md describes the arguments.
 #![tactic(auto)]
 
 mod command_line;

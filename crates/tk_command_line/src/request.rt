@@ -1,9 +1,9 @@
 use tk_clock::ClockId;
 
-/// Contains what the words ask for: a variant for each subcommand.
+/// Contains a request to the program: a variant for each subcommand.
 #[derive(Debug, Drop, PartialEq, Eq)]
 pub enum Request<'a> {
-    /// `replay`, or no word: the report of the script on standard input.
+    /// `replay`, or no argument: the report of the script on standard input.
     Replay {
         /// The N of `--keep N`, from 1 to 524,288: the number of entries that a full journal is
         /// folded to. `None` means that a full journal refuses commands.

@@ -8,10 +8,10 @@ use clap::error::ErrorKind;
 use std::alloc::AllocError;
 use std::io;
 
-/// Says why words ask for nothing.
+/// Says why arguments aren't accepted.
 #[derive(Clone, Copy, Debug, PartialEq, Eq)]
 pub enum WordsError {
-    /// The words are not in the form that docs/TKCORE.md gives, or one of them isn't UTF-8.
+    /// The arguments aren't in the form that docs/TKCORE.md gives, or one of them isn't UTF-8.
     Refused,
     /// An allocation failed.
     Memory,
@@ -25,7 +25,7 @@ impl From<AllocError> for WordsError {
     }
 }
 
-/// Converts the error of words that don't parse: they are unknown, they ask for help, or an
+/// Converts the error of arguments that don't parse: one is unknown, wrong or missing, or an
 /// allocation failed.
 impl From<clap::Error> for WordsError {
     ghost from_gives = { λ error words_error. words_error ≡ error_of (kind_of error) };
@@ -38,7 +38,7 @@ impl From<clap::Error> for WordsError {
     }
 }
 
-/// Converts the error of words that can't be read: one of them isn't UTF-8, or an allocation
+/// Converts the error of arguments that can't be read: one of them isn't UTF-8, or an allocation
 /// failed.
 impl From<io::Error> for WordsError {
     ghost from_gives = { λ error words_error. words_error ≡ unread_of (error_kind error) };

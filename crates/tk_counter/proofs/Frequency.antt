@@ -98,7 +98,7 @@ last_fits hz maxsec runs small lasts short =
     omega (arith, mul-div-le (10 ^ 9 * 2 ^ 1 + hz / 2) hz) in
     last_either hz maxsec (rounded_mult hz 1) _ top.0 runs top.1 top.2 short low
 
--- the mult at one shift less is about half as large
+-- the mult at the next lower shift is about half as large
 pub half_mult : (hz shift : ℕ) → 0 < hz → 4194304 ≤ rounded_mult hz (shift + 1) →
     512 ≤ rounded_mult hz shift
 half_mult hz shift runs long =
@@ -112,7 +112,7 @@ half_mult hz shift runs long =
 pub top_mult : (hz : ℕ) → 0 < hz → hz < 2 ^ 32 → 512 ≤ rounded_mult hz 32
 top_mult hz runs small = le-div 512 (10 ^ 9 * 2 ^ 32 + hz / 2) hz runs (omega arith)
 
--- so the mult of the shift where the search ends is long enough
+-- so the mult of the shift at which the search ends is long enough
 pub ample : (hz maxsec shift above : ℕ) → above ≡ shift + 1 → 0 < hz → hz < 2 ^ 32 → 0 < maxsec →
     maxsec ≤ 600 →
     (above ≡ 33) ⊎ (2 ^ mult_bits hz maxsec ≤ rounded_mult hz above) → 512 ≤ rounded_mult hz shift

@@ -1,4 +1,4 @@
--- Worked values, computed over the definitions alone.
+-- Worked values, computed from the definitions only.
 use Rattle.std.proofs.Common.{◌≡◌, ℕ, ◌+◌, ◌*◌, ◌/◌, ◌%◌, ◌≤◌, Some, None, pos, neg_ℤ, refl, lit≤}
 use Rattle.std.specs.Int.Count.{count_leading_zeros}
 use Rattle.tk_counter.specs.Counter.{Counter, max_adjustment, max_cycles, fast_span, second, multiplier, gap, half}
@@ -18,7 +18,7 @@ fast = record { bits = 32; mult = 699050667; shift = 24 }
 abbrev whole : Counter
 whole = record { bits = 64; mult = 4194304; shift = 0 }
 
--- ---- what a description fixes
+-- ---- the numbers that follow from a description
 usual-max_adjustment : max_adjustment usual ≡ 1845493
 usual-max_adjustment = refl
 

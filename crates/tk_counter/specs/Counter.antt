@@ -1,5 +1,5 @@
 -- A free-running counter (struct clocksource, include/linux/clocksource.h), and the numbers that
--- its description fixes.
+-- follow from its description.
 use Rattle.std.specs.Prelude.{ℕ, ◌+◌, ◌-◌, ◌*◌, ◌/◌, ◌%◌, ◌^◌, ◌<◌, ◌≤◌, min, ℤ, pos, neg_ℤ, ◌+ℤ◌, ◌*ℤ◌, unsigned_abs}
 use Rattle.std.specs.Int.{int_min, int_max}
 
@@ -17,7 +17,7 @@ mask counter = 2 ^ counter.bits - 1
 abbrev pub half : Counter → ℕ
 half counter = mask counter / 2
 
--- how far the multiplier may be above mult: 11 percent of mult, rounded down
+-- the greatest amount by which the multiplier may exceed mult: 11 percent of mult, rounded down
 -- (clocksource_max_adjustment)
 abbrev pub max_adjustment : Counter → ℕ
 max_adjustment counter = counter.mult * 11 / 100
@@ -30,12 +30,12 @@ fastest counter = counter.mult + max_adjustment counter
 abbrev pub second : Counter → ℕ
 second counter = 10 ^ 9 * 2 ^ counter.shift
 
--- the most cycles whose units fit 64 bits at the fastest multiplier, and at most the mask
+-- the most cycles whose units fit in 64 bits at the fastest multiplier, and at most the mask
 -- (clocks_calc_max_nsecs)
 abbrev pub max_cycles : Counter → ℕ
 max_cycles counter = min ((2 ^ 64 - 1) / fastest counter) (mask counter)
 
--- the most cycles whose units fit 63 bits at the fastest multiplier, and at most half the mask
+-- the most cycles whose units fit in 63 bits at the fastest multiplier, and at most half the mask
 abbrev pub fast_span : Counter → ℕ
 fast_span counter = min ((2 ^ 63 - 1) / fastest counter) (half counter)
 
@@ -51,7 +51,7 @@ pub record IsCounter (counter : Counter) : Type 0 where
   pub mult_low : 256 ≤ counter.mult
   pub adjustable : fastest counter < 2 ^ 32
 
--- the end of whole seconds: 63 bits of nanoseconds hold this many (KTIME_SEC_MAX)
+-- the end of whole seconds: 63 bits of nanoseconds can represent this many (KTIME_SEC_MAX)
 abbrev pub seconds_end : ℕ
 seconds_end = 9223372036
 
@@ -71,7 +71,8 @@ least_tick = pos 9000
 abbrev pub greatest_tick : ℤ
 greatest_tick = pos 11000
 
--- the frequency that takes effect, in 2^-16 ppm: at most the greatest one, either way (adjtimex(2))
+-- the frequency that takes effect, in 2^-16 ppm: clamped to the greatest one in either direction
+-- (adjtimex(2))
 abbrev pub clamped : ℤ → ℤ
 clamped frequency = int_max (neg_ℤ greatest_frequency) (int_min frequency greatest_frequency)
 

@@ -15,7 +15,7 @@ rounded_mult hz shift = (10 ^ 9 * 2 ^ shift + hz / 2) / hz
 abbrev pub mult_bits : ℕ → ℕ → ℕ
 mult_bits hz maxsec = min 32 (leading_zeros w64 (maxsec * hz))
 
--- whether the mult at a shift has no more bits than that
+-- whether the mult at a shift is no longer than this number of bits
 abbrev pub fits : ℕ → ℕ → ℕ → Bool
 fits hz maxsec shift = nat_lt (rounded_mult hz shift) (2 ^ mult_bits hz maxsec)
 
@@ -27,8 +27,8 @@ shifts = reverse (range_with_len 1 32)
 abbrev pub chosen_shift : ℕ → ℕ → Option ℕ
 chosen_shift hz maxsec = find (fits hz maxsec) shifts
 
--- a description whose mult leaves no room for 11 percent more within 32 bits gets half the mult,
--- and one less shift (__clocksource_update_freq_scale)
+-- if the mult plus 11 percent doesn't fit in 32 bits, the description gets half the mult and a
+-- shift lower by 1 (__clocksource_update_freq_scale)
 abbrev pub halved : Counter → Counter
 halved counter =
     if nat_lt (2 ^ 32 - 1) (fastest counter) then record counter {

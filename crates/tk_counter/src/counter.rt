@@ -11,7 +11,7 @@ use std::marker::Model;
 
 /// Describes a counter: a reading has `bits` bits, and a cycle lasts `mult / 2^shift` nanoseconds.
 ///
-/// It is the kernel's `struct clocksource` without its name and its hooks
+/// It is the kernel's `struct clocksource` without the name and the hooks
 /// (include/linux/clocksource.h).
 #[repr(C)]
 #[derive(Clone, Copy, Debug, PartialEq, Eq)]
@@ -20,7 +20,7 @@ pub struct CounterDesc {
     bits: u32,
     /// The length of a cycle, in units of `2^-shift` ns.
     mult: u32,
-    /// How far an amount is shifted right to convert it to ns.
+    /// The right shift that converts an amount to ns.
     shift: u32,
 }
 
@@ -43,11 +43,11 @@ impl CounterDesc {
     ghost use Rattle.tk_counter.specs.Counter.{Counter, IsCounter, mask, half, max_adjustment, max_cycles, fast_span, second};
     ghost use Rattle.tk_counter.specs.Description.{first_fault};
 
-    /// Makes the description with these numbers.
+    /// Makes the description of a counter from its numbers.
     ///
     /// # Errors
     ///
-    /// The first of these that holds:
+    /// Returns the first of these that applies:
     ///
     /// - `Bits`: `bits` is below 8 or above 64.
     /// - `Shift`: `shift` is above 32.
@@ -90,7 +90,7 @@ impl CounterDesc {
         self.mult
     }
 
-    /// Returns how far an amount is shifted right to convert it to nanoseconds, 0 to 32.
+    /// Returns the right shift that converts an amount to nanoseconds, 0 to 32.
     pub fn shift(&self) -> u32
         ensures value { result ≡ self.now.shift }
         ensures counter { IsCounter self.now }
@@ -114,8 +114,8 @@ impl CounterDesc {
         self.mask() >> 1
     }
 
-    /// Returns how far the multiplier may be raised above `mult`: 11 percent of it, rounded down
-    /// (`clocksource_max_adjustment`).
+    /// Returns the greatest amount by which the multiplier may exceed `mult`: 11 percent of it,
+    /// rounded down (`clocksource_max_adjustment`).
     pub fn max_adj(&self) -> u32
         ensures { result ≡ max_adjustment self.now }
     {
@@ -125,8 +125,8 @@ impl CounterDesc {
     /// Returns the most cycles that convert within 64 bits at the fastest multiplier, which is
     /// `mult + max_adj`. It is at most `mask`.
     ///
-    /// It serves a program that converts with one product of 64 bits, as the kernel does: it must
-    /// update its clocks more often than this. No clock here depends on it.
+    /// A program that converts with one product of 64 bits, as the kernel does, must update its
+    /// clocks more often than this. No clock here depends on it.
     pub fn max_cycles(&self) -> u64
         ensures { result ≡ max_cycles self.now }
     {
@@ -136,8 +136,8 @@ impl CounterDesc {
     /// Returns the most cycles that convert within 63 bits at the fastest multiplier, which is
     /// `mult + max_adj`. It is at most `half`.
     ///
-    /// It serves a program that chooses how often to update: up to this gap, `advance` needs no
-    /// long product. Longer gaps convert as exactly, but more slowly.
+    /// A program can use it to choose how often to update. Up to this gap, `advance` needs no long
+    /// product. Longer gaps convert as exactly, but more slowly.
     pub fn fast_span(&self) -> u64
         ensures { result ≡ fast_span self.now }
     {
@@ -153,7 +153,7 @@ impl CounterDesc {
     }
 }
 
-/// Returns how far the multiplier may be raised above a mult.
+/// Returns the greatest amount by which the multiplier may exceed a mult.
 fn adjustment(mult: u32) -> u64
     ensures { result ≡ mult * 11 / 100 }
 {

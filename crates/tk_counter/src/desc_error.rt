@@ -4,8 +4,8 @@ ghost use Rattle.tk_counter.specs.DescError.{fault_text};
 use std::error::Error;
 use std::fmt;
 
-/// Says why numbers describe no counter. If more than one of these holds, the first in this order
-/// is the error.
+/// Says why numbers describe no counter. If several of these apply, the first in this order is the
+/// error.
 #[derive(Clone, Copy, Debug, PartialEq, Eq)]
 pub enum DescError {
     /// A reading would have fewer than 8 bits, or more than 64.
@@ -14,7 +14,7 @@ pub enum DescError {
     Shift,
     /// The mult is below 256.
     Mult,
-    /// The mult and 11 percent of it don't fit 32 bits.
+    /// The mult plus 11 percent doesn't fit in 32 bits.
     Adjust,
     /// The frequency is 0 Hz, or the span is not 1 to 600 seconds.
     Rate,

@@ -1,15 +1,16 @@
 //! Describes free-running counters and computes with their readings: the gap between two readings,
 //! and exact cycle arithmetic.
 //!
-//! | Item | What it is |
+//! | Item | Its meaning |
 //! |---|---|
 //! | `CounterDesc` | the bits of a reading, and the length of a cycle |
-//! | `DescError` | why numbers describe no counter |
+//! | `DescError` | says why numbers describe no counter |
 //! | `FREQUENCY_LIMIT` | the greatest frequency that takes effect |
 //! | `USUAL_TICK` | the tick of a clock that no command has set |
 //!
 //! Units: readings and gaps in cycles; amounts of time in `2^-shift` ns; a counter's own rate in
-//! Hz; frequencies that a clock follows in `2^-16` ppm; ticks in microseconds.
+//! Hz; frequencies that a clock follows in `2^-16` ppm; ticks in microseconds. No call allocates or
+//! waits.
 #![tactic(auto)]
 
 mod counter;

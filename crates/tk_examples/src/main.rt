@@ -1,14 +1,14 @@
-//! Makes the output of each example, and compares it with the stored one.
+//! Makes the outputs of examples, and compares them with the stored ones.
 //!
-//! Standard input lists the examples, one in each line:
+//! Standard input lists the examples, one per line:
 //!
 //! - `NAME` is the script `NAME.csv`, with the expected report in `NAME.report`.
 //! - `CLOCK NAME` is a trace of that clock: the script `NAME.csv` and the stamps `NAME.stamps`,
 //!   with the expected values in `NAME.trace`.
 //!
-//! If the program refuses an example, `NAME.fault` has the expected message instead. Status 0 means
-//! that each output is as expected. Status 1 means that one differs, that a file can't be read, or
-//! that a result can't be written.
+//! If the program refuses an example, `NAME.fault` contains the expected message instead. Status 0
+//! means that all outputs are as expected. Status 1 means that one differs, that a file can't be
+//! read, or that a result can't be written.
 #![tactic(auto)]
 
 use std::alloc::{AllocError, Global};

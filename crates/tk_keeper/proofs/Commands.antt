@@ -21,7 +21,7 @@ IsAccepted before after entry number =
     (first_refusal before entry ≡ None) × (after ≡ followed_by before entry)
     × (number ≡ accepted_count after)
 
--- the answer of a keeper with room
+-- the answer of a keeper with spare capacity
 abbrev pub IsEntered : Keeper → Keeper → Entry → Result ℕ Refusal → Type 0
 IsEntered before after entry result =
     MatchResult result (IsAccepted before.journal after.journal entry)
@@ -33,7 +33,7 @@ IsApplied before after entry result =
     MatchResult result (IsAccepted before.journal after.journal entry)
     (λ refusal. IsRefusal before.journal entry refusal × (after ≡ before))
 
--- the clocks' tests never report a lack of memory
+-- the clocks' tests never report an allocation failure
 pub not_stated : (journal : Journal) (entry : Entry) (refusal : Refusal) → is_full journal ≡ false →
     first_refusal journal entry ≡ Some refusal → refusal ≡ Memory → ⊥
 not_stated journal entry refusal room stated e =
@@ -56,7 +56,7 @@ not_memory-entered before after entry (Ok number) free stated e = cc
 not_memory-entered before after entry (Err refusal) free stated e =
     not_stated before.journal entry refusal free stated.0 cc
 
--- room that is made for an accepted command doesn't change its answer
+-- capacity that is reserved for an accepted command doesn't change its answer
 pub IsApplied-grown : (before grown after : Keeper) (entry : Entry) (result : Result ℕ Refusal) →
     grown.journal ≡ before.journal → first_refusal before.journal entry ≡ None →
     IsEntered grown after entry result →
@@ -78,7 +78,7 @@ agrees-accepted before after entry Refused (Ok number) stated =
     ∙ ap (λ (j : Journal). monotonic j entry.reading) (sym stated.1)
 agrees-accepted before after entry Refused (Err refusal) stated = tt
 
--- the clocks after an accepted command are those of the journal with its entry
+-- the clocks after an accepted command are the clocks of the journal with its entry
 pub running-accepted : (journal : Journal) (before after : State) (entry : Entry) →
     before ≡ state_of journal →
     (state_refusal before entry.reading entry.cmd ≡ None)
@@ -87,7 +87,7 @@ pub running-accepted : (journal : Journal) (before after : State) (entry : Entry
 running-accepted journal before after entry running stated =
     stated.1 ∙ state_of-followed_by journal before entry.who entry.reading entry.cmd running stated.0
 
--- a keeper's journal refuses what its clocks refuse
+-- a keeper's journal refuses the commands that its clocks refuse
 pub first_refusal-clocks : (folded spare : ℕ) (start clock : State) (entries : List Entry)
     (keeper : Keeper) (entry : Entry) (refusal : Option Refusal) →
     record { journal = journal_from folded start entries; spare = spare } ≡ keeper →
@@ -99,7 +99,7 @@ first_refusal-clocks folded spare start clock entries keeper entry refusal shows
     entry.cmd refusal held.running room answer)
     free
 
--- a keeper whose clocks accepted a command: it has these parts, and `keeper` is what they show
+-- a keeper whose clocks accepted a command: it consists of these parts, and `keeper` is its view
 module _ (folded spare : ℕ) (start before after : State) (entries : List Entry) (entry : Entry)
     (keeper : Keeper)
     (shows : ◌≡◌ {A = Keeper}

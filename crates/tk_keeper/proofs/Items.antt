@@ -33,7 +33,7 @@ fault_by greatest stamp end value =
     else if not (int_lt value end) then Some Range
     else None
 
--- it does if its clocks have the journal's own values, and these are never below zero
+-- it does if its clocks have the journal's values, and these are never below zero
 pub tells_items : (journal : Journal) (front : ℕ) (base : ReadBase) →
     front_refusal journal front ≡ None → ReadsAs (at_front front journal) base →
     base.counter ≡ journal.opening.counter →

@@ -21,7 +21,7 @@ within : (kept count listed i place : ℕ) → kept + count / 256 ≡ (count + l
     count + place ≡ 256 * (count / 256 + 1 + i) → place ≤ listed
 within kept count listed i place all low here = omega arith
 
--- earlier kept clocks are those of the longer journal too
+-- earlier kept clocks are kept clocks of the longer journal too
 earlier : (journal : Journal) (entry : Entry) (start : State) (kept : List Kept) (i place : ℕ)
     (there : Kept) →
     HasKept journal start kept → slice_get kept i ≡ Some there →
@@ -114,7 +114,7 @@ HasKept-more journal entry start kept next held now marked even =
           ];
     }
 
--- a kept state of the folded journal is one of those before the fold
+-- a kept state of the folded journal is a kept state of the journal before the fold
 kept_place : (count n i place dropped : ℕ) → dropped + count / 256 ≡ (count + n) / 256 →
     count + n + place ≡ 256 * ((count + n) / 256 + 1 + i) →
     count + (n + place) ≡ 256 * (count / 256 + 1 + (dropped + i))

@@ -1,4 +1,4 @@
--- Room in a journal.
+-- The capacity of a journal.
 use Rattle.std.proofs.Common.{◌≡◌, ◌∙◌, ℕ, ◌<◌, ◌≤◌, length, length-drop, sym, arith, false}
 use Rattle.std.specs.Prelude.{None}
 use Rattle.std.proofs.lemmas.Grind.{common_steps}
@@ -19,7 +19,7 @@ pub not_full : (journal : Journal) → is_full journal ≡ false →
     (length journal.entries < listed_most) × (accepted_count journal < counted_most)
 not_full journal e = (grind (arith, common_steps), grind (arith, common_steps))
 
--- an accepted entry keeps the journal legal, and within its room
+-- an accepted entry keeps the journal legal and within its limits
 pub IsKept-followed_by : (journal : Journal) (entry : Entry) (before after : State) →
     IsKept journal before →
     first_refusal journal entry ≡ None → after ≡ state_of (followed_by journal entry) →
@@ -33,7 +33,7 @@ IsKept-followed_by journal entry before after held accepted running =
       counted = omega (arith, more.1, length_push journal.entries entry);
     }
 
--- folding keeps the journal legal, and within its room
+-- folding keeps the journal legal and within its limits
 pub IsKept-folded : (journal : Journal) (n : ℕ) (state : State) → n ≤ length journal.entries →
     IsKept journal state →
     IsKept (folded_by n journal) state

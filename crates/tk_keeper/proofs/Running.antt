@@ -14,7 +14,7 @@ use Rattle.tk_keeper.specs.Keeper.{Keeper}
 use Rattle.tk_keeper.proofs.Room.{not_full}
 use Rattle.tk_clock.specs.Limits.{listed_most}
 
--- what `apply` returns and leaves
+-- the result of `apply`, and the keeper after it
 abbrev pub IsAnswer : Keeper → Entry → Result ℕ Refusal → Keeper → Type 0
 IsAnswer before entry result after =
     MatchResult result
@@ -23,7 +23,7 @@ IsAnswer before entry result after =
     × (number ≡ accepted_count after.journal))
     (λ refusal. IsRefusal before.journal entry refusal × (after ≡ before))
 
--- a refusal other than `Memory` is that of the first test to fail
+-- a refusal other than `Memory` is the one of the first test that fails
 first_refusal-is : (journal : Journal) (entry : Entry) (refusal : Refusal) →
     IsRefusal journal entry refusal → (refusal ≡ Memory → ⊥) →
     first_refusal journal entry ≡ Some refusal
@@ -35,7 +35,7 @@ first_refusal-is journal entry Behind stated other = stated
 first_refusal-is journal entry Range stated other = stated
 first_refusal-is journal entry Memory stated other = absurd (other refl)
 
--- unless memory was refused, this is the definition's reply
+-- unless an allocation failed, this is the definition's reply
 pub reply-answer : (before after : Keeper) (entry : Entry) (result : Result ℕ Refusal) →
     IsAnswer before entry result after →
     (result ≡ Err Memory → ⊥) →
@@ -53,7 +53,7 @@ reply-answer before after entry (Err refusal) stated enough =
     ∙ ap (λ (k : Keeper). let reply : Reply = record { answer = Err refusal; journal = k.journal }
     in reply) (sym stated.1)
 
--- if there is room for the events that are left, there is room for an accepted one
+-- if there is capacity for the remaining events, there is capacity for an accepted one
 some_room : (left listed spare : ℕ) → 0 < left → listed < listed_most →
     min left (listed_most - listed) ≤ spare → 0 < spare
 some_room left listed spare some low enough = omega arith
@@ -76,7 +76,7 @@ never_short before after entry result left stated short some enough e =
     let none = short e in
     omega arith
 
--- an accepted event leaves room for those after it
+-- an accepted event leaves capacity for the events after it
 less_room : (left listed listed' spare spare' : ℕ) → spare' + 1 ≡ spare → listed' ≡ listed + 1 →
     min left (listed_most - listed) ≤ spare →
     min (left - 1) (listed_most - listed') ≤ spare'
@@ -102,7 +102,7 @@ room_left before after entry (Err refusal) left stated less some enough =
     (sym stated.1)
     (same_room left (length before.journal.entries) before.spare enough)
 
--- the run of the events from one on
+-- the run of the events, starting at one of them
 pub run-next : (journal after : Journal) (events : List Entry) (k : ℕ) (answer : Result ℕ Refusal)
     (none : Entry) → k < length events →
     reply_to journal (get_or events k none) ≡ record { answer = answer; journal = after } →
@@ -122,7 +122,7 @@ run-next journal after events k answer none within reply =
     } in
     ap (run journal) next ∙ ap from_reply reply
 
--- the answers so far and those that are left, after one more answer
+-- the answers so far and the remaining ones, after one more answer
 pub one_more : (all before left later after : List (Result ℕ Refusal)) (answer : Result ℕ Refusal) →
     all ≡ before ++ left →
     left ≡ answer ∷ later → after ≡ before ++ answer ∷ [] → all ≡ after ++ later

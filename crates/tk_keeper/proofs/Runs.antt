@@ -33,7 +33,7 @@ AreRuns-followed_by journal entry from end inside runs place later low last here
     ∙ here in
     leads_same _ _ _ _ last (sym before) (sym after) (runs place later low last listed)
 
--- so are those of the folded journal, without the folded entries
+-- so are the runs of the folded journal, without the folded entries
 pub AreRuns-folded : (journal : Journal) (n from end : ℕ) → IsAccepted journal →
     AreRuns journal (n + from) (n + end) → AreRuns (folded_by n journal) from end
 AreRuns-folded journal n from end accepted runs place later low last here =

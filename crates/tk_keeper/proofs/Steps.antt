@@ -34,7 +34,7 @@ next_state journal k entry all here =
     entry.cmd refl (passes journal k entry all here)
     ∙ ap state_of (sym more)
 
--- a command that no test refuses is done
+-- a command that no test refuses is applied
 pub is_done : (after : Type 0) (other : Refusal →
     Type 0) (stated : Option Refusal) (result : Result (Unit {0}) Refusal) → stated ≡ None →
     MatchResult result (λ _. (stated ≡ None) × after) (λ refusal. (stated ≡ Some refusal)

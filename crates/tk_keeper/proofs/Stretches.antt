@@ -94,8 +94,8 @@ StopsFrom journal clock fronts stamps first old new error =
     (index : ℕ) × (first ≤ index) × IsFirstFault journal clock fronts stamps index error
     × IsWritten journal clock fronts stamps index old new
 
--- the items from `first` up to `end` are traced by a batch over them: all are written, or the trace
--- stops at the first one that the batch refuses
+-- a batch traces the items from `first` up to `end`: all are written, or the trace stops at the
+-- first one that the batch refuses
 abbrev pub IsStretchTraced : Journal → ClockId → List ℕ → List ℕ → ℕ → ℕ → List ℕ → List ℕ →
     Result ⊤ BatchError → Type 0
 IsStretchTraced journal clock fronts stamps first end old new (Ok done) =
@@ -109,7 +109,7 @@ pub place_low : (base : ReadBase) (clock : ClockId) (stamps old new : List ℕ)
 place_low base clock stamps old new (batch.Invalid index) back = back.high
 place_low base clock stamps old new (batch.Range index) back = back.high
 
--- a stretch of `n` items from `first` on, with one front, whose snapshot has this base
+-- a stretch of `n` items starting at `first`, with one front, whose snapshot has this base
 module _ (journal : Journal) (clock : ClockId) (fronts stamps out : List ℕ) (first n : ℕ)
     (base : ReadBase)
     (so_far : AreValues journal clock fronts stamps first out)
@@ -120,7 +120,7 @@ module _ (journal : Journal) (clock : ClockId) (fronts stamps out : List ℕ) (f
   abbrev stretch : List ℕ
   stretch = take n (drop first stamps)
 
-  -- each item of the stretch has the clock's value at its stamp
+  -- all items of the stretch have the clock's values at their stamps
   item_stated : (k : ℕ) → first ≤ k → k < first + n →
       item_of journal clock fronts stamps k
       ≡ stated k (read_of base clock (get_or stretch (k - first) 0))
@@ -177,7 +177,7 @@ module _ (journal : Journal) (clock : ClockId) (fronts stamps out : List ℕ) (f
         more,
       )
 
-  -- a batch over the stretch traces it
+  -- a batch of the stretch traces it
   batch_traced : (part new : List ℕ) (answer : Result ⊤ BatchError) →
       length new ≡ n → part ≡ take n (drop first out) →
       IsBatch base clock stretch part new answer →
@@ -192,8 +192,8 @@ module _ (journal : Journal) (clock : ClockId) (fronts stamps out : List ℕ) (f
   batch_traced part new (Err (batch.Range index)) long is_part back =
       refused_at part new index _ _ long is_part back refl
 
--- a batch over the items from `first` up to `end` traces them, if they have one front, whose
--- snapshot has this base
+-- a batch of the items from `first` up to `end` traces them, if they have one front, whose snapshot
+-- has this base
 pub stretch_traced : (journal : Journal) (clock : ClockId) (fronts stamps out : List ℕ)
     {first end : ℕ} (base : ReadBase) (new : List ℕ) (answer : Result ⊤ BatchError) →
     AreValues journal clock fronts stamps first out →

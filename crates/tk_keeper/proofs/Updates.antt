@@ -1,4 +1,5 @@
--- An update can be left out before another entry: that one leads to the same state alone.
+-- An update before another entry can be skipped: the other entry leads to the same state without
+-- it.
 use Rattle.std.proofs.Common.{◌≡◌, ℕ, ◌+◌, ◌-◌, ◌*◌, ◌/◌, ◌%◌, ◌^◌, ◌<◌, ◌≤◌, get_or, length, refl, sym, ◌∙◌, ap, ap₂, subst, arith, inl, inr, Bool, true, false, Some, None}
 use Rattle.std.specs.Prelude.{pos, ◌+ℤ◌, ◌-ℤ◌, Option, nat_lt, int_lt, not, ◌&&◌, ◌||◌, if◌then◌else◌, slice_get}
 use Rattle.std.proofs.lemmas.Bool.{le-ltb, cases_lt}
@@ -23,7 +24,8 @@ use Rattle.tk_clock.specs.Time.{nanoseconds}
 use Rattle.tk_keeper.specs.Runs.{IsRun, AreRuns}
 use Rattle.tk_keeper.proofs.Steps.{passes, next_state, listed_item}
 
--- two gaps that together are less than a round add up to the gap from the first to the last
+-- two gaps whose sum is less than the counter's range add up to the gap from the first reading to
+-- the last
 gaps_add : (d a b c : ℕ) → 0 < d →
     (b + (d - a % d)) % d + (c + (d - b % d)) % d < d →
     (b + (d - a % d)) % d + (c + (d - b % d)) % d ≡ (c + (d - a % d)) % d
@@ -38,7 +40,7 @@ gaps_add d a b c some near =
     ∙ mod-add-mod y d x ∙ ap (λ n. n % d) e
     ∙ add-mul-mod_self_left (c + (d - a % d)) d (b / d + 1)
 
--- two gaps that lead forward are less than a round together
+-- the sum of two gaps that lead forward is less than the counter's range
 less_than_round : (counter : Counter) (g g' : ℕ) → g ≤ half counter → g' ≤ half counter →
     g + g' < 2 ^ counter.bits
 less_than_round counter g g' low low' =
@@ -70,7 +72,7 @@ forwarded_twice base r r' e =
     (grown_twice base.raw_amount (gap base.counter base.last r) (gap base.counter r r') _
     base.counter.mult e)
 
--- so a command after an update does what it does without that update, unless it is a resume
+-- so a command after an update has the same effect as without that update, unless it is a resume
 effect_alone : (state : State) (r r' : ℕ) (cmd : Command) → is_resume cmd ≡ false →
     forwarded (forwarded state.base r) r' ≡ forwarded state.base r' →
     effect (effect state r Update) r' cmd ≡ effect state r' cmd
@@ -115,7 +117,7 @@ tests asleep resumes above well behind past bad =
     (if not resumes && behind then Some Behind else None)))
     (if past then Some Range else if bad then Some Invalid else None)
 
--- what the tests of an update show if they pass
+-- the facts that follow if the tests of an update pass
 passed_update : (asleep above well behind past bad : Bool) →
     tests asleep false above well behind past bad ≡ None → (asleep ≡ false) × (behind ≡ false)
 passed_update true above well behind past bad e = absurd cc
@@ -124,7 +126,7 @@ passed_update false false false behind past bad e = absurd cc
 passed_update false false true true past bad e = absurd cc
 passed_update false false true false past bad e = (refl, refl)
 
--- what the tests of any command show if they pass while the clocks are awake
+-- the facts that follow if the tests of any command pass while the clocks are awake
 passed_awake : (resumes above well behind past bad : Bool) →
     tests false resumes above well behind past bad ≡ None →
     (resumes ≡ false) × (behind ≡ false)
@@ -135,7 +137,7 @@ passed_awake false false false behind past bad e = absurd cc
 passed_awake false false true true past bad e = absurd cc
 passed_awake false false true false past bad e = (refl, refl, e)
 
--- the tests pass too where a test of order and the clocks' values are the same
+-- the tests also pass if the test of order and the clocks' values are the same
 passing : (resumes above well behind past bad past' bad' : Bool) → behind ≡ false →
     past' ≡ past → bad' ≡ bad → tests false resumes above well false past bad ≡ None →
     tests false resumes above well behind past' bad' ≡ None
@@ -165,8 +167,8 @@ same_setting base base' reading (Tai seconds) e f = refl
 same_setting base base' reading Suspend e f = refl
 same_setting base base' reading (Resume away) e f = refl
 
--- a command that is refused neither after an update nor as behind without it is accepted without
--- it, and leaves the same state
+-- a command that is accepted after an update, and isn't behind without it, is accepted without it
+-- and leaves the same state
 alone : (state : State) (r r' : ℕ) (cmd : Command) → state_refusal state r Update ≡ None →
     state_refusal (effect state r Update) r' cmd ≡ None →
     gap state.base.counter state.base.last r' ≤ half state.base.counter →
@@ -221,14 +223,14 @@ alone state r r' cmd one two near =
       sym same,
     )
 
--- one entry alone is a run
+-- a single entry is a run
 IsRun-one : (journal : Journal) (from : ℕ) → IsAccepted journal → IsRun journal from (from + 1)
 IsRun-one journal from all entry here =
     let place : from + 1 - 1 ≡ from = omega arith in
     let there = subst (λ k. slice_get journal.entries k ≡ Some entry) place here in
     (passes journal from entry all there, next_state journal from entry all there)
 
--- a run goes on after an update, with an entry that is not behind the run's beginning
+-- a run continues after an update, with an entry that isn't behind the run's beginning
 IsRun-more : (journal : Journal) (from next : ℕ) (entry later : Entry) → IsAccepted journal →
     IsRun journal from next → next - 1 < length journal.entries →
     entry ≡ get_or journal.entries (next - 1) entry → entry.cmd ≡ Update →

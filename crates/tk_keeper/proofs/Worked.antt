@@ -1,4 +1,4 @@
--- Worked items of a trace, computed over the definitions alone: two settings of the frequency, and
+-- Worked items of a trace, computed from the definitions only: two settings of the frequency, and
 -- the first one folded.
 use Rattle.std.proofs.Common.{◌≡◌, ℕ, [], ◌∷◌, refl, Ok, Err}
 use Rattle.std.specs.Prelude.{pos, neg_ℤ}
@@ -13,7 +13,7 @@ use Rattle.tk_clock.specs.Journal.{Journal, opened}
 use Rattle.tk_keeper.specs.declared.trace_error.TraceError.TheVariants as errors
 use Rattle.tk_keeper.specs.Item.{item}
 
--- a counter of one nanosecond a cycle, with readings of 32 bits
+-- a counter of one nanosecond a cycle, with 32-bit readings
 abbrev nanosecond_counter : Counter
 nanosecond_counter = record { bits = 32; mult = 16777216; shift = 24 }
 

@@ -12,22 +12,22 @@ use Rattle.tk_keeper.specs.declared.trace_error.TraceError.TheVariants as errors
 use Rattle.tk_keeper.specs.Past.{at_front, front_refusal}
 use Rattle.tk_keeper.specs.Read.{read_fault}
 
--- the fault of an item whose front has a fault, with the item's place in the trace
+-- the fault of an item because of its front, with the item's place in the trace
 abbrev pub fault_of_front : ℕ → FrontError → TraceError
 fault_of_front index Unknown = errors.Unknown index
 fault_of_front index Folded = errors.Folded index
 
--- the fault of an item whose stamp has a fault, with the item's place in the trace
+-- the fault of an item because of its stamp, with the item's place in the trace
 abbrev pub fault_of_stamp : ℕ → ReadError → TraceError
 fault_of_stamp index Invalid = errors.Invalid index
 fault_of_stamp index Range = errors.Range index
 
--- the value in nanoseconds, unless the stamp has a fault
+-- the value in nanoseconds, or the fault of the stamp
 abbrev pub item_at : ℕ → ℤ → Option ReadError → Result ℤ TraceError
 item_at index value None = Ok value
 item_at index value (Some error) = Err (fault_of_stamp index error)
 
--- the result for the stamp, unless the front has a fault
+-- the result for the stamp, or the fault of the front
 abbrev pub item_unless : ℕ → Result ℤ TraceError → Option FrontError → Result ℤ TraceError
 item_unless index stated None = stated
 item_unless index stated (Some error) = Err (fault_of_front index error)

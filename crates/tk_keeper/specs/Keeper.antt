@@ -1,4 +1,4 @@
--- What a timekeeper holds.
+-- The contents of a timekeeper.
 use Rattle.std.specs.Prelude.{◌≡◌, ℕ, ◌+◌, ◌-◌, ◌*◌, ◌/◌, ◌%◌, ◌≤◌, min, List, length, Option, Some, None, nat_lt, if◌then◌else◌, slice_get}
 use Rattle.tk_clock.specs.declared.command.Entry.{Entry}
 use Rattle.tk_clock.specs.declared.clock_id.ClockId.{ClockId}
@@ -12,21 +12,20 @@ use Rattle.tk_clock.specs.State.{ReadBase, State, base_value, state_of}
 use Rattle.tk_keeper.specs.declared.timekeeper.Kept.{Kept}
 use Rattle.tk_keeper.specs.Runs.{IsKeptAt}
 
--- its journal, and how many more accepted commands will take no memory
+-- its journal, and the number of further commands that can be accepted without an allocation
 pub record Keeper : Type 0 where
   pub journal : Journal
   pub spare : ℕ
 
--- the journal is legal, the running state is that of the journal, and the journal lists and counts
--- no more than it may
+-- the journal is legal, the running state is the journal's, and the journal is within its limits
 pub record IsKept (journal : Journal) (state : State) : Type 0 where
   pub legal : IsLegal journal
   pub running : state ≡ state_of journal
   pub room : length journal.entries ≤ listed_most
   pub counted : accepted_count journal ≤ counted_most
 
--- `start` is the state before all listed entries, and `kept` has the clocks after each listed entry
--- whose number is a multiple of 256
+-- `start` is the state before all listed entries, and `kept` contains the clocks after each listed
+-- entry whose number is a multiple of 256
 pub record HasKept (journal : Journal) (start : State) (kept : List Kept) : Type 0 where
   pub first : start ≡ state_of (prefix 0 journal)
   pub all : length kept + journal.opening.count / 256 ≡ accepted_count journal / 256
@@ -34,8 +33,8 @@ pub record HasKept (journal : Journal) (start : State) (kept : List Kept) : Type
       journal.opening.count + place ≡ 256 * (journal.opening.count / 256 + 1 + i) →
       IsKeptAt journal place there
 
--- how many more commands fit, with capacity for `places` more entries and `kept` more states, after
--- `count` commands
+-- the number of further commands that fit, with capacity for `places` more entries and `kept` more
+-- states, after `count` commands
 abbrev pub room_for : ℕ → ℕ → ℕ → ℕ
 room_for places kept count = min places (256 * (kept + 1) - count % 256 - 1)
 
@@ -46,7 +45,7 @@ entry_at journal number =
     if nat_lt journal.opening.count number
     then slice_get journal.entries (number - journal.opening.count - 1) else None
 
--- a read base gives each clock the journal's own value at every reading
+-- a read base gives every clock the journal's own value at every reading
 abbrev pub ReadsAs : Journal → ReadBase → Type 0
 ReadsAs journal base = (clock : ClockId) (reading : ℕ) →
     base_value base clock reading ≡ clock_value journal clock reading

@@ -1,4 +1,4 @@
--- The past of a journal, and what folding keeps of it.
+-- The past of a journal, and the part of it that folding keeps.
 use Rattle.std.specs.Prelude.{◌≡◌, ℕ, ◌-◌, ◌≤◌, drop, Option, Some, None, nat_lt, if◌then◌else◌}
 use Rattle.tk_clock.specs.declared.clock_id.ClockId.{ClockId}
 use Rattle.tk_clock.specs.Journal.{Journal, prefix, accepted_count}
@@ -14,11 +14,11 @@ use Rattle.tk_keeper.specs.declared.timekeeper.past.Cursor.{Cursor}
 abbrev pub at_front : ℕ → Journal → Journal
 at_front front journal = prefix (front - journal.opening.count) journal
 
--- a cursor has the clocks of its place in the journal
+-- the clocks of a cursor are the journal's at the cursor's place
 abbrev pub IsAt : Journal → Cursor → Type 0
 IsAt journal cursor = cursor.clock ≡ state_of (prefix cursor.place journal)
 
--- why a front is refused: it is not reached yet, or it is before the opening
+-- why a front is refused: it is above the number of accepted commands, or it is before the opening
 abbrev pub front_refusal : Journal → ℕ → Option FrontError
 front_refusal journal front =
     if nat_lt (accepted_count journal) front then Some Unknown
@@ -29,7 +29,7 @@ front_refusal journal front =
 pub record IsFolded (before after : Journal) : Type 0 where
   -- the same number of accepted commands
   pub all : accepted_count after ≡ accepted_count before
-  -- the same entries after those that were folded
+  -- the same entries after the folded ones
   pub entries : after.entries ≡ drop (after.opening.count - before.opening.count) before.entries
   -- the same state, including the frequency and tick in force
   pub states : (front : ℕ) → after.opening.count ≤ front →

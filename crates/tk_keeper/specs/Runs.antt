@@ -1,4 +1,4 @@
--- Runs of a journal: entries whose clocks can be made without the entries in between.
+-- Runs of a journal: entries whose clocks can be computed without the entries in between.
 use Rattle.std.specs.Prelude.{◌≡◌, ℕ, ◌-◌, ◌<◌, ◌≤◌, IsTrue, Some, None, slice_get}
 use Rattle.tk_clock.specs.declared.command.Entry.{Entry}
 use Rattle.tk_clock.specs.Journal.{Journal, prefix}
@@ -12,17 +12,17 @@ Leads before entry after =
     (state_refusal before entry.reading entry.cmd ≡ None)
     × (effect before entry.reading entry.cmd ≡ after)
 
--- the last entry before a place leads there from an earlier place, without those in between
+-- the last entry before a place leads there from an earlier place, without the entries in between
 abbrev pub IsRun : Journal → ℕ → ℕ → Type 0
 IsRun journal from place = (entry : Entry) → slice_get journal.entries (place - 1) ≡ Some entry →
     Leads (state_of (prefix from journal)) entry (state_of (prefix place journal))
 
--- the same is true of each place from there up to `end`
+-- the same is true of all places from there up to `end`
 abbrev pub AreRuns : Journal → ℕ → ℕ → Type 0
 AreRuns journal from end = (place : ℕ) → from < place → place ≤ end → IsRun journal from place
 
--- kept clocks are those of their place; if they are marked, the 255 entries before the last one
--- are a run
+-- kept clocks are the clocks of their place; if they are marked, the 255 entries before the last
+-- one are a run
 pub record IsKeptAt (journal : Journal) (place : ℕ) (kept : Kept) : Type 0 where
   pub clock : kept.clock ≡ state_of (prefix place journal)
   pub run : 256 ≤ place → IsTrue kept.after_run → AreRuns journal (place - 256) (place - 1)

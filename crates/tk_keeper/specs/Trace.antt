@@ -22,20 +22,20 @@ abbrev pub AreValues : Journal → ClockId → List ℕ → List ℕ → ℕ →
 AreValues journal clock fronts stamps end values =
     (k : ℕ) → k < end → item_of journal clock fronts stamps k ≡ Ok (pos (slice_index values k))
 
--- the items before `end` are written, and the memory from there on is unchanged
+-- the items before `end` are written, and the memory after them is unchanged
 pub record IsWritten (journal : Journal) (clock : ClockId) (fronts stamps : List ℕ) (end : ℕ)
     (old new : List ℕ) : Type 0 where
   pub values : AreValues journal clock fronts stamps end new
   pub others : (k : ℕ) → end ≤ k → slice_index new k ≡ slice_index old k
 
--- the first item that has a fault is at `index`, and `error` is its fault
+-- the first item with a fault is at `index`, and `error` is its fault
 pub record IsFirstFault (journal : Journal) (clock : ClockId) (fronts stamps : List ℕ) (index : ℕ)
     (error : TraceError) : Type 0 where
   pub within : index < length stamps
   pub fault : item_of journal clock fronts stamps index ≡ Err error
   pub before : (k : ℕ) → k < index → IsOk (item_of journal clock fronts stamps k)
 
--- a trace that is converted into the caller's memory: all its items, or those before the first
+-- a trace that is converted into the caller's memory: all its items, or the items before the first
 -- fault
 abbrev pub IsTraced : Journal → ClockId → List ℕ → List ℕ → List ℕ → List ℕ →
     Result ⊤ TraceError → Type 0
@@ -50,7 +50,7 @@ abbrev pub IsConverted : Journal → ClockId → List ℕ → List ℕ → List 
 IsConverted journal clock fronts stamps values =
     (length values ≡ length stamps) × AreValues journal clock fronts stamps (length stamps) values
 
--- why a trace isn't converted: allocation failure, if it has items at all, or its first fault
+-- why a trace isn't converted: an allocation failure, if it has items, or its first fault
 abbrev pub IsFault : Journal → ClockId → List ℕ → List ℕ → TraceError → Type 0
 IsFault journal clock fronts stamps errors.Memory = 0 < length stamps
 IsFault journal clock fronts stamps error =

@@ -1,16 +1,18 @@
 //! Keeps the running clocks of a counter, and the journal of all accepted commands.
 //!
-//! | Item | What it is |
+//! | Item | Its meaning |
 //! |---|---|
 //! | `Timekeeper` | the clocks and their journal: opens, changes, reads and folds them |
 //! | `FrontError` | why a front has no snapshot |
 //! | `TraceError` | why a list of stamps isn't converted |
 //! | `LISTED_LIMIT` | the most entries that a journal lists |
-//! | `KEEP_LIMIT` | half of these: the most that a full journal is folded to |
+//! | `KEEP_LIMIT` | the most entries that a full journal is folded to: half of `LISTED_LIMIT` |
 //! | `KEPT_EVERY` | the number of commands from one kept copy of the clocks to the next |
 //!
-//! Units are those of `tk_clock`: readings in cycles, clock times in s and ns. Entries are numbered
-//! from 1. A front is the number of commands accepted up to then. Both count the folded commands.
+//! Units: readings in cycles, clock times in s and ns. Entries are numbered from 1. A front is the
+//! number of commands accepted up to then. Both count the folded commands. No call waits. Only
+//! `apply` while `spare()` is 0, `reserve`, `run`, `trace` and `trace_in` allocate; for an empty
+//! list `run`, `trace` and `trace_in` don't.
 #![tactic(auto)]
 
 mod front_error;

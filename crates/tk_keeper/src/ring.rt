@@ -1,12 +1,12 @@
-//! A queue of items that never move. Removing from the front takes the same time for any number of
-//! items, because later pushes release them one by one.
+//! A queue whose items never move, except when it grows. Removing from the front takes the same
+//! time for any number of items, because later pushes release them one by one.
 ghost use Rattle.std.specs.Prelude.{[], ◌≡◌, ◌+◌, ◌-◌, ◌<◌, ◌≤◌, ◌∷◌, ◌++◌, drop, length, slice_get, slice_index_or, OnOk};
 
 use std::alloc::{AllocError, Allocator};
 use std::collections::VecDeque;
 use std::marker::Model;
 
-/// Items in order. They are pushed at the back, and removed from the front.
+/// Holds items in order. They are pushed at the back, and removed from the front.
 #[derive(Drop)]
 pub(crate) struct Ring<T, A: Allocator> {
     /// The items, after those that are removed but not yet released.
@@ -28,7 +28,7 @@ impl<T, A: Allocator> Model for Ring<T, A> {
 }
 
 impl<T: Copy, A: Allocator> Ring<T, A> {
-    /// Returns an empty ring. Allocates nothing.
+    /// Returns an empty ring.
     pub(crate) fn new(alloc: A) -> Ring<T, A>
         ensures items { result.items ≡ [] }
         ensures capacity { result.capacity ≡ 0 }
@@ -51,7 +51,7 @@ impl<T: Copy, A: Allocator> Ring<T, A> {
         self.all.len() - self.gone
     }
 
-    /// Returns how many more items can be pushed without an allocation.
+    /// Returns the number of further items that can be pushed without an allocation.
     pub(crate) fn spare(&self) -> usize
         ensures { result ≡ self.now.capacity - length self.now.items }
     {
@@ -76,7 +76,7 @@ impl<T: Copy, A: Allocator> Ring<T, A> {
         None
     }
 
-    /// Adds an item at the back. Releases one of the removed items, if there are any.
+    /// Adds an item at the back. Releases one of the removed items, if there is one.
     pub(crate) fn push(&mut self, item: T)
         requires { length self.old.items < self.old.capacity }
         ensures items { self.new.items ≡ self.old.items ++ item ∷ [] }

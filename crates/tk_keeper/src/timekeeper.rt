@@ -16,8 +16,8 @@ use tk_counter::CounterDesc;
 /// The most entries that a journal lists.
 pub const LISTED_LIMIT: usize = 1_048_576;
 
-/// The most entries that a full journal is folded to by `--keep`: half of what it lists, so that
-/// folding moves each entry at most once on average.
+/// The most entries that a full journal is folded to by `--keep`: half of those that it lists, so
+/// that at least as many commands are accepted before the next fold.
 pub const KEEP_LIMIT: u64 = LISTED_LIMIT as u64 / 2;
 
 /// The most commands that a journal counts, the folded ones included.
@@ -30,19 +30,19 @@ pub const KEPT_EVERY: usize = 256;
 /// Keeps the clocks of one counter, and the journal of all accepted commands (the kernel's
 /// `struct timekeeper`).
 ///
-/// Its journal is always legal, and its clocks are always the state that the journal leads to. It
-/// takes no lock: threads that share it must bring one. It allocates from the allocator that it was
-/// opened with, and only in `apply` while `spare()` is 0, `reserve`, `run` and `trace`.
+/// Its journal is always legal, and its clocks are always in the state that follows from the
+/// journal. It contains no lock: threads that share it must use one. It allocates from the
+/// allocator that it was opened with.
 #[derive(Drop)]
 pub struct Timekeeper<A: Allocator = Global> {
     /// The clocks at the journal's opening.
     start: Clock,
-    /// The number of commands accepted before the opening: those that were folded.
+    /// The number of commands accepted before the opening, which were folded.
     folded: u64,
     /// The commands accepted since the opening.
     entries: Ring<Entry, A>,
-    /// The clocks after each entry whose number is a multiple of 256. From these the states of past
-    /// fronts are made.
+    /// The clocks after each entry whose number is a multiple of 256. The states at past fronts are
+    /// computed from them.
     kept: Ring<Kept, A>,
     /// The clocks after the last accepted command.
     clock: Clock,
@@ -52,9 +52,9 @@ pub struct Timekeeper<A: Allocator = Global> {
 #[derive(Clone, Copy)]
 struct Kept {
     clock: Clock,
-    /// Whether the entries between the clocks kept before and this entry are a run: each of them
-    /// leads from those clocks to its own without the others. It is meant only if all of these
-    /// entries are listed.
+    /// Whether the entries between the previous kept clocks and this entry are a run: the clocks
+    /// after any of them follow from the previous kept clocks and that entry only. The value counts
+    /// only if all of these entries are listed.
     after_run: bool,
 }
 
@@ -94,8 +94,7 @@ impl<A: Allocator + Copy> Timekeeper<A> {
     ghost use Rattle.tk_keeper.specs.Read.{IsRead};
 
     /// Opens the clocks at a reading, with an empty journal. At `reading` (in cycles) MONOTONIC is
-    /// 0, and REALTIME is `real`, counted from 1970. Allocates nothing; later calls allocate from
-    /// `alloc`.
+    /// 0, and REALTIME is `real`, counted from 1970. Later calls allocate from `alloc`.
     ///
     /// # Errors
     ///
@@ -144,8 +143,8 @@ impl<A: Allocator + Copy> Timekeeper<A> {
         self.entries.get((number - self.folded - 1) as usize)
     }
 
-    /// Returns how many more commands can be accepted without an allocation. It doesn't take the
-    /// journal's limits into account: for a full journal it may be above 0.
+    /// Returns the number of further commands that can be accepted without an allocation. It
+    /// doesn't take the journal's limits into account: for a full journal it may be above 0.
     pub fn spare(&self) -> usize
         ensures { result ≡ self.now.spare }
     {
@@ -155,9 +154,9 @@ impl<A: Allocator + Copy> Timekeeper<A> {
         places.min(kept.saturating_mul(KEPT_EVERY).saturating_add(until_kept))
     }
 
-    /// Returns the snapshot to give to readers: it gives each clock the journal's value at each
-    /// reading. Use it up to the reading of the next accepted command: with a later one it may give
-    /// more than a later snapshot does.
+    /// Returns the snapshot for readers: it gives every clock the journal's value at every reading.
+    /// Use it up to the reading of the next accepted command. At a later reading it may return more
+    /// than a later snapshot does.
     pub fn snapshot(&self) -> Snapshot
         ensures value { result ≡ snapshot_of self.now.journal }
         ensures legal { IsLegal self.now.journal }
@@ -170,8 +169,8 @@ impl<A: Allocator + Copy> Timekeeper<A> {
     /// Returns a clock's time at a reading, as the journal defines it (clock_gettime(2)): whole
     /// seconds since 1970 or since opening, and nanoseconds, rounded down.
     ///
-    /// A reading that lies behind the last command's gets the value at that command. So does every
-    /// reading while the clocks are asleep.
+    /// For a reading behind the last command's, it returns the value at that command. While the
+    /// clocks are asleep it does so for every reading.
     ///
     /// # Errors
     ///

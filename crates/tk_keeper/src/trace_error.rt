@@ -8,7 +8,7 @@ use std::error::Error;
 use std::fmt;
 use tk_lanes::BatchError;
 
-/// States why a list of stamps isn't converted: the first item that has a fault, or an allocation
+/// States why a list of stamps isn't converted: the first item with a fault, or an allocation
 /// failure.
 ///
 /// `index` is the item's place in the whole list, counted from 0. The faults of an item are listed

@@ -1,4 +1,4 @@
-//! Tests `tk_keeper` and `tk_pieces` through their public calls alone. It is a separate crate, so
+//! Tests `tk_keeper` and `tk_pieces` only through their public calls. It is a separate crate, so
 //! that CI proves the code under test once.
 #![tactic(auto)]
 

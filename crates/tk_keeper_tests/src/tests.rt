@@ -21,8 +21,8 @@ fn opened<A: Allocator + Copy>(rt: &impl Abort, alloc: A) -> Timekeeper<A> {
     Timekeeper::open(alloc, desc, 0, OPENED_TIME).expect(rt, "a timekeeper")
 }
 
-/// Returns the same timekeeper after two commands: 500 ppm faster from reading 0 on, and 500 ppm
-/// slower from reading 10^9 on.
+/// Returns the same timekeeper after two commands: 500 ppm faster at reading 0, and 500 ppm slower
+/// at reading 10^9.
 fn steered<A: Allocator + Copy>(rt: &impl Abort, alloc: A) -> Timekeeper<A> {
     let mut keeper = opened(rt, alloc);
     let faster = keeper.apply(0, 0, Command::Freq(65_536_000));
@@ -46,7 +46,7 @@ fn numbers(rt: &impl Abort, alloc: Global, many: usize) -> Vec<u64> {
     list
 }
 
-/// Writes an item, if the list has that place.
+/// Writes an item, if its place is in the list.
 fn put(list: &mut [u64], place: usize, number: u64) {
     if let Some(item) = list.get_mut(place) {
         *item = number;

@@ -44,7 +44,7 @@ gap_word stamp last = (stamp + (2 ^ 64 - last)) % 2 ^ 64
 abbrev ahead : ℕ → ℕ → ℕ → ℕ
 ahead m h word = let g = bit_and word m in if nat_lt h g then 0 else g
 
--- the cycles of the lanes are those of the clock
+-- the cycles of the lanes are the clock's cycles
 cycles_are : (counter : Counter) (last m h stamp : ℕ) → IsCounter counter → last < 2 ^ 64 →
     m ≡ mask counter → h ≡ half counter →
     ahead m h (gap_word stamp last) ≡ cycles_since counter false last stamp

@@ -25,7 +25,7 @@ selected m f g v {ms} {a} {b} p q r =
     of_maps [] = refl
     of_maps (x ∷ xs) = ap (λ r. cond (m x) (f x) (g x) ∷ r) (of_maps xs)
 
--- each number of a list is at most the or of all
+-- no number of a list is greater than the OR of all
 most_is_or : (a : ℕ) (xs : List ℕ) (most : ℕ) → fold_l bit_or a xs ≤ most →
     (a ≤ most) × Each1 (λ x. x ≤ most) xs
 most_is_or a [] most low = (low, tt)

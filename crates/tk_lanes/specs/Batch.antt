@@ -17,8 +17,8 @@ pub record IsFilled (base : ReadBase) (clock : ClockId) (stamps : List ℕ) (fir
   pub before : (k : ℕ) → k < first → slice_index new k ≡ slice_index old k
   pub after : (k : ℕ) → end ≤ k → slice_index new k ≡ slice_index old k
 
--- the stamp at `index` is the first one that is refused: the items before it are filled, and all
--- other items are unchanged
+-- the stamp at `index` is the first refused one: the items before it are filled, and all other
+-- items are unchanged
 pub record IsRefusedAt (base : ReadBase) (clock : ClockId) (stamps : List ℕ) (first end : ℕ)
     (old new : List ℕ) (index : ℕ) (refusal : ReadError) : Type 0 where
   pub low : first ≤ index

@@ -1,4 +1,4 @@
--- A clock as a straight segment over the cycles since the last command.
+-- A clock as a straight line over the cycles since the last command.
 use Rattle.std.specs.Prelude.{ℤ, pos, ◌+ℤ◌, ◌*ℤ◌, Bool, true, false, ◌||◌, Ok, ◌≡◌, ◌<◌, ◌≤◌, ℕ, ◌+◌, ◌-◌, ◌*◌, ◌/◌, ◌%◌, ◌^◌, List, bit_and, nat_lt, if◌then◌else◌}
 use Rattle.std.specs.Simd.Lanes.{Each1}
 use Rattle.tk_clock.specs.declared.clock_id.ClockId.{ClockId}
@@ -7,17 +7,17 @@ use Rattle.tk_clock.specs.State.{ReadBase}
 use Rattle.tk_clock.specs.Read.{read_of}
 use Rattle.tk_lanes.specs.declared.segment.Segment.{Segment}
 
--- how many stamps are converted at a time
+-- the number of stamps that are converted at a time
 abbrev pub lane_count : ℕ
 lane_count = 8
 
--- the cycles from the last reading to a stamp, in words of 64 bits: 0 if the stamp is behind
+-- the cycles from the last reading to a stamp, in 64-bit words: 0 if the stamp is behind
 unfoldable pub segment_cycles : Segment → ℕ → ℕ
 segment_cycles segment stamp =
     let gap = bit_and ((stamp + (2 ^ 64 - segment.last)) % 2 ^ 64) segment.mask in
     if nat_lt segment.half gap then 0 else gap
 
--- the segment's value after a number of cycles, in nanoseconds, in words of 64 bits
+-- the segment's value after a number of cycles, in nanoseconds, in 64-bit words
 unfoldable pub nanos_after : Segment → ℕ → ℕ
 nanos_after segment cycles =
     let units = ((cycles * segment.mult) % 2 ^ 64 + segment.frac) % 2 ^ 64 in
@@ -32,11 +32,11 @@ pub record IsNear (segment : Segment) (stamp : ℕ) : Type 0 where
   pub near : segment_cycles segment stamp ≤ segment.span
   pub read : stamp ≤ segment.mask
 
--- each stamp of a list is near
+-- all stamps of a list are near
 abbrev pub IsEachNear : Segment → List ℕ → Type 0
 IsEachNear segment stamps = Each1 (IsNear segment) stamps
 
--- within its span the segment has the clock's value
+-- within its span the segment's value is the clock's value
 abbrev pub IsSegment : ReadBase → ClockId → Segment → Type 0
 IsSegment base clock segment =
     (stamp : ℕ) → stamp < 2 ^ 64 → IsNear segment stamp →

@@ -13,8 +13,7 @@ const NANOS_PER_SECOND: u64 = 1_000_000_000;
 /// Writes a clock's time at each stamp to `out`, in ns, one stamp after the other. Stamps are in
 /// cycles.
 ///
-/// The caller proves that `stamps` and `out` have the same length. The call doesn't allocate or
-/// wait.
+/// The caller proves that `stamps` and `out` have the same length.
 ///
 /// # Errors
 ///
@@ -35,14 +34,15 @@ pub fn plain_batch(
     plain_from(snapshot, clock, stamps, out, 0, stamps.len())
 }
 
-/// Does what `plain_batch` does, eight stamps at a time, with the same results.
+/// Writes the same times and returns the same results as `plain_batch`, but converts eight stamps
+/// at a time.
 ///
 /// Eight stamps are converted one after the other if one of them is above the mask, or too far from
 /// the last command for a segment. So are the stamps after the last eight.
 ///
 /// # Errors
 ///
-/// Those of `plain_batch`, for the same stamp: `Invalid` and `Range`.
+/// Returns `Invalid` and `Range` in the same cases and for the same stamp as `plain_batch`.
 pub fn lane_batch(
     snapshot: &Snapshot,
     clock: ClockId,
@@ -60,7 +60,7 @@ pub fn lane_batch(
     };
     let mut at = 0;
     'eights: while stamps.len() - at >= LANES {
-        // these eight wherever they are, and then as many as are ahead
+        // these eight wherever they are, and then the following ones as long as they are ahead
         if !segment.converts(stamps, out, at) {
             plain_from(snapshot, clock, stamps, out, at, at + LANES)?;
         }

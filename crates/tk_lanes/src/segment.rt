@@ -1,5 +1,5 @@
-//! Describes a clock as a straight segment over the cycles since the last command, as far as no sum or
-//! product exceeds a word and no value is out of range.
+//! Describes a clock as a straight line over the cycles since the last command, as far as no sum or
+//! product exceeds 64 bits and no value is out of range.
 ghost use Rattle.std.specs.Prelude.{◌≡◌, ℕ, ◌+◌, ◌*◌, ◌^◌, ◌<◌, ◌≤◌, bit_and, IfSome};
 ghost use Rattle.tk_lanes.specs.Segment.{IsSegment};
 
@@ -14,18 +14,18 @@ pub(crate) const LANES: usize = 8;
 
 /// Gives the clock at a stamp within its span: `((cycles * mult + frac) >> shift) + base`, in ns.
 ///
-/// `cycles` is what the counter counted since the last command, or 0 if the stamp is behind.
+/// `cycles` is the number of cycles since the last command, or 0 if the stamp is behind.
 #[derive(Clone, Copy)]
 pub(crate) struct Segment {
     /// The reading of the last command.
     last: u64,
     /// The units of `2^-shift` ns that a cycle adds.
     mult: u32,
-    /// How far units are shifted right to convert them to ns.
+    /// The right shift that converts units to ns.
     shift: u32,
-    /// The units at the last command that make no whole second.
+    /// The part below a second at the last command, in `2^-shift` ns.
     frac: u64,
-    /// The clock at the last command without them, in ns.
+    /// The clock at the last command without that part, in ns.
     base: u64,
     /// The greatest reading.
     mask: u64,
@@ -33,7 +33,8 @@ pub(crate) struct Segment {
     half: u64,
     /// The longest gap up to which the segment is the clock, in cycles.
     span: u64,
-    /// How far ahead of `last` a stamp may be, in cycles, without exceeding the mask or the span.
+    /// The greatest distance, in cycles, by which a stamp may be ahead of `last` without exceeding
+    /// the mask or the span.
     ahead: u64,
 }
 
@@ -74,8 +75,8 @@ impl Segment {
     }
 }
 
-/// Returns the longest gap, up to `half`, at which the units fit a word and the clock gains less
-/// than `room` ns. Returns `None` if there is no such gap.
+/// Returns the longest gap, up to `half`, at which the units fit in 64 bits and the clock gains
+/// less than `room` ns. Returns `None` if there is no such gap.
 fn span_of(room: u64, origin: Origin, shift: u32, half: u64) -> Option<u64>
     requires { shift ≤ 32 }
     ensures inside { IfSome result (λ span. span ≤ half) }

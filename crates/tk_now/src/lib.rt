@@ -1,16 +1,17 @@
-//! Takes readings of a counter that many threads share, each while no command is in progress.
+//! Takes readings of a counter that many threads share, while no command is in progress.
 //!
-//! | Item | What it is |
+//! | Item | Its meaning |
 //! |---|---|
-//! | `Notice` | a word that says whether a command is in progress, and how many were accepted |
-//! | `Announcer` | announces commands; each notice has one |
-//! | `Watcher` | takes readings between two looks at the notice |
-//! | `Timed`, `Busy` | a reading with the command before it, and why there is none |
-//! | `SharedCounter`, `Look` | a counter that many threads read, and what a read follows |
-//! | `counts_are_in_order`, `answers_are_in_life` | laws: what an honest counter adds |
-//! | `SharedTicker`, `HostCounter` | one that counts its reads; the monotonic clock of the host |
+//! | `Notice` | a word: the number of accepted commands, and whether one is in progress |
+//! | `Announcer` | announces commands; a notice has one announcer |
+//! | `Watcher` | reads the counter between two loads of the notice |
+//! | `Timed`, `Busy` | a reading with the number of the command before it, and why there is none |
+//! | `SharedCounter`, `Look` | a counter that many threads read; the notice's load before a read |
+//! | `counts_are_in_order`, `answers_are_in_life` | laws about honest counters |
+//! | `SharedTicker`, `HostCounter` | a counter of its own reads; the host's monotonic clock |
 //!
-//! A moment is the number of steps on the notice so far. Readings are in cycles of the counter.
+//! No call waits. Only `Notice::open` and `Look::first` allocate. A moment is the number of steps
+//! on the notice so far. Readings are in cycles of the counter.
 #![tactic(auto)]
 
 mod announcer;

@@ -1,15 +1,16 @@
-//! Publishes clock snapshots on a page of ten words: one publisher writes, any number of viewers
-//! read the latest one.
+//! Publishes clock snapshots on a page of ten 64-bit words: one publisher writes, and any number of
+//! viewers read the latest snapshot.
 //!
-//! | Item | What it is |
+//! | Item | Its meaning |
 //! |---|---|
 //! | `Page` | the words; opened with the snapshot of a journal without entries |
 //! | `Publisher` | adds entries to the page's journal and publishes its snapshots |
-//! | `Viewer` | reads the snapshot of one whole journal, no shorter than any it saw |
+//! | `Viewer` | reads the latest snapshot; the journal that it sees never gets shorter |
 //! | `PageError` | why a page can't be opened |
 //!
-//! Only proofs know the journal, so a publication allocates nothing. Units are those of `tk_clock`.
-//! A front is the number of entries of a journal.
+//! Only `Page::open` allocates: the journal exists only in proofs. `publish`, `publish_for`, `read`
+//! and `tell` may wait; the head of src/page.rt says for whom. No other call waits. Units are the
+//! same as in `tk_clock`. A front is the number of entries of a journal.
 #![tactic(auto)]
 
 mod cell;

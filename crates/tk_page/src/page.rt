@@ -1,46 +1,78 @@
-//! The page: ten words that one publisher writes and any number of viewers read.
+//! The page: ten 64-bit words that one publisher writes and any number of viewers read.
 //!
-//! The words are in a cell with its own version word, as in crossbeam's `seq_lock.rs`
-//! (Documentation/locking/seqlock.rst). The publisher and each viewer hold a pass to the cell. It
-//! has no bytes, and records for proofs what its holder knows. The version has two meanings:
+//! A read returns the ten words of one publication, never a mixture of two. No later publication
+//! has been made when the read takes effect.
 //!
-//! - Even: the cell is at rest. The ten words are those of the latest publication.
-//! - Odd: one pass holds the cell alone. It is the publisher's, which writes the words, or that of
-//!   a viewer whose first try failed, which only reads them.
+//! A version word says who may use the ten words, as in crossbeam's `seq_lock.rs` and the kernel's
+//! `seqcount_t` (Documentation/locking/seqlock.rst):
 //!
-//! The protocol:
+//! - Even: no thread holds the words. They are those of the latest publication.
+//! - Odd: one thread holds the words. It is the publisher, which writes them, or a thread whose
+//!   first try to read them failed, which only reads them.
 //!
-//! 1. Open: the cell is made with the words of the opening. Its first pass stores the same words
-//!    again. From then on it is the publisher's pass, of a journal without entries.
-//! 2. Publish: the publisher's pass takes in a copy as a note (5 and 6). It makes the version odd,
-//!    writes the words, and makes the version even, 2 above its former value. That last store is the
-//!    publication: the journal has one more entry. It shows that the noted journal begins the
-//!    journal before the publication.
-//! 3. Read: the viewer loads an even version, loads the words, and loads the same version again.
-//!    That last load is the read: the viewer has then seen the whole journal published so far.
-//! 4. Read after a failed try: if the version was odd or changed, the viewer makes it odd itself,
-//!    loads the words, and restores the version. That last store is the read.
-//! 5. Split: a second pass gets what a pass knows. The first one keeps it too, or gives it up.
-//! 6. Join: a pass takes in what another pass knows. The other one is then spent.
-//! 7. Tell: the viewer's pass gives a copy of what it knows (5), and the publisher's pass takes it in
-//!    as a note (6). A read by the publisher (3 or 4) then shows that the noted journal begins the
-//!    publisher's. So the viewer's pass gives all that it knows (5), and the publisher's a copy (5),
-//!    which takes in what the viewer gave (6) and becomes the viewer's pass.
-//! 8. Publish for a viewer: as 7, with a publication (2) instead of the read.
+//! Time goes down in this timeline. The two sides of one line may happen in either order. Each
+//! number is a step, which the code cites. The mark `<-` is on the store or load at which the step
+//! takes effect.
 //!
-//! A viewer's pass counts its reads: steps 3 and 4 add one, and no other step adds any. A copy (5)
-//! starts at 0. A join (6) adds both counts and keeps the longer journal, so no step can keep the
-//! count of a read and drop the journal that it saw.
+//! ```text
+//!      publisher                    version      viewer
+//!   1. makes the page, version 0       0
+//!      exchanges 0 for 1               1
+//!      loads the words                 1
+//!      stores the same words           1
+//!      stores version 2 <-             2
+//!                                      2      3. loads version 2: even
+//!                                      2         loads the words
+//!                                      2         loads version 2 again: the same <-
+//!                                      2      3. loads version 2: even
+//!   2. exchanges 2 for 3               3         loads some of the words
+//!      loads the old words             3         loads the other words
+//!      stores the new words            3
+//!      stores version 4 <-             4
+//!                                      4         loads version 4: changed
+//!                                      5      4. exchanges 4 for 5
+//!   2. loads version 5: odd, waits     5         loads the words
+//!                                      4         stores version 4 <-
+//!      exchanges 4 for 5               5
+//!      loads the old words             5      3. loads version 5: odd
+//!      stores the new words            5      4. loads version 5: odd, waits
+//!      stores version 6 <-             6
+//!                                      7         exchanges 6 for 7
+//!                                      7         loads the words
+//!                                      6         stores version 6 <-
+//! ```
+//!
+//! Step 1 opens the page, step 2 is a publication, step 3 is a read, and step 4 is a read whose
+//! first try failed.
+//!
+//! Steps 5 and 6 touch no word. They exist for proofs. The publisher and every viewer hold a pass
+//! to the cell of the words. A pass has no bytes. A viewer's pass records the journal that the
+//! viewer has seen, and the number of its reads. The publisher's pass records the whole published
+//! journal, to which a publication adds one entry.
+//!
+//! 5. Split: a new pass gets what a pass records. The old pass keeps it too, or gives it up.
+//! 6. Join: a pass takes in what another one records. The other one is then spent.
+//! 7. Tell: notes a viewer's journal in the publisher's pass (5 and 6), reads the words for the
+//!    publisher (3 or 4), and gives the viewer the publisher's journal (5 and 6).
+//! 8. Publish for a viewer: does the same with a publication (2) instead of the read.
+//!
+//! The read in step 7 and the publication in step 8 prove that the noted journal begins the
+//! publisher's. A plain publication notes the publisher's own journal (5 and 6).
+//!
+//! Only a viewer's read (3 or 4) adds 1 to its count. The copy of a split starts at 0. A join adds
+//! both counts and keeps the longer journal. So no step keeps the count of a read and drops the
+//! journal that the read saw.
 //!
 //! Who waits for whom:
 //!
-//! - `publish` and `publish_for` wait for a viewer that holds the cell in step 4.
-//! - `read` and `tell` wait, after a failed first try, for the pass that holds the cell.
-//! - `open` waits for nobody: no other pass exists yet.
-//! - `front`, `split` and `join` never wait.
+//! - `publish` and `publish_for` wait for a viewer that holds the words in step 4.
+//! - `read` waits, after a failed first try, for the thread that holds the words.
+//! - `tell` waits, after a failed first try, for a viewer that holds the words.
+//! - `open`, `front`, `split` and `join` never wait.
 //!
-//! No call takes the lock of a keeper, and only `open` allocates. The version has room for
-//! 2^63 - 1 stores of the words. Step 1 uses one, so there can be 2^63 - 2 publications.
+//! Only `open` allocates. No call takes the lock of a keeper. After n publications the version is
+//! `2 * n + 2` while it is even. A thread can make it odd while it is below 2^64 - 2, so there can
+//! be 2^63 - 2 publications. Then `publish` waits for ever, as does a read whose first try failed.
 ghost use Rattle.std.specs.Prelude.{◌≡◌, IfOk, length};
 ghost use Rattle.crossbeam_utils.specs.Seq.{cell_view};
 ghost use Rattle.tk_page.specs.declared.view.View.TheVariants.{Comparing, Fresh, Publishing, Viewing};
@@ -74,14 +106,12 @@ impl Model for Page {
 }
 
 impl Page {
-    /// Opens a page that shows `snapshot`, which is that of a journal without entries. Returns the
+    /// Opens a page that shows `snapshot`, the snapshot of a journal without entries. Returns the
     /// page with its publisher and a first viewer.
-    ///
-    /// It allocates the page. It waits for nobody, since no other thread has the page yet.
     ///
     /// # Errors
     ///
-    /// `PageError::Memory` if an allocation fails.
+    /// `PageError::Memory` if an allocation for the page fails.
     pub fn open<R: Wait>(
         alloc: Global,
         rt: &R,
@@ -107,10 +137,10 @@ impl Page {
         Ok((Page { cell }, Publisher { pass }, viewer))
     }
 
-    /// Gives a viewer all that was published: its journal becomes the publisher's, which its former
-    /// journal begins. This is no read of the viewer's.
+    /// Gives a viewer the publisher's journal, which the viewer's former journal begins.
     ///
-    /// It allocates nothing. If its first try fails, it waits for a viewer that holds the words.
+    /// It doesn't count as a read by the viewer. If its first try to read the words fails, it waits
+    /// for a viewer that holds them.
     pub fn tell<R: Wait>(&self, rt: &R, publisher: &mut Publisher, viewer: &mut Viewer)
         requires publisher { publisher.old.page ≡ self.now }
         requires viewer { viewer.old.page ≡ self.now }
@@ -124,8 +154,8 @@ impl Page {
         self.extend(publisher, viewer, words[0]);
     }
 
-    /// Gives a viewer the publisher's journal, which the viewer's begins and which has `front`
-    /// entries. It touches no word of the page.
+    /// Gives a viewer the publisher's journal, which the viewer's begins. `front` is the number of
+    /// its entries. It loads and stores no word of the page.
     #[inline]
     pub(crate) fn extend(&self, publisher: &mut Publisher, viewer: &mut Viewer, front: u64)
         requires publisher { publisher.old.page ≡ self.now }
@@ -143,7 +173,7 @@ impl Page {
     }
 }
 
-/// Notes in the publisher's pass what a viewer's pass knows. It touches no word of the page.
+/// Notes a viewer's journal in the publisher's pass. It loads and stores no word of the page.
 #[inline]
 pub(crate) fn note(cell: &Cell, publisher: &mut Pass, viewer: &mut Pass)
     requires publisher { publisher.old.table_id ≡ cell.now.table.shared.table_id }
@@ -161,7 +191,7 @@ pub(crate) fn note(cell: &Cell, publisher: &mut Pass, viewer: &mut Pass)
     join::<Notes>(cell, publisher, noted);
 }
 
-/// Makes the first pass the publisher's, by a store of the words that the cell already has.
+/// Makes the first pass the publisher's: stores the words that the cell already contains.
 fn take_opening<J: NamesJournal, R: Wait>(rt: &R, cell: &Cell, pass: &mut Pass, snapshot: Snapshot)
     requires cell { pass.old.table_id ≡ cell.now.table.shared.table_id }
     requires view { cell_view pass.old ≡ Fresh }

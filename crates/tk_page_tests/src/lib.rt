@@ -1,4 +1,4 @@
-//! Tests `tk_page`, `tk_latch` and `tk_now` through their public calls alone. It is a separate
+//! Tests `tk_page`, `tk_latch` and `tk_now` only through their public calls. It is a separate
 //! crate, so that CI proves the code under test once.
 #![tactic(auto)]
 

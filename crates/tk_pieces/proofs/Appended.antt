@@ -1,5 +1,4 @@
--- Pieces that are appended one by one: what holds at the end, and what holds if a piece has a
--- fault.
+-- Pieces that are appended one by one: the facts at the end, and the facts if a piece has a fault.
 use Rattle.std.proofs.Common.{◌≡◌, ℕ, ◌<◌, ◌≤◌, List, refl, length, get_or, Ok, Err, Result, sym, subst, arith, inl, inr}
 use Rattle.std.specs.Prelude.{ℤ, pos, IsOk}
 use Rattle.std.proofs.lemmas.Bool.{cases_lt}

@@ -39,7 +39,7 @@ abbrev pub moved_by : {V : Type 0} → ℕ → Result V TraceError → Result V 
 moved_by by (Ok v) = Ok v
 moved_by by (Err error) = Err (further_on error by)
 
--- a fault has the place of its item
+-- the place of a fault is the place of its item
 same_fault : (index by : ℕ) (value : ℤ) (error : TraceError) (stamp : Option ReadError)
     (front : Option FrontError) →
     item_unless index (item_at index value stamp) front ≡ Err error →
@@ -62,7 +62,7 @@ module _ (journal : Journal) (clock : ClockId) (fronts stamps : List ℕ) where
   abbrev pub IsDone : List ℕ → ℕ → Type 0
   IsDone out k = item_of journal clock fronts stamps k ≡ Ok (pos (get_or out k 0))
 
-  -- a place of a piece lies in the part of the list that is the piece
+  -- a place of a piece is in the part of the list that is the piece
   within : (size at k : ℕ) (xs : List ℕ) → at ≤ k → k < length xs → k - at < size →
       k - at < length (take size (drop at xs))
   within size at k xs from inside until =
@@ -93,7 +93,7 @@ module _ (journal : Journal) (clock : ClockId) (fronts stamps : List ℕ) where
       ap (item_of journal clock fronts stamps) (sym back) ∙ stated
       ∙ ap (λ v. Ok (pos v)) (part_at at size k out from until)
 
-  -- the items before a piece, and those of the piece
+  -- the items before a piece, and the items of the piece
   pub pieces_done : (size n at : ℕ) (out : List ℕ) → at ≡ n * size → 0 < size →
       length stamps ≡ length out → ArePieces size journal clock fronts stamps out →
       at < length stamps → get_or out at 0 < refused_mark →
@@ -114,7 +114,7 @@ module _ (journal : Journal) (clock : ClockId) (fronts stamps : List ℕ) where
       get_or (xs ++ ys) k 0 ≡ get_or ys (k - length xs) 0
   late_out xs ys k high = search (rules, places)
 
-  -- an item after a place, by its number from there on
+  -- an item after a place, by its number counted from that place
   late_item : (m k place : ℕ) →
       item journal clock place (get_or (drop m fronts) k 0) (get_or (drop m stamps) k 0)
       ≡ item journal clock place (get_or fronts (m + k) 0) (get_or stamps (m + k) 0)
@@ -145,7 +145,7 @@ module _ (journal : Journal) (clock : ClockId) (fronts stamps : List ℕ) where
   ok_is : {v : ℤ} (r : Result ℤ TraceError) → r ≡ Ok v → IsOk r
   ok_is r e = subst IsOk (sym e) refl
 
-  -- the rest of the list is converted, or its first fault is that of the list
+  -- the rest of the list is converted, or its first fault is the list's
   rest_traced : (m : ℕ) (out xs ys old : List ℕ) (result : Result ⊤ TraceError) →
       m ≤ length stamps → length xs ≡ m → xs ≡ take m out →
       AreValues journal clock fronts stamps m out →
@@ -167,7 +167,7 @@ module _ (journal : Journal) (clock : ClockId) (fronts stamps : List ℕ) where
         values,
       )
 
-  -- the same, where the fronts and the stamps of the rest have names of their own
+  -- the same, if the fronts and the stamps of the rest have separate names
   pub traced_from : {late_fronts late_stamps xs : List ℕ} (m : ℕ) (out ys old : List ℕ)
       (result : Result ⊤ TraceError) → m ≤ length stamps → length xs ≡ m → xs ≡ take m out →
       AreValues journal clock fronts stamps m out →
@@ -190,14 +190,14 @@ module _ (journal : Journal) (clock : ClockId) (fronts stamps : List ℕ) where
       (get_or-take n (drop m fronts) k 0 low ∙ get_or-drop m fronts k 0)
       (get_or-take n (drop m stamps) k 0 low ∙ get_or-drop m stamps k 0)
 
-  -- a trace into memory, whatever is known of the rest of the memory
+  -- a trace into memory, for any facts about the rest of the memory
   pub in_pieces : (old new : List ℕ) (result : Result ⊤ TraceError) →
       IsTraced journal clock fronts stamps old new result →
       IsTracedInPieces journal clock fronts stamps new result
   in_pieces old new (Ok done) written = written.values
   in_pieces old new (Err error) (index, fault, written) = (index, fault, written.values)
 
-  -- the first fault of a part is that of the list from there on
+  -- the first fault of a part is the first fault of the list after its beginning
   pub part_refused : (m n : ℕ) (new : List ℕ) (error : TraceError) → m + n ≤ length stamps →
       IsTracedInPieces journal clock (take n (drop m fronts)) (take n (drop m stamps)) new
       (Err error) →
@@ -222,7 +222,7 @@ module _ (journal : Journal) (clock : ClockId) (fronts stamps : List ℕ) where
             (sym (item_in m n j j (omega arith)) ∙ values j (omega arith))),
       )
 
-  -- the items before a part, and those of the part
+  -- the items before a part, and the items of the part
   pub part_done : (m n : ℕ) (out xs ys : List ℕ) (done : ⊤) → m + n ≤ length stamps →
       length xs ≡ m → xs ≡ take m out → AreValues journal clock fronts stamps m out →
       IsTracedInPieces journal clock (take n (drop m fronts)) (take n (drop m stamps)) ys

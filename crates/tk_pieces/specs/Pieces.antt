@@ -7,8 +7,8 @@ use Rattle.tk_keeper.specs.declared.trace_error.TraceError.{TraceError}
 use Rattle.tk_keeper.specs.declared.trace_error.TraceError.TheVariants as errors
 use Rattle.tk_keeper.specs.Trace.{item_of, AreValues, IsFirstFault}
 
--- a trace that is converted into the caller's memory: all its items, or those before the first
--- fault; the contents of the memory from the fault on are not specified
+-- a trace that is converted into the caller's memory: all its items, or the items before the first
+-- fault; the contents of the memory at the fault and after it are not specified
 abbrev pub IsTracedInPieces : Journal → ClockId → List ℕ → List ℕ → List ℕ →
     Result ⊤ TraceError → Type 0
 IsTracedInPieces journal clock fronts stamps new (Ok done) =
@@ -26,33 +26,33 @@ abbrev pub IsNamed : Items → ℕ → Journal → ClockId → List ℕ → List
 IsNamed item count journal clock fronts stamps =
     (item ≡ item_of journal clock fronts stamps) × (count ≡ length stamps)
 
--- the words contain the value of each item from place `at` on, in nanoseconds
+-- the words contain the values of the items starting at place `at`, in nanoseconds
 abbrev pub HoldFrom : Items → ℕ → List ℕ → Type 0
 HoldFrom item at words =
     (k : ℕ) → k < length words → item (at + k) ≡ Ok (pos (slice_index words k))
 
--- the words contain the value of each item from the first on, in nanoseconds
+-- the words contain the values of the items starting at the first one, in nanoseconds
 abbrev pub HoldFirst : Items → List ℕ → Type 0
 HoldFirst item words = (k : ℕ) → k < length words → item k ≡ Ok (pos (slice_index words k))
 
--- the first item from place `at` on, and before place `count`, that has a fault, and `error` is its
+-- the first item with a fault at or after place `at` and before place `count`, and `error` is its
 -- fault
 abbrev pub IsFaultFrom : Items → ℕ → ℕ → TraceError → Type 0
 IsFaultFrom item count at error =
     (index : ℕ) × (at ≤ index) × (index < count) × (item index ≡ Err error)
     × ((k : ℕ) → at ≤ k → k < index → IsOk (item k))
 
--- what the first word of a piece is where an item of it has a fault
+-- the first word of a piece in which an item has a fault
 abbrev pub refused_mark : ℕ
 refused_mark = 18446744073709551615
 
--- a piece that begins at place `at` of the list: unless it is marked, it contains the value of each
--- of its items
+-- a piece that begins at place `at` of the list: unless it is marked, it contains the values of all
+-- its items
 abbrev pub IsPiece : Journal → ClockId → List ℕ → List ℕ → ℕ → List ℕ → Type 0
 IsPiece journal clock fronts stamps at piece =
     slice_index piece 0 < refused_mark → HoldFrom (item_of journal clock fronts stamps) at piece
 
--- each piece of the list, by the number of items of a piece
+-- all pieces of the list, by the number of items of a piece
 abbrev pub ArePieces : ℕ → Journal → ClockId → List ℕ → List ℕ → List ℕ → Type 0
 ArePieces size journal clock fronts stamps out =
     (n : ℕ) → n * size < length stamps →

@@ -1,10 +1,10 @@
-//! Converts a list so long that its result lies in memory that was never written before. The first
-//! write there takes most of the time. So the calling thread appends pieces to the result, while
-//! another thread converts pieces ahead of it, into buffers of words that go back and forth.
+//! Converts long lists, whose results are in memory that was never written before. Most of the time
+//! goes to the first write to that memory. So the calling thread appends pieces to the result,
+//! while another thread converts pieces ahead of it, into buffers that go back and forth.
 //!
 //! Neither thread waits for a piece. If the next piece isn't ready, the calling thread converts it
 //! itself. If no buffer comes back for a while, the other thread ends. The calling thread waits
-//! only for that end.
+//! only for the other thread's end.
 ghost use Rattle.std.specs.Prelude.{◌≡◌, ◌<◌, ◌≤◌, [], length, MatchResult, OnOk, IfErr, IfSome};
 ghost use Rattle.tk_keeper.specs.Trace.{IsConverted, IsFault};
 ghost use Rattle.tk_keeper.specs.declared.trace_error.TraceError.TheVariants.{Memory};
@@ -21,8 +21,8 @@ use std::thread;
 use std::thread::Threads;
 use tk_keeper::{Timekeeper, TraceError};
 
-/// Converts the piece that begins at `at`. It has as many items as there are words, up to the end
-/// of the list.
+/// Converts the piece that begins at index `at`. Its length is the length of the buffer, or fewer
+/// items at the end of the list.
 fn convert<N: NamesTrace, A: Allocator + Copy>(
     input: Input<'_, A>,
     at: usize,
@@ -54,8 +54,8 @@ fn convert<N: NamesTrace, A: Allocator + Copy>(
     }
 }
 
-/// Converts pieces from the first on. Ends after the last piece, at a fault, or if no words come
-/// back.
+/// Converts pieces, starting at the first one. Ends after the last piece, at a fault, or if no
+/// buffer comes back.
 fn convert_ahead<N: NamesTrace, A: Allocator + Copy>(input: Input<'_, A>, supply: Supply<N, A>)
     requires named { of_input (IsNamed N.item N.count) input }
 {
@@ -96,7 +96,8 @@ fn append<N: NamesTrace, A: Allocator, B: Allocator>(
     }
 }
 
-/// Appends all pieces in order. Takes a piece that is ready, and otherwise converts it itself.
+/// Appends all pieces in order. Takes the next piece if it is ready, and otherwise converts it
+/// itself.
 fn append_all<N: NamesTrace, A: Allocator + Copy, B: Allocator>(
     input: Input<'_, A>,
     intake: Intake<N, A>,
@@ -128,7 +129,7 @@ fn append_all<N: NamesTrace, A: Allocator + Copy, B: Allocator>(
     Ok(values)
 }
 
-/// Creates both threads' ends of the queues, and the words of the pieces that the calling thread
+/// Creates both threads' ends of the queues, and the buffer for the pieces that the calling thread
 /// converts. `None` means that an allocation failed.
 fn prepared<N: NamesTrace, A: Allocator + Copy>(
     keeper: &Timekeeper<A>,
@@ -141,7 +142,7 @@ fn prepared<N: NamesTrace, A: Allocator + Copy>(
     Some((supply, intake, words))
 }
 
-/// Does what `trace_all` does, into an empty list. The type `N` names the items.
+/// Converts stamps as `trace_all` does, into an empty list. The type `N` names the items.
 pub(crate) fn trace_ahead<
     N: NamesTrace + Send + Sync,
     R: Threads + Sync,

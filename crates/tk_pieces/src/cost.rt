@@ -1,9 +1,10 @@
-//! Estimates how long a trace takes, so that threads are started only if they save time.
+//! Estimates the time of a trace, so that threads are started only if they save time.
 //!
-//! An item takes little time if its front is that of the item before it. Otherwise commands of the
-//! journal are applied again: from the front before, or from one of the states that the keeper
-//! keeps, one for each `KEPT_EVERY` commands. A sample of the fronts shows how many. The times are
-//! those of the machine that `bench/README.md` describes; no value of a trace depends on them.
+//! An item takes little time if its front equals the front of the item before it. Otherwise
+//! commands of the journal are applied again: from the front before, or from one of the states that
+//! the keeper keeps, one for each `KEPT_EVERY` commands. A sample of the fronts gives their number.
+//! The times were measured on the machine that `bench/README.md` describes; no value of a trace
+//! depends on them.
 ghost use Rattle.std.specs.Prelude.{◌<◌, length, IsTrue};
 
 use crate::input::Input;
@@ -13,13 +14,13 @@ use std::thread::Threads;
 use tk_clock::{Command, Entry};
 use tk_keeper::KEPT_EVERY;
 
-/// One thread converts a list of fewer items, so its time isn't estimated.
+/// One thread converts lists of fewer items, so their time isn't estimated.
 const ESTIMATED: usize = 1_024;
 
 /// The fewest and the most fronts of a sample.
 const LOOKS: (usize, usize) = (8, 256);
 
-/// There is one front of a sample for this many items.
+/// A sample contains one front for this many items.
 const SAMPLED: usize = 256;
 
 /// The golden ratio, in units of 2^-64. Its multiples spread evenly, and follow no pattern of the
@@ -32,14 +33,14 @@ const ITEM_NS: u64 = 2;
 /// The additional time of an item whose front differs from the one before, in ns.
 const SNAPSHOT_NS: u64 = 32;
 
-/// The time in ns in which an update is left out, and that in which another command is applied.
+/// The time to skip an update, and the time to apply another command, in ns.
 const ENTRY_NS: (u64, u64) = (2, 16);
 
-/// Several threads convert a list that takes this long, in ns. Starting them takes some hundreds of
-/// µs, more when the processors are busy.
+/// The shortest time, in ns, of a list that several threads convert. Starting them takes some
+/// hundreds of µs, and more when the processors are busy.
 const LONG_NS: u64 = 2_000_000;
 
-/// The time of a piece in ns: so long that giving it to a thread costs nothing compared with it.
+/// The time of a piece in ns. Giving a piece to a thread takes a negligible part of it.
 const PIECE_NS: u64 = 131_072;
 
 /// The sizes of pieces are multiples of this number of items.
@@ -79,8 +80,8 @@ pub(crate) fn estimated_ns<A: Allocator + Copy>(input: Input<'_, A>) -> u64 {
     ITEM_NS.saturating_add(sum / looks.max(1))
 }
 
-/// Estimates the additional time of the item at a place, in ns: 0 if its front is that of the item
-/// before it.
+/// Estimates the additional time of the item at a place, in ns: 0 if its front equals the front of
+/// the item before it.
 fn change_ns<A: Allocator + Copy>(input: Input<'_, A>, place: usize) -> u64 {
     let fronts = input.fronts;
     match (fronts.get(place.wrapping_sub(1)), fronts.get(place)) {
@@ -92,7 +93,7 @@ fn change_ns<A: Allocator + Copy>(input: Input<'_, A>, place: usize) -> u64 {
     }
 }
 
-/// Returns how many commands lead to a front, if the clocks are at the front `before`.
+/// Returns the number of commands that lead to a front, if the clocks are at the front `before`.
 fn entries_between<A: Allocator + Copy>(input: Input<'_, A>, before: u64, front: u64) -> u64 {
     let folded = input.keeper.folded();
     let near = (front % KEPT_EVERY as u64).min(front.saturating_sub(folded));

@@ -4,14 +4,14 @@ use std::alloc::{AllocError, Allocator};
 use tk_clock::ClockId;
 use tk_keeper::Timekeeper;
 
-/// Contains what a call converts: the stamp at each index by the journal at the front with the same
-/// index, to one clock's time.
+/// Contains the input of a call: it converts the stamp at each index to one clock's time, by the
+/// journal at the front with the same index.
 pub(crate) struct Input<'a, A: Allocator> {
     /// The keeper with the journal.
     pub(crate) keeper: &'a Timekeeper<A>,
-    /// The front of each item: the number of commands accepted before it.
+    /// The fronts of all items: the numbers of commands accepted before them.
     pub(crate) fronts: &'a [u64],
-    /// The stamp of each item, in cycles.
+    /// The stamps of all items, in cycles.
     pub(crate) stamps: &'a [u64],
     /// The clock to read at each stamp.
     pub(crate) clock: ClockId,

@@ -1,13 +1,13 @@
 //! Converts whole lists of stamps to clock time on several threads.
 //!
-//! | Item | What it is |
+//! | Item | Its meaning |
 //! |---|---|
-//! | `trace_all` | converts each stamp by the journal at its front, and returns a new list |
-//! | `trace_all_into` | does the same, and writes the values to the caller's memory |
-//! | `WORKERS_LIMIT` | is the greatest number of workers, for calls that take one |
-//! | `Gate`, `NoGate` | are called before and after each piece of other work in threads: a race, many reports |
+//! | `trace_all` | converts stamps by the journal at their fronts, and returns a new list |
+//! | `trace_all_into` | converts stamps in the same way, into the caller's memory |
+//! | `WORKERS_LIMIT` | the greatest number of workers, for calls that take such a number |
+//! | `Gate`, `NoGate` | hooks before and after a piece of work of a race or of many reports |
 //!
-//! Units are those of `tk_keeper`: stamps are readings, in cycles; clock times are in ns.
+//! Units: stamps are readings, in cycles; clock times are in ns.
 #![tactic(auto)]
 
 mod ahead;

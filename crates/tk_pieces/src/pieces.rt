@@ -1,8 +1,8 @@
-//! Cuts a long list into pieces, which threads convert in place.
+//! Divides a long list into pieces, which threads convert in place.
 //!
-//! Then the calling thread checks the pieces in order. If one has a fault, the calling thread
-//! converts the list once more from the first such piece on, up to the fault. New lists are made by
-//! `stages`, the longest ones by `ahead`.
+//! Then the calling thread checks the pieces in order. If a piece has a fault, the calling thread
+//! converts the list again from the beginning of the first such piece to the fault. `stages` makes
+//! new lists, and `ahead` the longest ones.
 ghost use Rattle.std.specs.Prelude.{[], ◌≡◌, ◌+◌, ◌<◌, ◌≤◌, ◌^◌, length, MatchResult};
 ghost use Rattle.tk_keeper.specs.Trace.{AreValues, IsConverted, IsFault};
 ghost use Rattle.tk_pieces.specs.Input.{of_input};
@@ -20,30 +20,30 @@ use std::thread::Threads;
 use tk_clock::ClockId;
 use tk_keeper::{Timekeeper, TraceError};
 
-/// The number of items, 32 MB of words, from which on the system maps the result's memory anew for
-/// each call. The first write to that memory takes longer than the conversion.
+/// For at least this number of items, 32 MB, the system maps the result's memory anew for each
+/// call. The first write to that memory takes longer than the conversion.
 const UNTOUCHED: usize = 4_194_304;
 
-/// The estimated time of an item in ns, from which on conversion takes more of the time than the
-/// first write does.
+/// If the estimated time of an item is at least this long, in ns, the conversion takes longer than
+/// the first write.
 const DEAR_NS: u64 = 16;
 
-/// The first word of a piece with a fault. No clock has this value: all end before it.
+/// The first word of a piece with a fault. No clock reaches this value.
 const REFUSED: u64 = u64::MAX;
 
-/// Converts each stamp to a clock's time, in ns since 1970 or since opening, by the journal as it
-/// was at the front with the same index. `fronts` and `stamps` have the same length.
+/// Converts stamps to a clock's time, in ns since 1970 or since opening, by the journal as it was
+/// at the front with the same index. `fronts` and `stamps` have the same length.
 ///
-/// The result is that of `Timekeeper::trace`, allocated by `alloc`. The call uses several threads,
-/// at most two for each processor, which have ended when it returns, if they are likely to save
-/// time. For 4,194,304 items or more it may also allocate buffers from the keeper's allocator. It
-/// works without them if that fails.
+/// The result equals the result of `Timekeeper::trace`, allocated by `alloc`. If several threads
+/// are likely to save time, the call uses them, at most two for each processor. They have ended
+/// when it returns. For 4,194,304 items or more it may also allocate buffers from the keeper's
+/// allocator. If that fails, it works without them.
 ///
 /// # Errors
 ///
 /// `TraceError::Memory` if the result can't be allocated. The call reserves the result's capacity
-/// before it converts any item; for an empty list it allocates nothing. Otherwise the error of the
-/// first item of the whole list that has a fault: `TraceError::Unknown`, `Folded`, `Invalid` or
+/// before it converts any item; for an empty list it reserves none. Otherwise the error of the
+/// first item with a fault in the whole list: `TraceError::Unknown`, `Folded`, `Invalid` or
 /// `Range`, tested in this order.
 pub fn trace_all<R: Threads + Sync, A: Allocator + Copy + Send + Sync, B: Allocator>(
     alloc: B,
@@ -78,14 +78,14 @@ pub fn trace_all<R: Threads + Sync, A: Allocator + Copy + Send + Sync, B: Alloca
     trace_ahead::<Brand, R, A, B>(rt, size, input, values)
 }
 
-/// Converts each stamp as `trace_all` does, and writes the values to `out`. All three slices have
-/// the same length. The call allocates nothing for the result.
+/// Converts stamps as `trace_all` does, and writes the values to `out`. All three slices have the
+/// same length.
 ///
 /// # Errors
 ///
-/// The error of the first item of the whole list that has a fault: `TraceError::Unknown`, `Folded`,
-/// `Invalid` or `Range`, tested in this order. The items before it are written then. The contents
-/// of the rest of `out` are unspecified.
+/// Returns the error of the first item with a fault in the whole list: `TraceError::Unknown`,
+/// `Folded`, `Invalid` or `Range`, tested in this order. In this case the items before it are
+/// written, and the contents of the rest of `out` are unspecified.
 pub fn trace_all_into<R: Threads + Sync, A: Allocator + Copy + Sync>(
     rt: &R,
     keeper: &Timekeeper<A>,
@@ -111,7 +111,7 @@ pub fn trace_all_into<R: Threads + Sync, A: Allocator + Copy + Sync>(
     keeper.trace_into(fronts, stamps, clock, out)
 }
 
-/// Does what `trace_all_into` does, in pieces of `size` items, however few items there are.
+/// Converts stamps as `trace_all_into` does, in pieces of `size` items, for any number of items.
 pub(crate) fn trace_in_pieces<R: Threads + Sync, A: Allocator + Copy + Sync>(
     rt: &R,
     size: usize,
@@ -126,7 +126,7 @@ pub(crate) fn trace_in_pieces<R: Threads + Sync, A: Allocator + Copy + Sync>(
     first_fault(size, input, out)
 }
 
-/// Converts all pieces, in parallel. Once a piece has a fault, the later ones are only marked.
+/// Converts all pieces in parallel. After a piece with a fault, it only marks the later ones.
 fn convert_pieces<R: Threads + Sync, A: Allocator + Copy + Sync>(
     rt: &R,
     size: usize,
@@ -150,8 +150,9 @@ fn convert_pieces<R: Threads + Sync, A: Allocator + Copy + Sync>(
     );
 }
 
-/// Converts the piece that begins at `at`, and marks it if one of its items has a fault. `refused`
-/// is where a piece with a fault begins, if one was found: a piece after that one is only marked.
+/// Converts the piece that begins at index `at`, and marks it if one of its items has a fault.
+/// `refused` is the index at which a piece with a fault begins, if one was found: pieces after it
+/// are only marked.
 fn convert_piece<A: Allocator + Copy>(
     input: Input<'_, A>,
     at: usize,
@@ -178,7 +179,7 @@ fn convert_piece<A: Allocator + Copy>(
     piece[0] = REFUSED;
 }
 
-/// Checks the pieces in order, and converts again from the first marked one on.
+/// Checks the pieces in order, and converts again, starting at the first marked one.
 fn first_fault<A: Allocator + Copy>(
     size: usize,
     input: Input<'_, A>,
@@ -203,7 +204,7 @@ fn first_fault<A: Allocator + Copy>(
     Ok(())
 }
 
-/// Converts the items from `at` on. Those before it are converted already.
+/// Converts the items starting at index `at`. The items before it are converted already.
 fn rest<A: Allocator + Copy>(
     input: Input<'_, A>,
     at: usize,
@@ -226,7 +227,7 @@ fn rest<A: Allocator + Copy>(
     }
 }
 
-/// Returns the fault of a part that begins at the item `by`, as a fault of the whole list.
+/// Converts the fault of a part that begins at the item `by` into a fault of the whole list.
 pub(crate) fn moved(error: TraceError, by: usize) -> TraceError
     requires { by + place_of_fault error < 2 ^ 64 }
     ensures { result ≡ further_on error by }

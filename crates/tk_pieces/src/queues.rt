@@ -1,5 +1,5 @@
 //! The two queues between the thread that appends pieces to a result and the thread that converts
-//! them ahead: pieces go one way, and their words come back.
+//! them ahead: pieces go one way, and their buffers come back.
 ghost use Rattle.std.specs.Prelude.{◌≡◌, ◌+◌, ◌<◌, ◌≤◌, length, IfSome};
 ghost use Rattle.tk_pieces.specs.Pieces.{HoldFrom};
 
@@ -8,20 +8,20 @@ use std::alloc::{AllocError, Allocator};
 use std::marker::{Brand, PhantomData};
 use std::thread;
 
-/// The number of items of a piece. Its words stay in the caches until they are appended.
+/// The number of items of a piece. Its values stay in the caches until they are appended.
 pub(crate) const PIECE: usize = 8_192;
 
 /// The number of pieces between the two threads at once.
 const PIECES: usize = 4;
 
-/// How many times the other thread polls for returned words before it ends. That takes some
-/// hundredths of a second.
+/// The number of times that the other thread polls for a returned buffer before it ends. This takes
+/// some hundredths of a second.
 const LOOKS: usize = 100_000;
 
-/// Names the items of a trace. It has no function, and no value of it is made.
+/// Names the items of a trace. It has no function, and no value of this type exists.
 ///
-/// The proof knows of what one thread receives from another only its type. So the type names the
-/// items.
+/// A proof knows only the type of a value that one thread receives from another. So the type names
+/// the items.
 pub(crate) trait NamesTrace {
     ghost use Rattle.std.specs.Prelude.{ℕ};
     ghost use Rattle.tk_pieces.specs.Pieces.{Items};
@@ -51,7 +51,7 @@ pub(crate) struct Piece<N: NamesTrace, A: Allocator> {
     ghost values: { HoldFrom N.item at words.items },
 }
 
-/// The calling thread's ends of the queues: converted pieces come in, and their words go back.
+/// The calling thread's ends of the queues: converted pieces arrive, and their buffers go back.
 #[derive(Drop)]
 pub(crate) struct Intake<N: NamesTrace, A: Allocator> {
     ready: Consumer<Piece<N, A>, A>,
@@ -66,8 +66,8 @@ pub(crate) struct Supply<N: NamesTrace, A: Allocator> {
 }
 
 impl<N: NamesTrace, A: Allocator> Intake<N, A> {
-    /// Returns the piece that begins at `at`, if it is ready. Gives back the words of pieces that
-    /// the calling thread converted itself in the meantime.
+    /// Returns the piece that begins at index `at`, if it is ready. Gives back the buffers of
+    /// pieces that the calling thread converted itself in the meantime.
     pub(crate) fn take(&mut self, at: usize) -> Option<Piece<N, A>>
         ensures { IfSome result (λ piece. piece.at ≡ at) }
     {
@@ -85,15 +85,15 @@ impl<N: NamesTrace, A: Allocator> Intake<N, A> {
         None
     }
 
-    /// Gives a piece's words back. The queue has capacity for the words of all pieces.
+    /// Gives a piece's buffer back. The queue has capacity for the buffers of all pieces.
     pub(crate) fn give_back(&mut self, piece: Piece<N, A>) {
         let _given = self.back.push(piece.words);
     }
 }
 
 impl<N: NamesTrace, A: Allocator> Supply<N, A> {
-    /// Returns words that came back. `None` means that the calling thread has ended, or that no
-    /// words came back within `LOOKS` polls.
+    /// Returns a buffer that came back. `None` means that the calling thread has ended, or that no
+    /// buffer came back within `LOOKS` polls.
     pub(crate) fn words(&mut self) -> Option<Vec<u64, A>> {
         for _ in 0..LOOKS {
             if let Ok(words) = self.back.pop() {
@@ -108,7 +108,7 @@ impl<N: NamesTrace, A: Allocator> Supply<N, A> {
     }
 }
 
-/// Creates both threads' ends of the queues, and allocates the words of all pieces.
+/// Creates both threads' ends of the queues, and allocates the buffers of all pieces.
 pub(crate) fn ends<N: NamesTrace, A: Allocator + Copy>(
     alloc: A,
 ) -> Result<(Supply<N, A>, Intake<N, A>), AllocError> {

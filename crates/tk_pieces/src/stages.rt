@@ -1,5 +1,5 @@
-//! Makes a new list in stages, each of which is many times as long as the one before it. So a fault
-//! near the beginning of the list ends the call before memory for all values is written.
+//! Makes a new list in stages. A stage is many times as long as the one before it, so a fault near
+//! the beginning of the list ends the call before memory for all values is written.
 ghost use Rattle.std.specs.Prelude.{[], ◌≡◌, ◌<◌, ◌≤◌, length, MatchResult, OnOk, IfErr};
 ghost use Rattle.tk_keeper.specs.Trace.{AreValues, IsConverted, IsFault};
 ghost use Rattle.tk_pieces.specs.Input.{of_input};
@@ -14,7 +14,7 @@ use tk_keeper::TraceError;
 /// The length of a stage, compared with the one before it.
 const GROWTH: usize = 16;
 
-/// Does what `trace_all` does, into an empty list. The first stage is one piece.
+/// Converts stamps as `trace_all` does, into an empty list. The first stage is one piece.
 pub(crate) fn convert_in_stages<R: Threads + Sync, A: Allocator + Copy + Sync, B: Allocator>(
     rt: &R,
     size: usize,
@@ -35,7 +35,7 @@ pub(crate) fn convert_in_stages<R: Threads + Sync, A: Allocator + Copy + Sync, B
     Ok(values)
 }
 
-/// Converts the next `most` items, or all that are left, and appends their values.
+/// Converts the next `most` items, or all remaining ones, and appends their values.
 fn convert_stage<R: Threads + Sync, A: Allocator + Copy + Sync, B: Allocator>(
     rt: &R,
     size: usize,

@@ -1,20 +1,20 @@
-//! Provides what calls share whose callers say how many workers there are: the greatest number, and
-//! the hook that workers call before and after each piece of their work.
+//! Provides the common parts of calls with a number of workers: the greatest number, and the hook
+//! that workers call before and after each piece of their work.
 //!
 //! Work that is distributed among threads comes in numbered pieces. The worker calls its `Gate` on
-//! its own thread. So a caller can count the pieces, show progress, or hold a piece back until
+//! the worker's thread. So a caller can count the pieces, show progress, or hold a piece back until
 //! another has begun. Callers that need none of this pass `NoGate`.
 
 /// The greatest number of workers.
 pub const WORKERS_LIMIT: usize = 64;
 
-/// Receives a call before and after each piece of work, on the thread of the worker that does it.
+/// Receives a call before and after each piece of work, on the thread of its worker.
 pub trait Gate {
-    /// Runs before a worker begins the piece with this number, counted from 0. The worker does
-    /// nothing of the piece before this call returns.
+    /// Runs before a worker begins the piece with this number, counted from 0. The worker does no
+    /// part of the piece before this call returns.
     fn before(&self, piece: usize);
 
-    /// Runs after a worker has done the whole piece. It is the worker that began the piece.
+    /// Runs after the same worker has done the whole piece.
     fn after(&self, piece: usize);
 }
 

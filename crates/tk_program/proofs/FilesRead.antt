@@ -5,7 +5,7 @@ use Rattle.std.proofs.lemmas.List.{take_more}
 use Rattle.tk_report.proofs.Outcomes.{all_zip-push}
 
 module _ {A B : Type 0} (R : A → B → Type 0) where
-  -- the first items of a list, and one more of them
+  -- the first items of a list, and one more
   pub all_zip-more : (xs : List A) (count : ℕ) (x : A) (ys zs : List B) (y : B) →
       count < length xs → AllZip R (take count xs) ys → R (get_or xs count x) y →
       zs ≡ ys ++ y ∷ [] →

@@ -13,7 +13,7 @@ use Rattle.tk_command_line.specs.declared.words_error.WordsError.TheVariants as 
 use Rattle.tk_program.specs.declared.ending.Ending.{Ending}
 use Rattle.tk_program.specs.declared.ending.Ending.TheVariants as endings
 
--- its exit status: 0 if all was done, 1 for a fault, 2 for words that are refused
+-- its exit status: 0 if all was done, 1 for a fault, 2 for refused arguments
 abbrev pub status_of : Ending → ℕ
 status_of endings.Done = 0
 status_of endings.Words = 2
@@ -42,7 +42,7 @@ IsErrorLine contents old new endings.Openings =
 IsErrorLine contents old new (endings.Race error) =
     Appends (contents old) (contents new) (codes "tkcore: " ++ error_text error ++ codes "\n")
 
--- the ending that an outcome is
+-- the ending of an outcome
 abbrev pub ending_of : Result Unit Fault → Ending
 ending_of (Ok done) = endings.Done
 ending_of (Err fault) = endings.Fault fault
@@ -57,7 +57,7 @@ ending_of_file index (scripts.Word row) = endings.File index (scripts.Word row)
 ending_of_file index (scripts.Fields row) = endings.File index (scripts.Fields row)
 ending_of_file index (scripts.Number row) = endings.File index (scripts.Number row)
 
--- the ending of words that ask for nothing
+-- the ending of refused arguments
 abbrev pub ending_at : WordsError → Ending
 ending_at errors.Refused = endings.Words
 ending_at errors.Memory = endings.Fault faults.Memory

@@ -11,7 +11,8 @@ use Rattle.tk_report.specs.Reading.{IsReadToEnd, ReadFailed}
 -- and the results of its reads
 module _ {D F : Type 0} (open_gives : D → List ℕ → Option F → Type 0)
     (remaining : F → Option (List ℕ)) (read_gives : F → Option ℕ → F → Type 0) (folder : D) where
-  -- a file of this name was opened, and this was read of it, to its end or as much as is read
+  -- a file of this name was opened, and these bytes were read from it: up to its end or up to the
+  -- most bytes that are ever read
   abbrev pub IsReadFrom : List ℕ → List ℕ → Type 0
   IsReadFrom name text = (file : F) × (file' : F) × open_gives folder name (Some file)
       × IsReadToEnd (remaining file) (remaining file') text

@@ -20,7 +20,7 @@ use Rattle.tk_program.specs.ManyText.{text_from}
 abbrev pub ending_of_outcomes : List (Result (Vec ℕ) ScriptError) → Ending
 ending_of_outcomes outcomes = if list_all is_ok outcomes then endings.Done else endings.Faulty
 
--- of a writer, before and after: its bytes, if they are known, and the results of its calls
+-- the bytes of a writer, if they are known, and the results of its calls, both before and after
 module _ {W : Type 0} (contents : W → Option (List ℕ))
     (write_gives : W → List ℕ → Option ℕ → W → Type 0) (flush_gives : W → Bool → W → Type 0)
     (writer writer' : W) where

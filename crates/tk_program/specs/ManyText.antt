@@ -4,7 +4,7 @@ use Rattle.std.specs.Global.{Vec}
 use Rattle.tk_script.specs.declared.script_error.ScriptError.{ScriptError}
 use Rattle.tk_script.specs.declared.script_error.ScriptError.TheVariants as errors
 
--- what is wrong with one record
+-- the fault of one record
 abbrev pub record_text : ℕ → List ℕ → List ℕ
 record_text row what = codes "record " ++ decimal row ++ codes ": " ++ what
 

@@ -27,16 +27,17 @@ use Rattle.tk_program.specs.Many.{EndsWriting}
 use Rattle.tk_program.specs.Openings.{AreSameOpenings}
 use Rattle.tk_program.specs.RaceText.{race_lines}
 
--- what an actor does for a row: it gives the command, or it looks; the row's reading is not used
+-- the action of an actor for a row: it gives the command, or it reads; the row's reading is not
+-- used
 abbrev pub action_of : Row → Action
 action_of (rows.Act reading cmd) = actions.Order cmd
 action_of (rows.Look reading clock) = actions.Look
 
--- an actor's part
+-- the actions of an actor
 abbrev pub part_of : Script → List Action
 part_of script = map action_of script.rows.items
 
--- clocks can be opened as the script says
+-- clocks can be opened with the script's opening
 abbrev pub IsOpenable : Script → Type 0
 IsOpenable script = opening_refusal script.desc script.reading script.real ≡ None
 
@@ -72,7 +73,7 @@ module _ {D F : Type 0} (open_gives : D → List ℕ → Option F → Type 0)
       × AreScriptsFrom (take place names) scripts
       × StopsScript place (slice_index_or (map (λ name. name.now) names) place []) ending)
 
--- of a writer, before and after: its bytes, if they are known, and the results of its calls
+-- the bytes of a writer, if they are known, and the results of its calls, both before and after
 module _ {W : Type 0} (contents : W → Option (List ℕ))
     (write_gives : W → List ℕ → Option ℕ → W → Type 0) (flush_gives : W → Bool → W → Type 0)
     (writer writer' : W) where
@@ -83,8 +84,8 @@ module _ {W : Type 0} (contents : W → Option (List ℕ))
       ⊎ EndsWriting contents write_gives flush_gives writer writer'
       (race_lines (accepted_count journal) replies) endings.Done ending
 
-  -- `count` parts were raced on clocks that were opened as this script says; or there are too many,
-  -- an allocation failed or a thread was not started, and nothing is written. The opening is always
+  -- `count` parts were raced on clocks with this script's opening; or there are too many, an
+  -- allocation failed or a thread was not started, and nothing is written. The opening is always
   -- valid
   abbrev pub EndsParts : Script → ℕ → List (List Action) → Ending → Type 0
   EndsParts first count parts ending =

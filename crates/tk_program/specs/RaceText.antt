@@ -4,7 +4,7 @@ use Rattle.tk_race.specs.declared.action.RaceReply.{RaceReply}
 use Rattle.tk_race.specs.declared.action.RaceReply.TheVariants.{Refused}
 use Rattle.tk_race.specs.Replies.{done_in}
 
--- how many orders were refused, by these replies
+-- the number of refused orders among these replies
 abbrev pub refused_by : RaceReply → ℕ
 refused_by (Refused refusal) = 1
 refused_by _ = 0

@@ -1,4 +1,4 @@
--- What the program did, by its words.
+-- The effect of the program, by its arguments.
 use Rattle.std.specs.Prelude.{◌≡◌, ◌⊎◌, ℕ, List, Option, Some, None, Bool, Result, map}
 use Rattle.std.specs.Borrow.{Bor}
 use Rattle.clap.specs.Words.{Text}
@@ -23,11 +23,11 @@ use Rattle.tk_program.specs.Race.{EndsRace}
 abbrev pub IsReportKeeping : Option ℕ → List ℕ → List ℕ → Type 0
 IsReportKeeping keep = IsReportBy (rule_of keep)
 
--- of a writer, before and after: its bytes, if they are known, and the results of its calls
+-- the bytes of a writer, if they are known, and the results of its calls, both before and after
 module _ {W : Type 0} (contents : W → Option (List ℕ))
     (write_gives : W → List ℕ → Option ℕ → W → Type 0) (flush_gives : W → Bool → W → Type 0)
     (writer writer' : W) where
-  -- a replay ended so, of a reader in the same way
+  -- a replay ended in this way; the reader is described as the writer
   abbrev pub EndsReplay : {R : Type 0} → (R → Option (List ℕ)) → (R → Option ℕ → R → Type 0) →
       R → R → Option ℕ → Ending → Type 0
   EndsReplay remaining read_gives reader reader' keep ending =
@@ -35,7 +35,7 @@ module _ {W : Type 0} (contents : W → Option (List ℕ))
       × IsReplayed (IsReportKeeping keep) (remaining reader) (remaining reader')
       (ReadFailed read_gives reader') contents write_gives flush_gives writer writer' result
 
-  -- a trace of two open files ended so, which it left as they are then
+  -- a trace of two open files ended in this way and left them in their final state
   abbrev pub EndsTraceOf : {F : Type 0} → (F → Option (List ℕ)) → (F → Option ℕ → F → Type 0) →
       ClockId → F → F → F → F → Ending → Type 0
   EndsTraceOf remaining read_gives clock script script' stamps stamps' ending =
@@ -46,8 +46,8 @@ module _ {W : Type 0} (contents : W → Option (List ℕ))
       (stamps' ≡ stamps) (ReadFailed read_gives stamps'))
       contents write_gives flush_gives writer writer' result
 
-  -- a trace of the files of two names ended so: one of them can't be opened, and nothing is
-  -- written; or both are open, and it ended as a trace of them does
+  -- a trace of the files with two names ended in this way: one of them can't be opened, and nothing
+  -- is written; or both are open, and it ended as a trace of them does
   abbrev pub EndsTrace : {D F : Type 0} → (D → List ℕ → Option F → Type 0) →
       (F → Option (List ℕ)) → (F → Option ℕ → F → Type 0) →
       D → ClockId → List ℕ → List ℕ → Ending → Type 0
@@ -69,7 +69,7 @@ module _ {R W D F : Type 0} (remaining : R → Option (List ℕ)) (read_gives : 
   abbrev pub IsUntouched : Type 0
   IsUntouched = (reader' ≡ reader) × (writer' ≡ writer)
 
-  -- what was asked for ended so; refused words touch nothing
+  -- the request ended in this way; refused arguments touch nothing
   abbrev pub Ends : Option Task → Ending → Type 0
   Ends None ending = (ending ≡ endings.Words) × IsUntouched
   Ends (Some (Replay keep)) ending =
@@ -87,7 +87,8 @@ module _ {R W D F : Type 0} (remaining : R → Option (List ℕ)) (read_gives : 
       × EndsRace contents write_gives flush_gives writer writer'
       open_gives file_remaining file_gives folder names ending)
 
-  -- words ended so: as what they ask for, or an allocation failed before that was known
+  -- the arguments ended in this way: as their request does, or an allocation failed before it was
+  -- known
   abbrev pub IsRun : Option (List Text) → Ending → Type 0
   IsRun words ending =
       ((ending ≡ endings.Fault faults.Memory) × IsUntouched) ⊎ Ends (asked_of words) ending

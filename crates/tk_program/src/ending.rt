@@ -8,16 +8,16 @@ use tk_race::RaceError;
 use tk_report::{Fault, ManyError};
 use tk_script::ScriptError;
 
-/// Says how the program ends. Every variant with status 1 or 2, except `Faulty`, has one line of
+/// Says how the program ends. Every variant with status 1 or 2, except `Faulty`, prints one line of
 /// error.
 #[derive(Clone, Copy, Debug, PartialEq, Eq)]
 pub enum Ending {
     /// All was done: status 0, and no line.
     Done,
-    /// The words were refused: status 2.
+    /// The arguments were refused: status 2.
     Words,
-    /// All was done by `many`, but a script has a fault, which its text contains instead of the
-    /// report: status 1, and no line.
+    /// `many` wrote its output, which contains a script's fault instead of its report: status 1,
+    /// and no line.
     Faulty,
     /// A fault stopped the work, such as a script's fault, or a failed read, write or allocation:
     /// status 1.
@@ -55,7 +55,7 @@ impl Ending {
     ///
     /// # Errors
     ///
-    /// Returns the error of the writer; a part of the line may have been written.
+    /// Returns the writer's error. A part of the line may have been written.
     pub fn tell<W: Write>(self, out: &mut W) -> io::Result<()>
         ensures { OnOk result (IsErrorLine W.Write.contents out.old out.new self) }
     {

@@ -9,17 +9,17 @@ use tk_report::Source;
 /// other impl is for tests.
 ///
 /// The program opens its files through this trait, so that its contract can say which file was read
-/// or could not be opened: it is proved for every relation `open_gives`, and so can name only an
-/// opening that was tried.
+/// or could not be opened. The contract is proved for every relation `open_gives`, so it can name
+/// only an opening that was tried.
 pub trait Folder {
     /// The type of an open file.
     type File: Source + Drop;
 
-    // What opening may do: the folder, the file's name, and the open file, none if it could not be
-    // opened.
+    // The possible results of opening: the folder, the file's name, and the open file, or none if
+    // it could not be opened.
     ghost open_gives: { Self → List ℕ → Option Self.File → Type 0 };
 
-    /// Opens the file of this name for reading. `None` means that it can't be opened.
+    /// Opens the file with this name for reading. `None` means that it can't be opened.
     fn open_once(&self, name: &str) -> Option<Self::File>
         ensures { open_gives self.now name.now result };
 }

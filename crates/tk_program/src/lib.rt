@@ -1,16 +1,16 @@
-//! Runs the program `tkcore`, except for its `main`: does what the words on the command line ask
-//! for, and ends with a status and at most one line of error.
+//! Runs the program `tkcore`, except for its `main`: carries out the command line, and ends with a
+//! status and at most one line of error.
 //!
-//! | Item | What it does |
+//! | Item | Its effect |
 //! |---|---|
-//! | `run_and_tell` | runs the program on the process's words, and returns the exit code |
-//! | `run` | does what given words ask for, from any reader and any folder to any writer |
+//! | `run_and_tell` | runs the program with the process's arguments, and returns the exit code |
+//! | `run` | runs given arguments, from any reader and any folder to any writer |
 //! | `Folder` | opens files by their names: the host's, or a test's |
 //! | `many_text` | joins the reports of many scripts into one text |
 //! | `race_text` | makes the lines of a race |
 //! | `same_opening` | compares the openings of two scripts |
 //! | `Ending` | says how the program ends: its status and its line of error |
-//! | `asked`, `Request`, `WordsError` | parse words into a request; from `tk_command_line` |
+//! | `asked`, `Request`, `WordsError` | parse arguments into a request; from `tk_command_line` |
 //!
 //! Each subcommand has a variant of `Request`. docs/TKCORE.md describes the program.
 #![tactic(auto)]

@@ -1,4 +1,4 @@
-//! Does the subcommand `many`.
+//! Runs the subcommand `many`.
 ghost use Rattle.std.specs.Prelude.{◌≡◌, ◌≤◌, is_ok};
 ghost use Rattle.std.specs.List.{list_all};
 ghost use Rattle.tk_pieces.specs.Workers.{most_workers};
@@ -40,7 +40,7 @@ pub(crate) fn answer<E: Threads + Wait + Sync, D: Folder, W: Sink>(
     }
 }
 
-/// Writes reports and faults. It ends as `Faulty` if a script has a fault.
+/// Writes reports and faults. Returns `Faulty` if a script has a fault.
 fn write_reports<W: Sink>(
     alloc: Global,
     writer: &mut W,

@@ -1,4 +1,4 @@
-//! Does the subcommand `race`.
+//! Runs the subcommand `race`.
 ghost use Rattle.std.specs.Prelude.{◌≡◌, ◌↔◌, length, map, IfOk, IsTrue};
 ghost use Rattle.std.specs.List.{All};
 ghost use Rattle.tk_clock.specs.Journal.{accepted_count};
@@ -19,8 +19,8 @@ use tk_script::{Row, Script};
 
 /// Reads and parses the files, races an actor for each script, and writes the result.
 ///
-/// The clocks are opened as the scripts say, which must be the same for all. The counter moves on
-/// by `step` cycles at each command.
+/// The clocks are opened with the opening of the scripts, which must be the same for all. The
+/// counter advances by `step` cycles at each command.
 pub(crate) fn answer<E: Threads + Wait + Sync, D: Folder, W: Sink>(
     alloc: Global,
     rt: &E,
@@ -51,7 +51,7 @@ pub(crate) fn answer<E: Threads + Wait + Sync, D: Folder, W: Sink>(
     }
 }
 
-/// Races these actors, each of which plays the part of one script, if all openings are the same.
+/// Races these actors, one for each script, if all openings are the same.
 fn race_all<E: Threads + Wait + Sync, W: Sink>(
     alloc: Global,
     rt: &E,
@@ -76,7 +76,7 @@ fn race_all<E: Threads + Wait + Sync, W: Sink>(
     }
 }
 
-/// Races these actors on clocks that are opened as the script says, and writes the result.
+/// Races these actors on clocks with the script's opening, and writes the result.
 fn race_as<E: Threads + Wait + Sync, W: Sink>(
     alloc: Global,
     rt: &E,
@@ -142,7 +142,7 @@ fn actors_of(alloc: Global, scripts: &[Script]) -> Result<Vec<Vec<Action>>, Allo
     Ok(actors)
 }
 
-/// Makes the part of a script: an order for each command, and a look for each read of a clock.
+/// Makes the part of a script: an order for each command, and a read for each read of a clock.
 fn part_in(alloc: Global, rows: &[Row]) -> Result<Vec<Action>, AllocError>
     ensures { IfOk result (λ actions. actions.items ≡ map action_of rows.now) }
 {

@@ -8,13 +8,13 @@ use std::io::Write;
 use tk_report::Fault;
 use tk_script::ScriptError;
 
-/// More bytes than a heading and the line of a fault have.
+/// More bytes than a heading and the line of a fault need.
 const LINES: usize = 100;
 
 /// Joins the reports of scripts into one text: for each script the line `file,INDEX`, from 0, and
 /// then its report, or the line `fault,TEXT` if it has a fault.
 ///
-/// It first allocates the capacity for the whole text.
+/// It first reserves the capacity for the whole text.
 ///
 /// # Errors
 ///
@@ -68,7 +68,7 @@ fn add_outcome<A: Allocator>(
     }
 }
 
-/// Appends a line with a script's fault, in the words that `ScriptError` prints.
+/// Appends a line with a script's fault, in the text that `ScriptError` prints.
 fn add_fault<A: Allocator>(text: &mut Vec<u8, A>, error: ScriptError) -> io::Result<()>
     ensures { OnOk result (text.new.items ≡ text.old.items ++ fault_line error) }
 {

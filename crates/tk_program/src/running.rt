@@ -18,11 +18,13 @@ use std::thread::Threads;
 use tk_command_line::{Request, WordsError, asked};
 use tk_report::{Sink, Source, replay_with};
 
-/// Does what the words ask for, and returns how it ended. The first word is the program's name.
+/// Runs the program with these arguments, and returns how it ended. The first argument is the
+/// program's name.
 ///
-/// `replay` reads from `reader`; the other words open their files in `folder`. All output goes to
-/// `writer`. Reader and writer stay as they were if the words are refused. `many` waits for the
-/// threads that make the reports, and `race` for its actors'. Several threads convert a long trace.
+/// `replay` reads from `reader`; the other subcommands open their files in `folder`. All output
+/// goes to `writer`. Reader and writer stay as they were if the arguments are refused. `many` waits
+/// for the threads that make the reports, and `race` for its actors'. Several threads convert a
+/// long trace.
 pub fn run<E: Threads + Wait + Sync, D: Folder, R: Source, W: Sink>(
     alloc: Global,
     rt: &E,
@@ -43,7 +45,7 @@ pub fn run<E: Threads + Wait + Sync, D: Folder, R: Source, W: Sink>(
     }
 }
 
-/// Does what a request asks for, and returns how it ended.
+/// Carries out a request, and returns how it ended.
 fn answer<E: Threads + Wait + Sync, D: Folder, R: Source, W: Sink>(
     alloc: Global,
     rt: &E,
@@ -75,10 +77,10 @@ fn answer<E: Threads + Wait + Sync, D: Folder, R: Source, W: Sink>(
     }
 }
 
-/// Runs the program: does what the process's words ask for, as `run` does, writes the ending's line
-/// of error to `errors`, and returns the exit code.
+/// Runs the program with the process's arguments, as `run` does. Writes the ending's line of error
+/// to `errors`, and returns the exit code.
 ///
-/// If the line can't be written, it is left out; the exit code stays the same.
+/// A line that can't be written is left out, and doesn't change the exit code.
 pub fn run_and_tell<E, R, W, T>(rt: &E, reader: &mut R, writer: &mut W, errors: &mut T) -> ExitCode
 where
     E: Env + AllocGlobal + Folder + Threads + Wait + Sync,
@@ -110,7 +112,7 @@ fn exit_code<T: Write>(ending: Ending, errors: &mut T) -> ExitCode
     ExitCode::from(ending.status())
 }
 
-/// Returns the process's words.
+/// Returns the process's arguments.
 fn words_of(rt: &(impl Env + AllocGlobal)) -> Result<Vec<String>, WordsError> {
     let words: Vec<String> = env::args(rt)?.collect(rt.alloc())?;
     Ok(words)

@@ -1,4 +1,4 @@
-//! Does the subcommand `trace`.
+//! Runs the subcommand `trace`.
 ghost use Rattle.tk_program.specs.Running.{EndsTrace};
 
 use crate::ending::Ending;
@@ -10,8 +10,8 @@ use tk_report::{Fault, Sink, trace};
 
 /// Converts the stamps of one file by the script in another, and writes the lines.
 ///
-/// It opens both files before it reads either. Both names may be those of one file, which it then
-/// opens twice.
+/// It opens both files before it reads either. Both names may name one file, which it then opens
+/// twice.
 pub(crate) fn answer<E: Threads + Sync, D: Folder, W: Sink>(
     alloc: Global,
     rt: &E,

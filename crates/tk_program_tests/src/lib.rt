@@ -1,5 +1,5 @@
-//! The tests of `tk_program`, by its public calls alone: a crate of their own, so that CI proves
-//! what they test once.
+//! Tests `tk_program` only through its public calls. It is a separate crate, so that CI proves the
+//! code under test once.
 #![tactic(auto)]
 
 #[cfg(test)]

@@ -1,5 +1,5 @@
-//! What no clause says: the texts of the endings, what a text costs, and a writer that is full. The
-//! programs of `tests/program` run the built program on words, files and scripts.
+//! Tests what no clause states: the texts of the endings, the allocations of a text, and a full
+//! writer. The programs of `tests/program` run the built program with arguments, files and scripts.
 
 mod endings;
 mod memory;
@@ -8,8 +8,8 @@ mod writers;
 use std::fmt::Debug;
 use std::process::Abort;
 
-/// Stops the test if what was found isn't what was wanted. (A separate call, so that the proof
-/// of a test is short.)
+/// Stops the test if `found` is not equal to `wanted`. It is a separate call to keep the proof of
+/// each test short.
 fn assert_same<T: PartialEq + Debug>(rt: &impl Abort, found: &T, wanted: &T) {
     assert_eq!(rt; found, wanted);
 }

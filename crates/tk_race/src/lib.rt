@@ -1,17 +1,17 @@
-//! Runs races: actors in their own threads, on one shared keeper.
+//! Runs races: actors in separate threads, on one shared keeper.
 //!
-//! | Item | What it is |
+//! | Item | Its meaning |
 //! |---|---|
-//! | `race` | lets each actor do its actions in its own thread |
-//! | `Action` | what an actor does: it gives a command, or reads the clocks in one of two ways |
-//! | `RaceReply` | the answer to an action |
+//! | `race` | runs the actions of every actor in a separate thread |
+//! | `Action` | a command, a read of the page or of the latch, or a clock's time now |
+//! | `RaceReply` | the result of an action |
 //! | `RaceReport` | the keeper at the end, and all replies |
 //! | `RaceError` | why a race gives no report |
-//! | `Gate`, `NoGate` | are called before and after each actor's actions; from `tk_pieces` |
+//! | `Gate`, `NoGate` | called before and after the actions of an actor; from `tk_pieces` |
 //!
-//! Actors are numbered from 0. That is also the number of their caller and of their piece: a `Gate`
-//! is called when an actor begins and when it is done. Commands, readings and times are those of
-//! `tk_clock`.
+//! `race` allocates before it starts the first thread, and waits until all actors are done. Actors
+//! are numbered from 0. An actor's number is also the number of its caller and of the piece that a
+//! `Gate` gets. Commands, readings and times are the types of `tk_clock`.
 #![tactic(auto)]
 
 mod action;

@@ -1,33 +1,33 @@
 //! Makes reports of scripts, one line for each record, and traces of stamp files, one line for each
-//! stamp; and runs races. It has no code. It re-exports calls and types of the crates below it, so
-//! that a caller can import them by one name.
+//! stamp; and runs races. The crate only re-exports calls and types of the crates below it, so that
+//! a caller can import them by one name.
 //!
-//! | Item | What it does |
+//! | Item | Its meaning |
 //! |---|---|
 //! | `report` | makes the report of a script's bytes |
-//! | `report_bounded` | makes it with no limit on the number of commands, from a bounded journal |
-//! | `report_rows` | makes it from rows that are still to be read, in the caller's memory |
+//! | `report_bounded` | makes the report with no limit on commands, from a bounded journal |
+//! | `report_rows` | makes the report from a reader of rows, in the caller's memory |
 //! | `replay` | reads a script to its end and writes its report |
-//! | `replay_bounded` | does the same with `report_bounded` |
-//! | `replay_with` | does either, by an optional number of entries to keep |
-//! | `KEEP_LIMIT` | is the greatest number of entries to keep |
+//! | `replay_bounded` | reads a script and writes the report of `report_bounded` |
+//! | `replay_with` | does `replay` or `replay_bounded`, by an optional number of entries to keep |
+//! | `KEEP_LIMIT` | the greatest number of entries to keep |
 //! | `trace` | reads a script and a stamp file, and writes a clock's value at each stamp |
 //! | `keeper_of`, `keeper_after` | return the clocks after all accepted commands of a script |
 //! | `convert` | makes the lines of stamps from a keeper's clocks |
 //! | `replay_all` | makes the reports of many scripts on several threads |
-//! | `WORKERS_LIMIT` | is the greatest number of workers |
+//! | `WORKERS_LIMIT` | the greatest number of workers |
 //! | `ManyError` | says why `replay_all` made no reports |
 //! | `read_to_end` | reads a whole input, up to one byte more than the largest script |
 //! | `write_whole` | writes a text and flushes |
 //! | `Fault` | says why `replay` or `trace` stopped, and how much of the text was written |
-//! | `Source`, `Sink` | stand for any reader and any writer |
+//! | `Source`, `Sink` | represent any reader and any writer |
 //! | `trace_all`, `trace_all_into` | convert lists of stamps on several threads; from `tk_pieces` |
-//! | `Gate`, `NoGate` | are called before and after each piece of `replay_all` and `race`; from `tk_pieces` |
+//! | `Gate`, `NoGate` | hooks around the pieces of `replay_all` and `race`; from `tk_pieces` |
 //! | `race`, `RaceReport`, `RaceError` | actors in threads on one keeper; from `tk_race` |
-//! | `Action`, `RaceReply` | what an actor does, and the reply to it; from `tk_race` |
+//! | `Action`, `RaceReply` | an actor's action, and the reply to it; from `tk_race` |
 //!
-//! What has no crate in this table is from `tk_report`. Units: readings in cycles; times in seconds
-//! and nanoseconds; texts and lengths in bytes.
+//! Items without a crate in this table are from `tk_report`. Units: readings in cycles; times in
+//! seconds and nanoseconds; texts and lengths in bytes.
 #![tactic(auto)]
 
 pub use tk_pieces::{Gate, NoGate, trace_all, trace_all_into};

@@ -1,4 +1,4 @@
-//! Tests `tk_script` and `tk_replay` through their public calls alone. It is a separate crate, so
+//! Tests `tk_script` and `tk_replay` only through their public calls. It is a separate crate, so
 //! that CI proves the code under test once.
 #![tactic(auto)]
 

@@ -1,4 +1,4 @@
-//! Tests what no clause says: printed lines, texts of faults, and outside values.
+//! Tests what no clause states: printed lines, texts of faults, and outside values.
 
 mod replay;
 mod script;

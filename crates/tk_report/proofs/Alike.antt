@@ -61,7 +61,7 @@ read_fault-alike journal whole alike clock reading =
     ap (λ s. test s (clock_value journal clock reading)) alike.state
     ∙ ap (test (state_of whole)) (clock_value-alike journal whole alike.state clock reading)
 
--- a reply leaves the journals alike, and its answer and its line are the same
+-- the journals still agree after a reply, and its answer and its line are the same
 pub reply-alike : (journal whole : Journal) → IsAlike journal whole →
     (entry : Entry) (test : Option Refusal) →
     (test ≡ None → clock_refusal journal entry ≡ None) →
@@ -128,7 +128,7 @@ after-alike keep journal whole alike (Act reading cmd) =
     (passes_clock keep journal entry))
 after-alike keep journal whole alike (Look reading clock) = alike
 
--- the journals after a record are alike
+-- the journals still agree after a record
 pub IsAlike-after : (keep : Option ℕ) (journal whole next : Journal) → IsAlike journal whole →
     (row : Row) → IsAlike next (after (counting_rule_of keep) journal row) →
     IsAlike next (after (counting_rule_of keep) whole row)

@@ -1,5 +1,5 @@
--- A journal that lists every command is full once it has accepted as many commands as a
--- journal lists.
+-- A journal that lists every command is full when the number of accepted commands is the most that
+-- a journal lists.
 use Rattle.std.proofs.Common.{◌≡◌, ◌∙◌, ℕ, List, [], ◌∷◌, refl, sym, ap, subst, arith, Bool, true, false}
 use Rattle.std.specs.Prelude.{Option, Some, None, nat_le, length, ◌||◌, if◌then◌else◌}
 use Rattle.std.proofs.lemmas.Grind.{common_steps}

@@ -27,7 +27,7 @@ at_front-last journal =
     ap (λ (es : List Entry). record journal { entries = es })
     (take_all (accepted_count journal - journal.opening.count) journal.entries (omega arith))
 
--- a folded journal is alike to the journal before the fold
+-- a folded journal agrees with the journal before the fold
 pub IsAlike-folded : (before after : Journal) → IsFolded before after → IsAlike after before
 IsAlike-folded before after folded = record {
   state = sym (ap state_of (at_front-last after))
@@ -79,7 +79,7 @@ replied whole kept after entry result alike room answered enough =
           (λ none. none)),
     )
 
--- only an answer other than an allocation failure has to be that of the reply
+-- only an answer other than an allocation failure must be the reply's answer
 by_answer : (reply : Reply) (result : Result ℕ Refusal) (after : Journal) →
     ((result ≡ Err Memory → ⊥) → (reply.answer ≡ result) × IsAlike after reply.journal) →
     IsReplied reply result after
@@ -100,8 +100,8 @@ IsReplied-folded whole kept after entry result alike room answered =
     by_answer (reply_by clock_refusal whole entry) result after.journal
     (replied whole kept after entry result alike room answered)
 
--- while fewer commands were accepted than a journal lists, the journal is not full, and the count
--- alone refuses nothing
+-- while fewer commands were accepted than a journal lists, the journal isn't full, and the count
+-- doesn't refuse a command
 counted_room : (journal : Journal) → accepted_count journal < listed_most →
     is_full journal ≡ false
 counted_room journal few = grind (arith, common_steps)

@@ -1,4 +1,4 @@
--- The journal that rows leave, taken row by row.
+-- The journal after rows, row by row.
 use Rattle.std.proofs.Common.{◌≡◌, List, refl, ap}
 use Rattle.std.specs.Prelude.{Result, Ok, Err}
 use Rattle.tk_clock.specs.Journal.{Journal, opened}
@@ -12,14 +12,14 @@ use Rattle.tk_script.specs.Grammar.{Fails, Parse}
 use Rattle.tk_report.specs.Report.{after}
 use Rattle.tk_report.specs.Trace.{journal_after, journal_of}
 
--- one row is applied, and the rows after it are left
+-- one row is applied, and the rows after it remain
 pub journal_after-row : (journal : Journal) (row : Row) (later : Result (List Row) ScriptError) →
     journal_after journal (row_and row later)
     ≡ journal_after (after first_refusal journal row) later
 journal_after-row journal row (Ok rows) = refl
 journal_after-row journal row (Err fault) = refl
 
--- the journal of an opened script is that of its rows
+-- the journal of an opened script is the journal of its rows
 pub journal_of-opened : (start : Start) (rows : Result (List Row) ScriptError) →
     journal_of (opened_with start rows)
     ≡ journal_after (opened start.desc start.reading start.real) rows

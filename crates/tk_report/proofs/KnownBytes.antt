@@ -13,7 +13,7 @@ appends-more old mid new text written count before piece =
     rw (take-add written count text)
     (Appends-trans old mid new (take written text) (take count (drop written text)) before piece)
 
--- one more piece of an input was read into a buffer whose front did not change
+-- one more piece of an input was read into a buffer whose first bytes did not change
 pub consumes-next : (old mid new : Option (List ℕ)) (before room rest : List ℕ)
     (filled count len : ℕ) →
     length room ≡ len → take filled room ≡ take filled before →

@@ -25,7 +25,7 @@ use Rattle.tk_clock.proofs.Alike.{IsAlike-self, clock_value-alike}
 use Rattle.tk_report.proofs.Alike.{IsAlike-after, IsLine-alike}
 use Rattle.tk_report.proofs.Counted.{IsReportOf-counted}
 
--- the line of an accepted command has the time that the kept journal gives
+-- the line of an accepted command contains the time of the kept journal
 pub reply_line-accepted : (reply : Reply) (kept : Journal) (reading number : ℕ)
     (time : Timespec) →
     IsReplied reply (Ok number) kept → IsTimeAt kept Monotonic reading time →
@@ -43,8 +43,8 @@ reply_line-accepted reply kept reading number time replied (nanos, value, split)
 abbrev pub Rows : Type 0
 Rows = Result (List Row) ScriptError
 
--- a text which becomes the report of all rows when the lines of the rows to come are appended; a
--- fault of the rows to come is the fault of all rows
+-- a text which becomes the report of all rows when the lines of the remaining rows are appended; a
+-- fault of the remaining rows is the fault of all rows
 pub record IsBegun (rule : Rule) (start : Start) (all : Rows) (journal : Journal) (to_come : Rows)
     (text : List ℕ) : Type 0 where
   pub gives : (rows : List Row) (rest : List ℕ) → to_come ≡ Ok rows →
@@ -73,7 +73,7 @@ IsBegun-next rule start all journal row to_come later text line begun step isLin
   fails = λ fault e. begun.fails fault (step ∙ ap (row_and row) e);
 }
 
--- no row is to come
+-- no row remains
 IsBegun-end : (rule : Rule) (start : Start) (all : Rows) (journal : Journal) (to_come : Rows)
     (text : List ℕ) →
     IsBegun rule start all journal to_come text → to_come ≡ Ok [] →
@@ -82,7 +82,7 @@ IsBegun-end rule start all journal to_come text begun none =
     let R : List ℕ → Type 0 = λ whole. IsReportOfRows rule start all whole in
     subst R (append-nil text) (begun.gives [] [] none refl)
 
--- the same for a kept journal that is alike to one which lists every command
+-- the same for a kept journal that agrees with one which lists every command
 pub record IsBegunBy (keep : Option ℕ) (start : Start) (all : Rows) (kept : Journal)
     (to_come : Rows) (text : List ℕ) :
     Type 0 where
@@ -90,7 +90,7 @@ pub record IsBegunBy (keep : Option ℕ) (start : Start) (all : Rows) (kept : Jo
   pub alike : IsAlike kept whole
   pub begun : IsBegun (counting_rule_of keep) start all whole to_come text
 
--- after the opening's line, all rows are to come
+-- after the opening's line, all rows remain
 pub IsBegunBy-start : (keep : Option ℕ) (start : Start) (all : Rows) →
     IsBegunBy keep start all (opened start.desc start.reading start.real) all (open_line start.desc)
 IsBegunBy-start keep start all = record {
@@ -125,7 +125,7 @@ pub IsBegunBy-end : (keep : Option ℕ) (start : Start) (all : Rows) (kept : Jou
 IsBegunBy-end keep start all kept to_come text begun none =
     IsBegun-end (counting_rule_of keep) start all begun.whole to_come text begun.begun none
 
--- if `to` has every fault of `from`, it also allows every error that `from` allows
+-- if every fault of `from` is a fault of `to`, `to` also allows every error that `from` allows
 pub Fails-from : (from to : Rows) (fault : ScriptError) →
     ((error : ScriptError) → from ≡ Err error → to ≡ Err error) →
     Fails fault from → Fails fault to
@@ -155,8 +155,8 @@ fails-opened bytes start all (errors.Word row) opens fails = opens ∙ ap (opene
 fails-opened bytes start all (errors.Fields row) opens fails = opens ∙ ap (opened_with start) fails
 fails-opened bytes start all (errors.Number row) opens fails = opens ∙ ap (opened_with start) fails
 
--- the report of the rows, or their fault, is that of the bytes which contain the opening and the
--- rows
+-- the report of the rows, or their fault, is the report or the fault of the bytes that contain the
+-- opening and the rows
 pub report-opened : {A : Type 0} (keep : Option ℕ) (bytes : List ℕ) (start : Start) (all : Rows)
     (text_of : A → List ℕ)
     (result : Result A ScriptError) → parse_of bytes ≡ opened_with start all →

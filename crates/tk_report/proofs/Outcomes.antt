@@ -16,7 +16,7 @@ module _ {A B : Type 0} (R : A → B → Type 0) where
   all_zip-length (x ∷ xs) [] all = absurd all
   all_zip-length (x ∷ xs) (y ∷ ys) all = ap suc (all_zip-length xs ys all.1)
 
-  -- the item at a place is replaced by one that is related to its partner too
+  -- the item at a place is replaced by another one that is also related to its partner
   all_zip-set : (xs : List A) (ys : List B) (place : ℕ) (x : A) (y : B) → AllZip R xs ys →
       x ≡ get_or xs place x → R x y →
       AllZip R xs (set ys place y)

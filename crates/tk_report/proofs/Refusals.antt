@@ -68,7 +68,7 @@ answered_after keep journal kept entry number None accepted answered alike =
     ∙ read_fault-accepted journal entry (passes_clock keep journal entry accepted)
 answered_after keep journal kept entry number (Some refusal) refused answered alike = cc answered
 
--- the journal that is kept therefore gives the time for the line of an accepted command
+-- so the kept journal gives the time for the line of an accepted command
 pub read_fault-replied : (keep : Option ℕ) (journal kept : Journal) (entry : Entry) (number : ℕ) →
     IsReplied (reply_by (counting_rule_of keep) journal entry) (Ok number) kept →
     read_fault kept Monotonic entry.reading ≡ None

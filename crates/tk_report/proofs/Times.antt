@@ -17,7 +17,7 @@ use Rattle.tk_keeper.specs.Read.{IsRead, IsTimeOf, read_fault}
 use Rattle.tk_script.specs.Lines.{IsWritable}
 use Rattle.tk_report.specs.Report.{IsTimeAt}
 
--- splitting nanoseconds gives back the seconds and nanoseconds that they were made of
+-- splitting nanoseconds returns the seconds and nanoseconds from which they were made
 timespec_of-parts : (sec nsec : ℕ) → nsec < 10 ^ 9 →
     timespec_of (sec * 10 ^ 9 + nsec) ≡ record { sec = pos sec; nsec = nsec }
 timespec_of-parts sec nsec low =
@@ -35,7 +35,7 @@ is_time_at journal clock reading (pos sec) nsec same low start =
     (sec * 10 ^ 9 + nsec, sym same ∙ sum, sym (timespec_of-parts sec nsec low))
 is_time_at journal clock reading (negsuc less) nsec same low start = absurd (omega (arith, ints))
 
--- a time with as many nanoseconds as the clock's value is the clock's time
+-- a time with the same nanoseconds as the clock's value is the clock's time
 pub IsTimeAt-nanoseconds : (journal : Journal) (clock : ClockId) (reading : ℕ) (time : Timespec) →
     nanoseconds time ≡ clock_value journal clock reading → time.nsec < 10 ^ 9 → pos 0 ≤ℤ time.sec →
     IsTimeAt journal clock reading time

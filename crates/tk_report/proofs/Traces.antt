@@ -15,7 +15,7 @@ use Rattle.tk_report.specs.Reading.{IsReadToEnd}
 use Rattle.tk_report.specs.Replay.{IsStopped}
 use Rattle.tk_report.specs.Trace.{AreReadToEnd, IsItemsFault, IsItemsText, IsTrace, IsTraceFault, journal_of}
 
--- a script that has a journal has no fault
+-- a script with a journal has no fault
 parsed : (read : Result Parse ScriptError) (journal : Journal) → journal_of read ≡ Ok journal →
     IsOk read
 parsed (Ok parse) journal known = refl

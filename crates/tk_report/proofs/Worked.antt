@@ -1,4 +1,4 @@
--- A worked trace, computed over the definitions alone: two settings of the frequency, a refused
+-- A worked trace, computed from the definitions only: two settings of the frequency, a refused
 -- command and a read of a clock between them, and stamps before, between and after.
 use Rattle.std.proofs.Common.{◌≡◌, ℕ, List, [], ◌∷◌, codes, get_or, refl, arith, below_more}
 use borrow.Author.Count.{below_none}
@@ -18,7 +18,7 @@ use Rattle.tk_script.specs.Stamps.{Items, items_of}
 use Rattle.tk_report.specs.Report.{event}
 use Rattle.tk_report.specs.Trace.{IsItemsFault, IsItemsText, journal_of}
 
--- one nanosecond per cycle, readings of 32 bits
+-- one nanosecond per cycle, 32-bit readings
 abbrev nanosecond_counter : Counter
 nanosecond_counter = record { bits = 32; mult = 16777216; shift = 24 }
 

@@ -1,4 +1,4 @@
--- The text of each fault, and the fault that an error of a script, a stamp file or an item becomes.
+-- The texts of faults, and the faults for the errors of a script, a stamp file or an item.
 use Rattle.std.specs.Prelude.{ℕ, List, Option, Some, None, codes}
 use Rattle.tk_script.specs.declared.script_error.ScriptError.{ScriptError}
 use Rattle.tk_script.specs.declared.script_error.ScriptError.TheVariants as errors
@@ -17,20 +17,20 @@ fault_text (faults.Trace error) = trace_text error
 fault_text faults.Memory = Some (codes "out of memory")
 fault_text (faults.Write written) = Some (codes "cannot write")
 
--- the fault with this error of a text; an allocation failure is a separate fault
+-- the fault for an error of a text; an allocation failure is a separate fault
 abbrev pub fault_with : (ScriptError → Fault) → ScriptError → Fault
 fault_with of_text errors.Memory = faults.Memory
 fault_with of_text error = of_text error
 
--- the fault that an error of a script becomes
+-- the fault for an error of a script
 abbrev pub fault_of : ScriptError → Fault
 fault_of error = fault_with faults.Script error
 
--- the fault that an error of a stamp file becomes
+-- the fault for an error of a stamp file
 abbrev pub fault_of_stamps : ScriptError → Fault
 fault_of_stamps error = fault_with faults.Stamps error
 
--- the fault that an error of an item becomes; an allocation failure is a separate fault
+-- the fault for an error of an item; an allocation failure is a separate fault
 abbrev pub fault_of_trace : TraceError → Fault
 fault_of_trace items.Memory = faults.Memory
 fault_of_trace (items.Unknown index) = faults.Trace (items.Unknown index)

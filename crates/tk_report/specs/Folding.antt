@@ -27,7 +27,7 @@ abbrev pub counting_rule_of : Option ℕ → Rule
 counting_rule_of None = counted_refusal
 counting_rule_of (Some keep) = clock_refusal
 
--- an event got the answer of the reply and left a journal that is alike to the reply's, or an
+-- an event got the answer of the reply and left a journal that agrees with the reply's, or an
 -- allocation failed
 abbrev pub IsReplied : Reply → Result ℕ Refusal → Journal → Type 0
 IsReplied reply (Err Memory) journal = Unit {0}

@@ -21,7 +21,7 @@ IsOutcome script (Err error) = Fails error (parse_of script.items)
 abbrev pub AreOutcomes : List (Vec ℕ) → List (Result (Vec ℕ) ScriptError) → Type 0
 AreOutcomes scripts outcomes = AllZip IsOutcome scripts outcomes
 
--- the state that the workers share: the number of scripts that were taken, and an outcome for each
+-- the shared state of the workers: the number of scripts that were taken, and an outcome for each
 -- script
 pub record Shared : Type 0 where
   pub taken : ℕ

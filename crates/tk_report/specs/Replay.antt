@@ -54,7 +54,8 @@ abbrev pub IsTextOfAll :
 IsTextOfAll IsTextOf unread left text =
     (bytes : List ℕ) × IsReadToEnd unread left bytes × IsTextOf bytes text
 
--- the fault of a script, in all bytes that were read from it; an allocation failure is none
+-- the fault of a script, in all bytes that were read from it; an allocation failure isn't such a
+-- fault
 abbrev pub IsScriptFault : Option (List ℕ) → Option (List ℕ) → Fault → Type 0
 IsScriptFault unread left (faults.Script error) =
     (bytes : List ℕ) × IsReadToEnd unread left bytes
@@ -65,9 +66,9 @@ IsScriptFault unread left (faults.Trace error) = ⊥
 IsScriptFault unread left faults.Memory = ⊥
 IsScriptFault unread left (faults.Write written) = ⊥
 
--- the result of a replay, by the relation `IsTextOf` between the bytes of a script and their report:
--- `unread` and `left` are the bytes that the reader had before and has after, and `read` states
--- that its last read failed
+-- the result of a replay, by the relation `IsTextOf` between the bytes of a script and their
+-- report: `unread` and `left` are the remaining bytes of the reader before and after, and `read`
+-- states that its last read failed
 pub record IsReplayed
     {W : Type 0} (IsTextOf : List ℕ → List ℕ → Type 0) (unread left : Option (List ℕ)) (read : Type 0)
     (contents : W → Option (List ℕ)) (write_gives : W → List ℕ → Option ℕ → W → Type 0)

@@ -25,7 +25,7 @@ use Rattle.tk_script.specs.Lines.{open_line, ok_line, no_line, IsAtLine}
 abbrev pub event : ℕ → Command → Entry
 event reading cmd = record { who = 0; reading = reading; cmd = cmd }
 
--- the reason why an event is refused after a journal, if it is
+-- the reason why an event is refused after a journal, or `None` if it is accepted
 abbrev pub Rule : Type 0
 Rule = Journal → Entry → Option Refusal
 
@@ -67,7 +67,7 @@ abbrev pub after : Rule → Journal → Row → Journal
 after rule journal (Act reading cmd) = (reply_by rule journal (event reading cmd)).journal
 after rule journal (Look reading clock) = journal
 
--- the lines of records, each from the journal that the records before it left
+-- the lines of records, each one from the journal after the records before it
 abbrev pub IsLines : Rule → Journal → List Row → List ℕ → Type 0
 IsLines rule journal [] text = text ≡ []
 IsLines rule journal (row ∷ rows) text =

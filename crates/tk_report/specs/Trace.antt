@@ -1,5 +1,5 @@
--- A trace: the journal that a script leaves, the items of a stamp file, and a line for the value of
--- each item; and the result of reading both inputs, converting the items and writing the lines.
+-- A trace: the journal after a script, the items of a stamp file, and a line for the value of each
+-- item; and the result of reading both inputs, converting the items and writing the lines.
 use Rattle.std.specs.Prelude.{◌≡◌, ◌≢◌, ℕ, List, [], ◌∷◌, ◌++◌, flat_map, codes, decimal, Option, Bool, Result, Ok, Err, IsOk, ◌⊎◌}
 use Rattle.tk_clock.specs.declared.clock_id.ClockId.{ClockId}
 use Rattle.tk_clock.specs.Journal.{Journal, opened}
@@ -17,7 +17,7 @@ use Rattle.tk_report.specs.Reading.{IsReadToEnd, IsReadWithin}
 use Rattle.tk_report.specs.Replay.{CameTo}
 use Rattle.tk_report.specs.Report.{after}
 
--- the journal after all rows, each applied to the journal that the rows before it left
+-- the journal after all rows, each one applied to the journal after the rows before it
 abbrev pub after_all : Journal → List Row → Journal
 after_all journal [] = journal
 after_all journal (row ∷ rows) = after_all (after first_refusal journal row) rows
@@ -27,7 +27,7 @@ abbrev pub journal_after : Journal → Result (List Row) ScriptError → Result 
 journal_after journal (Ok rows) = Ok (after_all journal rows)
 journal_after journal (Err error) = Err error
 
--- the journal that a script leaves, or its fault: each accepted command becomes an entry, and a
+-- the journal after a script, or the script's fault: every accepted command becomes an entry, and a
 -- full journal refuses every command
 abbrev pub journal_of : Result Parse ScriptError → Result Journal ScriptError
 journal_of (Ok parse) =
@@ -44,7 +44,7 @@ IsItemsText clock journal items text =
     (values : List ℕ) × IsConverted journal clock items.fronts items.stamps values
     × (text ≡ flat_map value_line values)
 
--- the fault of items: that of the first item which has one
+-- the fault of items: the fault of the first item with a fault
 abbrev pub IsItemsFault : ClockId → Journal → Items → TraceError → Type 0
 IsItemsFault clock journal items error =
     (index : ℕ) × IsFirstFault journal clock items.fronts items.stamps index error
@@ -61,7 +61,7 @@ abbrev pub IsTrace : ClockId → List ℕ → List ℕ → List ℕ → Type 0
 IsTrace clock script stamps text =
     AreRead script stamps (λ journal items. IsItemsText clock journal items text)
 
--- the fault of such bytes, in this order: the script's, that of the stamp file, that of the items
+-- the fault of such bytes: the script's, then the stamp file's, then the items'
 abbrev pub IsTraceFault : ClockId → List ℕ → List ℕ → Fault → Type 0
 IsTraceFault clock script stamps (faults.Script error) =
     (parse_of script ≡ Err error) × (error ≢ errors.Memory)
@@ -73,7 +73,7 @@ IsTraceFault clock script stamps faults.Read = ⊥
 IsTraceFault clock script stamps faults.Memory = ⊥
 IsTraceFault clock script stamps (faults.Write written) = ⊥
 
--- the bytes that were read from one input and then from another, each to its end or to the reading
+-- the bytes that were read from one input and then from another, both to the end or to the reading
 -- limit, and a fact about both
 abbrev pub AreReadToEnd : (unread left later_unread later_left : Option (List ℕ)) →
     (List ℕ → List ℕ → Type 0) → Type 0
@@ -82,15 +82,16 @@ AreReadToEnd unread left later_unread later_left Holds =
     × IsReadToEnd unread left first × IsReadToEnd later_unread later_left later
     × Holds first later
 
--- the last read of two inputs failed: that of the first input, and the other input is unchanged; or
--- that of the other input, after the first one was read to its end or to the reading limit
+-- the last read of two inputs failed: either a read of the first input, and the other input is
+-- unchanged; or a read of the other input, after the first one was read to its end or to the
+-- reading limit
 abbrev pub EitherFailed : Option (List ℕ) → Option (List ℕ) → Type 0 → Type 0 → Type 0 → Type 0
 EitherFailed unread left failed same later_failed =
     (failed × same) ⊎ (((bytes : List ℕ) × IsReadToEnd unread left bytes) × later_failed)
 
--- the result of a trace: `unread` and `left` are the bytes that the script's reader had before and
--- has after, `stamps_unread` and `stamps_left` those of the stamps' reader, and `read` states that
--- the last read of them failed
+-- the result of a trace: `unread` and `left` are the remaining bytes of the script's reader before
+-- and after, `stamps_unread` and `stamps_left` the remaining bytes of the stamps' reader, and
+-- `read` states that the last read of them failed
 pub record IsTraceDone
     {W : Type 0} (clock : ClockId)
     (unread left stamps_unread stamps_left : Option (List ℕ)) (read : Type 0)

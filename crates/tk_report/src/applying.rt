@@ -12,11 +12,11 @@ use std::alloc::Allocator;
 use tk_clock::{Command, Refusal};
 use tk_keeper::{LISTED_LIMIT, Timekeeper};
 
-/// The caller that a script's commands are recorded with.
+/// The caller number of all commands of a script.
 pub(crate) const CALLER: u32 = 0;
 
-/// The number of commands after which a report folds its own journal, which no line shows: small,
-/// so that the journal takes little memory.
+/// The number of commands after which a report folds its own journal. It is small, so that the
+/// journal takes little memory. No line shows the fold.
 const FOLDED_AFTER: usize = 1_024;
 
 /// Applies a command to the clocks and returns its number, or the first test that it fails.
@@ -44,7 +44,7 @@ pub(crate) fn apply<A: Allocator + Copy>(
     }
 }
 
-/// Applies a command to clocks of whose journal only the count matters. The journal is folded
+/// Applies a command to clocks when only the count of their journal matters. The journal is folded
 /// every 1,024 commands, so that it takes little memory.
 fn apply_counting<A: Allocator + Copy>(
     keeper: &mut Timekeeper<A>,

@@ -1,4 +1,4 @@
-//! Makes the text of a trace: one line for each stamp, with the clock's value there.
+//! Makes the text of a trace: one line for each stamp, with the clock's value at it.
 ghost use Rattle.std.specs.Prelude.{◌≡◌, ◌⊎◌, flat_map, length, IfOk, MatchResult};
 ghost use Rattle.tk_keeper.specs.declared.trace_error.TraceError.{TraceError};
 ghost use Rattle.tk_report.specs.Fault.{fault_of_stamps};
@@ -17,9 +17,9 @@ use tk_keeper::Timekeeper;
 use tk_pieces::trace_all;
 use tk_script::Stamps;
 
-/// Makes the trace of a script's bytes and a stamp file's: one line for each stamp, or the first
-/// fault of the script, then of the stamp file, then of its items. `Memory` may replace any other
-/// result.
+/// Makes the trace from the bytes of a script and of a stamp file: one line for each stamp.
+/// Otherwise it returns the first fault of the script, then of the stamp file, then of its items.
+/// `Memory` may replace any other result.
 pub(crate) fn trace_of<E: Threads + Sync>(
     alloc: Global,
     rt: &E,
@@ -50,16 +50,16 @@ fn items_of(alloc: Global, stamps: &[u8]) -> Result<Stamps, Fault>
     }
 }
 
-/// Makes the lines of a trace: for each item, the value of `clock` at its stamp in the keeper's
-/// journal at its front, in ns.
+/// Makes the lines of a trace: for an item, the value of `clock` in ns, at the item's stamp, in the
+/// keeper's journal at the item's front.
 ///
-/// The two lists of `items` must have the same length, as `Stamps::from_bytes` gives them. The text
-/// is allocated from `alloc`. If that is likely to save time, several threads convert the items; if
-/// no thread can be started, the calling thread converts them all.
+/// The two lists of `items` must have the same length, as in the result of `Stamps::from_bytes`.
+/// The text is allocated from `alloc`. Several threads convert the items if that is likely to save
+/// time. If no thread can be started, the calling thread converts them all.
 ///
 /// # Errors
 ///
-/// - `Fault::Trace`: the first item in the list that has a fault, with that fault
+/// - `Fault::Trace`: the first item with a fault in the list, and its fault
 /// - `Fault::Memory`: an allocation failed; it may replace any other result
 pub fn convert<E: Threads + Sync, A: Allocator + Copy + Send + Sync, B: Allocator + Copy>(
     alloc: B,
@@ -79,8 +79,8 @@ pub fn convert<E: Threads + Sync, A: Allocator + Copy + Send + Sync, B: Allocato
     Ok(lines_of(alloc, values.as_slice())?)
 }
 
-/// Makes one line for each value. It first reserves the whole text, by the digits of the greatest
-/// value.
+/// Makes one line for each value. It first reserves the capacity for the whole text, by the digits
+/// of the greatest value.
 fn lines_of<B: Allocator>(alloc: B, values: &[u64]) -> Result<Vec<u8, B>, AllocError>
     ensures { IfOk result (λ text. text.items ≡ flat_map value_line values.now) }
 {

@@ -1,4 +1,4 @@
-//! Makes the clocks that the commands of a script leave.
+//! Makes the clocks after the commands of a script.
 ghost use Rattle.std.specs.Prelude.{◌≡◌, ◌<◌, IfErr, None, OnOk};
 ghost use Rattle.tk_clock.specs.Journal.{accepted_count, opened};
 ghost use Rattle.tk_clock.specs.Limits.{counted_most};
@@ -14,9 +14,9 @@ use tk_clock::Refusal;
 use tk_keeper::Timekeeper;
 use tk_script::{Row, RowReader, ScriptError, Start};
 
-/// Opens clocks as a script says, applies its commands, and returns them with their journal.
+/// Opens clocks with a script's opening, applies its commands, and returns them with their journal.
 ///
-/// Refused commands and reads of clocks are skipped. Nothing is folded, so every command after
+/// It skips refused commands and reads of clocks. It folds nothing, so every command after
 /// 1,048,576 accepted ones is refused as `Full`.
 ///
 /// # Errors
@@ -30,12 +30,11 @@ pub fn keeper_of(alloc: Global, script: &[u8]) -> Result<Timekeeper, ScriptError
     keeper_after(alloc, start, &mut rows)
 }
 
-/// Opens clocks as `start` says, applies the commands that `rows` still has, and returns the
-/// clocks.
+/// Opens clocks with `start`, applies the remaining commands of `rows`, and returns the clocks.
 ///
-/// `start` and `rows` are those that one `RowReader::open` returned. The journal is allocated from
-/// `alloc`; the reader of the rows allocates from its own allocator. Otherwise it does what
-/// `keeper_of` does.
+/// One call of `RowReader::open` must have returned `start` and `rows`. The journal is allocated
+/// from `alloc`; the reader of the rows allocates from its own allocator. In all else it acts as
+/// `keeper_of`.
 ///
 /// # Errors
 ///

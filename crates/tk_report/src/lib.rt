@@ -1,25 +1,25 @@
 //! Makes reports of scripts, one line for each record, and traces of stamp files, one line for each
 //! stamp.
 //!
-//! | Item | What it does |
+//! | Item | Its meaning |
 //! |---|---|
 //! | `report` | makes the report of a script's bytes |
-//! | `report_bounded` | makes it with no limit on the number of commands, from a bounded journal |
-//! | `report_rows` | makes it from rows that are still to be read, in the caller's memory |
+//! | `report_bounded` | makes the report with no limit on commands, from a bounded journal |
+//! | `report_rows` | makes the report from a reader of rows, in the caller's memory |
 //! | `replay` | reads a script to its end and writes its report |
-//! | `replay_bounded` | does the same with `report_bounded` |
-//! | `replay_with` | does either, by an optional number of entries to keep |
-//! | `KEEP_LIMIT` | is the greatest number of entries to keep; from `tk_keeper` |
+//! | `replay_bounded` | reads a script and writes the report of `report_bounded` |
+//! | `replay_with` | does `replay` or `replay_bounded`, by an optional number of entries to keep |
+//! | `KEEP_LIMIT` | the greatest number of entries to keep; from `tk_keeper` |
 //! | `trace` | reads a script and a stamp file, and writes a clock's value at each stamp |
 //! | `keeper_of`, `keeper_after` | return the clocks after all accepted commands of a script |
 //! | `convert` | makes the lines of stamps from a keeper's clocks |
 //! | `replay_all` | makes the reports of many scripts on several threads |
-//! | `WORKERS_LIMIT` | is the greatest number of workers; from `tk_pieces` |
+//! | `WORKERS_LIMIT` | the greatest number of workers; from `tk_pieces` |
 //! | `ManyError` | says why `replay_all` made no reports |
 //! | `read_to_end` | reads a whole input, up to one byte more than the largest script |
 //! | `write_whole` | writes a text and flushes |
 //! | `Fault` | says why `replay` or `trace` stopped, and how much of the text was written |
-//! | `Source`, `Sink` | stand for any reader and any writer |
+//! | `Source`, `Sink` | represent any reader and any writer |
 //!
 //! Units: readings in cycles; times in seconds and nanoseconds; texts and lengths in bytes.
 #![tactic(auto)]

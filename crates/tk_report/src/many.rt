@@ -14,21 +14,21 @@ use std::thread::{Scope, Threads};
 use tk_pieces::{Gate, WORKERS_LIMIT};
 use tk_script::ScriptError;
 
-/// Makes the report of each script, as `report` does, on at most `workers` threads, and returns the
-/// results in the scripts' order.
+/// Makes the reports of all scripts, as `report` does, on at most `workers` threads, and returns
+/// the results in the scripts' order.
 ///
-/// It starts one thread for each worker, but no more than there are scripts. Each worker takes the
-/// next script that no worker has taken, until none is left, so a long script delays its own worker
-/// alone. The worker calls `gate.before` with the script's index, from 0, before it makes the
-/// report, and `gate.after` afterwards. The call waits for its threads.
+/// It starts one thread for each worker, but no more than there are scripts. A worker repeatedly
+/// takes the next free script, until none remains, so a long script delays only its own worker. The
+/// worker calls `gate.before` with the script's index, from 0, before it makes the report, and
+/// `gate.after` afterwards. The call waits for its threads.
 ///
 /// # Errors
 ///
-/// In this order:
+/// Returns the first of these:
 /// - `Count`: `workers` is 0 or more than 64
 /// - `Memory`: the list of results could not be allocated; no thread was started
 /// - `Threads`: a thread could not be started; the others take no further script, and have ended
-///   when this returns
+///   when the call returns
 pub fn replay_all<G: Gate + Sync, R: Threads + Wait + Sync>(
     alloc: Global,
     rt: &R,
@@ -45,7 +45,7 @@ pub fn replay_all<G: Gate + Sync, R: Threads + Wait + Sync>(
     replay_shared::<Brand, G, R>(alloc, rt, scripts, workers, gate)
 }
 
-/// Does the same for the scripts that the type `S` names.
+/// Makes the reports of the scripts that the type `S` names.
 fn replay_shared<S: NamesScripts + Send + Sync, G: Gate + Sync, R: Threads + Wait + Sync>(
     alloc: Global,
     rt: &R,
@@ -112,7 +112,7 @@ fn start_all<'s, 'e, S: NamesScripts + Send + Sync + 'e, G: Gate + Sync, R: Thre
     true
 }
 
-/// Takes scripts and makes their reports until none is left.
+/// Takes scripts and makes their reports until none remains.
 fn work<S: NamesScripts, G: Gate, R: Wait>(
     alloc: Global,
     rt: &R,

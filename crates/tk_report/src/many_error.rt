@@ -4,7 +4,7 @@ ghost use Rattle.tk_report.specs.ManyError.{many_text};
 use std::error::Error;
 use std::fmt;
 
-/// Says why `replay_all` made no reports. If more than one cause holds, the first of this list is
+/// Says why `replay_all` made no reports. If several causes apply, the first one in this list is
 /// returned. `Display` prints the program's text.
 #[derive(Clone, Copy, Debug, PartialEq, Eq)]
 pub enum ManyError {

@@ -14,12 +14,12 @@ use std::alloc::Global;
 
 /// Reads a script to its end, makes its report as `report` does, writes it and flushes.
 ///
-/// It reads at most 16,777,217 bytes; the last of these shows that the script is too large. No read
-/// or write is tried again: an interrupted one (EINTR) is a fault.
+/// It reads at most 16,777,217 bytes; the last of these shows that the script is too large. It
+/// repeats no read or write: an interrupted one (EINTR) is a fault.
 ///
 /// # Errors
 ///
-/// Nothing is written, except with `Write`.
+/// Nothing is written, except with `Write`:
 /// - `Fault::Read`: a read failed
 /// - `Fault::Script`: the script has a fault
 /// - `Fault::Memory`: an allocation failed; it may replace any other result before the first write
@@ -59,7 +59,7 @@ pub fn replay_bounded<R: Source, W: Sink>(
     replay_with(alloc, reader, writer, Some(keep))
 }
 
-/// Does what `replay` does without `keep`, and what `replay_bounded` does with it.
+/// Does the same as `replay` without `keep`, and the same as `replay_bounded` with `keep`.
 ///
 /// `keep` is at most 524,288. A full journal is folded to its last `keep` entries; without `keep`
 /// it refuses commands.

@@ -18,9 +18,9 @@ use tk_script::{Calendar, Row, RowReader, ScriptError, Start, line_no, line_ok, 
 
 /// Makes the report of a script's bytes: a line for the opening, and one for each later record.
 ///
-/// Commands are applied in their order, all with the caller 0. The line of an accepted command has
-/// MONOTONIC at its reading. After 1,048,576 accepted commands every further one is refused as
-/// `Full`.
+/// Commands are applied in their order, all with the caller 0. The line of an accepted command
+/// gives MONOTONIC at its reading. After 1,048,576 accepted commands every further one is refused
+/// as `Full`.
 ///
 /// # Errors
 ///
@@ -38,7 +38,8 @@ pub fn report(alloc: Global, script: &[u8]) -> Result<Vec<u8>, ScriptError>
 /// `Full`.
 ///
 /// A journal of 1,048,576 entries is folded to its last `keep` entries, from 1 to 524,288, before
-/// the next command. The lines are those of a journal that lists every command and is never full.
+/// the next command. The lines are the same as from a journal that lists every command and is never
+/// full.
 ///
 /// # Errors
 ///
@@ -68,11 +69,12 @@ pub(crate) fn report_by(
     report_rows(alloc, start, &mut rows, keep)
 }
 
-/// Makes the report of an opening and of the rows that `rows` still has.
+/// Makes the report of an opening and of the remaining rows of `rows`.
 ///
-/// `start` and `rows` are those that one `RowReader::open` returned. With `keep`, at most 524,288,
-/// a full journal is folded to its last `keep` entries, and no command is refused as `Full`. Report
-/// and journal are allocated from `alloc`; the reader of the rows allocates from its own allocator.
+/// One call of `RowReader::open` must have returned `start` and `rows`. With `keep`, at most
+/// 524,288, a full journal is folded to its last `keep` entries, and no command is refused as
+/// `Full`. Report and journal are allocated from `alloc`; the reader of the rows allocates from its
+/// own allocator.
 ///
 /// # Errors
 ///
@@ -122,8 +124,8 @@ fn add_line<A: Allocator + Copy>(
     }
 }
 
-/// Applies a command and appends its line. An accepted command always has one: MONOTONIC at its
-/// reading is below its end.
+/// Applies a command and appends its line. An accepted command always gets a line, because
+/// MONOTONIC at its reading is below its limit.
 fn add_reply<A: Allocator + Copy>(
     text: &mut Vec<u8, A>,
     keeper: &mut Timekeeper<A>,

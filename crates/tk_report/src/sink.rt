@@ -6,21 +6,22 @@ use std::io::Write;
 
 /// A destination of a report or a trace: any writer.
 ///
-/// Every `Write` implements it; write no other impl. `replay` and `trace` write through it, so
-/// that their contracts can say that a write failed: they are proved for all relations
-/// `write_gives` and `flush_gives`, and so can name only a call that was made.
+/// Every `Write` implements it; write no other impl. `replay` and `trace` write through it, so that
+/// their contracts can state that a write failed. The contracts are proved for all relations
+/// `write_gives` and `flush_gives`, so they can name only a call that was made.
 pub trait Sink: Write {
-    // What a write may do: the writer before it, the text, the number of bytes that it took (none
-    // if it failed or took nothing), and the writer after it.
+    // The possible results of a write: the writer before it, the text, the number of bytes that it
+    // took (none if it failed or took nothing), and the writer after it.
     ghost write_gives: { Self → List ℕ → Option ℕ → Self → Type 0 };
 
-    // What a flush may do: the writer before it, whether it succeeded, and the writer after it.
+    // The possible results of a flush: the writer before it, whether it succeeded, and the writer
+    // after it.
     ghost flush_gives: { Self → Bool → Self → Type 0 };
 
     /// Writes once, from the beginning of `text`, and returns the number of bytes taken, at least
     /// 1.
     ///
-    /// `None` means that the write returned an error or took no byte; nothing was written then.
+    /// `None` means that the write returned an error or took no byte, and wrote nothing.
     fn write_once(&mut self, text: &[u8]) -> Option<usize>
         ensures bound { IfSome result (λ count. (0 < count) × (count ≤ length text.now)) }
         ensures bytes { MatchOption result
@@ -29,7 +30,7 @@ pub trait Sink: Write {
             (Self.Write.contents self.old) (Self.Write.contents self.new) (take count text.now)) }
         ensures call { write_gives self.old text.now result self.new };
 
-    /// Flushes what was written. `false` means that the flush returned an error.
+    /// Flushes the written bytes. `false` means that the flush returned an error.
     fn flush_once(&mut self) -> bool
         ensures bytes { Keeps (Self.Write.contents self.old) (Self.Write.contents self.new) }
         ensures call { flush_gives self.old result self.new };
@@ -51,7 +52,7 @@ impl<W: Write> Sink for W {
 
 /// Writes the whole text and flushes.
 ///
-/// It allocates nothing itself. No write is tried again: an interrupted one (EINTR) is an error.
+/// It repeats no write: an interrupted one (EINTR) is an error. It doesn't allocate.
 ///
 /// # Errors
 ///

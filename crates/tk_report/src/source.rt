@@ -10,17 +10,17 @@ use tk_script::SIZE_LIMIT;
 /// A source of a script or a stamp file: any reader.
 ///
 /// Every `Read` implements it; write no other impl. `replay` and `trace` read through it, so that
-/// their contracts can say that a read failed: they are proved for every relation `read_gives`,
-/// and so can name only a read that was made.
+/// their contracts can state that a read failed. The contracts are proved for every relation
+/// `read_gives`, so they can name only a read that was made.
 pub trait Source: Read {
-    // What a read may do: the reader before it, the number of bytes that it gave (none if it
+    // The possible results of a read: the reader before it, the number of bytes read (none if it
     // failed), and the reader after it.
     ghost read_gives: { Self → Option ℕ → Self → Type 0 };
 
     /// Reads once into the beginning of `room` and returns the number of bytes read; 0 means the
     /// end of the input, unless `room` is empty.
     ///
-    /// `None` means that the read returned an error; nothing was read then.
+    /// `None` means that the read returned an error and read nothing.
     fn read_once(&mut self, room: &mut [u8]) -> Option<usize>
         ensures bound { IfSome result (λ count. count ≤ length room.new) }
         ensures bytes { MatchOption result
@@ -45,14 +45,14 @@ const READING_LIMIT: usize = SIZE_LIMIT + 1;
 /// The smallest growth of the buffer, in bytes.
 const LEAST_ROOM: usize = 65_536;
 
-/// The largest growth of the buffer, in bytes: small enough that new memory is still in the cache
-/// when it is read into.
+/// The largest growth of the buffer, in bytes: small enough that the zeroed memory is still in the
+/// cache when a read fills it.
 const GREATEST_ROOM: usize = 262_144;
 
 /// Reads the source to its end, or 16,777,217 bytes, whichever comes first, and returns the bytes.
 ///
-/// The limit is one byte more than the largest script, so a result of that length is too large. No
-/// read is tried again: an interrupted one (EINTR) is a fault.
+/// The limit is one byte more than the largest script, so a result of that length is too large. It
+/// repeats no read: an interrupted one (EINTR) is a fault.
 ///
 /// # Errors
 ///
@@ -78,8 +78,8 @@ pub fn read_to_end<S: Source>(alloc: Global, source: &mut S) -> Result<Vec<u8>, 
     Ok(bytes)
 }
 
-/// Grows a full buffer by a quarter, within the two bounds above, and up to `READING_LIMIT`. The filled part
-/// stays.
+/// Grows a full buffer by a quarter, within the two bounds above, and up to `READING_LIMIT`. The
+/// filled part doesn't change.
 fn make_room(room: &mut Vec<u8>, filled: usize) -> Result<(), AllocError>
     requires within { filled ≤ vec_len room.old }
     requires below { filled < most_read }
@@ -95,7 +95,7 @@ fn make_room(room: &mut Vec<u8>, filled: usize) -> Result<(), AllocError>
     room.resize((filled + more).min(READING_LIMIT), 0)
 }
 
-/// Reads once into the buffer from the index `at` on.
+/// Reads once into the buffer, starting at index `at`.
 fn read_at<S: Source>(source: &mut S, room: &mut [u8], at: usize) -> Option<usize>
     requires { at < length room.old }
     ensures front { take at room.new ≡ take at room.old }

@@ -13,20 +13,20 @@ use tk_clock::ClockId;
 /// Reads a script and then a stamp file to their ends, writes the value of `clock` at each stamp,
 /// in ns, one line each, and flushes. Without stamps it writes no byte.
 ///
-/// A stamp's front is the number of accepted commands before it: the value is that of the script's
+/// A stamp's front is the number of accepted commands before it: the clock is read in the script's
 /// journal at that front. After 1,048,576 accepted commands every further one is refused as `Full`.
 ///
-/// Both inputs are read before either is parsed, each up to 16,777,217 bytes; the last of these
-/// shows that the input is too large. No read or write is tried again, as in `replay`.
+/// It reads both inputs before it parses either, at most 16,777,217 bytes of each; the last of
+/// these shows that the input is too large. It repeats no read or write, as `replay`.
 ///
-/// If that is likely to save time, several threads convert the stamps, at most two for each
+/// Several threads convert the stamps if that is likely to save time, at most two for each
 /// processor. If none can be started, the calling thread converts them. The calling thread does all
 /// other work.
 ///
 /// # Errors
 ///
-/// In this order. `Memory` may replace any other result before the first byte is written, and
-/// nothing is written, except with `Write`.
+/// Returns the first of these. `Memory` may replace any other result before the first byte is
+/// written. Nothing is written, except with `Write`.
 /// - `Fault::Read`: a read of the script failed, or after it a read of the stamp file
 /// - `Fault::Script`: the script has a fault
 /// - `Fault::Stamps`: the stamp file has a fault

@@ -1,4 +1,5 @@
-//! Holds what the workers share: the scripts that no worker has taken, and the outcomes so far.
+//! Contains the shared state of the workers: the scripts that no worker has taken, and the outcomes
+//! so far.
 ghost use Rattle.std.specs.Prelude.{◌≡◌, ◌+◌, ◌<◌, ◌≤◌, length, set, IfOk, IfNone, IfSome, Ok, Err, get_or};
 ghost use Rattle.tk_report.specs.Many.{AreOutcomes, IsOutcome};
 
@@ -10,9 +11,9 @@ use tk_script::ScriptError;
 /// The report of a script, or its first fault.
 pub(crate) type Outcome = Result<Vec<u8>, ScriptError>;
 
-/// Names the scripts that workers share. It has no function, and no value of it is made.
+/// Names the scripts that workers share. It has no function, and no value of this type exists.
 ///
-/// A contract knows the value inside a lock by its type alone, so the type names the scripts.
+/// A contract knows only the type of the value under a lock, so the type names the scripts.
 pub(crate) trait NamesScripts {
     ghost use Rattle.std.specs.Prelude.{ℕ, List};
     ghost use Rattle.std.specs.Global.{Vec};
@@ -28,7 +29,7 @@ impl NamesScripts for Brand {
 
 /// A script that one worker has taken.
 ///
-/// `Worklist::take` makes it, and `Job::finish` uses it up. It can't be copied or dropped.
+/// `Worklist::take` makes it, and `Job::finish` consumes it. It can't be copied or dropped.
 pub(crate) struct Job<S: NamesScripts> {
     piece: usize,
     of: PhantomData<S>,
@@ -55,8 +56,8 @@ impl<S: NamesScripts> Job<S> {
 
     /// Calls `gate.after`, and returns the script's outcome as finished.
     ///
-    /// `Worklist::hand_in` takes a `Finished` alone, and no other call makes one. So the outcome of
-    /// each script exists before this call of `gate.after`.
+    /// `Worklist::hand_in` takes only a `Finished`, and no other call makes one. So the outcome of
+    /// a script exists before its call of `gate.after`.
     pub(crate) fn finish<G: Gate>(self, gate: &G, script: &Vec<u8>, outcome: Outcome) -> Finished<S>
         requires script { script.now ≡ get_or S.scripts self script.now }
         requires outcome { IsOutcome script.now outcome }
@@ -71,7 +72,7 @@ impl<S: NamesScripts> Job<S> {
 
 /// The outcome of a script that one worker took, after `gate.after` was called.
 ///
-/// `Job::finish` makes it, and `Worklist::hand_in` uses it up.
+/// `Job::finish` makes it, and `Worklist::hand_in` consumes it.
 pub(crate) struct Finished<S: NamesScripts> {
     piece: usize,
     outcome: Outcome,
@@ -112,7 +113,7 @@ impl<S: NamesScripts> Model for Worklist<S> {
 }
 
 impl<S: NamesScripts> Worklist<S> {
-    /// Makes a list in which no script is taken. It allocates the capacity for all outcomes.
+    /// Makes a list in which no script is taken, and allocates the capacity for all outcomes.
     pub(crate) fn new(alloc: Global, count: usize) -> Result<Worklist<S>, AllocError>
         requires { count ≡ length S.scripts }
         ensures { IfOk result (λ w. w.taken ≡ 0) }

@@ -1,4 +1,4 @@
--- The rows that a row reader has still to read, from one record to the next.
+-- The rows that a row reader has not read yet, from one record to the next.
 use Rattle.std.proofs.Common.{◌≡◌, ◌∙◌, ◌≤◌, ◌+◌, ℕ, zero, suc, List, [], ◌∷◌, length, Option, Some, None, IsSome, Bool, true, false, Result, Ok, Err, refl, sym, ap, arith, cond, ◌++◌, append_assoc}
 use Rattle.csv.specs.Machine.{Read, next_record}
 use Rattle.csv.specs.Reading.{default_config, is_bom, records_from, records_next, strip_bom}
@@ -56,7 +56,7 @@ records_of-few bytes =
     let shorter = strip_bom-shorter bytes in
     omega arith
 
--- the records that are left, if the reader has not failed
+-- the remaining records, if the reader has not failed
 left-some : (o : Option (List (List (List ℕ)))) → IsSome o →
     (left : List (List (List ℕ))) × (o ≡ Some left)
 left-some (Some left) h = (left, refl)
@@ -66,7 +66,7 @@ pub left-known : (reader : RowReader) → IsReady reader →
     (left : List (List (List ℕ))) × (left_in reader.records ≡ Some left)
 left-known reader ready = left-some (left_in reader.records) ready.left
 
--- the rows to come and their number, by the records that are left
+-- the remaining rows and their number, by the remaining records
 coming-left : (reader : RowReader) (left : List (List (List ℕ))) → left_in reader.records ≡ Some left
     → coming reader ≡ rows_of reader.row left
 unfolding coming
@@ -110,7 +110,7 @@ parse-open reader start records left first e two split given =
     by (Ok rows) = refl
     by (Err fault) = refl
 
--- no record is left
+-- no record remains
 pub coming-none : (reader : RowReader) (left : List (List (List ℕ))) →
     left_in reader.records ≡ Some left → left ≡ []
     → coming reader ≡ Ok []
@@ -156,7 +156,7 @@ pub ready-row : (old new : RowReader) (later : List (List (List ℕ)))
 ready-row old new later ready one reading rest next =
     record { reading = reading; left = rw rest refl; count = omega (arith, ready.count, one, next) }
 
--- appending a row that was read to the earlier rows leaves the result of the whole the same
+-- appending a row to the earlier rows after its read doesn't change the result of the whole
 pub opened-row : (whole : Result Parse ScriptError) (start : Start) (before before' : List Row)
     (row : Row) (old new : RowReader)
     → whole ≡ opened_with start (rows_and before (coming old)) →
@@ -172,7 +172,7 @@ opened-row whole start before before' row old new given step e = given ∙ rw (s
         (sym (append_assoc before (row ∷ []) rows))
     by (Err fault) = refl
 
--- a fault of the rows to come is the fault of the whole script
+-- a fault of the remaining rows is the fault of the whole script
 pub opened-fault : (whole : Result Parse ScriptError) (start : Start) (before : List Row)
     (reader : RowReader) (fault : ScriptError)
     → whole ≡ opened_with start (rows_and before (coming reader)) → Fails fault (coming reader) →

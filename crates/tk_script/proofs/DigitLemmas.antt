@@ -1,4 +1,4 @@
--- The last nine digits of a number of ten digits.
+-- The last nine digits of a ten-digit number.
 use Rattle.std.proofs.Common.{◌≡◌, ◌∙◌, ℕ, ◌+◌, ◌/◌, ◌%◌, ◌^◌, ◌<◌, List, ◌∷◌, ◌++◌, length, drop, get_or, set, refl, sym, ap, arith, add-one, drop-cons, length-drop, decimal}
 use Rattle.std.proofs.lemmas.List.{drop-set}
 use Rattle.itoa.proofs.Decimal.{decimal_four, decimal_two}
@@ -31,7 +31,7 @@ marked-within bytes rest start n low written =
     written ∙ ap (λ (digits : List ℕ). digits ++ rest) (decimal-marked n low) in
     omega (arith, ap length marked, length-drop start bytes)
 
--- if another byte replaces the first digit, the nine digits after it stay
+-- if another byte replaces the first digit, the nine digits after it don't change
 pub marked-replaced : (bytes rest : List ℕ) (start n byte : ℕ) → n < 10 ^ 9 →
     drop start bytes ≡ decimal (10 ^ 9 + n) ++ rest →
     drop start (set bytes start byte) ≡ byte ∷ nine_digits n ++ rest

@@ -9,8 +9,8 @@ use Rattle.tk_script.specs.declared.script_error.ScriptError.{ScriptError}
 abbrev pub Parser : Type 0 → Type 0
 Parser A = ℕ → List (List ℕ) → Result A ScriptError
 
--- the result of the whole reading is `before`, followed by the values of the records that are left,
--- of which the first is the record `n`
+-- the result of the whole reading is `before`, followed by the values of the remaining records, the
+-- first of which is the record `n`
 abbrev pub Goes : {A : Type 0} → Parser A → Result (List A) ScriptError → List A → ℕ →
     List (List (List ℕ)) → Type 0
 Goes parse whole before n left = whole ≡ (each parse n left >>= λ rest. Ok (before ++ rest))
@@ -49,7 +49,7 @@ unfolding each
 goes-fault parse whole before n left first later fault g s e =
     goes-at parse whole before n left (first ∷ later) g s ∙ rw e refl
 
--- no record is left
+-- no record remains
 pub goes-end : {A : Type 0} (parse : Parser A) (whole : Result (List A) ScriptError) (before : List A)
     (n : ℕ) (left : List (List (List ℕ)))
     → Goes parse whole before n left → left ≡ [] → whole ≡ Ok before

@@ -22,7 +22,7 @@ and-both : (a b : Bool) → (a && b) ≡ true → (a ≡ true) × (b ≡ true)
 and-both true b e = (refl, e)
 and-both false b e = cc e
 
--- digits do not contain a byte that is no digit
+-- digits don't contain a byte that isn't a digit
 digits-lack : (byte : ℕ) (digits : List ℕ) → is_ascii_digit byte ≡ false →
     list_all is_ascii_digit digits ≡ true → Lacks (is_byte byte) digits
 digits-lack byte [] other all = refl
@@ -32,21 +32,21 @@ digits-lack byte (digit ∷ digits) other all =
     (λ same. let e = eqb-true digit byte same in cc (parts.0, other, ap is_ascii_digit e)) in
     rw first (digits-lack byte digits other parts.1)
 
--- a field that spells a number has only digits
+-- a field that is a number consists of digits
 picks : (some digits small : Bool) (value number : ℕ)
     → cond ((some && digits) && small) (Some value) None ≡ Some number → digits ≡ true
 picks true true small value number e = refl
 picks true false small value number e = cc e
 picks false digits small value number e = cc e
 
--- a field that spells a number does not contain a byte that is no digit
+-- a field that is a number doesn't contain a byte that isn't a digit
 number-lacks : (byte : ℕ) (digits : List ℕ) (number : ℕ) → is_ascii_digit byte ≡ false →
     number_of digits ≡ Some number → Lacks (is_byte byte) digits
 number-lacks byte digits number other e =
     digits-lack byte digits other (picks (not (length digits == 0)) (list_all is_ascii_digit digits)
     (nat_le (digits_value 10 digits) (2 ^ 64 - 1)) (digits_value 10 digits) number e)
 
--- a text that lacks two bytes lacks each of them
+-- a text without either of two bytes contains neither of them
 lacks-either : (a b : ℕ) (xs : List ℕ) → Lacks (is_byte2 a b) xs →
     Lacks (is_byte a) xs × Lacks (is_byte b) xs
 lacks-either a b [] e = (refl, refl)

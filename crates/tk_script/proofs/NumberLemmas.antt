@@ -9,7 +9,7 @@ use Rattle.std.proofs.lemmas.List.{length-take, take-append-drop, take-append-le
 use Rattle.tk_script.specs.Number.{number_of}
 use Rattle.tk_script.proofs.PlainLemmas.{range-to_end}
 
--- digits spell their value
+-- digits represent their value
 number-digits : (digits : List ℕ) (value : ℕ) → 0 < length digits →
     list_all is_ascii_digit digits ≡ true → value ≡ digits_value 10 digits → value < 2 ^ 64 →
     number_of digits ≡ Some value

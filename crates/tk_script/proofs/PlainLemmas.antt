@@ -14,7 +14,7 @@ use Rattle.csv.specs.Records.{field_at}
 use Rattle.memchr.specs.Find.{IsFirstByte, is_byte, is_byte2}
 use Rattle.tk_script.specs.Plain.{IsFirstLine, IsPlain, Lacks, cut_at_commas, cut_after}
 
--- the record of a line, and the text that is left after it
+-- the record of a line, and the text after it
 abbrev pub record_of_line : List ℕ → List ℕ → Read
 record_of_line line rest = (cut_at_commas line, st.StartRecord, rest)
 
@@ -138,7 +138,7 @@ first-record text line rest plain (some, whole, (end, split, inr (last, none))) 
     let plain' : IsPlain (line ++ []) = rw all at plain in
     (rw (all, none) (at-start line [] [] some plain' whole ends-text), rw none refl)
 
--- an empty line is no record
+-- an empty line isn't a record
 pub empty-line : (rest : List ℕ)
     → next_record default_config st.StartRecord [] [] (10 ∷ rest)
     ≡ next_record default_config st.StartRecord [] [] rest
@@ -187,7 +187,7 @@ no-mark (a ∷ b ∷ c ∷ rest) other =
     (λ same. other (omega arith) (eqb-true a 0xEF same)) in
     rw no_mark refl
 
--- the bytes from an index on begin with the byte at this index
+-- the bytes starting at an index begin with the byte at this index
 byte-first : (text : List ℕ) (i byte : ℕ) → i < length text → slice_index text i ≡ byte →
     drop i text ≡ byte ∷ drop (i + 1) text
 byte-first text i byte inside same =
@@ -288,7 +288,7 @@ pub lacks-none : (test : ℕ → Bool) (text : List ℕ) (found : Option ℕ) (n
 lacks-none test text None none first e is_none = found-none test text first
 lacks-none test text (Some end) none first e is_none = cc (e, ap not is_none)
 
--- no line is left
+-- no line remains
 pub first-none : (text rest : List ℕ)
     → next_record default_config st.StartRecord [] [] rest
     ≡ next_record default_config st.StartRecord [] [] text

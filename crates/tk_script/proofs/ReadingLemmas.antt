@@ -1,4 +1,4 @@
--- The effect of a read on the records that are left.
+-- The effect of a read on the remaining records.
 use Rattle.std.proofs.Common.{◌≡◌, ℕ, List, [], Option, Some, None, Bool, Bor, refl}
 use Rattle.std.specs.Prelude.{option_map}
 use Rattle.csv.specs.Machine.{Read, next_record}
@@ -18,7 +18,7 @@ takes-next old new xs ys found fields None q n = rw n (records_after-none old xs
 takes-next old new xs ys found fields (Some p) q n =
     rw (n.0, n.1, n.2, n.3) (records_after p.1 p.2, records_after-some old xs p q, refl)
 
--- by the bytes that the source has left, as far as they are known
+-- by the remaining bytes of the source, as far as they are known
 takes-known : (old new : State) (before after : Option (List ℕ)) (found : Bool)
     (fields : List (List ℕ)) (records : List (List (List ℕ)))
     → ReadsNext default_config old before after found fields new →
@@ -30,7 +30,7 @@ takes-known old new (Some xs) (Some ys) found fields records h e =
     let same : records ≡ records_after old xs = cc e in
     rw same (takes-next old new xs ys found fields (next_record default_config old [] [] xs) refl h)
 
--- a read of a record takes the first of those that are left
+-- a read of a record takes the first of the remaining ones
 pub takes-read : (old new : SliceReader) (found : Bool) (fields : List (List ℕ))
     (records : List (List (List ℕ)))
     → IsReading old → ReadRecord (λ (bytes : Bor (List ℕ)). Some bytes.now) old new found fields →
@@ -40,7 +40,7 @@ takes-read old new found fields records ready read e =
     rw read.1 (takes-known old.state new.state _ (pending_of (Some new.rdr.now) new) found fields
     records (rw ready.2 at read.0) e)
 
--- a new reader has all the records left
+-- for a new reader all records remain
 pub left-all : (reader : SliceReader) (bytes : List ℕ)
     → source_of (λ (b : Bor (List ℕ)). Some b.now) reader ≡ Some (strip_bom bytes) →
     reader.state ≡ st.StartRecord

@@ -88,7 +88,7 @@ next_record-takes cfg s fields field (c ∷ rest) p e = by (is_end (step cfg s c
         let one : owed (step cfg s c).0 ≤ 1 = owed-le (step cfg s c).0 in
         omega arith
 
--- one step more makes no difference, once the number of steps suffices
+-- one more step changes nothing if the number of steps suffices
 turn-more : (cfg : Config) (n : ℕ) (s : State) (xs : List ℕ) → length xs + owed s ≤ n → records_from cfg n s xs ≡ records_from cfg (suc n) s xs
 unfolding records_from
 turn-more cfg zero s xs h = by (next_record cfg s [] [] xs) refl
@@ -113,7 +113,7 @@ turns-more cfg (suc k) n s xs h = turns-more cfg k n s xs h ∙ turn-more cfg (k
 turns : (cfg : Config) (m n : ℕ) (s : State) (xs : List ℕ) → length xs + owed s ≤ n → n ≤ m → records_from cfg m s xs ≡ records_from cfg n s xs
 turns cfg m n s xs h k = sym (turns-more cfg (m - n) n s xs h ∙ ap (λ j. records_from cfg j s xs) (omega arith))
 
--- no record is left
+-- no record remains
 pub records_after-none : (s : State) (xs : List ℕ) → next_record default_config s [] [] xs ≡ None → records_after s xs ≡ []
 unfolding records_from
 records_after-none s xs e = rw (add-one, e) refl

@@ -9,7 +9,7 @@ use Rattle.tk_script.specs.declared.script_error.ScriptError.{ScriptError}
 use Rattle.tk_script.proofs.EachLemmas.{Goes, goes-fault}
 use Rattle.tk_script.proofs.GrammarLemmas.{fails-from}
 
--- each of the two lists has one more item
+-- both lists have one more item
 pub paired-more : (xs ys xs' ys' : List ℕ) (x y : ℕ)
     → length xs ≡ length ys → xs' ≡ xs ++ x ∷ [] → ys' ≡ ys ++ y ∷ [] → length xs' ≡ length ys'
 paired-more xs ys xs' ys' x y e f g = rw (f, g) (length_push xs x ∙ ap (λ n. n + 1) e

@@ -1,4 +1,4 @@
--- The records of a script that a row reader has not read yet, and the rows that they give.
+-- The records of a script that a row reader has not read yet, and their rows.
 use Rattle.std.specs.Prelude.{◌≡◌, ℕ, ◌+◌, ◌<◌, ◌^◌, List, [], ◌∷◌, length, Option, Some, None, IsSome, Result, Ok, Err, unwrap_or}
 use Rattle.tk_script.specs.Cursor.{IsCursor, left_in}
 use Rattle.tk_script.specs.Grammar.{Parse}
@@ -8,11 +8,11 @@ use Rattle.tk_script.specs.declared.row.Row.{Row}
 use Rattle.tk_script.specs.declared.row_reader.RowReader.{RowReader}
 use Rattle.tk_script.specs.declared.script_error.ScriptError.{ScriptError}
 
--- the number of records that are left
+-- the number of remaining records
 unfoldable pub records_left : RowReader → ℕ
 records_left reader = length (unwrap_or (left_in reader.records) [])
 
--- the rows that the remaining records give, or their first fault
+-- the rows of the remaining records, or their first fault
 unfoldable pub coming : RowReader → Result (List Row) ScriptError
 coming reader = rows_of reader.row (unwrap_or (left_in reader.records) [])
 
@@ -28,7 +28,7 @@ row_and row (Ok later) = Ok (row ∷ later)
 row_and row (Err fault) = Err fault
 
 -- the result of one read: `Some row` means that the next record gave this row and the other records
--- are left; `None` means that no record was left
+-- remain; `None` means that no record remained
 abbrev pub Steps : Option Row → RowReader → RowReader → Type 0
 Steps None old new = coming old ≡ Ok []
 Steps (Some row) old new =

@@ -1,5 +1,4 @@
--- The records that are left of a text, for both ways of reading it: by csv's reader, or as plain
--- lines.
+-- The remaining records of a text, for both ways of reading it: by csv's reader, or as plain lines.
 use Rattle.std.specs.Prelude.{◌≡◌, ◌⊎◌, ℕ, List, [], ◌∷◌, Option, None, Some, true, Result, Ok, Err}
 use Rattle.csv.specs.Records as csv
 use Rattle.csv.specs.declared.parser.State.TheVariants.{StartRecord}
@@ -16,7 +15,7 @@ abbrev pub IsCursor : Records → Type 0
 IsCursor (Quoted quoted) = IsReading quoted.reader
 IsCursor (Plain lines) = IsPlain lines.rest.now
 
--- the records that are left; `None` means that csv's reader has failed
+-- the remaining records; `None` means that csv's reader has failed
 abbrev pub left_in : Records → Option (List (List (List ℕ)))
 left_in (Quoted quoted) = left_of quoted.reader
 left_in (Plain lines) = Some (records_after StartRecord lines.rest.now)

@@ -21,15 +21,15 @@ abbrev pub ◌>>=◌ : {A B : Type 0} → Result A ScriptError → (A → Result
 abbrev pub field : List (List ℕ) → ℕ → List ℕ
 field fields i = unwrap_or (field_at fields i) []
 
--- a number of 64 bits in field `i` of the record `row`
+-- a 64-bit number in field `i` of the record `row`
 abbrev pub number_at : ℕ → List (List ℕ) → ℕ → Result ℕ ScriptError
 number_at row fields i = ok_or (number_of (field fields i)) (errors.Number row)
 
--- a number of 32 bits in that field
+-- a 32-bit number in that field
 abbrev pub number32_at : ℕ → List (List ℕ) → ℕ → Result ℕ ScriptError
 number32_at row fields i = ok_or (number32_of (field fields i)) (errors.Number row)
 
--- a signed number of 64 bits in that field
+-- a signed 64-bit number in that field
 abbrev pub signed_at : ℕ → List (List ℕ) → ℕ → Result ℤ ScriptError
 signed_at row fields i = ok_or (signed_of (field fields i)) (errors.Number row)
 
@@ -40,6 +40,6 @@ time_at row fields i = do
   nsec ← number32_at row fields (i + 1)
   Ok (record { sec = sec; nsec = nsec })
 
--- the clock that the word in field `i` names
+-- the clock that field `i` names
 abbrev pub clock_at : ℕ → List (List ℕ) → ℕ → Result ClockId ScriptError
 clock_at row fields i = ok_or (clock_of (field fields i)) (errors.Word row)

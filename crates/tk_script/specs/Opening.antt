@@ -25,8 +25,8 @@ timed_counter bits hz maxsec =
     if is_none (frequency.frequency_fault bits hz maxsec)
     then frequency.from_frequency bits hz maxsec else None
 
--- the counter of `bits` bits that two more numbers describe: mult and shift, or its frequency in Hz
--- and the longest gap in seconds
+-- the counter of `bits` bits from two more numbers: mult and shift, or its frequency in Hz and the
+-- longest gap in seconds
 abbrev pub counter_of : Telling → ℕ → ℕ → ℕ → Result Counter ScriptError
 counter_of tellings.Scale bits mult shift =
     ok_or (scaled_counter (record { bits = bits; mult = mult; shift = shift })) (errors.Opening 1)
@@ -41,7 +41,7 @@ started counter reading real =
     then Ok (record { desc = counter; reading = reading; real = real })
     else Err (errors.Opening 1)
 
--- the opening in these fields: a word, bits, the two numbers that describe the counter, reading,
+-- the opening in these fields: a keyword, bits, the two numbers that describe the counter, reading,
 -- sec and nsec
 unfoldable pub opening_of : Telling → List (List ℕ) → Result Start ScriptError
 opening_of telling fields =
@@ -55,8 +55,8 @@ opening_of telling fields =
       started counter reading real)
     else Err (errors.Fields 1)
 
--- the opening in the first record, by its word: `open` has mult and shift, `openhz` has hz and
--- maxsec
+-- the opening in the first record, by its keyword: the two numbers are mult and shift after `open`,
+-- and hz and maxsec after `openhz`
 unfoldable pub start_of : List (List ℕ) → Result Start ScriptError
 start_of fields =
     if is_word (field fields 0) (codes "open") then opening_of tellings.Scale fields

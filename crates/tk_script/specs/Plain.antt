@@ -12,7 +12,7 @@ Lacks test text = list_any test text ≡ false
 abbrev pub IsPlain : List ℕ → Type 0
 IsPlain text = Lacks (is_byte2 34 13) text
 
--- the fields that are left, when these bytes of the current field were read
+-- the remaining fields, after these bytes of the current field
 unfoldable pub cut_after : List ℕ → List ℕ → List (List ℕ)
 cut_after field [] = field ∷ []
 cut_after field (byte ∷ rest) =

@@ -8,11 +8,11 @@ use Rattle.csv.specs.declared.reader.Reader.{Reader}
 use Rattle.csv.specs.declared.reader.Trim.TheVariants as trim
 use Rattle.tk_script.specs.Records.{records_after}
 
--- csv's reader over bytes in memory
+-- csv's reader of bytes in memory
 abbrev pub SliceReader : Type 0
 SliceReader = Reader (Bor (List ℕ))
 
--- the reader is ready, has csv's default configuration, accepts records of any number of fields,
+-- the reader is ready, uses csv's default configuration, accepts records of any number of fields,
 -- and trims nothing
 abbrev pub IsReading : SliceReader → Type 0
 IsReading reader =
@@ -29,7 +29,7 @@ IsWantOfMemory (kinds.Utf8 place error) = ⊥
 IsWantOfMemory (kinds.Serialize text) = ⊥
 IsWantOfMemory (kinds.Deserialize place error) = ⊥
 
--- the records that are left; `None` means that the reader has failed
+-- the remaining records; `None` means that the reader has failed
 abbrev pub left_of : SliceReader → Option (List (List (List ℕ)))
 left_of reader =
     option_map (records_after (reader_state reader)) (source_of (λ bytes. Some bytes.now) reader)

@@ -1,4 +1,4 @@
--- The records of a script's bytes, as `csv` reads them, and the values that they give.
+-- The records of a script's bytes, as `csv` reads them, and their parsed values.
 use Rattle.std.specs.Prelude.{ℕ, ◌+◌, ◌^◌, List, [], ◌∷◌, length, Result, Ok}
 use Rattle.csv.specs.Reading.{default_config, records_from, strip_bom}
 use Rattle.csv.specs.declared.parser.State.{State}
@@ -10,7 +10,7 @@ use Rattle.tk_script.specs.declared.script_error.ScriptError.{ScriptError}
 abbrev pub most_bytes : ℕ
 most_bytes = 2 ^ 24
 
--- the records of the bytes that follow, when csv's reader is in this state
+-- the records of the following bytes, when csv's reader is in this state
 abbrev pub records_after : State → List ℕ → List (List (List ℕ))
 records_after state bytes = records_from default_config (length bytes + 1) state bytes
 

@@ -1,4 +1,4 @@
--- The records of a script after the first: the word of each selects its form.
+-- The records of a script after the first one: the keyword selects the form.
 use Rattle.std.specs.Prelude.{ℕ, ℤ, List, length, Result, Ok, Err, ◌==◌, if◌then◌else◌, codes}
 use Rattle.tk_clock.specs.declared.clock_id.ClockId.{ClockId}
 use Rattle.tk_clock.specs.declared.command.Command.{Command}
@@ -12,7 +12,7 @@ use Rattle.tk_script.specs.declared.row.Row.TheVariants.{Act, Look}
 use Rattle.tk_script.specs.declared.script_error.ScriptError.{ScriptError}
 use Rattle.tk_script.specs.declared.script_error.ScriptError.TheVariants as errors
 
--- the fields of a record with a reading (cycles) and nothing else
+-- the fields of a record with a reading (cycles) only
 unfoldable pub plain_of : ℕ → List (List ℕ) → Result ℕ ScriptError
 plain_of row fields = if length fields == 2 then number_at row fields 1 else Err (errors.Fields row)
 

@@ -1,4 +1,4 @@
--- The meaning of a stamp file: each record has a front and a stamp.
+-- The meaning of a stamp file: every record contains a front and a stamp.
 use Rattle.std.specs.Prelude.{ℕ, List, length, map, Result, Ok, Err, ◌==◌, nat_lt, if◌then◌else◌}
 use Rattle.tk_script.specs.Field.{◌>>=◌, number_at}
 use Rattle.tk_script.specs.Records.{each, records_of, most_bytes}

@@ -26,7 +26,7 @@ time_part second nsec =
 abbrev pub IsDateText : ℕ → List ℕ → Type 0
 IsDateText day text = (date : Date) × (epoch_day date ≡ pos day) × (text ≡ date_text date)
 
--- `YYYY-MM-DDThh:mm:ss.nnnnnnnnnZ`: the text is that of a time in seconds since 1970-01-01 and
+-- `YYYY-MM-DDThh:mm:ss.nnnnnnnnnZ`: the text represents a time in seconds since 1970-01-01 and
 -- nanoseconds
 abbrev pub IsUtcText : ℕ → ℕ → List ℕ → Type 0
 IsUtcText sec nsec text = (date : Date) × (epoch_day date ≡ pos (sec / 86400))

@@ -1,4 +1,4 @@
--- The words of scripts and of reports.
+-- The keywords and names of scripts and reports.
 use Rattle.std.specs.Prelude.{ℕ, List, Option, Some, None, Bool, nat_eq, if◌then◌else◌, codes}
 use Rattle.std.specs.Cmp.Lexicographic.{pointwise}
 use Rattle.tk_clock.specs.declared.clock_id.ClockId.{ClockId}
@@ -6,11 +6,11 @@ use Rattle.tk_clock.specs.declared.clock_id.ClockId.TheVariants.{Realtime, Monot
 use Rattle.tk_clock.specs.declared.refusal.Refusal.{Refusal}
 use Rattle.tk_clock.specs.declared.refusal.Refusal.TheVariants.{Full, Asleep, Awake, Invalid, Behind, Range, Memory}
 
--- whether these bytes are the word
+-- whether these bytes are the keyword
 abbrev pub is_word : List ℕ → List ℕ → Bool
 is_word bytes word = pointwise nat_eq bytes word
 
--- the word of a clock
+-- the name of a clock
 abbrev pub clock_name : ClockId → List ℕ
 clock_name Realtime = codes "realtime"
 clock_name Monotonic = codes "monotonic"
@@ -20,7 +20,7 @@ clock_name RealtimeCoarse = codes "realtime_coarse"
 clock_name MonotonicCoarse = codes "monotonic_coarse"
 clock_name MonotonicRaw = codes "monotonic_raw"
 
--- the clock that a script reads by this word
+-- the clock with this name in a script
 abbrev pub clock_of : List ℕ → Option ClockId
 clock_of word =
     if is_word word (codes "monotonic") then Some Monotonic
@@ -32,7 +32,7 @@ clock_of word =
     else if is_word word (codes "monotonic_raw") then Some MonotonicRaw
     else None
 
--- the word of a refusal
+-- the name of a refusal
 abbrev pub refusal_name : Refusal → List ℕ
 refusal_name Full = codes "full"
 refusal_name Asleep = codes "asleep"

@@ -36,7 +36,7 @@ pub fn line_at<A: Allocator + Copy>(
 impl<A: Allocator + Copy> Calendar<A> {
     /// Appends the line of a clock's time as the function `line_at` does, and keeps its date.
     ///
-    /// It allocates for the growth of `out`, and for a date when the day differs from that of the
+    /// It allocates for the growth of `out`, and for a date if the day differs from the day of the
     /// last line with a date.
     ///
     /// # Errors
@@ -101,7 +101,7 @@ fn line_at_plain<A: Allocator>(
     line.add_to(out)
 }
 
-/// Appends the line of a clock's time, followed by this date and time of day.
+/// Appends the line of a clock's time, ending with this date and time of day.
 fn line_at_with<A: Allocator>(
     out: &mut Vec<u8, A>,
     clock: ClockId,
@@ -124,7 +124,7 @@ fn line_at_with<A: Allocator>(
     line.add_to(out)
 }
 
-/// Puts a clock and its time at the beginning of a line.
+/// Prepends a clock and its time to a line.
 #[inline(always)]
 fn put_at(line: &mut Line, clock: ClockId, time: Timespec)
     requires writable { IsWritable time }

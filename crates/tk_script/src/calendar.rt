@@ -30,7 +30,7 @@ impl<A: Allocator> Model for Calendar<A> {
 }
 
 impl<A: Allocator + Copy> Calendar<A> {
-    /// Makes a calendar that keeps no date. It allocates nothing.
+    /// Makes a calendar that keeps no date yet.
     pub fn new(alloc: A) -> Calendar<A> {
         Calendar {
             day: None,

@@ -9,42 +9,42 @@ use crate::records::Records;
 use crate::script_error::ScriptError;
 use tk_clock::{ClockId, Timespec};
 
-/// Returns whether the bytes are the word. Most words differ in length.
+/// Returns whether the bytes are this keyword. Most keywords differ in length.
 pub(crate) fn has_word(bytes: &[u8], word: &[u8]) -> bool
     ensures { result ≡ is_word bytes.now word.now }
 {
     bytes.len() == word.len() && bytes == word
 }
 
-/// Returns the field at an index, or no bytes after the last field.
+/// Returns the field at an index, or an empty field after the last one.
 pub(crate) fn field<'a>(fields: &'a Records<'_>, i: usize) -> &'a [u8]
     ensures { result.now ≡ spec.field (fields_of fields.now) i }
 {
     fields.get(i).unwrap_or(&[])
 }
 
-/// Parses an unsigned number of 64 bits in the record `row`.
+/// Parses an unsigned 64-bit number in the record `row`.
 pub(crate) fn number_at(row: u64, fields: &Records<'_>, i: usize) -> Result<u64, ScriptError>
     ensures { result ≡ spec.number_at row (fields_of fields.now) i }
 {
     number(field(fields, i)).ok_or(ScriptError::Number { row })
 }
 
-/// Parses an unsigned number of 32 bits.
+/// Parses an unsigned 32-bit number.
 pub(crate) fn number32_at(row: u64, fields: &Records<'_>, i: usize) -> Result<u32, ScriptError>
     ensures { result ≡ spec.number32_at row (fields_of fields.now) i }
 {
     number32(field(fields, i)).ok_or(ScriptError::Number { row })
 }
 
-/// Parses a signed number of 64 bits.
+/// Parses a signed 64-bit number.
 pub(crate) fn signed_at(row: u64, fields: &Records<'_>, i: usize) -> Result<i64, ScriptError>
     ensures { result ≡ spec.signed_at row (fields_of fields.now) i }
 {
     signed(field(fields, i)).ok_or(ScriptError::Number { row })
 }
 
-/// Parses seconds, and in the next field nanoseconds.
+/// Parses seconds, and nanoseconds in the next field.
 #[tactic(auto, unfolding(crate::specs::Field::time_at))]
 pub(crate) fn time_at(row: u64, fields: &Records<'_>, i: usize) -> Result<Timespec, ScriptError>
     requires { i < 2 ^ 32 }
@@ -55,7 +55,7 @@ pub(crate) fn time_at(row: u64, fields: &Records<'_>, i: usize) -> Result<Timesp
     Ok(Timespec { sec, nsec })
 }
 
-/// Parses a clock's word.
+/// Parses a clock's name.
 pub(crate) fn clock_at(row: u64, fields: &Records<'_>, i: usize) -> Result<ClockId, ScriptError>
     ensures { result ≡ spec.clock_at row (fields_of fields.now) i }
 {

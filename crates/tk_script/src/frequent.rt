@@ -1,4 +1,4 @@
-//! Reads the frequent forms of a record in a plain text, each in one pass over its bytes.
+//! Parses the frequent forms of a record in a plain text in one pass over the bytes.
 ghost use Rattle.std.specs.Prelude.{◌≡◌, ◌++◌, IfSome};
 ghost use Rattle.memchr.specs.Find.{is_byte2};
 ghost use Rattle.tk_script.specs.Plain.{FirstLineGives, Lacks};
@@ -11,8 +11,8 @@ use crate::plain::after_line;
 use crate::row::Row;
 use tk_clock::Command;
 
-/// Parses an update or a read at the beginning of a text, and returns its row and what follows its
-/// line. `None` means another form, or a fault.
+/// Parses an update or a read at the beginning of a text, and returns its row and the text after
+/// its line. `None` means that the line has another form or a fault.
 pub(crate) fn leading_row(text: &[u8]) -> Option<(Row, &[u8])>
     ensures { IfSome result (λ found. FirstLineGives row_of text.now found.0 found.1.now) }
 {
@@ -22,7 +22,7 @@ pub(crate) fn leading_row(text: &[u8]) -> Option<(Row, &[u8])>
     }
 }
 
-/// Parses an update, and returns its row and what follows its line.
+/// Parses an update, and returns its row and the text after its line.
 fn leading_update(text: &[u8]) -> Option<(Row, &[u8])>
     ensures { IfSome result (λ found. FirstLineGives row_of text.now found.0 found.1.now) }
 {
@@ -32,7 +32,7 @@ fn leading_update(text: &[u8]) -> Option<(Row, &[u8])>
     Some((Row::Act { reading, cmd }, rest))
 }
 
-/// Parses a read, and returns its row and what follows its line.
+/// Parses a read, and returns its row and the text after its line.
 fn leading_look(text: &[u8]) -> Option<(Row, &[u8])>
     ensures { IfSome result (λ found. FirstLineGives row_of text.now found.0 found.1.now) }
 {
@@ -43,7 +43,7 @@ fn leading_look(text: &[u8]) -> Option<(Row, &[u8])>
     Some((Row::Look { reading, clock }, rest))
 }
 
-/// Parses a front and a stamp at the beginning of a text, and returns them and what follows their
+/// Parses a front and a stamp at the beginning of a text, and returns them and the text after their
 /// line.
 pub(crate) fn leading_stamp(text: &[u8]) -> Option<((u64, u64), &[u8])>
     ensures { IfSome result (λ found. FirstLineGives stamp_of text.now found.0 found.1.now) }
@@ -54,7 +54,7 @@ pub(crate) fn leading_stamp(text: &[u8]) -> Option<((u64, u64), &[u8])>
     Some(((front, stamp), rest))
 }
 
-/// Returns the field at the beginning of a text, and what follows it. It is mostly short.
+/// Returns the field at the beginning of a text, and the text after it. The field is usually short.
 fn leading_field(text: &[u8]) -> (&[u8], &[u8])
     ensures split { text.now ≡ result.0.now ++ result.1.now }
     ensures whole { Lacks (is_byte2 44 10) result.0.now }
@@ -67,8 +67,8 @@ fn leading_field(text: &[u8]) -> (&[u8], &[u8])
     (text, &[])
 }
 
-/// Returns what follows these bytes at the beginning of a text. They are few and known to the
-/// compiler at each call, so it unrolls the loop.
+/// Returns the text after these bytes, if it begins with them. The compiler knows the few bytes at
+/// each call, so it unrolls the loop.
 #[inline(always)]
 fn skip<'a>(text: &'a [u8], beginning: &[u8]) -> Option<&'a [u8]>
     ensures { IfSome result (λ rest. text.now ≡ beginning.now ++ rest.now) }

@@ -1,19 +1,19 @@
 //! Parses scripts of commands and reads, and stamp files, and makes the lines of a report.
 //!
-//! | Item | What it does |
+//! | Item | Its meaning |
 //! |---|---|
 //! | `Script`, `Row` | hold a parsed script: the opening of the clocks, then commands and reads |
 //! | `RowReader`, `Start` | read a script one row at a time |
 //! | `Stamps` | holds a parsed stamp file: readings of the counter, each with its front |
 //! | `SIZE_LIMIT` | is the greatest size of a script or of a stamp file, in bytes |
-//! | `ScriptError` | says what the first fault of a script or of a stamp file is |
+//! | `ScriptError` | names the first fault of a script or of a stamp file |
 //! | `number`, `clock_word` | parse one field |
 //! | `line_open`, `line_ok`, `line_no`, `line_at` | append one line of a report |
-//! | `Calendar` | appends the same lines of clocks, and computes each date once |
+//! | `Calendar` | appends lines of clocks, and computes the date once for lines of one day |
 //! | `utc` | returns a time as UTC text |
 //!
-//! Units: readings in cycles; times in seconds and nanoseconds. Records count from 1, fields from
-//! 0.
+//! Units: readings in cycles; times in seconds and nanoseconds. Records are counted from 1, fields
+//! from 0. No call waits.
 #![tactic(auto)]
 
 mod at_lines;

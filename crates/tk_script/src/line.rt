@@ -1,5 +1,5 @@
-//! Builds one line of a report on the stack, from its end to its beginning, since the first digit
-//! of a number is known last.
+//! Builds one line of a report on the stack, from its end to its beginning, because the first digit
+//! of a number is computed last.
 ghost use Rattle.std.specs.Prelude.{◌≡◌, ◌+◌, ◌<◌, ◌≤◌, ℕ, List, ◌++◌, OnOk, OnErr, IfErr, codes, length, decimal, drop};
 ghost use Rattle.tk_script.specs.Line.{HasRoom};
 ghost use Rattle.tk_script.specs.Lines.{IsWritable, time_text};
@@ -11,10 +11,10 @@ use std::alloc::Allocator;
 use std::marker::Model;
 use tk_clock::Timespec;
 
-/// The size of the buffer, in bytes. No line has more than 85.
+/// The size of the buffer, in bytes. No line is longer than 85 bytes.
 const ROOM: usize = 96;
 
-/// The last part of a line, as far as it is built.
+/// Contains the part of a line that is already built: its end.
 #[derive(Drop)]
 pub(crate) struct Line {
     bytes: [u8; ROOM],
@@ -31,7 +31,7 @@ impl Model for Line {
 }
 
 impl Line {
-    /// Starts with the end of a line: a line feed.
+    /// Starts a line with its end, a line feed.
     #[inline(always)]
     pub fn end() -> Line
         ensures { result ≡ codes "\n" }
@@ -42,7 +42,7 @@ impl Line {
         }
     }
 
-    /// Puts a text at the beginning of the line.
+    /// Prepends a text to the line.
     #[inline(always)]
     pub fn put(&mut self, text: &[u8])
         requires { HasRoom (length text.now) self.old }
@@ -54,7 +54,7 @@ impl Line {
         self.start = start;
     }
 
-    /// Puts a number at the beginning, in decimal.
+    /// Prepends a number in decimal.
     #[inline(always)]
     pub fn put_number(&mut self, n: u64)
         requires { HasRoom 20 self.old }
@@ -64,7 +64,7 @@ impl Line {
         self.start = write_digits(n, &mut self.bytes, self.start);
     }
 
-    /// Puts seconds, a dot and nanoseconds at the beginning.
+    /// Prepends seconds, a dot and nanoseconds.
     #[inline(always)]
     pub fn put_time(&mut self, time: Timespec)
         requires writable { IsWritable time }
@@ -76,7 +76,7 @@ impl Line {
         self.put_number(time.sec as u64);
     }
 
-    /// Puts a dot and nine digits at the beginning: the last nine digits of a number of ten, whose first
+    /// Prepends a dot and nine digits: the last nine digits of a ten-digit number, whose first
     /// digit the dot overwrites.
     #[inline(always)]
     fn put_fraction(&mut self, nsec: u32)
@@ -89,7 +89,7 @@ impl Line {
         self.bytes[self.start] = b'.';
     }
 
-    /// Appends the line to a report. After an allocation failure the report is as it was.
+    /// Appends the line to a report. An allocation failure leaves the report unchanged.
     #[inline(always)]
     pub fn add_to<A: Allocator>(&self, out: &mut Vec<u8, A>) -> Result<(), ScriptError>
         ensures ok { OnOk result (out.new.items ≡ out.old.items ++ self.now) }

@@ -28,8 +28,8 @@ pub fn line_open<A: Allocator>(out: &mut Vec<u8, A>, desc: &CounterDesc) -> Resu
     line.add_to(out)
 }
 
-/// Appends the line of an accepted command: `ok,NUMBER,SEC.NNNNNNNNN`. `n` is the command's number
-/// and `time` MONOTONIC at its reading, from 0 to 9,223,372,035.999999999 s.
+/// Appends the line of an accepted command: `ok,NUMBER,SEC.NNNNNNNNN`. `n` is the command's number,
+/// and `time` is MONOTONIC at its reading, from 0 to 9,223,372,035.999999999 s.
 ///
 /// # Errors
 ///

@@ -4,7 +4,7 @@ ghost use Rattle.tk_script.specs.Word.{clock_of, clock_name, refusal_name};
 use crate::fields::has_word;
 use tk_clock::{ClockId, Refusal};
 
-/// Returns the clock that a script reads by this word. `None` means that no clock has the word.
+/// Returns the clock with this name in a script. `None` means that there is none.
 pub fn clock_word(word: &[u8]) -> Option<ClockId>
     ensures { result ≡ clock_of word.now }
 {
@@ -27,7 +27,7 @@ pub fn clock_word(word: &[u8]) -> Option<ClockId>
     }
 }
 
-/// Returns a clock's word.
+/// Returns a clock's name.
 pub(crate) fn word_of_clock(clock: ClockId) -> &'static [u8]
     ensures name { result.now ≡ clock_name clock }
     ensures short { length result.now ≤ 16 }
@@ -43,7 +43,7 @@ pub(crate) fn word_of_clock(clock: ClockId) -> &'static [u8]
     }
 }
 
-/// Returns a refusal's word.
+/// Returns a refusal's name.
 pub(crate) fn word_of_refusal(refusal: Refusal) -> &'static [u8]
     ensures name { result.now ≡ refusal_name refusal }
     ensures short { length result.now ≤ 7 }

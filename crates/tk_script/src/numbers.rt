@@ -4,18 +4,18 @@ ghost use Rattle.std.specs.Char.{is_ascii_digit};
 ghost use Rattle.std.specs.Str.Parse.{digits_value};
 ghost use Rattle.tk_script.specs.Number.{is_numeral, number_up_to, number_of, number32_of, signed_of};
 
-/// Parses a field as an unsigned number of 64 bits: one or more ASCII digits, with leading zeros
+/// Parses a field as an unsigned 64-bit number: one or more ASCII digits. Leading zeros are
 /// allowed.
 ///
-/// `None` means that the field is empty, has another byte (a space or a sign is one), or that the
-/// number needs more than 64 bits.
+/// `None` means that the field is empty, that it contains another byte, such as a space or a sign,
+/// or that the number needs more than 64 bits.
 pub fn number(field: &[u8]) -> Option<u64>
     ensures { result ≡ number_of field.now }
 {
     number_at_most(field, u64::MAX)
 }
 
-/// Parses a field as an unsigned number of 32 bits.
+/// Parses a field as an unsigned 32-bit number.
 pub(crate) fn number32(field: &[u8]) -> Option<u32>
     ensures { result ≡ number32_of field.now }
 {
@@ -23,7 +23,7 @@ pub(crate) fn number32(field: &[u8]) -> Option<u32>
     Some(value as u32)
 }
 
-/// Parses a field as a signed number of 64 bits. A negative one begins with one `-`.
+/// Parses a field as a signed 64-bit number. A negative number begins with one `-`.
 pub(crate) fn signed(field: &[u8]) -> Option<i64>
     ensures { result ≡ signed_of field.now }
 {
@@ -43,8 +43,8 @@ pub(crate) fn signed(field: &[u8]) -> Option<i64>
     }
 }
 
-/// Parses a field as a number of at most `most`. Nineteen digits always fit 64 bits, so most fields
-/// need no test of the sum.
+/// Parses a field as a number of at most `most`. Nineteen digits always fit in 64 bits, so most
+/// fields need no test of the sum.
 fn number_at_most(field: &[u8], most: u64) -> Option<u64>
     ensures { result ≡ number_up_to most field.now }
 {
@@ -64,7 +64,7 @@ fn short_number(field: &[u8]) -> Option<u64>
 }
 
 /// Parses the digits at the beginning of a text, and returns the number and the rest. `None` means
-/// that there is no digit. Only the first nineteen digits are taken.
+/// that there is no digit. It reads only the first nineteen digits.
 pub(crate) fn leading_number(text: &[u8]) -> Option<(u64, &[u8])>
     ensures { IfSome result (λ found. (digits : List ℕ) × (text.now ≡ digits ++ found.1.now)
         × (number_of digits ≡ Some found.0)) }
@@ -77,7 +77,7 @@ pub(crate) fn leading_number(text: &[u8]) -> Option<(u64, &[u8])>
 }
 
 /// Parses the digits at the beginning of at most nineteen bytes, and returns the number and the
-/// count of digits.
+/// number of digits.
 fn leading_digits(text: &[u8]) -> (u64, usize)
     requires { length text.now ≤ 19 }
     ensures fits { result.0 < 2 ^ 64 }
@@ -116,7 +116,7 @@ fn long_number(field: &[u8], most: u64) -> Option<u64>
     Some(value)
 }
 
-/// Returns whether the field has one digit or more, and nothing else.
+/// Returns whether the field consists of one or more digits.
 fn has_digits_only(field: &[u8]) -> bool
     ensures { result ≡ is_numeral field.now }
 {

@@ -9,7 +9,7 @@ use crate::script_error::ScriptError;
 use tk_clock::{Clock, Timespec};
 use tk_counter::CounterDesc;
 
-/// Contains the opening of a script: the values that its clocks are opened with.
+/// Contains the opening of a script: the values with which its clocks are opened.
 #[derive(Clone, Copy)]
 pub struct Start {
     /// Describes the counter.
@@ -20,7 +20,7 @@ pub struct Start {
     pub real: Timespec,
 }
 
-/// Says which two numbers describe the counter, after its bits.
+/// Names the two numbers that describe the counter, after its bits.
 #[derive(Clone, Copy)]
 enum Telling {
     /// `open`: mult and shift.
@@ -29,7 +29,7 @@ enum Telling {
     Frequency,
 }
 
-/// Parses the first record by its word.
+/// Parses the first record by its keyword.
 #[tactic(auto, unfolding(crate::specs::Opening::start_of))]
 pub(crate) fn read_start(fields: &Records<'_>) -> Result<Start, ScriptError>
     ensures value { result ≡ spec.start_of (fields_of fields.now) }
@@ -65,7 +65,7 @@ fn read_opening(telling: Telling, fields: &Records<'_>) -> Result<Start, ScriptE
     started(desc, reading, real)
 }
 
-/// Makes the counter of `bits` bits that the two numbers describe, if there is one.
+/// Makes the counter of `bits` bits from two numbers, if they describe one.
 fn counter_of(
     telling: Telling,
     bits: u32,

@@ -14,7 +14,7 @@ use crate::frequent::{leading_row, leading_stamp};
 use crate::row::Row;
 use memchr::{memchr, memchr2};
 
-/// The lines of a plain text: the one that was read last, and what follows it.
+/// Contains the line of a plain text that was read last, and the text after it.
 #[derive(Clone, Copy)]
 pub(crate) struct Lines<'a> {
     line: &'a [u8],
@@ -32,7 +32,7 @@ impl<'a> Lines<'a> {
         }
     }
 
-    /// Goes on to the next line that is not empty, if there is one.
+    /// Advances to the next line that isn't empty, if there is one.
     pub(crate) fn advance(&mut self) -> bool
         requires { IsPlain self.old.rest.now }
         ensures plain { result ≡ true → IsPlain self.new.rest.now }
@@ -62,7 +62,7 @@ impl<'a> Lines<'a> {
         field_of_line(self.line, i)
     }
 
-    /// Takes the row of the next line, if it has a frequent form and no fault.
+    /// Takes the row of the next line, if the line has a frequent form and no fault.
     pub(crate) fn take_row(&mut self) -> Option<Row>
         ensures some { IfSome result
             (λ row. FirstLineGives row_of self.old.rest.now row self.new.rest.now) }
@@ -73,7 +73,7 @@ impl<'a> Lines<'a> {
         Some(row)
     }
 
-    /// Takes the item of the next line of a stamp file, if it has no fault.
+    /// Takes the item of the next line of a stamp file, if the line has no fault.
     pub(crate) fn take_stamp(&mut self) -> Option<(u64, u64)>
         ensures some { IfSome result
             (λ item. FirstLineGives stamp_of self.old.rest.now item self.new.rest.now) }
@@ -96,7 +96,7 @@ pub(crate) fn is_plain(bytes: &[u8]) -> bool
     memchr2(b'"', b'\r', bytes).is_none()
 }
 
-/// Returns the first line that is not empty, and what follows it.
+/// Returns the first line that isn't empty, and the text after it.
 pub(crate) fn first_line(text: &[u8]) -> Option<(&[u8], &[u8])>
     requires { IsPlain text.now }
     ensures record { MatchOption result
@@ -131,7 +131,7 @@ fn after_empty_lines(text: &[u8]) -> &[u8]
     &[]
 }
 
-/// Returns what follows the end of a line: a line feed, or the end of the text.
+/// Returns the text after the end of a line, which is a line feed or the end of the text.
 pub(crate) fn after_line(text: &[u8]) -> Option<&[u8]>
     ensures { IfSome result (λ rest. EndsLine text.now rest.now) }
 {

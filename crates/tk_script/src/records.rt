@@ -17,17 +17,17 @@ use std::alloc::Global;
 /// The greatest size of a script or of a stamp file, in bytes.
 pub const SIZE_LIMIT: usize = 16_777_216;
 
-/// The records of a text, one at a time, and the one that was read last. Both variants read the
-/// records that csv's rules find in the text.
+/// Reads the records of a text one at a time, and contains the last one. Both variants follow the
+/// rules of csv.
 #[derive(Drop)]
 pub(crate) enum Records<'a> {
-    /// Those of any text, read by csv.
+    /// Reads any text, with csv.
     Quoted(Quoted<'a>),
-    /// Those of a text without quotes and carriage returns.
+    /// Reads a text without quotes and carriage returns.
     Plain(Lines<'a>),
 }
 
-/// A reader of csv's, and the record that it read last.
+/// A reader of csv, and the record that it read last.
 #[derive(Drop)]
 pub(crate) struct Quoted<'a> {
     reader: Reader<&'a [u8]>,
@@ -35,7 +35,8 @@ pub(crate) struct Quoted<'a> {
 }
 
 impl<'a> Records<'a> {
-    /// Starts at the first record of the bytes. No record is a header, and lengths may differ.
+    /// Starts at the first record of the bytes. No record is a header, and the numbers of fields
+    /// may differ.
     pub(crate) fn open(alloc: Global, bytes: &'a [u8]) -> Records<'a>
         ensures reading { IsCursor result }
         ensures left { left_in result ≡ Some (records_of bytes.now) }
@@ -84,7 +85,7 @@ impl<'a> Records<'a> {
         }
     }
 
-    /// Takes the row of the next record, if it has a frequent form and no fault.
+    /// Takes the row of the next record, if the record has a frequent form and no fault.
     pub(crate) fn take_row(&mut self) -> Option<Row>
         requires { IsCursor self.old }
         ensures some { IfSome result (λ row. TakesGiving row_of row self.old self.new) }
@@ -96,7 +97,8 @@ impl<'a> Records<'a> {
         }
     }
 
-    /// Takes the item of the next record of a stamp file, if the text is plain and it has no fault.
+    /// Takes the item of the next record of a stamp file, if the text is plain and the record has
+    /// no fault.
     pub(crate) fn take_stamp(&mut self) -> Option<(u64, u64)>
         requires { IsCursor self.old }
         ensures some { IfSome result (λ item. TakesGiving stamp_of item self.old self.new) }
@@ -109,8 +111,8 @@ impl<'a> Records<'a> {
     }
 }
 
-/// Makes a csv reader of the bytes. It has csv's defaults, except that no record is a header and
-/// that lengths may differ.
+/// Makes a csv reader of the bytes with csv's defaults, except that no record is a header and that
+/// the numbers of fields may differ.
 fn open_reader(alloc: Global, bytes: &[u8]) -> Reader<&[u8]>
     ensures reading { IsReading result }
     ensures left { left_of result ≡ Some (records_of bytes.now) }
@@ -136,7 +138,7 @@ fn next_fields(reader: &mut Reader<&[u8]>, fields: &mut ByteRecord) -> Result<bo
 }
 
 /// Returns the fault of a record that csv could not read from bytes in memory. The error is never
-/// that of a record's length, or of bytes that are no text.
+/// about the number of fields, or about bytes that aren't UTF-8.
 fn want_of_memory(error: Error) -> ScriptError
     requires { IsWantOfMemory (error_kind error) }
     ensures { result ≡ ScriptError.Memory }

@@ -8,8 +8,8 @@ use crate::records::Records;
 use crate::script_error::ScriptError;
 use tk_clock::{ClockId, Command, Timespec};
 
-/// Contains what a later record of a script asks for. `reading` is the counter's, in cycles; it may
-/// be above the mask, and the clocks then refuse it.
+/// Contains a record of a script after the first one: a command or a read. `reading` is the
+/// counter's, in cycles. It may be above the mask; the clocks refuse such a reading.
 #[derive(Clone, Copy, Debug, PartialEq, Eq)]
 pub enum Row {
     /// Applies a command at a reading.
@@ -18,7 +18,7 @@ pub enum Row {
     Look { reading: u64, clock: ClockId },
 }
 
-/// Parses the record `row` by its word. The frequent words are tested first.
+/// Parses the record `row` by its keyword. The frequent keywords are tested first.
 #[tactic(auto, unfolding(crate::specs::Rows::row_of))]
 pub(crate) fn read_row(row: u64, fields: &Records<'_>) -> Result<Row, ScriptError>
     ensures { result ≡ spec.row_of row (fields_of fields.now) }

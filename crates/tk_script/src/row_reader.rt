@@ -9,8 +9,7 @@ use crate::row::{Row, read_row};
 use crate::script_error::ScriptError;
 use std::alloc::Global;
 
-/// Reads the rows of a script one at a time. It holds one record in memory, however long the script
-/// is.
+/// Reads the rows of a script one at a time. It keeps only one record in memory.
 #[derive(Drop)]
 pub struct RowReader<'a> {
     records: Records<'a>,
@@ -21,11 +20,11 @@ pub struct RowReader<'a> {
 impl<'a> RowReader<'a> {
     /// Parses the opening of a script, and returns it with a reader of the rows.
     ///
-    /// Clocks can be opened with the values of the opening.
+    /// Clocks can be opened with the values of a returned opening.
     ///
     /// # Errors
     ///
-    /// In this order; `Memory` may replace any other result:
+    /// Returns the first of these; `Memory` may replace any other result:
     /// - `TooLarge`: there are more than 16,777,216 bytes
     /// - `Empty`: there is no record
     /// - `Opening`, `Fields`, `Number`: the first record has a fault
@@ -34,7 +33,7 @@ impl<'a> RowReader<'a> {
             (λ opened. IsReady opened.1
             × (parse_of bytes.now ≡ opened_with opened.0 (coming opened.1)))
             (λ error. Fails error (parse_of bytes.now)) }
-        // clocks can be opened as the script says
+        // clocks can be opened with the script's opening
         ensures opens { IfOk result (λ opened.
             opening_refusal opened.0.desc opened.0.reading opened.0.real ≡ None) }
     {
@@ -49,7 +48,7 @@ impl<'a> RowReader<'a> {
         Ok((start, RowReader { records, row: 2 }))
     }
 
-    /// Parses the next record and returns its row. `None` means that no record is left.
+    /// Parses the next record and returns its row. `None` means that no record remains.
     ///
     /// After `None` or an error the reader must not be called again.
     ///

@@ -9,7 +9,7 @@ use std::alloc::Global;
 use tk_clock::Timespec;
 use tk_counter::CounterDesc;
 
-/// Contains a parsed script: how the clocks are opened, and then its commands and reads.
+/// Contains a parsed script: the opening of the clocks, and then the commands and reads.
 #[derive(Drop)]
 pub struct Script {
     /// Describes the counter.
@@ -25,7 +25,7 @@ pub struct Script {
 impl Script {
     ghost use Rattle.tk_script.specs.Script.{parse};
 
-    /// Parses the bytes of a script. Clocks can be opened with the values of the result.
+    /// Parses the bytes of a script. Clocks can be opened with the values of a returned script.
     ///
     /// # Errors
     ///
@@ -33,7 +33,7 @@ impl Script {
     /// replace any other result.
     pub fn from_bytes(alloc: Global, bytes: &[u8]) -> Result<Script, ScriptError>
         ensures gives { Gives parse result (parse_of bytes.now) }
-        // clocks can be opened as the script says
+        // clocks can be opened with the script's opening
         ensures opens { IfOk result (λ script.
             opening_refusal script.desc script.reading script.real ≡ None) }
     {

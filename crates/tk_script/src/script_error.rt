@@ -1,10 +1,11 @@
 use thiserror::Error;
 
-/// Says what is wrong with a script or a stamp file: its first fault, or an allocation failure.
+/// Names the first fault of a script or a stamp file, or an allocation failure.
 ///
 /// `TooLarge` is tested first, then `Empty`. After that the first record with a fault decides: its
-/// word, then its number of fields, then its fields from left to right, and in the first record of
-/// a script last the opening. `row` counts records from 1. `Display` prints the program's text.
+/// keyword, then its number of fields, then its fields from left to right, and last, in the first
+/// record of a script, the opening. `row` counts records from 1. `Display` prints the program's
+/// text.
 #[derive(Clone, Copy, Debug, PartialEq, Eq, Error)]
 pub enum ScriptError {
     /// The text has more than 16,777,216 bytes.
@@ -13,16 +14,18 @@ pub enum ScriptError {
     /// The script has no record. A stamp file may have none.
     #[error("no record")]
     Empty,
-    /// The first record's word is no opening's, or no clocks can be opened with its values.
+    /// The first record doesn't begin with `open` or `openhz`, or no clocks can be opened with its
+    /// values.
     #[error("record {row}: not a valid opening")]
     Opening { row: u64 },
-    /// The word of a later record, or that of a clock, is unknown. A second opening is one.
+    /// The keyword of a later record or the name of a clock is unknown. The keyword of a second
+    /// opening counts as unknown.
     #[error("record {row}: unknown word")]
     Word { row: u64 },
-    /// The record has too few or too many fields for its word.
+    /// The record has too few or too many fields for its keyword.
     #[error("record {row}: wrong number of fields")]
     Fields { row: u64 },
-    /// A field is no number, or one out of the range of its type.
+    /// A field isn't a number, or the number is out of the range of its type.
     #[error("record {row}: not a number in range")]
     Number { row: u64 },
     /// An allocation failed. This may replace any other result.

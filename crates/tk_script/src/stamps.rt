@@ -8,27 +8,27 @@ use crate::records::{Records, SIZE_LIMIT};
 use crate::script_error::ScriptError;
 use std::alloc::Global;
 
-/// Contains a parsed stamp file: for each item a front and a stamp, in two lists of the same
+/// Contains a parsed stamp file: the fronts and the stamps of its items, in two lists of the same
 /// length.
 #[derive(Drop)]
 pub struct Stamps {
-    /// Each item's front: the number of accepted commands of a script before the stamp. Reads and
-    /// refused commands do not count.
+    /// The items' fronts: the numbers of accepted commands of a script before the stamps. Reads and
+    /// refused commands don't count.
     pub fronts: Vec<u64>,
-    /// Each item's stamp, in the same order: a reading of the counter, in cycles.
+    /// The items' stamps, in the same order: readings of the counter, in cycles.
     pub stamps: Vec<u64>,
 }
 
 impl Stamps {
-    /// Parses the bytes of a stamp file. A file without a record has no stamps.
+    /// Parses the bytes of a stamp file. A file without records gives empty lists.
     ///
     /// # Errors
     ///
-    /// In this order; the first record with a fault decides, and `Memory` may replace any other
-    /// result:
+    /// Returns the first fault, in this order. The first record with a fault decides, and `Memory`
+    /// may replace any other result:
     /// - `TooLarge`: there are more than 16,777,216 bytes
-    /// - `Fields`: a record has not two fields
-    /// - `Number`: the front, or the stamp, is no unsigned number of 64 bits
+    /// - `Fields`: a record doesn't have exactly two fields
+    /// - `Number`: the front or the stamp isn't an unsigned 64-bit number
     pub fn from_bytes(alloc: Global, bytes: &[u8]) -> Result<Stamps, ScriptError>
         ensures gives { Gives spec.items result (spec.stamps_of bytes.now) }
         ensures paired { IfOk result (λ s. length s.fronts.items ≡ length s.stamps.items) }
@@ -50,7 +50,7 @@ impl Stamps {
     }
 }
 
-/// Parses all records that are left, the first of which is the first of the file.
+/// Parses all remaining records. The next one is the first of the file.
 fn read_stamps(alloc: Global, records: &mut Records<'_>) -> Result<Stamps, ScriptError>
     requires { IsCursor records.old }
     ensures gives { (rs : List (List (List ℕ))) → left_in records.old ≡ Some rs

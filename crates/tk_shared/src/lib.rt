@@ -1,22 +1,26 @@
 //! Shares a timekeeper under one lock among callers in many threads.
 //!
-//! | Item | What it is |
+//! | Item | Its meaning |
 //! |---|---|
-//! | `prepare`, `Prepared` | makes all that a shared keeper needs |
+//! | `prepare`, `Prepared` | makes all parts of a shared keeper |
 //! | `CALLERS_LIMIT` | the greatest number of callers |
 //! | `SharedKeeper` | the lock, the page and the latch: commands, reads, folds, closing |
 //! | `Caller` | gives commands and reads the clocks |
 //! | `Closed`, `Missing` | the result of closing, and what a failed closing returns |
 //! | `OpenError`, `OpenFault` | why a keeper can't be opened, and the counter |
-//! | `now_never_falls` | a law: with an honest counter MONOTONIC never falls |
+//! | `now_never_falls` | a law: MONOTONIC never goes back; its comment lists the conditions |
 //! | `NowFault`, `Late` | why there is no time now |
-//! | `Counter`, `Ticker` | gives readings; one that counts in even steps |
-//! | `SharedReader` | gives the readings of a counter that many threads read |
-//! | `Named` | a type's names for one keeper, which show that its parts belong together |
-//! | `Locked` | the value that the lock protects, whose invariant all proofs use |
+//! | `Counter`, `Ticker` | returns readings; a counter with even steps |
+//! | `SharedReader` | reads a counter that many threads share |
+//! | `Named` | names the parts of one keeper by a type, to show that they belong together |
+//! | `Locked` | the value under the lock, whose invariant all proofs use |
 //!
-//! Units are those of `tk_clock`. A front is the number of accepted commands that a caller has seen
-//! on the page. A mark is the number of the latest publication that it knows of on the latch.
+//! `command` and `fold` wait for the lock. `command`, `read`, `now` and `close` may wait for
+//! threads that hold the words of the page, as does `prepare` by its contract; `now` also waits for
+//! commands. No other call waits. Only `prepare`, `open` and `SharedReader::new` allocate, and
+//! `command` when the prepared capacity is used up. Units are the same as in `tk_clock`. A front is
+//! the number of accepted commands that a caller has seen on the page. A mark is the number of the
+//! latest publication that it knows of on the latch.
 #![tactic(auto)]
 
 mod caller;

@@ -16,13 +16,17 @@ use tk_now::{Notice, SharedCounter, Watcher};
 use tk_page::{Page, Viewer};
 
 impl<L: Named, C: Counter> SharedKeeper<L, C> {
-    /// Returns a clock's time now, at a reading of `counter` that this call takes (`ktime_get`).
+    /// Returns a clock's time now, at a reading of `counter` taken by this call (`ktime_get`).
     ///
-    /// It allocates nothing. It reads the page, and then the counter between two looks at the
-    /// notice. It tries again while a command comes between, and waits for whoever holds the words
-    /// of the page. The keeper's commands have to read the same counter, as with `SharedReader`.
-    /// Then MONOTONIC never falls, neither for one caller nor between callers
-    /// (`now_never_falls`).
+    /// It reads the page, and then the counter between two loads of the notice. It tries again if a
+    /// command was in progress or was accepted in between, and may wait for a thread that holds the
+    /// words of the page.
+    ///
+    /// MONOTONIC never goes back, neither for one caller nor between callers, under three
+    /// conditions (`now_never_falls`). The keeper's commands read the same counter, as with
+    /// `SharedReader`. The counter is honest: its readings come from a count that never falls.
+    /// While the clocks are awake, at least one command is accepted in each half of the counter's
+    /// range.
     ///
     /// # Errors
     ///
@@ -55,13 +59,14 @@ impl<L: Named, C: Counter> SharedKeeper<L, C> {
         )
     }
 
-    /// Returns a clock's time now without waiting, at a reading of `counter` that this call takes
+    /// Returns a clock's time now without waiting, at a reading of `counter` taken by this call
     /// (`ktime_get_mono_fast_ns`).
     ///
-    /// It waits for nobody and allocates nothing. It reads the latch, and then the counter between
-    /// two looks at the notice. It compares the two numbers of commands, so that none came between
-    /// the snapshot and the reading. The keeper's commands have to read the same counter, as with
-    /// `SharedReader`. Then MONOTONIC never falls (`now_never_falls`).
+    /// It reads the latch, and then the counter between two loads of the notice. It compares the
+    /// two numbers of commands, so that no command was accepted between the snapshot and the
+    /// reading.
+    ///
+    /// MONOTONIC never goes back under the conditions of `now`.
     ///
     /// # Errors
     ///
@@ -94,8 +99,8 @@ impl<L: Named, C: Counter> SharedKeeper<L, C> {
     }
 }
 
-/// Returns a clock's time by the page, at a reading whose place is the last entry that the viewer has
-/// seen then. It tries until no command comes between.
+/// Returns a clock's time by the page, at a reading taken after the last entry that the viewer has
+/// seen and before the next one. It tries again until no command is accepted in between.
 #[inline]
 fn time_seen<R: Wait, S: SharedCounter>(
     rt: &R,
@@ -128,7 +133,8 @@ fn time_seen<R: Wait, S: SharedCounter>(
     unreachable!()
 }
 
-/// Returns a clock's time by the latch's latest publication, at a reading whose place is that.
+/// Returns a clock's time by the latch's latest publication, at a reading taken after the last
+/// command of that publication and before the next one.
 #[inline(always)]
 fn time_by<S: SharedCounter>(
     latch: &Latch,

@@ -22,11 +22,11 @@ pub const CLOCKS: [ClockId; 7] = [
     ClockId::MonotonicRaw,
 ];
 
-/// Returns the description of a counter of 32 bits and one nanosecond a cycle.
+/// Returns the description of a 32-bit counter of one nanosecond a cycle.
 ///
 /// # Errors
 ///
-/// Returns the fault of these numbers. They have none.
+/// Returns the fault of these numbers, which never happens.
 pub fn nanosecond_counter() -> Result<CounterDesc, DescError> {
     CounterDesc::new(32, 16_777_216, 24)
 }

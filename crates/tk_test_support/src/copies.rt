@@ -5,7 +5,7 @@ use std::alloc::AllocError;
 ///
 /// # Errors
 ///
-/// Returns `AllocError` if a clone has no memory.
+/// Returns `AllocError` if the allocation for a clone fails.
 pub fn mixed_up<T: Copy + PartialEq>(values: &[T]) -> Result<Option<(usize, usize)>, AllocError> {
     for (place, value) in values.iter().enumerate() {
         let copy = value.clone()?;

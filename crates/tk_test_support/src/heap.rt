@@ -7,10 +7,10 @@ const NONE: u64 = u64::MAX;
 /// The state in which every request is refused.
 const ALL: u64 = 0;
 
-/// Forwards each request to another allocator, except for those that it was set to refuse.
+/// Forwards requests to another allocator, except for the ones that it was set to refuse.
 ///
-/// Threads may share it. If several allocate at once, it isn't specified which of their requests is
-/// refused, or how many.
+/// Threads may share it. If several allocate at once, the number of refused requests is
+/// unspecified, and so is which ones are refused.
 pub struct Heap<B: Allocator> {
     inner: B,
     /// `NONE`, `ALL`, or the number of the request to refuse, counted from 1 for the next one.
@@ -18,7 +18,7 @@ pub struct Heap<B: Allocator> {
 }
 
 impl<B: Allocator> Heap<B> {
-    /// Creates a heap over another allocator. It refuses nothing yet.
+    /// Creates a heap that forwards to another allocator. It refuses nothing yet.
     pub fn new(inner: B) -> Heap<B> {
         Heap {
             inner,
@@ -26,18 +26,18 @@ impl<B: Allocator> Heap<B> {
         }
     }
 
-    /// Refuses every request from now on, until `grant_all` or `refuse` is called.
+    /// Refuses every following request, until `grant_all` or `refuse` is called.
     pub fn refuse_all(&self) {
         self.refused.store(ALL, Ordering::SeqCst);
     }
 
-    /// Refuses one request from now on: the next one if `number` is 1. If `number` is 0, refuses
-    /// every request; if it is `u64::MAX`, none.
+    /// Refuses one of the following requests: the next one if `number` is 1. If `number` is 0,
+    /// refuses every request; if it is `u64::MAX`, none.
     pub fn refuse(&self, number: u64) {
         self.refused.store(number, Ordering::SeqCst);
     }
 
-    /// Forwards every request from now on. Returns whether a refusal was still set: `false` means
+    /// Forwards every following request. Returns whether a refusal was still set: `false` means
     /// that the chosen request was refused, or that none was chosen.
     pub fn grant_all(&self) -> bool {
         self.refused.swap(NONE, Ordering::SeqCst) != NONE

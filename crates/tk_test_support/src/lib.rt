@@ -1,6 +1,6 @@
-//! Provides what tests and benchmarks of several crates share.
+//! Provides the common parts of the tests and benchmarks of several crates.
 //!
-//! | Item | What it is |
+//! | Item | Its meaning |
 //! |---|---|
 //! | `Heap` | an allocator that forwards requests to another one, and refuses chosen ones |
 //! | `nanosecond_counter`, `OPENED_TIME`, `OPENED_REAL` | the clocks that most tests open |
@@ -10,11 +10,11 @@
 //! | `PageDesk`, `opened_page` | clocks with the publisher of their journal, on a page |
 //! | `STEP`, `reading_of` | clocks that are updated in equal steps |
 //! | `weight`, `weighed` | numbers computed from the words of a snapshot |
-//! | `Job`, `run_jobs` | a job of a timing program; runs the jobs that its words ask for |
+//! | `Job`, `run_jobs` | a job of a timing program; runs the jobs that its arguments name |
 //! | `Effort` | the length of a turn |
 //! | `Turn`, `IN_MILLISECONDS` | the result of a turn |
 //!
-//! Times are those of the system's clock. Readings are in cycles of a nanosecond. Requests are
+//! Times are measured with the system's clock. Readings are in cycles of a nanosecond. Requests are
 //! counted from 1. A `&Heap` is an allocator that is `Copy`.
 #![tactic(auto)]
 

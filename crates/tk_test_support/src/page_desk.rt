@@ -9,7 +9,7 @@ use tk_page::{Page, Publisher, Viewer};
 
 /// Applies commands to clocks, and publishes the clocks on a page after each.
 ///
-/// In contracts its value is that of its publisher: the page, and what was published on it.
+/// Contracts see it as its publisher: the page, and the journal that was published on it.
 #[derive(Drop)]
 pub struct PageDesk {
     clock: Clock,
@@ -31,8 +31,8 @@ impl Model for PageDesk {
         (d.clock ≡ state_of d.publisher.journal) × (d.front ≡ accepted_count d.publisher.journal) };
 }
 
-/// Opens clocks and a page over them, and returns the page, its desk and one viewer. Returns `None`
-/// if a call fails.
+/// Opens clocks and a page of their snapshot, and returns the page, its desk and one viewer.
+/// Returns `None` if a call fails.
 pub fn opened_page<R: Wait>(rt: &R, alloc: Global) -> Option<(Page, PageDesk, Viewer)>
     ensures desk { IfSome result (λ opened. opened.1.page ≡ opened.0) }
     ensures viewer { IfSome result (λ opened. opened.2.page ≡ opened.0) }

@@ -1,4 +1,4 @@
-//! Runs the jobs of a timing program that its words ask for, and prints the line of each.
+//! Runs the jobs of a timing program that its arguments name, and prints the line of each.
 
 use crate::turn::{Effort, TURNS, Turn};
 use std::process::ExitCode;
@@ -14,11 +14,11 @@ pub trait Job: Copy {
     fn unit(self) -> &'static str;
 }
 
-/// Runs those of the jobs that the process's words ask for, in their order, and prints the line of
-/// each. `turn` does a job once, and returns `None` if it fails.
+/// Runs the jobs that the process's arguments name, in the order of the jobs, and prints the line
+/// of each. `turn` does a job once, and returns `None` if it fails.
 ///
-/// Returns the exit code: 2 if the words are refused; 1 if a job failed, its turns gave different
-/// checks, or its line couldn't be printed.
+/// Returns the exit code: 2 if the arguments are refused; 1 if a job failed, its turns gave
+/// different checks, or its line couldn't be printed.
 pub fn run_jobs<J, R, F>(rt: &R, jobs: &[J], turn: F) -> ExitCode
 where
     J: Job,
@@ -44,13 +44,13 @@ where
     ExitCode::from(status)
 }
 
-/// Returns the process's words. The first is the program's own name.
+/// Returns the process's arguments. The first one is the program's name.
 fn words_of(rt: &(impl Env + AllocGlobal)) -> io::Result<Vec<String>> {
     Ok(env::args(rt)?.collect(rt.alloc())?)
 }
 
-/// Returns the length of turns that the words ask for: full for `time`, short without a word.
-/// Returns `None` if the second word is another one than `time`.
+/// Returns the length of turns for these arguments: full for `time`, short without an argument.
+/// Returns `None` if the second argument isn't `time`.
 fn effort_of(words: &[String]) -> Option<Effort> {
     match words.get(1) {
         None => Some(Effort::Short),
@@ -59,8 +59,7 @@ fn effort_of(words: &[String]) -> Option<Effort> {
     }
 }
 
-/// Returns whether the words ask for a job of this name. Without a name after `time` they ask for
-/// all jobs.
+/// Returns whether the arguments name this job. Without a name after `time` they name all jobs.
 fn is_asked(words: &[String], name: &str) -> bool {
     for asked in words.iter().skip(2) {
         if asked.as_str() == name {

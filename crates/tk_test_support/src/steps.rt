@@ -4,15 +4,15 @@ use tk_clock::Snapshot;
 /// The cycles between two commands, each a nanosecond.
 pub const STEP: u64 = 1_000;
 
-/// Returns the reading of a command by its number, in cycles: `number * STEP`. It isn't reduced to
-/// the 32 bits of the counter.
+/// Returns the reading of the command with a number, in cycles: `number * STEP`. It isn't reduced
+/// to the 32 bits of the counter.
 pub fn reading_of(number: u64) -> u64 {
     number.wrapping_mul(STEP)
 }
 
-/// Returns a number computed from all ten words of a snapshot. It is the same after each update,
-/// because each update is a step later than the one before. Words mixed from two snapshots usually
-/// give another number.
+/// Returns a number computed from all ten words of a snapshot. It is the same after every update,
+/// because an update is one step later than the update before it. Words mixed from two snapshots
+/// usually give another number.
 ///
 /// Neighbouring words get different operations. Otherwise the compiler would load two of them at
 /// once, which waits until both have left the processor's store buffer.

@@ -16,7 +16,8 @@ pub enum Effort {
 }
 
 impl Effort {
-    /// Returns the number of repetitions in a turn: that of a full turn, or a thousandth of it.
+    /// Returns the number of repetitions in a turn: the number of a full turn, or a thousandth of
+    /// it.
     pub fn of(self, full: u64) -> u64 {
         match self {
             Effort::Short => full / 1_000,

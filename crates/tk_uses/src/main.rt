@@ -21,7 +21,7 @@ use tk_clock::{ClockId, Command, Timespec};
 use tk_counter::CounterDesc;
 use tk_keeper::Timekeeper;
 
-/// The number of this caller, which the journal keeps with each entry.
+/// The number of this caller, which the journal stores with every entry.
 const WHO: u32 = 7;
 
 fn main(rt: HostRuntime) -> Result<(), Stop> {
@@ -34,14 +34,15 @@ fn main(rt: HostRuntime) -> Result<(), Stop> {
     threads::run(&rt, rt.alloc())
 }
 
-/// Opens the clocks of a counter with 1 microsecond a cycle and readings of 32 bits. At the reading
-/// 0 REALTIME is 1,700,000,000 s.
+/// Opens the clocks of a counter with 1 microsecond a cycle and 32-bit readings. At the reading 0
+/// REALTIME is 1,700,000,000 s.
 fn opened(alloc: Global) -> Result<Timekeeper, Stop> {
     let desc = CounterDesc::from_hz(32, 1_000_000, 600)?;
     Ok(Timekeeper::open(alloc, desc, 0, time(1_700_000_000, 0))?)
 }
 
-/// Sets REALTIME, steps it back by 1.25 s, and lets the clocks run 500 ppm faster from 5 s on.
+/// Sets REALTIME, steps it back by 1.25 s, and makes the clocks run 500 ppm faster, starting at 5
+/// s.
 fn settings(rt: &impl Print, keeper: &mut Timekeeper) -> Result<(), Stop> {
     let set = time(1_700_000_100, 500_000_000);
     act(rt, keeper, 2_000_000, Command::SetTime(set))?;
@@ -65,7 +66,8 @@ fn sleep(rt: &impl Print, keeper: &mut Timekeeper) -> Result<(), Stop> {
 }
 
 /// Folds all commands except for the last two. The clocks keep their values, and stamps of the
-/// fronts 3 to 5 still convert. Front 2 is folded then, and there is no front 6 yet.
+/// fronts 3 to 5 still convert. After the fold front 2 has no snapshot, and front 6 doesn't exist
+/// yet.
 fn fold(rt: &impl Print, keeper: &mut Timekeeper) -> Result<(), Stop> {
     let folded = keeper.fold(2);
     println!(rt; "folded {folded} of {}", keeper.len())?;

@@ -1,4 +1,5 @@
-//! Three threads share the clocks of a machine: one gives commands, two ask for the time now.
+//! Shows three threads that share the clocks of a machine: one gives commands, two ask for the time
+//! now.
 ghost use Rattle.std.specs.Prelude.{◌≡◌, ℕ, IfOk};
 ghost use Rattle.tk_clock.specs.Clocks.{clock_value};
 ghost use Rattle.tk_clock.specs.Time.{nanoseconds};
@@ -19,7 +20,7 @@ use tk_shared::{Caller, Counter, Named, OpenError, Prepared, SharedKeeper, Share
 /// The number of commands of one thread.
 const COMMANDS: u64 = 100;
 
-/// The number of answers that each of the other two threads gets.
+/// The number of answers of each of the other two threads.
 const ANSWERS: u64 = 1_000;
 
 /// The counter of the machine, which all threads read. This one counts its reads, as cycles of 1
@@ -39,7 +40,7 @@ impl SharedCounter for Machine {
     }
 }
 
-/// What the threads did.
+/// The results of the threads.
 #[derive(Clone, Copy)]
 struct Work {
     /// The number of accepted commands.
@@ -48,7 +49,7 @@ struct Work {
     fell: u64,
 }
 
-/// Opens the clocks for three callers, lets them work, and prints what they did.
+/// Opens the clocks for three callers, lets them work, and prints their results.
 pub(crate) fn run<R: Threads + Wait + Print + Sync>(rt: &R, alloc: Global) -> Result<(), Stop> {
     let machine = Machine {
         cycles: AtomicU64::new(0),
@@ -69,7 +70,7 @@ pub(crate) fn run<R: Threads + Wait + Print + Sync>(rt: &R, alloc: Global) -> Re
     Ok(())
 }
 
-/// Opens what was prepared. `L` names its parts, so no value of it leaves this function.
+/// Opens the prepared keeper. `L` names its parts, so no value of type `L` leaves this function.
 fn works<L: Named + Send + Sync, C: Counter, R: Threads + Wait + Sync>(
     rt: &R,
     alloc: Global,
@@ -107,7 +108,7 @@ fn works<L: Named + Send + Sync, C: Counter, R: Threads + Wait + Sync>(
     })
 }
 
-/// Lets the clocks run faster and slower in turn, and returns the number of accepted commands.
+/// Sets the clocks to run faster and slower in turn, and returns the number of accepted commands.
 fn steers<L: Named, C: Counter, R: Wait>(
     rt: &R,
     keeper: &SharedKeeper<L, C>,
@@ -120,7 +121,7 @@ fn steers<L: Named, C: Counter, R: Wait>(
     Ok(caller.accepted())
 }
 
-/// Asks again and again, and returns the number of answers that were below the one before.
+/// Asks repeatedly, and returns the number of answers that were below the one before.
 fn asks<L: Named, C: Counter, R: Wait>(
     rt: &R,
     keeper: &SharedKeeper<L, C>,
@@ -140,8 +141,8 @@ fn asks<L: Named, C: Counter, R: Wait>(
     Ok(fell)
 }
 
-/// Returns MONOTONIC now. It is the value, at a reading of this call, by the commands that the
-/// caller has seen by now.
+/// Returns MONOTONIC now: its value at a reading of this call, by the commands that the caller has
+/// seen by then.
 fn monotonic_now<L: Named, C: Counter, R: Wait>(
     rt: &R,
     keeper: &SharedKeeper<L, C>,

@@ -1,6 +1,6 @@
 //! Runs the program `tkcore`: writes reports and traces of scripts to standard output.
 //!
-//! | Words | What it does |
+//! | Arguments | Effect |
 //! |---|---|
 //! | none, or `replay` | writes the report of the script on standard input |
 //! | `replay --keep N` | writes it with no limit on the commands, from a bounded journal |
@@ -8,9 +8,8 @@
 //! | `many WORKERS FILE..` | writes the reports of many scripts, made by threads |
 //! | `race STEP FILE..` | lets the commands of scripts race, a thread for each script |
 //!
-//! Status 0: done. Status 1: a fault, on standard error or in a line of `many`. Status 2: words
-//! refused.
-//! docs/TKCORE.md describes words, records, lines and faults.
+//! Status 0: done. Status 1: a fault, on standard error or in a line of `many`. Status 2: the
+//! arguments are refused. docs/TKCORE.md describes arguments, records, lines and faults.
 #![tactic(auto)]
 
 use std::process::ExitCode;

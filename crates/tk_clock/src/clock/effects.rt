@@ -1,4 +1,4 @@
-//! Applies each command to the clocks, and tests the values that it leads to.
+//! Applies commands to the clocks, and tests the resulting values.
 ghost use Rattle.std.specs.Prelude.{◌≡◌, ◌+◌, ◌*◌, ◌/◌, ◌^◌, ◌<◌, ◌≤◌, MatchResult, MatchOption, Some, None, pos, ◌≤ℤ◌, ◌<ℤ◌, ◌+ℤ◌, true, false, ◌⊎◌};
 ghost use Rattle.tk_clock.specs.State.{base_value, forwarded};
 ghost use Rattle.tk_clock.specs.Limits.{limit, sets_real};
@@ -16,10 +16,11 @@ use crate::refusal::Refusal;
 use crate::timespec::{Timespec, nanos_of};
 
 impl Clock {
-    /// Returns the clocks after a command that passed the tests which need no value.
+    /// Returns the clocks after a command that passed the tests which don't depend on a clock's
+    /// value.
     ///
-    /// The errors are Range if a clock would be at its limit, and then Invalid if REALTIME would be
-    /// set below MONOTONIC or to a time that it may not be set to.
+    /// The errors are `Range` if a clock would be at its limit, and then `Invalid` if REALTIME
+    /// would be set below MONOTONIC or to a time that it may not be set to.
     pub(super) fn effect(&self, reading: u64, cmd: Command) -> Result<Clock, Refusal>
         requires { IsEarly self.now reading cmd }
         ensures { IsEffect self.now reading cmd result }
@@ -30,8 +31,8 @@ impl Clock {
         }
     }
 
-    /// Returns the clocks after a command other than `Resume`. `now` is the base brought forward to
-    /// it.
+    /// Returns the clocks after a command other than `Resume`. `now` is the base at the command's
+    /// reading.
     fn change(&self, now: ReadBase, cmd: Command) -> Result<Clock, Refusal>
         requires forwarded { IsForwarded self.now now }
         requires early { IsEarly self.now now.last cmd }
@@ -50,8 +51,8 @@ impl Clock {
         }
     }
 
-    /// Returns the base brought forward to the reading of a command other than `Resume`. The error
-    /// is Range if MONOTONIC would be at its limit.
+    /// Returns the base advanced to the reading of a command other than `Resume`. The error is
+    /// `Range` if MONOTONIC would be at its limit.
     fn forwarded(&self, reading: u64, cmd: Command) -> Result<ReadBase, Refusal>
         requires early { IsEarly self.now reading cmd }
         requires awake { is_resume cmd ≡ false }
@@ -65,7 +66,7 @@ impl Clock {
         Ok(now)
     }
 
-    /// Returns the clocks brought forward, with no other change.
+    /// Returns the advanced clocks, with no other change.
     fn update(&self, now: ReadBase) -> Result<Clock, Refusal>
         requires forwarded { IsForwarded self.now now }
         ensures { IsEffect self.now now.last Command.Update result }
@@ -73,7 +74,7 @@ impl Clock {
         self.settled(now, Command::Update)
     }
 
-    /// Returns the clocks with another frequency from the base's last reading on. The tick is
+    /// Returns the clocks with another frequency, starting at the base's last reading. The tick is
     /// unchanged.
     fn set_frequency(&self, now: ReadBase, frequency: i64) -> Result<Clock, Refusal>
         requires forwarded { IsForwarded self.now now }
@@ -82,7 +83,7 @@ impl Clock {
         Clock::steered(now, frequency, self.tick, Command::Freq(frequency))
     }
 
-    /// Returns the clocks with another tick from the base's last reading on. The frequency is
+    /// Returns the clocks with another tick, starting at the base's last reading. The frequency is
     /// unchanged.
     fn set_tick(&self, now: ReadBase, tick: i64) -> Result<Clock, Refusal>
         requires forwarded { IsForwarded self.now now }
@@ -104,7 +105,7 @@ impl Clock {
         )
     }
 
-    /// Returns the clocks asleep from the base's last reading on.
+    /// Returns the clocks, asleep since the base's last reading.
     fn suspend(&self, now: ReadBase) -> Result<Clock, Refusal>
         requires forwarded { IsForwarded self.now now }
         ensures { IsEffect self.now now.last Command.Suspend result }
@@ -112,7 +113,7 @@ impl Clock {
         self.settled(now.fallen_asleep(), Command::Suspend)
     }
 
-    /// Returns the clocks awake after a suspension, counting from `reading` on.
+    /// Returns the clocks, awake after a suspension. They count starting at `reading`.
     fn resume(&self, reading: u64, away: Timespec) -> Result<Clock, Refusal>
         requires { IsEarly self.now reading (Command.Resume away) }
         ensures { IsEffect self.now reading (Command.Resume away) result }
@@ -123,8 +124,8 @@ impl Clock {
         )
     }
 
-    /// Returns the clocks with another rate from the base's last reading on. The error is Range if
-    /// one is at its limit.
+    /// Returns the clocks with another rate, starting at the base's last reading. The error is
+    /// `Range` if one is at its limit.
     fn steered(now: ReadBase, frequency: i64, tick: i64, cmd: Command) -> Result<Clock, Refusal>
         requires slowest { least_tick ≤ℤ tick }
         requires fastest { tick ≤ℤ greatest_tick }
@@ -147,8 +148,8 @@ impl Clock {
         })
     }
 
-    /// Returns the clocks with a base that runs at their rate. The error is Range if one is at its
-    /// limit.
+    /// Returns the clocks with a base that runs at their rate. The error is `Range` if one is at
+    /// its limit.
     fn settled(&self, base: ReadBase, cmd: Command) -> Result<Clock, Refusal>
         requires steered { base.mult ≡ self.now.base.mult }
         requires counter { base.counter ≡ self.now.base.counter }

@@ -1,4 +1,4 @@
-//! Makes clocks of a snapshot and their rate, and takes them apart again.
+//! Makes clocks from a snapshot and a rate, and returns the parts of clocks.
 ghost use Rattle.std.specs.Prelude.{◌≡◌, SomeIff};
 ghost use Rattle.tk_clock.specs.Running.{IsRunning};
 
@@ -7,14 +7,14 @@ use crate::limits::{LONGEST_TICK, SHORTEST_TICK};
 use crate::snapshot::Snapshot;
 
 impl Clock {
-    /// Makes the clocks of a snapshot, with `frequency`, in `2^-16` ppm, and `tick`, in
-    /// microseconds, in force. The front is not kept.
+    /// Makes clocks from a snapshot, a `frequency` in `2^-16` ppm and a `tick` in microseconds. The
+    /// front is not kept.
     ///
     /// Returns `None` if running clocks can't be in this state (`IsRunning`, specs/Running.antt):
     ///
     /// - `tick` is below 9,000 or above 11,000;
-    /// - the snapshot's multiplier is not that of `frequency` and `tick`;
-    /// - MONOTONIC_RAW is further ahead of MONOTONIC than the slowest rate brings it.
+    /// - the snapshot's multiplier doesn't follow from `frequency` and `tick`;
+    /// - MONOTONIC_RAW is further ahead of MONOTONIC than the slowest rate allows.
     pub fn from_snapshot(snapshot: Snapshot, frequency: i64, tick: i64) -> Option<Clock>
         ensures { SomeIff result (IsRunning snapshot.base frequency tick)
             (record { base = snapshot.base; frequency = frequency; tick = tick }) }
@@ -33,8 +33,8 @@ impl Clock {
         })
     }
 
-    /// Returns the frequency in force, in `2^-16` ppm, as it was set. Beyond 500 ppm either way the
-    /// clocks run at 500 ppm.
+    /// Returns the frequency in force, in `2^-16` ppm, as it was set. Above 500 ppm or below -500
+    /// ppm the clocks run at that limit.
     pub fn frequency(&self) -> i64
         ensures { result ≡ self.now.frequency }
     {

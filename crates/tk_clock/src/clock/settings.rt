@@ -50,7 +50,7 @@ impl Clock {
         Ok(self.set_to(now, real - monotonic))
     }
 
-    /// Returns the clocks brought forward, with REALTIME `offset` ns after MONOTONIC.
+    /// Returns the advanced clocks, with REALTIME `offset` ns after MONOTONIC.
     fn set_to(&self, now: ReadBase, offset: u64) -> Clock
         requires forwarded { IsForwarded self.now now }
         requires settable { now.amount / 2 ^ now.counter.shift + offset < settable_end * 10 ^ 9 }
@@ -64,7 +64,7 @@ impl Clock {
 }
 
 /// Returns a time in ns, moved by an amount. Returns `None` if the result is before 1970 or doesn't
-/// fit a word.
+/// fit in 64 bits.
 fn moved(real: u64, by: Timespec) -> Option<u64>
     requires real { real < (clock_end + monotonic_end) * 10 ^ 9 }
     requires rest { by.nsec < 10 ^ 9 }

@@ -1,5 +1,5 @@
-//! Makes the read base that a command leads to. Each function returns another base and leaves its
-//! own unchanged, except for `take_forward`, which takes over what another one returned.
+//! Makes the read base after a command. The functions return another base and leave their own
+//! unchanged, except for `take_forward`, which changes its base.
 ghost use Rattle.std.specs.Prelude.{◌≡◌, ◌*◌, ◌/◌, ◌^◌, ◌≤◌, MatchOption, pos, ◌≤ℤ◌, ◌+ℤ◌, ◌<ℤ◌, not, int_lt, true, false};
 ghost use Rattle.tk_counter.specs.Counter.{mask, fastest};
 ghost use Rattle.tk_clock.specs.Limits.{is_past_limit, clock_end, monotonic_end, greatest_tai};
@@ -14,8 +14,8 @@ use crate::command::Command;
 use crate::limits::{MONOTONIC_END, limit, sets_real};
 
 impl ReadBase {
-    /// Returns the base with its amounts brought forward to a reading (`timekeeping_forward_now`).
-    /// Nothing below a nanosecond is lost. Returns `None` if MONOTONIC would be at its limit.
+    /// Returns the base with its amounts advanced to a reading (`timekeeping_forward_now`). Nothing
+    /// below a nanosecond is lost. Returns `None` if MONOTONIC would be at its limit.
     pub fn forwarded(&self, reading: u64) -> Option<ReadBase>
         requires reading { reading ≤ mask self.now.counter }
         requires steered { slowest self.now.counter ≤ self.now.mult }
@@ -31,8 +31,8 @@ impl ReadBase {
         self.with_amounts(reading, monotonic, raw)
     }
 
-    /// Returns what `forwarded` returns, if the cycles are fewer than 2^31 and no amount gains two
-    /// whole seconds. Returns `None` otherwise, and if MONOTONIC would be at its limit.
+    /// Returns the result of `forwarded`, if there are fewer than 2^31 cycles and no amount gains
+    /// two whole seconds. Returns `None` otherwise, and if MONOTONIC would be at its limit.
     #[inline(always)]
     pub fn forwarded_soon(&self, reading: u64) -> Option<ReadBase>
         requires reading { reading ≤ mask self.now.counter }
@@ -51,7 +51,7 @@ impl ReadBase {
         self.with_amounts(reading, monotonic, raw)
     }
 
-    /// Returns the base at a reading, from the amounts that MONOTONIC and MONOTONIC_RAW have there.
+    /// Returns the base at a reading, from the amounts of MONOTONIC and MONOTONIC_RAW at it.
     /// Returns `None` if MONOTONIC is at its limit.
     #[inline(always)]
     fn with_amounts(&self, reading: u64, monotonic: Amount, raw: Amount) -> Option<ReadBase>
@@ -77,7 +77,8 @@ impl ReadBase {
         })
     }
 
-    /// Takes over what `forwarded` returned, and writes only what that changes.
+    /// Replaces the base by a result of `forwarded`. It writes only the fields that `forwarded`
+    /// changes.
     pub fn take_forward(&mut self, now: ReadBase)
         requires { now ≡ forwarded self.old now.last }
         ensures { self.new ≡ now }
@@ -87,8 +88,8 @@ impl ReadBase {
         self.raw = now.raw;
     }
 
-    /// Returns whether a clock is at its limit at the last reading, after a command. REALTIME and
-    /// TAI are left out if the command sets REALTIME, which a separate test bounds.
+    /// Returns whether a clock is at its limit at the last reading, after a command. It doesn't
+    /// test REALTIME and TAI if the command sets REALTIME, which a separate test bounds.
     #[tactic(auto, unfolding(crate::specs::Limits::is_past_limit))]
     pub fn is_past_limit(&self, cmd: Command) -> bool
         ensures { result ≡ is_past_limit (λ clock. base_value self.now clock self.now.last) cmd }
@@ -100,11 +101,11 @@ impl ReadBase {
         if sets_real(cmd) {
             return false;
         }
-        // TAI is never less than REALTIME
+        // TAI is never below REALTIME
         is_at_limit(now + self.tai_nanos(), self.real_offset)
     }
 
-    /// Returns the base with another multiplier from its last reading on.
+    /// Returns the base with another multiplier, starting at its last reading.
     pub fn with_mult(self, mult: u32) -> ReadBase
         requires some { 1 ≤ mult }
         requires most { mult ≤ fastest self.counter }
@@ -144,7 +145,8 @@ impl ReadBase {
         }
     }
 
-    /// Returns the base awake, counting from another reading on, after a suspension of `away` ns.
+    /// Returns the base, awake after a suspension of `away` ns. It counts starting at another
+    /// reading.
     pub fn woken(self, reading: u64, away: u64) -> ReadBase
         requires reading { reading ≤ mask self.counter }
         requires real { (self.real_offset +ℤ pos away) <ℤ pos (2 ^ 64) }

@@ -6,7 +6,7 @@ use crate::amount::HALF_WORD;
 use crate::clock_id::ClockId;
 use crate::timespec::{Timespec, nanos_from_zero};
 
-/// Counts the values of a word.
+/// Counts the values of 64 bits.
 const WORD: u128 = 1 << 64;
 
 impl ReadBase {
@@ -16,7 +16,8 @@ impl ReadBase {
     ghost use Rattle.tk_clock.specs.Reach.{IsFirstReached, IsNeverReached, IsReadAt, GivesAgain};
 
     /// Returns the first reading, up to half the counter's range after the last one, at which a
-    /// read of the clock gives `time` or a later time. Returns `None` if there is no such reading.
+    /// read of the clock returns `time` or a later time. Returns `None` if there is no such
+    /// reading.
     pub fn reading_at(&self, clock: ClockId, time: Timespec) -> Option<u64>
         ensures first { let nanos = nanoseconds time in
             MatchOption result
@@ -103,7 +104,7 @@ impl ReadBase {
         }
     }
 
-    /// Returns how far the clock is ahead of what it counts, in ns.
+    /// Returns the clock's offset from its counted amount, in ns.
     fn offset(&self, clock: ClockId) -> u128
         ensures { pos result ≡ offset_of self.now clock }
     {
@@ -116,8 +117,8 @@ impl ReadBase {
     }
 }
 
-/// Returns the fewest cycles that add a number of units or more, at `mult` units a cycle. Returns
-/// `None` if no number of cycles of 64 bits does.
+/// Returns the fewest cycles that add at least a number of units, at `mult` units a cycle. Returns
+/// `None` if no 64-bit number of cycles does.
 fn cycles_of(units: u128, mult: u32) -> Option<u64>
     ensures { MatchOption result
         ((cycles : ℕ) → cycles < 2 ^ 64 → cycles * mult < units)
@@ -140,10 +141,10 @@ fn cycles_of(units: u128, mult: u32) -> Option<u64>
     Some(cycles + 1)
 }
 
-/// Divides units by a divisor of 32 bits. Returns the quotient, which must fit a word, and the
-/// rest.
+/// Divides units by a 32-bit divisor. Returns the quotient, which must fit in 64 bits, and the
+/// remainder.
 ///
-/// It divides in two steps of half a word each, so that no division is wider than 64 bits.
+/// It divides in two steps of 32 bits, so that no division is wider than 64 bits.
 fn divided(units: u128, divisor: u64) -> (u64, u64)
     requires fits { units / 2 ^ 64 < divisor }
     requires narrow { divisor < 2 ^ 32 }

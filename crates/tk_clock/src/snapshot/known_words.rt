@@ -8,10 +8,10 @@ use crate::read_base::ReadBase;
 use tk_counter::CounterDesc;
 
 impl Snapshot {
-    /// Restores a snapshot from ten words that are known to describe one, without a test.
+    /// Restores a snapshot, without a test, from ten 64-bit words that are known to describe one.
     ///
-    /// It returns the same snapshot as `from_words`. The caller proves that the words describe a
-    /// snapshot, as the rule of a page does.
+    /// It returns the same snapshot as `from_words`. The caller must prove that the words describe
+    /// a snapshot, as the rule of a page does.
     pub fn from_known_words(desc: CounterDesc, words: [u64; 10]) -> Snapshot
         requires known { IsSome (restored desc words) }
         ensures value { restored desc words ≡ Some result }
@@ -25,15 +25,15 @@ impl Snapshot {
     }
 }
 
-/// Gives the fact that a description describes a counter. It does nothing: only its contract is
-/// used.
+/// Proves that a description describes a counter. It does nothing when it runs: only its contract
+/// is used.
 fn describes(desc: &CounterDesc)
     ensures { IsCounter desc.now }
 {
     let _ = desc.bits();
 }
 
-/// Returns the clocks that the words after the front describe.
+/// Returns the clocks that words 1 to 9 describe.
 pub(super) fn base_of_words(desc: CounterDesc, words: &[u64; 10]) -> ReadBase
     requires range { are_in_range desc words.now ≡ true }
     requires counter { IsCounter desc }

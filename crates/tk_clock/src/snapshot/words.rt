@@ -9,18 +9,18 @@ use crate::limits::{MONOTONIC_END, RAW_END, TAI_OFFSET_LIMIT};
 use tk_counter::CounterDesc;
 
 impl Snapshot {
-    /// Encodes the snapshot as ten words, from which `from_words` restores it.
+    /// Encodes the snapshot as ten 64-bit words, from which `from_words` restores it.
     ///
     /// - 0: the front
     /// - 1: the last reading, in cycles
     /// - 2: the multiplier, in `2^-shift` ns a cycle
     /// - 3 and 4: MONOTONIC at the last reading: the part below a second, in `2^-shift` ns, and
     ///   whole seconds
-    /// - 5 and 6: REALTIME less MONOTONIC and BOOTTIME less MONOTONIC, in ns
+    /// - 5 and 6: REALTIME minus MONOTONIC and BOOTTIME minus MONOTONIC, in ns
     /// - 7: the TAI offset in seconds times 2, plus 1 while asleep
     /// - 8 and 9: MONOTONIC_RAW, as words 3 and 4
     ///
-    /// The words don't contain the counter's description: restoring them needs it as well.
+    /// The words don't contain the counter's description, which `from_words` needs too.
     pub fn words(&self) -> [u64; 10]
         ensures value { result ≡ words_of self.now }
         ensures back { restored self.now.base.counter (words_of self.now) ≡ Some self.now }
@@ -28,10 +28,10 @@ impl Snapshot {
         self.base.words(self.front)
     }
 
-    /// Restores a snapshot of the counter `desc` from ten words, encoded as by `words`.
+    /// Restores a snapshot of the counter `desc` from ten 64-bit words in the order of `words`.
     ///
     /// Returns `None` if REALTIME, BOOTTIME or TAI would be at its limit at the last reading, or if
-    /// a word is out of its range. Words 0, 5 and 6 may be any. The other ranges are:
+    /// a word is out of its range. Words 0, 5 and 6 may have any value. The other ranges are:
     ///
     /// - 1: up to the mask
     /// - 2: 1 to the fastest multiplier, `mult + max_adj`
@@ -57,7 +57,7 @@ impl Snapshot {
     }
 }
 
-/// Returns whether each word is in its range.
+/// Returns whether all words are in their ranges.
 #[tactic(auto, unfolding(crate::specs::Words::are_in_range))]
 fn are_in_range(desc: &CounterDesc, words: &[u64; 10]) -> bool
     ensures value { result ≡ are_in_range desc.now words.now }

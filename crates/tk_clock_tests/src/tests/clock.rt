@@ -16,7 +16,7 @@ use tk_clock::{Clock, ClockId, Command, Refusal, Timespec};
 use tk_counter::CounterDesc;
 use tk_test_support::nanosecond_counter;
 
-/// Returns a counter of 4,194,304 nanoseconds a cycle, with readings of 64 bits.
+/// Returns a counter of 4,194,304 nanoseconds a cycle, with 64-bit readings.
 fn wide_counter() -> Result<CounterDesc, Fail> {
     Ok(CounterDesc::new(64, 4_194_304, 0)?)
 }

@@ -12,12 +12,12 @@ use std::test::Fail;
 use tk_counter::CounterDesc;
 use tk_test_support::{nanosecond_counter, next_random};
 
-/// Returns a counter of 24 MHz, with readings of 64 bits.
+/// Returns a counter of 24 MHz, with 64-bit readings.
 fn quick() -> Result<CounterDesc, Fail> {
     Ok(CounterDesc::new(64, 699_050_667, 24)?)
 }
 
-/// Returns a counter of 4,194,304 nanoseconds a cycle, with readings of 64 bits.
+/// Returns a counter of 4,194,304 nanoseconds a cycle, with 64-bit readings.
 fn slow() -> Result<CounterDesc, Fail> {
     Ok(CounterDesc::new(64, 4_194_304, 0)?)
 }

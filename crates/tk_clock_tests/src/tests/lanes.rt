@@ -15,7 +15,7 @@ use tk_clock::{Clock, ClockId, Snapshot};
 use tk_counter::CounterDesc;
 use tk_lanes::{BatchError, lane_batch, plain_batch};
 
-/// Returns clocks of a counter of 48 bits and one nanosecond a cycle, opened at reading 1000.
+/// Returns clocks of a 48-bit counter of one nanosecond a cycle, opened at reading 1000.
 fn opened() -> Result<Clock, Fail> {
     let desc = CounterDesc::new(48, 16_777_216, 24)?;
     Ok(Clock::open(desc, 1_000, time(1_700_000_000, 0))?)

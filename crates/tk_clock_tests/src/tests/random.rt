@@ -22,7 +22,7 @@ pub(super) fn numbers(alloc: Global, mut seed: u64, many: usize) -> Result<Vec<u
     Ok(list)
 }
 
-/// Makes a counter from a number: of 8 to 64 bits, with any shift.
+/// Makes a counter from a number, with 8 to 64 bits and any shift.
 fn counter_of(number: u64) -> Result<CounterDesc, Fail> {
     let bits = ((number >> 8) % 57) as u32;
     let shift = ((number >> 16) % 33) as u32;
@@ -30,7 +30,7 @@ fn counter_of(number: u64) -> Result<CounterDesc, Fail> {
     Ok(CounterDesc::new(bits.wrapping_add(8), mult.max(256), shift)?)
 }
 
-/// Makes a command from a number. Each kind is about equally frequent.
+/// Makes a command from a number. All kinds are about equally frequent.
 fn command_of(number: u64) -> Command {
     let part = (number >> 8) as i64;
     match number % 8 {
@@ -45,7 +45,7 @@ fn command_of(number: u64) -> Command {
     }
 }
 
-/// Makes clocks from a number: of any counter, after up to 15 commands.
+/// Makes clocks from a number, with any counter and after up to 15 commands.
 pub(super) fn clock_of(mut seed: u64) -> Result<Clock, Fail> {
     let desc = counter_of(seed)?;
     let mask = desc.mask();

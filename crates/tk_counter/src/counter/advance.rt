@@ -2,7 +2,7 @@ ghost use Rattle.std.specs.Prelude.{◌≡◌, ℕ, ◌+◌, ◌*◌, ◌/◌, �
 
 use super::{CounterDesc, NANOS_PER_SECOND};
 
-/// The seconds at which `advance` returns `None`: no clock reaches them.
+/// The number of seconds at which `advance` returns `None`. No clock reaches it.
 const SECONDS_END: u64 = 9_223_372_036;
 
 impl CounterDesc {
@@ -12,8 +12,8 @@ impl CounterDesc {
     /// a second, in units of `2^-shift` ns. `frac` must be below a second in these units.
     ///
     /// The result is exact for every `delta`. It is `None` exactly if there would be 9,223,372,036
-    /// seconds or more. If the product fits a word, at most one division is needed, and none below
-    /// two seconds.
+    /// seconds or more. If the product fits in 64 bits, at most one division is needed, and none
+    /// below two seconds.
     pub fn advance(&self, frac: u64, delta: u64, mult: u32) -> Option<(u64, u64)>
         requires { frac < second self.now }
         ensures { let units = frac + delta * mult in
@@ -53,8 +53,8 @@ impl CounterDesc {
         (units >> self.shift) / NANOS_PER_SECOND
     }
 
-    /// Computes `advance` for units that don't fit 64 bits. It divides the upper half of `delta`,
-    /// its lower half, and then what both leave.
+    /// Computes `advance` for units that don't fit in 64 bits. It divides the upper half of
+    /// `delta`, its lower half, and then the sum of both remainders.
     ///
     /// A second is `10^9 * 2^shift` units, and `2^32` units of the upper half are `2^(32 - shift)`
     /// seconds per nanosecond:
@@ -85,7 +85,7 @@ impl CounterDesc {
     }
 }
 
-/// Returns `frac` plus `delta` cycles at `mult`, if they fit 64 bits.
+/// Returns `frac` plus `delta` cycles at `mult`, if the sum fits in 64 bits.
 fn narrow_units(frac: u64, delta: u64, mult: u32) -> Option<u64>
     ensures { SomeIff result (frac + delta * mult < 2 ^ 64) (frac + delta * mult) }
 {

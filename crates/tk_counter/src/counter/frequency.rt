@@ -8,13 +8,14 @@ impl CounterDesc {
     /// Makes the description of a counter that runs at `hz` cycles a second, for gaps of up to
     /// `maxsec` seconds.
     ///
-    /// The shift is the highest, from 32 down to 1, whose mult fits the bits that the cycles of
-    /// `maxsec` seconds leave free in a word (`clocks_calc_mult_shift`, kernel/time/clocksource.c).
-    /// A mult with no room for 11 percent more is then halved (`__clocksource_update_freq_scale`).
+    /// The shift is the highest one from 1 to 32 whose mult fits in the bits that the cycles of
+    /// `maxsec` seconds leave free in 64 bits (`clocks_calc_mult_shift`,
+    /// kernel/time/clocksource.c). A mult is then halved if 11 percent more don't fit in 32 bits
+    /// (`__clocksource_update_freq_scale`).
     ///
     /// # Errors
     ///
-    /// The first of these that holds:
+    /// Returns the first of these that applies:
     ///
     /// - `Bits`: `bits` is below 8 or above 64.
     /// - `Rate`: `hz` is 0, or `maxsec` is below 1 or above 600.
@@ -44,7 +45,7 @@ impl CounterDesc {
     }
 }
 
-/// Returns the first shift, from 32 down, whose mult is below the limit. At 1 it always is.
+/// Returns the greatest shift, at most 32, whose mult is below the limit. The mult at 1 always is.
 fn chosen_shift(hz: u32, maxsec: u32) -> u32
     requires runs { 0 < hz }
     requires lasts { 0 < maxsec }

@@ -6,10 +6,10 @@ impl CounterDesc {
     ghost use Rattle.tk_counter.specs.Counter.{half, gap};
 
     /// Returns the cycles from one reading to a later one: `(now - last) & mask`, in wrapping
-    /// words.
+    /// 64-bit arithmetic.
     ///
-    /// Both readings may be any word. If the counter has counted no more than `half` cycles between
-    /// them, the gap is their true number.
+    /// Both readings may have any 64 bits. If the counter counted at most `half` cycles between
+    /// them, the gap is the true number of cycles.
     pub fn gap(&self, last: u64, now: u64) -> u64
         ensures value { result ≡ gap self.now last now }
         ensures counted { (t t' : ℕ) → t ≤ t' → t' - t ≤ half self.now →

@@ -16,8 +16,8 @@ impl CounterDesc {
     /// Returns the multiplier at a frequency, in `2^-16` ppm, and the usual tick of 10,000
     /// microseconds.
     ///
-    /// A frequency beyond 32,768,000 either way counts as that, as in adjtimex(2). It serves a program
-    /// that steers by the frequency alone; the clocks call `mult_at`.
+    /// A frequency above 32,768,000 or below -32,768,000 counts as that limit, as in adjtimex(2).
+    /// The call is for programs that steer only by the frequency; the clocks call `mult_at`.
     pub fn mult_for(&self, freq: i64) -> u32
         ensures value { result ≡ multiplier self.now freq usual_tick }
         ensures most { result ≤ fastest self.now }
@@ -28,8 +28,8 @@ impl CounterDesc {
     /// Returns the multiplier at a frequency, in `2^-16` ppm, and a tick, in microseconds, 9,000 to
     /// 11,000.
     ///
-    /// It is rounded down. A frequency beyond 32,768,000 either way counts as that, as in
-    /// adjtimex(2).
+    /// The multiplier is rounded down. A frequency above 32,768,000 or below -32,768,000 counts as
+    /// that limit, as in adjtimex(2).
     pub fn mult_at(&self, freq: i64, tick: i64) -> u32
         requires slowest { least_tick ≤ℤ tick }
         requires fastest { tick ≤ℤ greatest_tick }
@@ -54,7 +54,7 @@ fn rate(freq: i64, tick: i64) -> u64
     (rate_of_tick(tick) + freq.clamp(-FREQUENCY_LIMIT, FREQUENCY_LIMIT)) as u64
 }
 
-/// Returns the rate at a tick alone.
+/// Returns the rate at a tick, with the frequency 0.
 fn rate_of_tick(tick: i64) -> i64
     requires slowest { least_tick ≤ℤ tick }
     requires fastest { tick ≤ℤ greatest_tick }

@@ -12,21 +12,21 @@ use std::alloc::Allocator;
 use tk_clock::{Command, Entry, Refusal};
 
 impl<A: Allocator + Copy> Timekeeper<A> {
-    /// Applies a command to the clocks, enters it in the journal, and returns the entry's number,
+    /// Applies a command to the clocks, adds it to the journal, and returns the entry's number,
     /// counted from 1.
     ///
-    /// `who` is the number of the caller, which the entry keeps; `reading` is in cycles. The call
+    /// `who` is the number of the caller, which the entry records; `reading` is in cycles. The call
     /// allocates only while `spare()` is 0. A refused command changes nothing.
     ///
     /// # Errors
     ///
-    /// The first test that fails, in this order:
+    /// Returns the first test that fails, in this order:
     ///
     /// - `Refusal::Full` if the journal lists 1,048,576 entries or counts `2^63 - 1` commands.
     /// - `Refusal::Asleep` if the clocks are asleep and `cmd` isn't `Resume`; `Refusal::Awake` if
     ///   they are awake and it is.
     /// - `Refusal::Invalid` if `reading` is above the mask or a number of `cmd` is out of range.
-    /// - `Refusal::Behind` if `reading` lies behind the last accepted command's and `cmd` isn't
+    /// - `Refusal::Behind` if `reading` is behind the last accepted command's and `cmd` isn't
     ///   `Resume`.
     /// - `Refusal::Range` if a clock would reach its limit.
     /// - `Refusal::Invalid` if REALTIME would fall below MONOTONIC or beyond what may be set.
@@ -45,7 +45,7 @@ impl<A: Allocator + Copy> Timekeeper<A> {
         // MONOTONIC at the command's reading is the same before and after
         ensures agrees { IfOk result
             (λ _. monotonic self.old.journal reading ≡ monotonic self.new.journal reading) }
-        // no prefix, read in its life, gives more than the journal gives now at any reading
+        // no prefix, read in its life, returns more than the journal returns now at any reading
         ensures rises { NeverFalls self.new.journal }
     {
         if self.is_full() {
@@ -90,9 +90,10 @@ impl<A: Allocator + Copy> Timekeeper<A> {
         Ok(())
     }
 
-    /// Applies a command and enters it in the journal, which has room for it. Returns its number.
+    /// Applies a command and adds it to the journal, which has the capacity for it. Returns its
+    /// number.
     ///
-    /// The clocks are changed in place. A refused command leaves them as they were.
+    /// It changes the clocks in place. A refused command doesn't change them.
     #[inline(always)]
     fn enter(&mut self, entry: Entry) -> Result<u64, Refusal>
         requires room { 0 < self.old.spare }
@@ -118,8 +119,8 @@ impl<A: Allocator + Copy> Timekeeper<A> {
         Ok(number)
     }
 
-    /// Reserves memory for `extra` more commands, or for as many as the journal may still list if
-    /// those are fewer. Changes nothing except `spare()`, which never falls.
+    /// Reserves memory for `extra` more commands, or for the number that the journal may still list
+    /// if that is lower. Changes nothing except `spare()`, which never falls.
     ///
     /// # Errors
     ///
@@ -141,7 +142,7 @@ impl<A: Allocator + Copy> Timekeeper<A> {
         Ok(())
     }
 
-    /// Returns whether the journal can take no further entry.
+    /// Returns whether the journal is full.
     fn is_full(&self) -> bool
         ensures { result ≡ is_full self.now.journal }
     {

@@ -12,9 +12,9 @@ impl<A: Allocator + Copy> Timekeeper<A> {
     /// Folds the oldest entries into the opening, so that at most `keep` entries stay listed.
     /// Returns the number of commands folded so far.
     ///
-    /// Entry numbers don't change, nor does any value at a front from the returned number on.
-    /// Earlier fronts have no snapshot any more. The call allocates nothing and moves no entry. It
-    /// takes the same time for any number of entries: at most 255 of them are applied again.
+    /// Entry numbers don't change, nor does any value at a front equal to or above the returned
+    /// number. Earlier fronts no longer have a snapshot. The call moves no entry, so it takes the
+    /// same time for any number of entries. It applies at most 255 of them again.
     pub fn fold(&mut self, keep: u64) -> u64
         ensures answer { let before = self.old.journal in
             result ≡ max before.opening.count (accepted_count before - keep) }

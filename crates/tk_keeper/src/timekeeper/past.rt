@@ -1,5 +1,5 @@
-//! Makes snapshots of past fronts, each from the nearest kept state at or before the front, or from
-//! the clocks of an earlier front if they are nearer.
+//! Makes snapshots of past fronts: from the nearest kept state at or before the front, or from the
+//! clocks of an earlier front if they are nearer.
 ghost use Rattle.std.specs.Prelude.{◌≡◌, ◌+◌, ◌<◌, ◌≤◌, length, MatchResult, IfOk, Some, None};
 ghost use Rattle.tk_clock.specs.Journal.{prefix};
 ghost use Rattle.tk_clock.specs.Snapshot.{snapshot_of};
@@ -12,7 +12,8 @@ use crate::front_error::FrontError;
 use std::alloc::Allocator;
 use tk_clock::{Clock, Snapshot};
 
-/// The clocks after the first `place` of the listed entries. From there later places are reached.
+/// The clocks after the first `place` of the listed entries, from which the clocks at later places
+/// are computed.
 #[derive(Drop)]
 pub(super) struct Cursor {
     clock: Clock,
@@ -21,7 +22,7 @@ pub(super) struct Cursor {
 
 impl<A: Allocator + Copy> Timekeeper<A> {
     /// Returns the snapshot as it was when `front` commands were accepted. Applies at most 255
-    /// commands again, and allocates nothing.
+    /// commands again.
     ///
     /// # Errors
     ///
@@ -45,8 +46,8 @@ impl<A: Allocator + Copy> Timekeeper<A> {
         self.folded
     }
 
-    /// Returns the snapshot of a front, as `snapshot_at` does, and moves a cursor to the front. The
-    /// cursor stays if the front is refused.
+    /// Returns the snapshot of a front, as `snapshot_at` does, and moves a cursor to the front. If
+    /// the front is refused, the cursor doesn't move.
     pub(super) fn snapshot_by(
         &self,
         cursor: &mut Cursor,
@@ -100,8 +101,8 @@ impl<A: Allocator + Copy> Timekeeper<A> {
         cursor.place = place;
     }
 
-    /// Moves a cursor to the nearest clocks at or before a place, unless it is between the two
-    /// already.
+    /// Moves a cursor to the nearest kept clocks at or before a place, unless the cursor is already
+    /// between these clocks and the place.
     fn approach(&self, cursor: &mut Cursor, place: usize)
         requires cursor { IsAt self.now.journal cursor.old }
         requires listed { place ≤ length self.now.journal.entries }

@@ -1,5 +1,5 @@
-//! Applies listed entries again. Updates before an entry are left out, because the entry alone
-//! leads to the same clocks: it adds the cycles of all of them at the same multiplier.
+//! Applies listed entries again. It skips updates before an entry, because the entry leads to the
+//! same clocks without them: it adds the cycles of all of them at the same multiplier.
 ghost use Rattle.std.specs.Prelude.{◌≡◌, ◌+◌, ◌-◌, ◌<◌, ◌≤◌, ◌↔◌, length, slice_get, IsTrue, Some};
 ghost use Rattle.tk_clock.specs.Journal.{prefix};
 ghost use Rattle.tk_clock.specs.State.{state_of};
@@ -10,8 +10,8 @@ use std::alloc::Allocator;
 use tk_clock::{Clock, Command, Entry, Snapshot};
 
 impl<A: Allocator + Copy> Timekeeper<A> {
-    /// Brings the clocks at a place `from` forward to a later place: applies the entries between
-    /// the two again.
+    /// Advances the clocks at a place `from` to a later place: applies the entries between the two
+    /// again.
     pub(super) fn replay(&self, clock: &mut Clock, from: usize, place: usize)
         requires state { clock.old ≡ state_of (prefix from self.now.journal) }
         requires before { from ≤ place }
@@ -25,8 +25,8 @@ impl<A: Allocator + Copy> Timekeeper<A> {
         }
     }
 
-    /// Applies a run of the entries after the first `from` ones again, by its last entry alone.
-    /// Returns where the run ends, at most at `place`.
+    /// Applies a run of the entries after the first `from` ones again, by applying only its last
+    /// entry. Returns the end of the run, at most `place`.
     fn apply_again(&self, clock: &mut Clock, from: usize, place: usize) -> usize
         requires state { clock.old ≡ state_of (prefix from self.now.journal) }
         requires before { from < place }
@@ -50,10 +50,10 @@ impl<A: Allocator + Copy> Timekeeper<A> {
         *self.entries.row(place - 1)
     }
 
-    /// Returns where a run ends that begins after the first `from` entries, at the clocks `now`, at
-    /// most at `place`. A run is updates and one entry of any kind after them. It ends before an
-    /// entry that is behind the clocks: the cycles up to there exceed half the mask. A marked run
-    /// needs no look at its entries.
+    /// Returns the end, at most `place`, of the run that begins after the first `from` entries, at
+    /// the clocks `now`. A run is a sequence of updates and one entry of any kind after them. It
+    /// ends before an entry that is behind the clocks: the cycles up to that entry exceed half the
+    /// mask. The entries of a marked run aren't examined.
     fn run_end(&self, now: &Snapshot, from: usize, place: usize) -> usize
         requires base { now.now.base ≡ (state_of (prefix from self.now.journal)).base }
         requires before { from < place }
@@ -93,7 +93,7 @@ impl<A: Allocator + Copy> Timekeeper<A> {
         place - from < KEPT_EVERY && self.kept.row(next).after_run
     }
 
-    /// Returns whether the clocks after the next entry are to be kept, and the 255 entries before it
+    /// Returns whether the clocks after the next entry must be kept, and the 255 entries before it
     /// are a run.
     #[inline(always)]
     pub(super) fn is_after_run(&self) -> bool

@@ -7,15 +7,15 @@ use std::alloc::Allocator;
 use tk_clock::{Entry, Refusal};
 
 impl<A: Allocator + Copy> Timekeeper<A> {
-    /// Applies events in order, and returns the result of each. It goes on after a refused event.
+    /// Applies events in order, and returns the result of each. It continues after a refused event.
     ///
     /// The call reserves all memory before it applies any event, so no event's result is
-    /// `Refusal::Memory`. Without events it allocates nothing.
+    /// `Refusal::Memory`.
     ///
     /// # Errors
     ///
-    /// `Refusal::Memory` if the memory for the results or the entries can't be allocated. No event
-    /// was applied then, but `spare()` may have grown.
+    /// `Refusal::Memory` if the memory for the results or the entries can't be allocated. In this
+    /// case no event was applied, but `spare()` may have grown.
     pub fn run(&mut self, events: &[Entry]) -> Result<Vec<Result<u64, Refusal>, A>, Refusal>
         ensures { MatchResult result
             (λ answers. (answers.items ≡ (run self.old.journal events.now).answers)

@@ -28,8 +28,8 @@ impl<A: Allocator + Copy> Timekeeper<A> {
     /// # Errors
     ///
     /// `TraceError::Memory` if the result can't be allocated. The call reserves the result's
-    /// capacity before it examines any item; for an empty list it allocates nothing. Otherwise the
-    /// error of the first item that has a fault, by the first of these tests that fails:
+    /// capacity before it examines any item. Otherwise it returns the error of the first item with
+    /// a fault, by the first of these tests that fails:
     ///
     /// - `TraceError::Unknown` if its front is above `len()`.
     /// - `TraceError::Folded` if its front is below `folded()`.
@@ -49,11 +49,11 @@ impl<A: Allocator + Copy> Timekeeper<A> {
         self.trace_in(*self.entries.allocator(), fronts, stamps, clock)
     }
 
-    /// Converts each stamp as `trace` does, into a list that `alloc` allocates.
+    /// Converts the stamps as `trace` does, into a list that `alloc` allocates.
     ///
     /// # Errors
     ///
-    /// Those of `trace`, in the same order.
+    /// Returns the same errors as `trace`, in the same order.
     pub fn trace_in<B: Allocator>(
         &self,
         alloc: B,
@@ -84,13 +84,13 @@ impl<A: Allocator + Copy> Timekeeper<A> {
         Ok(values)
     }
 
-    /// Converts each stamp as `trace` does, and writes the values to `out`. All three slices have
-    /// the same length. Allocates nothing.
+    /// Converts the stamps as `trace` does, and writes the values to `out`. All three slices have
+    /// the same length.
     ///
     /// # Errors
     ///
-    /// The error of the first item that has a fault, as in `trace`, but never `TraceError::Memory`.
-    /// The items before it are written then; the rest of `out` stays as it was.
+    /// Returns the error of the first item with a fault, as `trace` does, but never
+    /// `TraceError::Memory`. The items before it are written, and the rest of `out` doesn't change.
     pub fn trace_into(
         &self,
         fronts: &[u64],
@@ -112,7 +112,8 @@ impl<A: Allocator + Copy> Timekeeper<A> {
     }
 
     /// Converts the items of one front that begin at `first`, as far as `out` reaches, by the
-    /// front's snapshot. Returns where they end. The items before `first` are written already.
+    /// front's snapshot. Returns the index after the last of them. The items before `first` are
+    /// written already.
     fn trace_run(
         &self,
         snapshot: &Snapshot,
@@ -142,7 +143,8 @@ impl<A: Allocator + Copy> Timekeeper<A> {
         }
     }
 
-    /// Replaces a front and its snapshot by those of the item at `index`, if its front differs.
+    /// Replaces a front and its snapshot by the front of the item at `index` and its snapshot, if
+    /// the front differs.
     fn bring_to(
         &self,
         cursor: &mut Cursor,
@@ -207,7 +209,7 @@ fn make_room<A: Allocator>(values: &mut Vec<u64, A>, first: usize, all: usize)
     values.resize(first + PART.min(all - first), 0).unwrap();
 }
 
-/// Returns where the run of equal fronts that begins at `first` ends, at most `end`.
+/// Returns the end of the run of equal fronts that begins at index `first`, at most `end`.
 fn stretch_end(fronts: &[u64], first: usize, end: usize) -> usize
     requires order { first < end }
     requires within { end ≤ length fronts.now }
@@ -229,7 +231,7 @@ fn stretch_end(fronts: &[u64], first: usize, end: usize) -> usize
     end
 }
 
-/// Returns whether the eight fronts from `at` on all equal `front`.
+/// Returns whether the eight fronts starting at index `at` all equal `front`.
 fn is_each(fronts: &[u64], at: usize, front: u64) -> bool
     requires { at + 8 ≤ length fronts.now }
     ensures { IsTrue result → (k : ℕ) → at ≤ k → k < at + 8 →

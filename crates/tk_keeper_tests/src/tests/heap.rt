@@ -1,4 +1,4 @@
-//! The allocator that refuses requests, on which the tests of memory rest.
+//! Tests the allocator that refuses requests, which the tests of memory use.
 
 use super::assert_same;
 use std::alloc::Global;

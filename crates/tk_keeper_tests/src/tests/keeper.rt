@@ -58,7 +58,7 @@ const AWAKE_WORDS: [u64; 10] = [
 /// The words after a frequency of 500 ppm at reading 0.
 const FASTER_WORDS: [u64; 10] = [1, 0, 16_785_604, 0, 0, OPENED_REAL, 0, 0, 0, 0];
 
-/// The words after a Tick to 11,000 at reading 0, and the highest frequency from reading 10^9 on.
+/// The words after a Tick to 11,000 at reading 0, and the highest frequency at reading 10^9.
 const TICKED_WORDS: [u64; 10] = [
     2,
     1_000_000_000,
@@ -76,12 +76,13 @@ fn time(sec: i64, nsec: u32) -> Timespec {
     Timespec { sec, nsec }
 }
 
-/// Returns how many commands were accepted, and the words of the snapshot.
+/// Returns the number of accepted commands, and the words of the snapshot.
 fn length_and_words<A: Allocator + Copy>(keeper: &Timekeeper<A>) -> (usize, [u64; 10]) {
     (keeper.len(), keeper.snapshot().words())
 }
 
-/// Applies a command. If memory was refused, checks that nothing changed, and applies it once more.
+/// Applies a command. If an allocation failed, checks that nothing changed, and applies it once
+/// more.
 fn applied<A: Allocator + Copy>(
     rt: &impl Abort,
     keeper: &mut Timekeeper<A>,
@@ -97,7 +98,7 @@ fn applied<A: Allocator + Copy>(
     keeper.apply(0, reading, cmd)
 }
 
-/// Applies `many` updates, each `step` cycles after the one before, and checks the number of each.
+/// Applies `many` updates, `step` cycles after each other, and checks their numbers.
 fn updates<A: Allocator + Copy>(rt: &impl Abort, keeper: &mut Timekeeper<A>, many: u64, step: u64) {
     for number in 1..=many {
         let answer = applied(rt, keeper, step.wrapping_mul(number), Command::Update);
@@ -105,14 +106,14 @@ fn updates<A: Allocator + Copy>(rt: &impl Abort, keeper: &mut Timekeeper<A>, man
     }
 }
 
-/// Opens a timekeeper and applies `many` updates, each `step` cycles after the one before.
+/// Opens a timekeeper and applies `many` updates, `step` cycles after each other.
 fn updated<A: Allocator + Copy>(rt: &impl Abort, alloc: A, many: u64, step: u64) -> Timekeeper<A> {
     let mut keeper = opened(rt, alloc);
     updates(rt, &mut keeper, many, step);
     keeper
 }
 
-/// Applies commands in their order, and checks the answer to each.
+/// Applies commands in their order, and checks all answers.
 fn answers(
     rt: &impl Abort,
     keeper: &mut Timekeeper,
@@ -133,7 +134,7 @@ fn reads_monotonic(rt: &impl Abort, keeper: &Timekeeper, reading: u64, value: Ti
     );
 }
 
-/// Checks that no snapshot is given as of a front, and the error.
+/// Checks that a front has no snapshot, and the error.
 fn has_no_front(rt: &impl Abort, keeper: &Timekeeper, front: u64, error: FrontError) {
     assert_same(rt, &keeper.snapshot_at(front).err(), &Some(error));
 }
@@ -143,7 +144,7 @@ fn words_at(keeper: &Timekeeper, front: u64) -> Result<[u64; 10], FrontError> {
     Ok(keeper.snapshot_at(front)?.words())
 }
 
-/// Reads clocks as of a front, and checks the time of each.
+/// Reads clocks as of a front, and checks their times.
 fn reads_at(rt: &impl Abort, keeper: &Timekeeper, front: u64, values: &[(ClockId, u64, Timespec)]) {
     match keeper.snapshot_at(front) {
         Ok(snapshot) => reads(rt, &snapshot, values),
@@ -151,7 +152,7 @@ fn reads_at(rt: &impl Abort, keeper: &Timekeeper, front: u64, values: &[(ClockId
     }
 }
 
-/// Reads clocks, and checks the time of each.
+/// Reads clocks, and checks their times.
 fn reads(rt: &impl Abort, snapshot: &Snapshot, values: &[(ClockId, u64, Timespec)]) {
     for (clock, reading, value) in values {
         let read = snapshot.get(*clock, *reading);

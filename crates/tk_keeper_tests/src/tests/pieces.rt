@@ -14,13 +14,13 @@ use tk_keeper::{Timekeeper, TraceError};
 use tk_pieces::{trace_all, trace_all_into};
 use tk_test_support::{Heap, next_random};
 
-/// Items of equal fronts that make 17 pieces, the last of one item.
+/// The number of items with equal fronts that make 17 pieces. The last piece has one item.
 const MANY: usize = 1_048_577;
 
 /// The number of items whose fronts differ from one to the next. Several threads convert them.
 const UNEVEN: usize = 262_145;
 
-/// A trace, with the memory that it is converted into.
+/// A trace, with the memory for its values.
 #[derive(Drop)]
 struct Lists {
     fronts: Vec<u64>,
@@ -28,7 +28,7 @@ struct Lists {
     out: Vec<u64>,
 }
 
-/// Returns this number of items as of the opening, where each stamp is the item's place.
+/// Returns this number of items as of the opening. An item's stamp is its place.
 fn counted(rt: &impl Abort, alloc: Global, many: usize) -> Lists {
     Lists {
         fronts: repeated(rt, alloc, 0, many),
@@ -46,7 +46,7 @@ fn alone(rt: &impl Abort, keeper: &Timekeeper, lists: &Lists) -> Vec<u64> {
         .expect(rt, "values")
 }
 
-/// What `trace_all` answers, out of another allocator.
+/// Returns the result of `trace_all` with another allocator.
 fn asked<A: Allocator + Copy + Send + Sync, B: Allocator>(
     alloc: B,
     rt: &(impl Threads + Sync),
@@ -61,7 +61,7 @@ fn asked<A: Allocator + Copy + Send + Sync, B: Allocator>(
     trace_all(alloc, rt, keeper, fronts, stamps, ClockId::Monotonic)
 }
 
-/// What both calls answer, which must be the same.
+/// Returns the common result of both calls.
 fn answered(
     alloc: Global,
     rt: &(impl Threads + Sync + Abort),
@@ -113,7 +113,7 @@ fn faulty_at(places: [usize; 4]) -> [Faulty; 4] {
     ]
 }
 
-/// Returns the first items of a list, or all if it has no more.
+/// Returns the first items of a list, or all if it is shorter.
 fn first(list: &[u64], many: usize) -> &[u64] {
     match list.split_at_checked(many) {
         Some((first, _)) => first,
@@ -121,8 +121,8 @@ fn first(list: &[u64], many: usize) -> &[u64] {
     }
 }
 
-/// Writes faulty items in turn, each before those that were written earlier. Checks after each that
-/// both calls return its fault, and that the items before it have these values.
+/// Writes faulty items in turn, each before the earlier ones. Checks after each that both calls
+/// return its fault, and that the items before it have these values.
 fn first_faults(
     rt: &(impl Threads + Sync + Abort),
     alloc: Global,

@@ -10,12 +10,11 @@ use super::{LANES, Segment};
 use std::simd::prelude::*;
 
 impl Segment {
-    /// Converts the stamps from `first` on, eight at a time, as long as all eight are ahead and
-    /// within the span. Returns the index at which that ends.
+    /// Converts the stamps starting at index `first`, eight at a time, as long as all eight are
+    /// ahead and within the span. Returns the index of the first stamp that isn't converted.
     ///
-    /// The loop does nothing else, so that all its values stay in registers. In a list that is
-    /// longer than the caches, fewer instructions let the processor wait for more lines of memory
-    /// at a time.
+    /// The loop does nothing else, so that all its values stay in registers. If a list is larger
+    /// than the caches, a shorter loop lets the processor wait for more cache lines at a time.
     #[inline(always)]
     pub(crate) fn convert_ahead(self, stamps: &[u64], out: &mut [u64], first: usize) -> usize
         requires shift { self.shift < 64 }
@@ -37,10 +36,10 @@ impl Segment {
         at
     }
 
-    /// Converts the eight stamps from `at` on, unless one is behind, above the mask or beyond the
-    /// span.
+    /// Converts the eight stamps starting at index `at`, unless one is behind, above the mask or
+    /// beyond the span.
     ///
-    /// One test of the OR of the lanes covers all of them: the OR is at least each lane.
+    /// One test of the OR of the lanes covers all of them, because no lane is greater than the OR.
     #[inline(always)]
     fn converts_ahead(self, stamps: &[u64], out: &mut [u64], at: usize) -> bool
         requires shift { self.shift < 64 }
@@ -63,7 +62,8 @@ impl Segment {
         true
     }
 
-    /// Converts the eight stamps from `at` on, unless one is above the mask or beyond the span.
+    /// Converts the eight stamps starting at index `at`, unless one is above the mask or beyond the
+    /// span.
     #[inline(always)]
     pub(crate) fn converts(self, stamps: &[u64], out: &mut [u64], at: usize) -> bool
         requires shift { self.shift < 64 }
@@ -92,7 +92,8 @@ impl Segment {
         true
     }
 
-    /// Writes the clock after `cycles`, one number of cycles for each lane, from `at` on.
+    /// Writes the clock's time for eight lanes, starting at index `at`. `cycles` contains the
+    /// number of cycles of each lane.
     #[inline(always)]
     fn write(self, cycles: u64x8, out: &mut [u64], at: usize)
         requires shift { self.shift < 64 }

@@ -9,15 +9,15 @@ use tk_clock::{ClockId, Snapshot};
 /// The nanoseconds of a second.
 pub(super) const NANOS_PER_SECOND: u128 = 1_000_000_000;
 
-/// Holds what a clock counts up to the last command, without its offset, and what a cycle adds from
-/// then on.
+/// Holds a clock's amount at the last command, without its offset, and the amount that a cycle adds
+/// after it.
 #[derive(Clone, Copy)]
 pub(super) struct Origin {
     /// Whole seconds.
     pub(super) sec: u64,
-    /// The rest, below a second, in `2^-shift` ns.
+    /// The part below a second, in `2^-shift` ns.
     pub(super) frac: u64,
-    /// What a cycle adds, in `2^-shift` ns: 0 if the clock doesn't advance.
+    /// The amount that a cycle adds, in `2^-shift` ns: 0 if the clock doesn't advance.
     pub(super) mult: u32,
 }
 
@@ -39,7 +39,8 @@ impl Origin {
     }
 }
 
-/// Returns what a cycle adds to the clock, in `2^-shift` ns: 0 if the clock doesn't advance.
+/// Returns the amount that a cycle adds to the clock, in `2^-shift` ns: 0 if the clock doesn't
+/// advance.
 fn mult(snapshot: &Snapshot, clock: ClockId) -> u32
     ensures { result ≡ mult_of snapshot.now.base clock }
 {
@@ -66,7 +67,7 @@ fn is_coarse(clock: ClockId) -> bool
     matches!(clock, ClockId::RealtimeCoarse | ClockId::MonotonicCoarse)
 }
 
-/// Returns how far the clock is from what it counts, in ns.
+/// Returns the clock's offset from its counted amount, in ns.
 pub(super) fn offset(snapshot: &Snapshot, clock: ClockId) -> u128
     ensures value { pos result ≡ offset_of snapshot.now.base clock }
     ensures low { result < 2 ^ 65 }

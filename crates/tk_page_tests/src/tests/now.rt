@@ -10,11 +10,11 @@ use tk_now::{Announcer, HostCounter, Notice, SharedTicker, Timed, Watcher};
 /// The number of commands, of which every third is refused.
 const COMMANDS: u64 = 100_000;
 
-/// The number of readings that each watcher asks for.
+/// The number of readings that a watcher asks for.
 const READINGS: u64 = 200_000;
 
-/// Gives all commands, and keeps in `latest` the reading of the latest accepted one. Returns
-/// whether each command's reading was above every one that any thread had when the command was
+/// Gives all commands, and stores the reading of the latest accepted one in `latest`. Returns
+/// whether every command's reading was above all readings that any thread had when the command was
 /// announced.
 fn gives_all(
     notice: &Notice,
@@ -43,8 +43,8 @@ fn gives_all(
     is_good
 }
 
-/// Takes readings. Returns whether each was above every one that any thread had when the call
-/// began, and above the latest command's then.
+/// Takes readings. Returns whether every reading was above all readings that any thread had when
+/// the call began, and above the reading of the latest command at that time.
 fn takes_all(
     notice: &Notice,
     mut watcher: Watcher,

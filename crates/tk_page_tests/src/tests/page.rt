@@ -1,4 +1,4 @@
-//! Values that contracts do not fix, and threads.
+//! Tests values that contracts don't fix, and threads.
 
 mod many;
 mod words;

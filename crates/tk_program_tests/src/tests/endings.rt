@@ -1,4 +1,4 @@
-//! The line and the status of each ending.
+//! Tests the lines and statuses of all endings.
 
 use super::assert_same;
 use std::io::{Error, ErrorKind};
@@ -7,7 +7,7 @@ use tk_program::{Ending, WordsError};
 use tk_replay::{Fault, ManyError, RaceError};
 use tk_script::ScriptError;
 
-/// Stops the test unless an ending has this status, and is stated in this line.
+/// Stops the test unless an ending has this status and prints this line.
 fn assert_line(rt: &(impl Abort + AllocGlobal), ending: Ending, status: u8, text: &[u8]) {
     let mut line = Vec::new(rt.alloc());
     let is_stated = ending.tell(&mut line).is_ok();

@@ -1,4 +1,4 @@
-//! Each request for the memory of a text refused in turn: the whole text, or Memory.
+//! Refuses all allocations of a text in turn: the result is the whole text or `Memory`.
 
 use super::assert_same;
 use std::alloc::Global;
@@ -21,7 +21,7 @@ enum Text<'a> {
 }
 
 impl Text<'_> {
-    /// Makes the text in this memory.
+    /// Makes the text with this allocator.
     fn made<'h>(&self, heap: &'h Heap<Global>) -> Result<Vec<u8, &'h Heap<Global>>, Fault> {
         match self {
             Text::Reports(outcomes) => many_text(heap, outcomes),
@@ -30,7 +30,7 @@ impl Text<'_> {
     }
 }
 
-/// Refuses each request of a text in turn. The text makes at least `least` of them.
+/// Refuses all requests of a text in turn. The text makes at least `least` of them.
 fn assert_whole_or_memory(
     rt: &(impl Abort + AllocGlobal),
     text: &Text<'_>,

@@ -1,4 +1,4 @@
-//! A writer that becomes full.
+//! Tests a writer that becomes full.
 
 use super::assert_same;
 use std::io;
@@ -9,7 +9,7 @@ use std::thread::Threads;
 use tk_program::{Ending, Folder, run};
 use tk_replay::Fault;
 
-/// Gives the same script by every name.
+/// Opens the same script for every name.
 #[derive(Drop)]
 struct OneScript;
 
@@ -23,7 +23,7 @@ impl Folder for OneScript {
     }
 }
 
-/// Takes `room` bytes, and then none.
+/// Accepts `room` bytes, and then none.
 #[derive(Drop)]
 struct Narrow {
     room: usize,
@@ -41,7 +41,7 @@ impl Write for Narrow {
     }
 }
 
-/// How the race of the script ends over a writer with this room.
+/// Returns the ending of the script's race with a writer of this capacity.
 fn ended(
     rt: &(impl AllocGlobal + Abort + Threads + Wait + Sync),
     words: &[String],
@@ -52,7 +52,7 @@ fn ended(
     run(rt.alloc(), rt, words, &OneScript, &mut reader, &mut writer)
 }
 
-/// The words of a race of one script.
+/// Returns the arguments for a race of one script.
 fn race_words(rt: &(impl AllocGlobal + Abort)) -> Vec<String> {
     let mut words = Vec::new(rt.alloc());
     for word in ["tkcore", "race", "1", "a"] {
@@ -62,7 +62,7 @@ fn race_words(rt: &(impl AllocGlobal + Abort)) -> Vec<String> {
     words
 }
 
-/// The report has 22 bytes: `entries,3` and `actor,0,3,0`.
+/// The report is 22 bytes long: `entries,3` and `actor,0,3,0`.
 #[test]
 fn a_full_writer_is_reported_with_what_went_out(rt: HostRuntime) {
     let words = race_words(&rt);

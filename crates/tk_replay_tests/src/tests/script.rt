@@ -13,7 +13,7 @@ use std::process::Abort;
 use tk_clock::{ClockId, Command, Timespec};
 use tk_script::{Row, Script};
 
-/// A counter of 32 bits at 1 ns per cycle, opened at reading 0.
+/// A 32-bit counter at 1 ns per cycle, opened at reading 0.
 const OPENING: &[u8] = b"open,32,16777216,24,0,1700000000,0\n";
 
 /// Stops the test unless the bytes are a script of these rows.

@@ -1,4 +1,4 @@
-//! Values that contracts do not fix, and threads.
+//! Tests values that contracts don't fix, and threads.
 
 mod gates;
 mod memory;
@@ -15,7 +15,7 @@ use tk_counter::CounterDesc;
 use tk_race::{Action, Gate, RaceReply, RaceReport, race};
 use tk_test_support::{OPENED_TIME, nanosecond_counter};
 
-/// An order that only brings the clocks to the reading.
+/// An order that only advances the clocks to the reading.
 const UPDATE: Action = Action::Order(Command::Update);
 
 /// Returns `actors` actors with `actions` copies of one action each.
@@ -33,7 +33,7 @@ fn alike(
 }
 
 /// Returns the report of a race whose counter begins with the first of `readings`, and adds the
-/// second to each reading.
+/// second to every reading.
 fn raced<G: Gate + Sync, R: Threads + Wait + Sync>(
     rt: &R,
     alloc: Global,

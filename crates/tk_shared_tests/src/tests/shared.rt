@@ -1,4 +1,4 @@
-//! Values from outside the contracts, and threads.
+//! Tests values from outside the contracts, and threads.
 ghost use Rattle.std.specs.Prelude.{◌≡◌, [], ◌∷◌, IfOk};
 ghost use Rattle.tk_shared.specs.Callers.{newcomers};
 ghost use Rattle.tk_shared.specs.Opening.{IsNamed};
@@ -36,7 +36,7 @@ fn nanoseconds(time: Timespec) -> u64 {
     seconds.wrapping_add(u64::from(time.nsec))
 }
 
-/// A keeper for this number of callers, with no room for commands yet.
+/// Prepares a keeper for this number of callers, with no capacity for commands yet.
 fn ready<C: Counter, R: Wait>(
     rt: &R,
     alloc: Global,
@@ -48,7 +48,7 @@ fn ready<C: Counter, R: Wait>(
     ready_on(rt, alloc, nanosecond_counter()?, counter, callers)
 }
 
-/// The same over a counter of this description.
+/// Prepares the same keeper with a counter of this description.
 fn ready_on<C: Counter, R: Wait>(
     rt: &R,
     alloc: Global,
@@ -67,7 +67,7 @@ fn ready_on<C: Counter, R: Wait>(
 /// A keeper and its callers 0 and 1.
 type Two<L, C> = (SharedKeeper<L, C>, Caller<L>, Caller<L>);
 
-/// Opens what was prepared, for the callers 0 and 1.
+/// Opens the prepared keeper, for the callers 0 and 1.
 fn open_two<L: Named, C: Counter>(alloc: Global, prepared: Prepared<C>) -> Result<Two<L, C>, Fail>
     requires named { IsNamed prepared L.page L.latch L.notice L.name L.parts L.callers }
     requires two { prepared.callers ≡ 2 }
@@ -78,7 +78,7 @@ fn open_two<L: Named, C: Counter>(alloc: Global, prepared: Prepared<C>) -> Resul
     Ok((keeper, one, two))
 }
 
-/// Opens what was prepared, with all its callers.
+/// Opens the prepared keeper, with all its callers.
 fn opened<L: Named, C: Counter>(
     alloc: Global,
     prepared: Prepared<C>,
@@ -113,7 +113,7 @@ fn both<L: Named>(alloc: Global, one: Caller<L>, two: Caller<L>) -> Result<Vec<C
     Ok(vec![in alloc; one, two].ok().ok_or("memory")?)
 }
 
-/// A command, of whose contract the caller's number is all that a test needs.
+/// Gives a command. Tests need only the caller's number of its contract.
 fn commanded<L: Named, C: Counter, R: Wait>(
     rt: &R,
     keeper: &SharedKeeper<L, C>,
@@ -125,7 +125,7 @@ fn commanded<L: Named, C: Counter, R: Wait>(
     keeper.command(rt, caller, cmd)
 }
 
-/// A read, in the same way.
+/// Makes a read, in the same way.
 fn read_by<L: Named, C: Counter, R: Wait>(
     rt: &R,
     keeper: &SharedKeeper<L, C>,
@@ -136,7 +136,7 @@ fn read_by<L: Named, C: Counter, R: Wait>(
     keeper.read(rt, caller)
 }
 
-/// A fast read, in the same way.
+/// Makes a fast read, in the same way.
 fn glanced<L: Named, C: Counter>(
     keeper: &SharedKeeper<L, C>,
     caller: &mut Caller<L>,

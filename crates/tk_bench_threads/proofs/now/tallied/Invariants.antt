@@ -1,6 +1,6 @@
 use Rattle.tk_bench_threads.proofs.now.tallied.Given as goal
 
--- the names are those of what was prepared
+-- the names are the names of the prepared parts
 abbrev pub ghosts-timed-L-Named : goal.ghosts-timed-L-Named
 ghosts-timed-L-Named g a = record {
   page = a.prepared.page;

@@ -1,6 +1,6 @@
 use Rattle.tk_bench_threads.proofs.shared.turn.Given as goal
 
--- the names are those of what was prepared
+-- the names are the names of the prepared parts
 abbrev pub ghosts-worked-L-Named : goal.ghosts-worked-L-Named
 ghosts-worked-L-Named g a = record {
   page = a.prepared.page;

@@ -1,9 +1,9 @@
--- `tkc_snapshot_convert` meets its contract. The proof walks its code step by step and is
--- hand-written, because the call makes lists from addresses.
--- Without stamps, or without an item in the output list, no address is read. Otherwise the output
--- list is lent for a lifetime of this call, and is given back when that lifetime ends. The stamps
--- are lent already. `ends` is what all three ways have at the return. A comment in brackets lists
--- what the proof holds at that step.
+-- `tkc_snapshot_convert` meets its contract. The proof follows its code step by step and is
+-- hand-written, because the call makes lists from addresses. Without stamps, or without an item in
+-- the output list, no address is read. Otherwise the output list is lent for a lifetime of this
+-- call, and is given back when that lifetime ends. The stamps are lent already. `ends` is the
+-- common state of all three branches at the return. A comment in brackets lists the facts and
+-- tokens that the proof holds at that step.
 use Rattle.std.proofs.Common.{◌≡◌, MatchOption, ℕ, ◌*◌, ◌^◌, ◌<◌, List, [], ◌∷◌, length, refl, sym, subst, arith, w32, w64, T, not, eqb, ◌∙◌, zero, suc, eqb→eq}
 use Rattle.std.proofs.raw_atomic.Walks.{proved}
 use seplogic.Ra.Ura.{Ura}
@@ -115,7 +115,7 @@ tkc_snapshot_convert_spec 𝓤 𝓛 𝓜 𝓡 wired =
     ⊛ ‵ (owns (RawPtr ∷ usize ∷ MutRef (named 0) κ usize ∷ ShrRef (named 1) κs.1.0 R ∷ u32 ∷ RawPtr ∷ usize ∷ []) a y.0.4))
     ∷ ‵ (owned_at out room lists.old) ∷ ‵ (shared_at at count lists.alive lists.share lists.stamps) ∷ raw (fact 𝓤 ((length lists.stamps ≡ count) × (room * 8 < 2 ^ 63))) ∷ []) ∵
     split ! $ split3 ! $ move ! (3 ∷ []) $ fsplit ! $ drop ! $ fsplit ! $ drop ! $ fsplit ! $ move ! (1 ∷ []) $ fsplit ! $ move ! (1 ∷ []) $ drop ! $
-    -- [the snapshot; done; the token of done; that of the snapshot; nothing; the numbers; the
+    -- [the snapshot; done; the token of done; the token of the snapshot; nothing; the numbers; the
     -- stamps; the fact]
     move ! (4 ∷ []) $ drop ! $ move ! (6 ∷ []) $ heard ! _ (λ sizes.
     enter ! _ _ _ _ _ $ alloc_all ! (λ l. pass_all ! refl (((rawptr_Lawful 𝓛).typed out _ refl).0, ((tt, record { fits = are.1.0.1 }), ((tt, tt), ((tt, tt), ((tt, record { fits = are.1.1.1.1.0.1 }), (((rawptr_Lawful 𝓛).typed at _ refl).0, ((tt, record { fits = are.1.1.1.1.1.1.0.1 }), tt))))))) $
@@ -171,16 +171,16 @@ tkc_snapshot_convert_spec 𝓤 𝓛 𝓜 𝓡 wired =
     move ! (1 ∷ []) $ use1 𝓛 (later (some (λ (γ : ℕ). ‵ ((MutSlice (named 0) (α ∷ []) u64).own_val (record { ref_ptr = (b, o); ghost_name = γ; now = lists.old }) (slice_val (b, o) (length lists.old) ∷ []))
     ⊛ ‵ (flent (α ∷ []) (Held u64 (length lists.old) b o γ))))) (lends_slice 𝓛 u64 (named 0) (α ∷ []) lists.old b o (omega (arith, long, sizes.1), omega (arith, long, sizes.1))) $ await ! tt $ pick ! (λ γ. split ! $
     rewrite ! 0 (λ (n : ℕ). ‵ ((MutSlice (named 0) (α ∷ []) u64).own_val (record { ref_ptr = (b, o); ghost_name = γ; now = lists.old }) (slice_val (b, o) n ∷ []))) long refl $
-    -- [the list; what is lent; its token; the snapshot; done; the token of done; that of the
+    -- [the list; the loan; its token; the snapshot; done; the token of done; that of the
     -- snapshot; the stamps]
     move ! (7 ∷ []) $ use1 𝓛 (‵ (lent_at at lists.alive lists.share lists.stamps)) (shared_out 𝓛 at count lists.alive lists.share lists.stamps given) $
     in_a_block ! at (λ p. lent_at p lists.alive lists.share lists.stamps) (id⊢ 𝓤 _) (λ b' o' is_at. fsplit ! $
-    -- [the token of the stamps; the stamps; the list; what is lent; its token; the snapshot; done;
-    -- the token of done; that of the snapshot]
+    -- [the token of the stamps; the stamps; the list; the loan; its token; the snapshot; done;
+    -- the token of done; the token of the snapshot]
     move ! (1 ∷ []) $ use1 𝓛 (‵ (Stamps b' o' (length lists.stamps)) ⊛ ‵ (Stamps b' o' (length lists.stamps))) ((shr_slice_copy 𝓛 (named 0) lists.alive u64 (uint_row_laws w64)).twice _ _) $ split ! $
     rewrite ! 0 (λ (n : ℕ). ‵ (Stamps b' o' n)) sizes.0 refl $
-    -- [the stamps; the stamps to keep; their token; the list; what is lent; its token; the
-    -- snapshot; done; the token of done; that of the snapshot]
+    -- [the stamps; the stamps to keep; their token; the list; the loan; its token; the
+    -- snapshot; done; the token of done; the token of the snapshot]
     take_at ! 1 $ rewrite ! 0 (λ (p : Ptr). ‵ (fat full_share ty_ptr (l 1) 0 (ptr_val p))) is_out refl $ give_at ! 1 $
     take_at ! 6 $ rewrite ! 0 (λ (p : Ptr). ‵ (fat full_share ty_ptr (l 6) 0 (ptr_val p))) is_at refl $ give_at ! 6 $
     sets ! (agg ! (and_then ! (get ! refl) (and_then ! (get ! refl) (no_more !)))) refl (tt, (tt, (record { fits = are.1.0.1 }, tt))) $
@@ -198,11 +198,11 @@ tkc_snapshot_convert_spec 𝓤 𝓛 𝓜 𝓡 wired =
       tt,
     ) in
     nothing ! $ move ! (1 ∷ 0 ∷ []) $ join ! $ owned ! u32 _ (uint_Makes 𝓛 w32) clock _ (refl, are.1.1.1.1.0.1) $ join ! $
-    -- [the last two arguments; the stamps to keep; their token; the list; what is lent; its token;
-    -- the snapshot; done; the token of done; that of the snapshot]
+    -- [the last two arguments; the stamps to keep; their token; the list; the loan; its token;
+    -- the snapshot; done; the token of done; the token of the snapshot]
     move ! (6 ∷ 0 ∷ []) $ join ! $ move ! (6 ∷ 0 ∷ []) $ join ! $ move ! (3 ∷ 0 ∷ []) $ join ! $
-    -- [the arguments; the stamps to keep; their token; what is lent; its token; the token of done;
-    -- that of the snapshot]
+    -- [the arguments; the stamps to keep; their token; the loan; its token; the token of done;
+    -- the token of the snapshot]
     nothing ! $ move ! (3 ∷ 0 ∷ []) $ join ! $ move ! (6 ∷ 0 ∷ []) $ join ! $ move ! (5 ∷ 0 ∷ []) $ join ! $ move ! (4 ∷ 0 ∷ []) $ join ! $ join ! $
     nothing ! $ move ! (1 ∷ 0 ∷ []) $ use2 𝓛 (raw (G.pre z)) (id⊢ 𝓤 _) $
     calls_at ! (framed 𝓤 𝓛.H 𝓜 (tables 𝓤 𝓛.H 𝓜 𝓡 𝓡.env)) G (k_met.met 𝓤 𝓛 𝓜 𝓡 (code.calls-tk_c::snapshots::convert 𝓡.env wired)) z
@@ -212,7 +212,7 @@ tkc_snapshot_convert_spec 𝓤 𝓛 𝓜 𝓡 wired =
     await ! tt $ pick ! (λ r. split ! $ split ! $ move ! (2 ∷ []) $ pick ! (λ ws. split ! $ move ! (1 ∷ []) $ heard ! _ (λ stated.
     fsplit ! $ fsplit ! $ fsplit ! $ move ! (1 ∷ []) $ feq_l ! (λ same. move ! (2 ∷ []) $ fsplit ! $ move ! (4 ∷ []) $ split ! $
     -- [the token of the list; the other tokens; the final value of done; nothing; the list's end;
-    -- its borrow; the result; the stamps; what is lent]
+    -- its borrow; the result; the stamps; the loan]
     lft_end ! tt $ move ! (0 ∷ 8 ∷ 4 ∷ []) $ use3 𝓛 (later (‵ ((Arr (mem u64) (length lists.old)).own_at ws.0 b o))) (slice_back 𝓛 u64 (α ∷ []) γ ws.0 (length lists.old) b o) $ await ! tt $
     fsplit ! $ feq_l ! (λ kept. use1 𝓛 (‵ (row u64 full_share ws.0 b o)) (whole_out 𝓛 u64 ws.0 b o) $ feq_i ! ℕ (length ws.0) room (kept ∙ long) $ fjoin ! $
     use1 𝓛 (‵ (lies_at (Array u64 room) full_share (block_ptr b o) ws.0)) (Array-whole 𝓛 u64 full_share room ws.0 b o) $

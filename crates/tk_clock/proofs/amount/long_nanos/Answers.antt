@@ -16,7 +16,7 @@ returns-then-upper-shift-ne0-clause-stated c =
       omega arith,
     )
 
--- the two parts of the result, which fit a word with their sum
+-- the two parts of the result, whose sum fits in 64 bits
 parts_low : (c : Else-upper-shift-ne0) →
     (c.halves-upper.result.0 * 2 ^ (32 - c.args.shift) < 9223372036854775808)
     × (c.halves-upper.result.1 / 2 ^ c.args.shift ≤ c.halves-upper.result.1)

@@ -105,7 +105,7 @@ fn a_cycle_that_began_counts_until_its_end(rt: HostRuntime) -> Result<(), Fail> 
 
 #[test]
 fn a_limit_comes_before_the_time(rt: HostRuntime) -> Result<(), Fail> {
-    // MONOTONIC is 946,079,999.998296064 s at the last reading that gets a value
+    // MONOTONIC is 946,079,999.998296064 s at the last reading with a value
     let clock = Clock::open(wide_counter()?, 0, time(1_700_000_000, 0))?;
     for (at, first) in [
         (time(946_079_999, 998_296_064), Some(225_563_049_316)),

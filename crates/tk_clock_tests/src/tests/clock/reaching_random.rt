@@ -8,7 +8,7 @@ use std::test::Fail;
 use tk_clock::{ClockId, Snapshot, Timespec};
 use tk_test_support::CLOCKS;
 
-/// Computes a clock after a number of cycles, in ns, in integers of 128 bits.
+/// Computes a clock after a number of cycles, in ns, with 128-bit integers.
 fn value(snapshot: &Snapshot, clock: ClockId, cycles: u64) -> u128 {
     let (sec, frac, mult) = match clock {
         ClockId::MonotonicRaw => (
@@ -86,8 +86,8 @@ fn agrees(rt: &impl Abort, snapshot: &Snapshot, clock: ClockId, nanos: u64) -> b
     found.is_some()
 }
 
-/// Compares the two searches at the value after a number of cycles, and at a nanosecond less and
-/// more. Returns how many of them are reached.
+/// Compares the two searches at the value after a number of cycles, and one nanosecond below and
+/// above it. Returns the number of these times that are reached.
 fn agrees_near(rt: &impl Abort, snapshot: &Snapshot, clock: ClockId, cycles: u64) -> u64 {
     let nanos = (value(snapshot, clock, cycles) & 0xffff_ffff_ffff_ffff) as u64;
     let mut reached: u64 = 0;

@@ -12,7 +12,7 @@ const SECOND_BELOW_END: u64 = 9_223_372_035_000_000_000;
 
 const BELOW_END: u64 = 9_223_372_035_999_999_999;
 
-/// The greatest value of each word after the first, in clocks of `nanosecond_counter`.
+/// The greatest values of the words after the first one, in clocks of `nanosecond_counter`.
 const BOUNDS: [u64; 9] = [
     // the last reading, up to the mask
     4_294_967_295,

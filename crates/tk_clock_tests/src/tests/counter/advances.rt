@@ -34,7 +34,7 @@ const MULTS: [u32; 8] = [
     0xffff_ffff,
 ];
 
-/// Computes `advance` in integers of 128 bits.
+/// Computes `advance` with 128-bit integers.
 fn plain_advance(desc: &CounterDesc, frac: u64, delta: u64, mult: u32) -> Option<(u128, u128)> {
     let units = u128::from(frac) + u128::from(delta) * u128::from(mult);
     let second = u128::from(desc.second());
@@ -55,7 +55,7 @@ fn agrees(rt: &impl Abort, desc: &CounterDesc, frac: u64, delta: u64, mult: u32)
     }
 }
 
-/// Checks the seconds and the rest that a gap gives, or that it is refused.
+/// Checks the seconds and the rest of a gap, or that it is refused.
 fn advances(
     rt: &impl Abort,
     desc: &CounterDesc,

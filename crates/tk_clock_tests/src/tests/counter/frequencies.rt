@@ -29,7 +29,7 @@ fn kernel_halving(mult: u64, shift: u32) -> (u64, u32) {
     (mult, shift)
 }
 
-/// Each row is hz, seconds, mult and shift. A copy in C of the arithmetic of these two functions,
+/// A row contains hz, seconds, mult and shift. A C copy of the arithmetic of these two functions,
 /// built by gcc, made the values.
 const FROM_KERNEL: [(u32, u32, u32, u32); 12] = [
     (1, 1, 2_000_000_000, 1),

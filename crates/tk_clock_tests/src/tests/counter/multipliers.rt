@@ -4,7 +4,7 @@ use std::process::Abort;
 use std::test::Fail;
 use tk_counter::CounterDesc;
 
-/// Computes `mult_at` in an integer of 128 bits.
+/// Computes `mult_at` with 128-bit integers.
 fn plain_mult_at(desc: &CounterDesc, freq: i64, tick: i64) -> Option<u128> {
     let rate = tick
         .checked_mul(6_553_600)?
@@ -21,7 +21,7 @@ fn agrees(rt: &impl Abort, desc: &CounterDesc, freq: i64, tick: i64) {
     assert_same_at(rt, &(desc, freq, tick), &found, &wanted);
 }
 
-/// Checks the multiplier that both calls give for a frequency, at the usual tick.
+/// Checks the multiplier that both calls return for a frequency, at the usual tick.
 fn has_mult(rt: &impl Abort, desc: &CounterDesc, freq: i64, mult: u32) {
     let both = (desc.mult_for(freq), desc.mult_at(freq, 10_000));
     assert_same_at(rt, &freq, &both, &(mult, mult));

@@ -4,10 +4,10 @@ use tk_clock::{Clock, ClockId};
 use tk_counter::CounterDesc;
 use tk_lanes::BatchError;
 
-/// The first reading above a mask of 48 bits.
+/// The first reading above a 48-bit mask.
 const ABOVE: u64 = 281_474_976_710_656;
 
-/// Returns a counter of 4,194,304 nanoseconds a cycle, with readings of 64 bits.
+/// Returns a counter of 4,194,304 nanoseconds a cycle, with 64-bit readings.
 fn wide() -> Result<Clock, Fail> {
     let desc = CounterDesc::new(64, 4_194_304, 0)?;
     Ok(Clock::open(desc, 0, time(1_700_000_000, 0))?)

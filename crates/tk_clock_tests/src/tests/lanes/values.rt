@@ -3,7 +3,8 @@ use std::test::Fail;
 use tk_clock::{ClockId, Command};
 use tk_lanes::lane_batch;
 
-/// Stamps near the last command, where 63 bits of units end, and where readings begin to be behind.
+/// Stamps near the last command, near the end of 63 bits of units, and near the first readings that
+/// are behind.
 const STAMPS: [u64; 17] = [
     999,
     1_000,
@@ -134,7 +135,7 @@ fn a_million_stamps_are_converted(rt: HostRuntime) -> Result<(), Fail> {
         stamps.as_slice(),
         out.as_mut_slice(),
     )?;
-    // 1,048,575 times 1000 cycles, less the opening's reading
+    // 1,048,575 times 1000 cycles, minus the opening's reading
     assert_same(&rt, &out.last(), &Some(&1_048_574_000));
     Ok(())
 }

@@ -7,12 +7,12 @@ use Rattle.tk_command_line.specs.declared.words_error.WordsError.TheVariants as 
 use Rattle.tk_command_line.specs.CommandLine.{IsAsked, asked_by, program_words, task_if}
 use Rattle.tk_command_line.proofs.command_line.asked.Goals as goal
 
--- words with a fault ask for nothing
+-- arguments with a fault are refused
 nothing : (kinds : Kinds) (found : Option (Text × List Row)) → kinds ≢ [] → task_if kinds found ≡ None
 nothing [] found differs = absurd (differs refl)
 nothing (kind ∷ kinds) found differs = refl
 
--- an error if words have a fault, or an allocation failed
+-- the result is an error if the arguments have a fault or an allocation failed
 failed : (words : List Text) (error : WordsError) →
     (error ≡ errors.Refused → fault_of program_words words ≢ []) → IsAsked words (Err error)
 unfolding asked_by

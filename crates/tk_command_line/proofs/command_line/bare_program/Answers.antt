@@ -4,7 +4,7 @@ use Rattle.clap.specs.declared.builder.command.Command.{Command}
 use Rattle.clap.specs.declared.builder.command.Command.TheOpen.{Command-F}
 use Rattle.tk_command_line.proofs.command_line.bare_program.Goals as goal
 
--- a program of which no word asks for help
+-- a program without a flag or subcommand for help
 abbrev helpless : App → App
 helpless app = record {
   top = record app.top { disable_help_flag = true; disable_help_subcommand = true };

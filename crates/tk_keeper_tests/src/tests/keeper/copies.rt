@@ -3,7 +3,7 @@ use std::process::Abort;
 use tk_keeper::{FrontError, TraceError};
 use tk_test_support::mixed_up;
 
-/// Checks that each value is equal to its clone, and to no other value of the list.
+/// Checks that every value is equal to its clone, and to no other value of the list.
 fn are_distinct<T: Copy + PartialEq>(rt: &impl Abort, values: &[T]) {
     let found = mixed_up(values).expect(rt, "a copy");
     assert_same(rt, &found, &None);

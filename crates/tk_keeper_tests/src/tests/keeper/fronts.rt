@@ -1,5 +1,5 @@
-//! Traces whose fronts change in every order. Each value is compared with the one of the front's
-//! own snapshot.
+//! Traces whose fronts change in every order. All values are compared with the values of the
+//! fronts' snapshots.
 
 use super::traces::traced;
 use super::{applied, assert_same, opened, put, time};
@@ -14,14 +14,14 @@ pub(super) const COMMANDS: u64 = 700;
 /// The number of items in a list.
 const ITEMS: usize = 301;
 
-/// Fronts that are equal to, one less and one more than a kept state's, from both sides and across
+/// Fronts that are equal to a kept state's, or one below or above it, from both sides and across
 /// it.
 const ROUND: [u64; 35] = [
     0, 1, 0, 255, 256, 255, 256, 257, 256, 256, 254, 257, 255, 258, 511, 512, 513, 512, 511, 0,
     511, 0, 512, 0, 513, 257, 512, 256, 511, 255, 700, 699, 700, 0, 700,
 ];
 
-/// How the fronts of a list follow each other.
+/// The order of the fronts in a list.
 #[derive(Clone, Copy)]
 enum Order {
     Equal,
@@ -81,8 +81,8 @@ fn by_snapshot(keeper: &Timekeeper, front: u64, stamp: u64, clock: ClockId) -> O
     nanos.checked_add(u64::from(time.nsec))
 }
 
-/// Checks both traces of fronts in this order, of which none is folded. The stamp of each item is
-/// up to 0.3 us after the command at its front.
+/// Checks both traces of fronts in this order, none of which is folded. An item's stamp is up to
+/// 0.3 us after the command at its front.
 fn compared(rt: &impl Abort, keeper: &Timekeeper, order: Order, clock: ClockId) {
     let (mut fronts, mut stamps, mut values) = ([0; ITEMS], [0; ITEMS], [0; ITEMS]);
     for place in 0..ITEMS {

@@ -5,7 +5,7 @@ use tk_clock::Refusal::Full;
 #[test]
 fn folding_makes_room_again(rt: HostRuntime) {
     let mut keeper = updated(&rt, rt.alloc(), 1_048_576, 0);
-    // the journal lists no further command, so none needs memory
+    // the journal lists no further command, so no command needs memory
     assert_same(&rt, &keeper.reserve(5), &Ok(()));
     answers(&rt, &mut keeper, &[(0, Update, Err(Full))]);
     assert_same(&rt, &keeper.fold(1), &1_048_575);

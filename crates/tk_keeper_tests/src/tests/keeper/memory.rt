@@ -6,7 +6,8 @@ use tk_clock::{Command, Entry, Refusal};
 use tk_keeper::Timekeeper;
 use tk_test_support::Heap;
 
-/// The number of requests that are refused in turn, which is more than a test makes.
+/// The number of requests that are refused in turn, which is more than the number that a test
+/// makes.
 const MOST: u64 = 100;
 
 /// Grants all requests. Returns whether there was no request of the number `request`, so that none
@@ -22,7 +23,7 @@ fn grant_all(rt: &impl Abort, heap: &Heap<Global>, request: u64, least: u64) -> 
     granted
 }
 
-/// Checks that a command within `spare()` succeeds, and that it leaves this number of them.
+/// Checks that a command within `spare()` succeeds, and that `spare()` is this number after it.
 fn spends(rt: &impl Abort, keeper: &mut Timekeeper<&Heap<Global>>, reading: u64, spare: usize) {
     let answer = keeper.apply(0, reading, Command::Update);
     assert_same(rt, &(answer, keeper.spare()), &(Ok(reading), spare));

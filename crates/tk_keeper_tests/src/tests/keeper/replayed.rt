@@ -1,7 +1,7 @@
-//! Snapshots of past fronts, each compared with the snapshot of clocks that applied the same
-//! commands one after the other. The gaps of neighbouring updates add up to half the mask, to more,
-//! and to whole rounds of the counter, for a counter of 64 bits too. A second journal has long runs
-//! of updates.
+//! Compares snapshots of past fronts with the snapshots of clocks that applied the same commands
+//! one after the other. The gaps of neighbouring updates add up to half the mask, to more, and to
+//! whole rounds of the counter, also for a 64-bit counter. A second journal contains long runs of
+//! updates.
 
 use super::fronts::{COMMANDS, command};
 use super::{applied, assert_same, words_at};
@@ -12,7 +12,7 @@ use tk_counter::CounterDesc;
 use tk_keeper::{FrontError, Timekeeper};
 use tk_test_support::OPENED_TIME;
 
-/// What a journal is filled with.
+/// The kinds of commands of a journal.
 #[derive(Clone, Copy)]
 enum Filling {
     /// Settings and sleeps, with gaps of up to half the mask.
@@ -79,7 +79,7 @@ fn advanced(rt: &impl Abort, clock: &mut Clock, filling: Filling, number: u64) -
     reading
 }
 
-/// Checks the snapshot of each front, up to the last one. `opened` has the clocks at front 0.
+/// Checks the snapshots of all fronts. `opened` contains the clocks at front 0.
 fn compared(rt: &impl Abort, keeper: &Timekeeper, opened: Clock, filling: Filling) {
     let mut clock = opened;
     for front in 0..=filling.count() {
@@ -95,7 +95,7 @@ fn compared(rt: &impl Abort, keeper: &Timekeeper, opened: Clock, filling: Fillin
     }
 }
 
-/// Fills a journal of this counter, and checks the snapshot of each front, before folds and after
+/// Fills a journal of this counter, and checks the snapshots of all fronts, before folds and after
 /// them.
 fn filled(rt: &impl Abort, alloc: Global, desc: CounterDesc, filling: Filling) {
     let opened = Clock::open(desc, 0, OPENED_TIME).expect(rt, "clocks");

@@ -3,7 +3,7 @@ use std::process::Abort;
 use tk_clock::{ClockId, Command};
 use tk_keeper::Timekeeper;
 
-/// Sets the highest frequency at reading 10^9 on clocks whose tick is 11,000 from reading 0 on, and
+/// Sets the highest frequency at reading 10^9 on clocks whose tick is 11,000 since reading 0, and
 /// checks them before and after.
 pub(super) fn speeds_up(rt: &impl Abort, keeper: &mut Timekeeper) {
     let at = 1_000_000_000;

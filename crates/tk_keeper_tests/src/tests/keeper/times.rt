@@ -3,10 +3,10 @@ use std::process::Abort;
 use tk_clock::{ClockId, Command, ReadError, Timespec};
 use tk_keeper::Timekeeper;
 
-/// What a clock gives at a reading.
+/// The result of reading a clock at a reading.
 type Value = (ClockId, u64, Result<Timespec, ReadError>);
 
-/// Reads clocks without a snapshot, and checks the result of each.
+/// Reads clocks without a snapshot, and checks their results.
 fn gives(rt: &impl Abort, keeper: &Timekeeper, values: &[Value]) {
     for (clock, reading, value) in values {
         assert_same(rt, &keeper.get(*clock, *reading), value);

@@ -5,13 +5,13 @@ use tk_clock::{ClockId, Command};
 use tk_keeper::{Timekeeper, TraceError};
 use tk_test_support::Heap;
 
-/// Each item of the caller's memory before a call.
+/// The items of the caller's memory before a call.
 const OLD: u64 = 77;
 
 /// The most items of a trace here.
 const MOST: usize = 10_000;
 
-/// Checks the answer of both calls: the values, or the first fault. The memory from the fault on
+/// Checks the answer of both calls: the values, or the first fault. The memory after the values
 /// must be unchanged.
 pub(super) fn traced(
     rt: &impl Abort,
@@ -87,7 +87,7 @@ fn the_first_fault_decides_by_its_place(rt: HostRuntime) {
     let unknown = Err(TraceError::Unknown { index: 1 });
     let whole: [Row<'_>; 3] = [
         (&[0, 3], &[0, 0], &[0], unknown),
-        // of an item's two faults that of the front comes first; a later item's front is not tested
+        // of an item's two faults the front's comes first; a later item's front isn't tested
         (&[0, 3, 0], &[1, ABOVE, ABOVE], &[1], unknown),
         (
             &[1, 1, 2, 2, 2, 3],
@@ -216,7 +216,7 @@ fn each_request_refused_in_turn_is_returned_first(rt: HostRuntime) {
     heap.refuse_all();
     // an allocation failure takes precedence over an item's fault
     listed(&rt, &keeper, &[3], &[ABOVE], memory);
-    // no stamps are no values, and need no memory
+    // no stamps give no values, and need no memory
     listed(&rt, &keeper, &[], &[], Ok(&[]));
     // the caller's memory needs no allocation
     let mut out = [OLD; 2];

@@ -1,4 +1,4 @@
-//! Lists whose fronts have no order, so that several threads convert a few thousand items.
+//! Lists with unordered fronts, so that several threads convert a few thousand items.
 
 use super::{
     ABOVE, Lists, agrees_with_one_thread, answered, assert_same, counted, first_faults, opened, put,
@@ -33,7 +33,7 @@ fn busy(rt: &impl Abort, alloc: Global, pair: [Command; 2]) -> Timekeeper {
     keeper
 }
 
-/// Returns this number of items, each with a stamp after `READING`.
+/// Returns this number of items, with stamps after `READING`.
 fn late(rt: &impl Abort, alloc: Global, many: usize) -> Lists {
     let mut lists = counted(rt, alloc, many);
     for place in 0..many {
@@ -46,7 +46,7 @@ fn late(rt: &impl Abort, alloc: Global, many: usize) -> Lists {
     lists
 }
 
-/// Returns this number of items with fronts in no order.
+/// Returns this number of items with unordered fronts.
 fn scattered(rt: &impl Abort, alloc: Global, many: usize) -> Lists {
     let mut lists = late(rt, alloc, many);
     let mut seed: u64 = 88_172_645_463_325_252;
@@ -57,8 +57,8 @@ fn scattered(rt: &impl Abort, alloc: Global, many: usize) -> Lists {
     lists
 }
 
-/// Returns a timekeeper after 396 commands, which are updates except for numbers 140 and 396.
-/// The estimate takes the commands before these two for others like them.
+/// Returns a timekeeper after 396 commands, which are updates except for numbers 140 and 396. The
+/// estimate assumes that the commands before these two are of their kind.
 fn calm(rt: &impl Abort, alloc: Global) -> Timekeeper {
     let mut keeper = opened(rt, alloc);
     for number in 1..=396 {
@@ -72,8 +72,8 @@ fn calm(rt: &impl Abort, alloc: Global) -> Timekeeper {
     keeper
 }
 
-/// Returns this number of items with two fronts in turn, each 140 commands after a kept state. An
-/// item is estimated to take 2,215 ns, so a piece has as few items as it may have, which is 32.
+/// Returns this number of items with two fronts in turn, each 140 commands after a kept state. The
+/// estimated time of an item is 2,215 ns, so a piece has the least number of items, which is 32.
 fn far_apart(rt: &impl Abort, alloc: Global, many: usize) -> Lists {
     let mut lists = late(rt, alloc, many);
     for place in 0..many {
@@ -89,7 +89,7 @@ fn far_apart(rt: &impl Abort, alloc: Global, many: usize) -> Lists {
 #[test]
 fn costly_lists_of_each_length_are_converted(rt: HostRuntime) {
     let alloc = rt.alloc();
-    // around the lengths from which on several threads convert, and multiples of a piece's length
+    // around the least lengths that several threads convert, and multiples of a piece's length
     for (pair, lengths) in [
         (UPDATES, [6_800, 7_168, 7_169]),
         (SETTINGS, [1_023, 1_024, 2_049]),
@@ -107,7 +107,7 @@ fn the_first_fault_of_three_hundred_pieces_decides(rt: HostRuntime) {
     let alloc = rt.alloc();
     let keeper = calm(&rt, alloc);
     let mut lists = far_apart(&rt, alloc, 10_017);
-    // MONOTONIC counts the cycles, because the commands set TAI alone
+    // MONOTONIC counts the cycles, because the commands set only TAI
     let values = lists.stamps.clone().expect(&rt, "memory");
     let found = answered(alloc, &rt, &keeper, &mut lists).expect(&rt, "values");
     assert_same(&rt, &(found.as_slice() == values.as_slice()), &true);

@@ -1,4 +1,4 @@
-//! Lists so long that another thread converts pieces ahead.
+//! Tests lists that are long enough for another thread to convert pieces ahead.
 
 use super::{
     ABOVE, agrees_with_one_thread, asked, assert_same, counted, faulty_at, first_faults, numbers,
@@ -7,7 +7,7 @@ use super::{
 use tk_keeper::TraceError;
 use tk_test_support::Heap;
 
-/// Items whose answer is longer than 32 MB by a word.
+/// Items whose answer is longer than 32 MB by one 64-bit word.
 pub(crate) const LONG: usize = 4_194_305;
 
 #[test]

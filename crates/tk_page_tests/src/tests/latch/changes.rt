@@ -1,5 +1,5 @@
-//! Publications of which each changes some of the words: the front alone, the front and each single
-//! other word, and all words.
+//! Tests publications that change some of the words: only the front, the front and one other word,
+//! and all words.
 ghost use Rattle.std.specs.Prelude.{◌≡◌, ◌≤◌, length, slice_index, suc, true, IfOk, IfSome};
 
 use super::{OPENED_REAL, nanosecond_counter};
@@ -17,7 +17,7 @@ const TURN: u64 = 11;
 /// The number of publications after which all words change.
 const ALL_CHANGE: u64 = 1_000;
 
-/// Returns how often the word at `place` has changed up to a publication. The words 1 to 9 take
+/// Returns the number of changes of the word at `place` up to a publication. The words 1 to 9 take
 /// turns, and in the rest of a turn only the front changes.
 fn changes(number: u64, place: u64) -> u64
     requires number { number ≤ PUBLICATIONS }
@@ -92,7 +92,7 @@ fn reads(latch: &Latch, reader: &mut LatchReader, number: u64) -> bool
     }
 }
 
-/// Publishes the publication with a number, and returns whether it was published.
+/// Makes the publication with a number, and returns whether it succeeded.
 pub(super) fn publishes(
     latch: &Latch,
     writer: &mut LatchWriter,
@@ -112,7 +112,7 @@ pub(super) fn publishes(
     }
 }
 
-/// Publishes all publications in order, and reads each one. Returns whether each read found the
+/// Makes all publications in order, and reads after each. Returns whether all reads found the
 /// publication's words.
 fn reads_each(
     latch: &Latch,

@@ -7,7 +7,7 @@ use std::thread::{Threads, join};
 use tk_counter::CounterDesc;
 use tk_latch::{Latch, LatchReader, LatchWriter, Moved};
 
-/// Publishes all publications in order, and returns whether each was published.
+/// Makes all publications in order, and returns whether all succeeded.
 fn publishes_all(latch: &Latch, mut writer: LatchWriter, desc: CounterDesc) -> bool
     requires latch { writer.latch ≡ latch.now }
     requires counter { desc ≡ latch.now.counter }
@@ -21,8 +21,8 @@ fn publishes_all(latch: &Latch, mut writer: LatchWriter, desc: CounterDesc) -> b
     true
 }
 
-/// Reads until it has read the last publication. Returns whether each one was whole, and none was
-/// older than one that the reader knew of.
+/// Reads until it has read the last publication. Returns whether all were whole, and none was older
+/// than one that the reader knew of.
 fn reads_all(latch: &Latch, mut reader: LatchReader) -> bool
     requires { reader.latch ≡ latch.now }
 {

@@ -1,4 +1,4 @@
-//! One publisher and three viewers, each in a thread.
+//! Tests one publisher and three viewers, in a thread each.
 ghost use Rattle.std.specs.Prelude.{◌≡◌};
 
 use super::{OPENED_REAL, assert_same};
@@ -51,8 +51,8 @@ fn publish_all<R: Wait + Abort>(rt: &R, page: &Page, desk: PageDesk)
     }
 }
 
-/// Reads until it sees the last publication. Each snapshot must be whole, and not older than the
-/// one before.
+/// Reads until it sees the last publication. All snapshots must be whole, and none may be older
+/// than the one before.
 fn watch<R: Wait + Abort>(rt: &R, page: &Page, viewer: Viewer) -> Viewer
     requires { viewer.page ≡ page.now }
     ensures { result.page ≡ page.now }

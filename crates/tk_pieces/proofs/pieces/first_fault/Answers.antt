@@ -7,7 +7,7 @@ use Rattle.tk_pieces.proofs.pieces.first_fault.Given.{Over}
 use Rattle.tk_pieces.proofs.pieces.first_fault.Goals.{Else-out-at-ge-REFUSED}
 use Rattle.tk_pieces.proofs.pieces.first_fault.Goals as goal
 
--- the items of a piece that is not marked are done, like those before it
+-- the items of a piece that isn't marked are converted, like the items before it
 piece_done : (g : Over) (c : Else-out-at-ge-REFUSED g) → (k : ℕ) →
     k < length c.args.input.stamps.now → k < c.pieces.at + c.args.size →
     IsDone c.args.input.keeper.now.journal c.args.input.clock c.args.input.fronts.now

@@ -7,7 +7,7 @@ use Rattle.tk_pieces.proofs.Appended.{stopped}
 use Rattle.tk_pieces.proofs.Parts.{part_done, part_refused}
 use Rattle.tk_pieces.proofs.stages.convert_stage.Goals as goal
 
--- what a longer list keeps of a list
+-- the part of a list that a longer list keeps
 kept : (m end : ℕ) (items : List ℕ) (zeros : List ℕ) → m ≡ length items → m ≤ end →
     take m (take end items ++ zeros) ≡ take m items
 kept m end items zeros counted inside =

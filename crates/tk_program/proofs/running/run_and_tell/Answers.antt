@@ -7,7 +7,7 @@ use Rattle.tk_program.specs.declared.ending.Ending.TheVariants as endings
 use Rattle.tk_program.specs.Ending.{ending_at}
 use Rattle.tk_program.proofs.running.run_and_tell.Goals as goal
 
--- words that can't be taken are refused, or memory was
+-- arguments that can't be read are refused, or an allocation failed
 ended : {Untouched : Type 0} (error : WordsError) → Untouched →
     ((ending_at error ≡ endings.Fault faults.Memory) × Untouched)
     ⊎ ((ending_at error ≡ endings.Words) × Untouched)

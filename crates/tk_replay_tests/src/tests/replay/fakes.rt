@@ -1,4 +1,4 @@
-//! Readers and writers that fail once, at a chosen call, and then go on.
+//! Readers and writers that fail once, at a chosen call, and then continue.
 
 use super::assert_same;
 use std::io::{self, Error, ErrorKind, Read, Write};
@@ -8,21 +8,21 @@ use tk_replay::Fault;
 /// More calls than a reader or a writer gets.
 pub(super) const NEVER: u32 = 100_000_000;
 
-/// A fault that ends all, and one after which a call could be tried again.
+/// An error that ends the work, and an error after which a call could be repeated.
 pub(super) const FAULTS: [ErrorKind; 2] = [ErrorKind::Other, ErrorKind::Interrupted];
 
-/// Gives ten bytes a read, and fails at one of its reads.
+/// Returns ten bytes per read, and fails at one of its reads.
 #[derive(Drop)]
 pub(super) struct Reader<'a> {
     rest: &'a [u8],
     fault_at: u32,
     fault: ErrorKind,
-    /// How many reads there were.
+    /// The number of reads.
     pub(super) reads: u32,
 }
 
 impl<'a> Reader<'a> {
-    /// A reader of the bytes that fails at this read, the first of which is 0.
+    /// Returns a reader of the bytes that fails at this read, counted from 0.
     pub(super) fn new(bytes: &'a [u8], fault_at: u32, fault: ErrorKind) -> Reader<'a> {
         Reader {
             rest: bytes,
@@ -45,7 +45,7 @@ impl Read for Reader<'_> {
     }
 }
 
-/// Gives line feeds for ever.
+/// Returns line feeds without an end.
 #[derive(Drop)]
 pub(super) struct Endless {
     pub(super) given: usize,
@@ -59,7 +59,7 @@ impl Read for Endless {
     }
 }
 
-/// What a writer does at one of its writes.
+/// The behaviour of a writer at one of its writes.
 #[derive(Clone, Copy, Debug, PartialEq, Eq)]
 pub(super) enum Turn {
     Fails(ErrorKind),
@@ -73,22 +73,22 @@ pub(super) const TURNS: [Turn; 3] = [
     Turn::TakesNone,
 ];
 
-/// Takes a piece of the text at each write but one, at which it has its turn.
+/// Takes a piece of the text at every write except one, at which it takes its turn.
 #[derive(Drop)]
 pub(super) struct Writer {
     piece: usize,
     turn_at: u32,
     turn: Turn,
-    /// The fault of the first flush, if it has one.
+    /// The error of the first flush, if there is one.
     pub(super) flush_fault: Option<ErrorKind>,
     taken: [u8; 128],
     pub(super) len: usize,
-    /// How many writes and flushes there were.
+    /// The number of writes and flushes.
     pub(super) calls: u32,
 }
 
 impl Writer {
-    /// A writer of such pieces that has its turn at this write, the first of which is 0.
+    /// Returns a writer of such pieces that takes its turn at this write, counted from 0.
     pub(super) fn new(piece: usize, turn_at: u32, turn: Turn) -> Writer {
         Writer {
             piece,
@@ -124,7 +124,8 @@ pub(super) fn assert_write_fault(
     assert_taken(rt, writer, text, calls);
 }
 
-/// Stops the test if the writer has another text, or had another number of writes and flushes.
+/// Stops the test if the writer contains another text, or counted another number of writes and
+/// flushes.
 pub(super) fn assert_taken(rt: &impl Abort, writer: &Writer, text: &[u8], calls: u32) {
     assert_same(rt, &writer.text(), &text);
     assert_same(rt, &writer.calls, &calls);

@@ -1,4 +1,4 @@
-//! Std's own readers and writers, by the impls that each of them has.
+//! Tests the readers and writers of std, by their impls.
 
 use super::traces::{STAMPS, STEERED, TRACE};
 use super::{REPORT, SCRIPT, assert_same};

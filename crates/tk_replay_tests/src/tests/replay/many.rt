@@ -1,4 +1,4 @@
-//! Many scripts at once: order, counts, threads and gates.
+//! Tests many scripts at once: order, counts, threads and gates.
 
 use super::{REPORT, SCRIPT, assert_lines, assert_same};
 use std::alloc::{AllocError, Global};
@@ -32,7 +32,7 @@ pub(super) fn assert_outcomes<G: Gate + Sync>(
     );
 }
 
-/// Returns the report of each script, made alone.
+/// Returns the reports of all scripts, made one by one.
 pub(super) fn reports_of(alloc: Global, scripts: &[Vec<u8>]) -> Result<Outcomes, Fail> {
     let mut reports = Vec::new(alloc);
     for script in scripts {
@@ -53,7 +53,7 @@ pub(super) fn copies(alloc: Global, count: usize) -> Result<Vec<Vec<u8>>, AllocE
 /// A script whose second record has too few fields.
 const SHORT: &[u8] = b"open,32,16777216,24,0,1700000000,0\nset,5,7\n";
 
-/// One whole script, and one that is none.
+/// One valid script, and one that isn't valid.
 fn two(alloc: Global) -> Result<Vec<Vec<u8>>, AllocError> {
     let whole = Vec::from_slice(alloc, SCRIPT)?;
     let short = Vec::from_slice(alloc, SHORT)?;
@@ -67,7 +67,7 @@ fn two_outcomes(alloc: Global) -> Result<Vec<Outcome>, AllocError> {
     Ok(vec![in alloc; whole, short]?)
 }
 
-/// A script of this many updates.
+/// Returns a script with this number of updates.
 fn updates(alloc: Global, count: usize) -> Result<Vec<u8>, AllocError> {
     let mut script = Vec::from_slice(alloc, b"open,32,16777216,24,0,1700000000,0\n")?;
     for _ in 0..count {
@@ -76,7 +76,8 @@ fn updates(alloc: Global, count: usize) -> Result<Vec<u8>, AllocError> {
     Ok(script)
 }
 
-/// Scripts of different lengths: the one at place n has n updates, every third the most.
+/// Returns scripts of different lengths: the one at place n has n updates, and every third one has
+/// the most.
 fn uneven(alloc: Global, count: usize) -> Result<Vec<Vec<u8>>, AllocError> {
     let mut scripts = Vec::new(alloc);
     for place in 0..count {
@@ -86,7 +87,7 @@ fn uneven(alloc: Global, count: usize) -> Result<Vec<Vec<u8>>, AllocError> {
     Ok(scripts)
 }
 
-/// Holds each piece until as many have come as are wanted.
+/// Holds all pieces until the wanted number has arrived.
 #[derive(Drop)]
 struct Meeting {
     wanted: u64,
@@ -96,7 +97,7 @@ struct Meeting {
 
 impl Meeting {
     /// Counts one more, and waits for the others for at most 50,000,000 turns. Returns whether all
-    /// have come.
+    /// have arrived.
     fn meet(&self) -> bool {
         self.came.fetch_add(1, Ordering::SeqCst);
         for _ in 0..50_000_000u32 {
@@ -168,8 +169,8 @@ fn no_scripts_have_no_reports(rt: HostRuntime) {
     }
 }
 
-/// Notes by a bit which of 40 pieces were begun and ended, whether a call was wrong, and how many
-/// pieces were between the two calls at most.
+/// Records in bits which of 40 pieces were begun and ended, whether a call was wrong, and the
+/// greatest number of pieces between the two calls.
 #[derive(Drop)]
 struct Notes {
     before: AtomicU64,
@@ -195,7 +196,7 @@ impl Notes {
         }
     }
 
-    /// Notes a call as wrong unless the piece was begun and ended as is said.
+    /// Records a call as wrong unless the piece was begun and ended as expected.
     fn expect(&self, bit: u64, was_begun: bool, was_ended: bool) {
         let is_begun = self.before.load(Ordering::SeqCst) & bit != 0;
         let is_ended = self.after.load(Ordering::SeqCst) & bit != 0;
@@ -222,8 +223,8 @@ impl Gate for Notes {
     }
 }
 
-/// The gate was called once before and once after each piece up to `count` and for no other, and no
-/// more pieces than workers were between the two at once.
+/// Stops the test unless the gate was called once before and once after each piece up to `count`
+/// and for no other, and at most one piece for each worker was between the two at once.
 fn assert_called_once(rt: &impl Abort, gate: &Notes, count: usize, workers: usize) {
     let all = (1 << count.min(63)) - 1;
     assert_same(rt, &gate.before.load(Ordering::SeqCst), &all);
@@ -254,14 +255,14 @@ fn reports_stand_in_the_order_of_their_scripts(rt: HostRuntime) -> Result<(), Fa
     Ok(())
 }
 
-/// The outcome is this one, or memory was refused.
+/// Stops the test unless the outcome is this one or `Memory`.
 fn assert_or_memory(rt: &impl Abort, outcome: &Outcome, wanted: &Outcome) {
     if *outcome != Err(ScriptError::Memory) {
         assert_same(rt, outcome, wanted);
     }
 }
 
-/// These are the outcomes of `two`, except for those that memory was refused for.
+/// Stops the test unless these are the outcomes of `two`, or `Memory` instead of some of them.
 fn assert_two(rt: &impl Abort, outcomes: &[Outcome], wanted: &[Outcome]) {
     assert_same(rt, &outcomes.len(), &2);
     if let ([whole, short], [whole_wanted, short_wanted]) = (outcomes, wanted) {

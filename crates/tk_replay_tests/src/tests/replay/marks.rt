@@ -1,4 +1,4 @@
-//! What is done between the two calls of a gate.
+//! Tests the work between the two calls of a gate.
 //!
 //! `tools/check_program` runs both tests with `tools/count_between.c` loaded, which counts the
 //! requests for memory between the two marks. Without it neither test can fail by its marks.
@@ -9,7 +9,7 @@ use std::alloc::Global;
 use std::test::Fail;
 use tk_replay::{Gate, report};
 
-/// Makes one request for memory in each call. The library finds the call by the request's size.
+/// Makes one allocation in each call. The library recognizes the call by the request's size.
 #[derive(Drop)]
 struct Marks {
     alloc: Global,

@@ -1,4 +1,4 @@
-//! Memory that is refused: the whole report, or `Memory` and nothing written.
+//! Tests failed allocations: the result is the whole report, or `Memory` and no output.
 
 use super::assert_same;
 use super::fakes::{Turn, Writer};
@@ -15,10 +15,10 @@ use tk_replay::{
 use tk_script::{RowReader, ScriptError, Stamps};
 use tk_test_support::Heap;
 
-/// How long the script is: its opening, and 600 updates.
+/// The length of the script: its opening, and 600 updates.
 const LENGTH: usize = 35 + 600 * 9;
 
-/// A script whose report takes several growths of each table. It takes no memory itself.
+/// A script whose report needs several growths of every table. The script itself allocates nothing.
 fn script() -> [u8; LENGTH] {
     let mut script = [0; LENGTH];
     script[..35].copy_from_slice(b"open,32,16777216,24,0,1700000000,0\n");
@@ -29,7 +29,7 @@ fn script() -> [u8; LENGTH] {
     script
 }
 
-/// The report is there, or memory was refused.
+/// Stops the test unless the result is the report or `Memory`.
 fn assert_report(rt: &impl Abort, returned: Result<Vec<u8>, ScriptError>) {
     match returned {
         Ok(text) => {
@@ -50,7 +50,8 @@ fn bounded_report_or_want_of_it(rt: HostRuntime) {
     assert_report(&rt, report_bounded(rt.alloc(), &script(), 1));
 }
 
-/// The whole report was written, or memory was refused and nothing was.
+/// Stops the test unless the whole report was written, or an allocation failed and nothing was
+/// written.
 fn assert_written(rt: &impl Abort, outcome: Result<(), Fault>, writer: &Writer) {
     match outcome {
         Ok(()) => assert!(rt; writer.len > 0),
@@ -87,7 +88,7 @@ fn there_is_memory(rt: HostRuntime) {
     assert_same(&rt, &report_bounded(rt.alloc(), &script, 1), &text);
 }
 
-/// A script whose report takes growths of the journal, of the text and of two dates.
+/// A script whose report needs growths of the journal, of the text and of two dates.
 const DATED: &[u8] = b"open,64,16777216,24,0,1700000000,0\n\
 update,1\nupdate,2\nupdate,3\nupdate,4\nupdate,5\nget,5,realtime\nupdate,6\nupdate,7\n\
 update,8\nupdate,9\nget,86400000000000,realtime\nget,86400000000000,tai\nupdate,10\n";
@@ -119,13 +120,13 @@ fn text_of<'h>(
     report_rows(heap, start, &mut rows, keep)
 }
 
-/// How many commands of `DATED` are accepted, by a journal out of the heap.
+/// Returns the number of accepted commands of `DATED`, with a journal out of the heap.
 fn accepted(heap: &Heap<Global>, alloc: Global) -> Result<usize, ScriptError> {
     let (start, mut rows) = RowReader::open(alloc, DATED)?;
     Ok(keeper_after(heap, start, &mut rows)?.len())
 }
 
-/// What is made while memory is refused.
+/// The work during which allocations fail.
 #[derive(Clone, Copy)]
 enum Work {
     Report,
@@ -136,7 +137,7 @@ enum Work {
     Lines,
 }
 
-/// How the report of `DATED` ends.
+/// The end of the report of `DATED`.
 const DATED_END: &[u8] = b",2023-11-15T22:13:20.000000000Z\n\
 at,tai,1700086400.000000000\nok,10,0.000000010\n";
 
@@ -190,7 +191,7 @@ fn is_work_refused(
     is_refused
 }
 
-/// Each work makes at least `least` requests of the heap, any of which may be refused.
+/// Every kind of work makes at least `least` requests of the heap, any of which may be refused.
 #[test]
 fn each_growth_refused_in_turn(rt: HostRuntime) {
     for (work, least) in [

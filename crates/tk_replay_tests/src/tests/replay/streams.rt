@@ -7,7 +7,7 @@ use std::io::{ErrorKind, Read, Write};
 use tk_replay::{Fault, replay, replay_bounded};
 use tk_script::ScriptError;
 
-/// Replays the script with a journal that may be folded, or without.
+/// Replays the script, with a journal that may be folded or with one that may not.
 fn replayed<R: Read, W: Write>(
     alloc: Global,
     is_bounded: bool,

@@ -1,4 +1,4 @@
-//! Traces from readers that fail, and into writers that fail.
+//! Tests traces from readers that fail, and into writers that fail.
 
 use super::assert_same;
 use super::fakes::{
@@ -19,7 +19,7 @@ pub(super) const STEERED: &[u8] =
 /// Stamps as of the opening, the first setting and both.
 pub(super) const STAMPS: &[u8] = b"0,1000000000\n1,1000000000\n2,1000000001\n";
 
-/// MONOTONIC at these, of 33 bytes.
+/// MONOTONIC at these, 33 bytes.
 pub(super) const TRACE: &[u8] = b"1000000000\n1000499963\n1000499964\n";
 
 /// Traces two texts into a writer.
@@ -48,7 +48,7 @@ fn assert_stops<R: Read, S: Read>(
     assert_same(rt, &writer.calls, &0);
 }
 
-/// Traces two readers, one of which fails: nothing is written, and no read is tried again.
+/// Traces two readers, one of which fails: nothing is written, and no read is repeated.
 fn assert_unread<R: Read, S: Read>(
     rt: &(impl Abort + AllocGlobal + Threads + Sync),
     script: &mut R,
@@ -59,7 +59,7 @@ fn assert_unread<R: Read, S: Read>(
 
 #[test]
 fn a_read_that_fails_is_reported_before_all_other_faults(rt: HostRuntime) {
-    // of each there are eight reads, and one that finds the end
+    // both readers are read eight times, and once more to find the end
     let faulty = b"a script with a fault in its first record, and as many reads as the other\n";
     let scripts: [&[u8]; 2] = [STEERED, faulty];
     for fault in FAULTS {

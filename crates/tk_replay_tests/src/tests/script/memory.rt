@@ -1,4 +1,4 @@
-//! Each allocation is refused in turn. A call then returns `Memory` and changes nothing, or it
+//! Refuses all allocations in turn. A call either returns `Memory` and changes nothing, or
 //! completes.
 
 use super::assert_same;
@@ -84,8 +84,8 @@ fn is_line_refused(
     is_refused
 }
 
-/// Stops the test unless each refused request leaves the text unchanged, and the line is whole when
-/// none is.
+/// Stops the test unless every refused request leaves the text unchanged, and the line is whole if
+/// none is refused.
 fn assert_line_or_nothing(rt: &(impl Abort + AllocGlobal), line: &Line, whole: &[u8]) {
     assert!(rt; is_line_refused(rt, line, whole, 1));
     for request in 2..100 {
@@ -130,8 +130,8 @@ fn write_at<'h>(
     calendar.line_at(out, clock, time)
 }
 
-/// Appends the line of a second. If its memory is refused, nothing is written, and it is appended
-/// at the next try.
+/// Appends the line of a second. If an allocation fails, nothing is written, and the next try
+/// appends it.
 fn write_second<'h>(
     rt: &impl Abort,
     calendar: &mut Calendar<&'h Heap<Global>>,
@@ -177,7 +177,7 @@ fn a_calendar_that_was_refused_a_date_goes_on(rt: HostRuntime) {
     assert!(rt; !is_day_refused(&rt, 1_000));
 }
 
-/// Appends the lines of a day from its second 80,000 on. Only the first of them asks for memory.
+/// Appends the lines of a day, starting at its second 80,000. Only the first of them allocates.
 fn write_day<'h>(
     rt: &impl Abort,
     heap: &Heap<Global>,

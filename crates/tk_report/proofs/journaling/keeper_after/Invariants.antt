@@ -4,8 +4,8 @@ use Rattle.tk_script.specs.Coming.{IsReady, coming, records_left}
 use Rattle.tk_report.specs.Trace.{journal_after}
 use Rattle.tk_report.proofs.journaling.keeper_after.Given as goal
 
--- applied to the journal so far, the rows to come leave the same journal as all rows applied to the
--- opening; each record is at most one command
+-- the remaining rows, applied to the journal so far, give the same journal as all rows, applied to
+-- the opening; a record is at most one command
 abbrev pub invariant-rows : goal.invariant-rows
 invariant-rows g l = record {
   ready : IsReady l.rows;

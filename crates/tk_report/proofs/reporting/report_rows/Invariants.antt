@@ -4,8 +4,8 @@ use Rattle.tk_script.specs.Coming.{IsReady, coming, records_left}
 use Rattle.tk_report.proofs.Lines.{IsBegunBy}
 use Rattle.tk_report.proofs.reporting.report_rows.Given as goal
 
--- the lines so far, followed by those of the rows to come, are the report; each record is at most
--- one command
+-- the lines so far, followed by the lines of the remaining rows, are the report; a record is at
+-- most one command
 abbrev pub invariant-rows : goal.invariant-rows
 invariant-rows g l = record {
   ready : IsReady l.rows;

@@ -2,7 +2,7 @@ use Rattle.std.proofs.Common.{◌≤◌, ◌-◌, take, length}
 use Rattle.std.specs.Io.KnownBytes.{Appends}
 use Rattle.tk_report.proofs.sink.write_whole.Given as goal
 
--- the bytes counted so far are those that were written
+-- the bytes counted so far are the written ones
 abbrev pub invariant-writes : goal.invariant-writes
 invariant-writes g l = record {
   within : l.written ≤ length l.text;

@@ -3,7 +3,7 @@ use Rattle.std.specs.Io.KnownBytes.{Consumes}
 use Rattle.tk_report.specs.Reading.{most_read}
 use Rattle.tk_report.proofs.source.read_to_end.Given as goal
 
--- the first `filled` bytes of the buffer are those that were read
+-- the first `filled` bytes of the buffer are the bytes that were read
 abbrev pub invariant-reads : goal.invariant-reads
 invariant-reads g l = record {
   within : l.filled ≤ vec_len l.bytes;

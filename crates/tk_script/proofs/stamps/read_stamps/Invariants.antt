@@ -5,7 +5,7 @@ use Rattle.tk_script.specs.Stamps.{items, items_of, stamp_of}
 use Rattle.tk_script.specs.Cursor.{IsCursor, left_in}
 use Rattle.tk_script.proofs.stamps.read_stamps.Given as goal
 
--- the items so far are those of some pairs, and the records that are left give the others
+-- the items so far are the items of some pairs, and the remaining records give the others
 abbrev pub invariant-loop-row : goal.invariant-loop-row
 invariant-loop-row l = IsCursor l.records
     × (length l.stamps.fronts.items ≡ length l.stamps.stamps.items)

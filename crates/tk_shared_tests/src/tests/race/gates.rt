@@ -1,4 +1,4 @@
-//! When the gate is called, and that actors act at the same time.
+//! Tests when the gate is called, and that actors act at the same time.
 
 use super::{UPDATE, alike, assert_same, nanosecond_counter, raced, rise};
 use std::alloc::Global;
@@ -37,7 +37,7 @@ impl Flag {
     }
 }
 
-/// Holds each piece until as many have come as are expected, and counts those that have ended.
+/// Holds all pieces until the expected number has arrived, and counts the pieces that have ended.
 #[derive(Drop)]
 struct Meeting {
     expected: u64,
@@ -71,7 +71,7 @@ fn actors_act_at_once(rt: HostRuntime) -> Result<(), Fail> {
     Ok(())
 }
 
-/// Races this many actors of three orders each, none of which begins before all have come.
+/// Races this number of actors with three orders each. None of them begins before all have arrived.
 fn all_meet<R: Abort + Threads + Wait + Sync>(
     rt: &R,
     alloc: Global,
@@ -96,7 +96,7 @@ fn all_meet<R: Abort + Threads + Wait + Sync>(
     Ok(())
 }
 
-/// Counts how many times each of three pieces has begun and ended.
+/// Counts the beginnings and ends of three pieces.
 #[derive(Drop)]
 struct Tally {
     begun: [AtomicU64; 3],
@@ -146,8 +146,8 @@ fn each_piece_begins_and_ends_once_even_without_actions(rt: HostRuntime) -> Resu
     Ok(())
 }
 
-/// Holds the second of two pieces in `before` until the first arrives in `after`, and the first
-/// there until the second arrives.
+/// Holds the second of two pieces in `before` until the first arrives in `after`, and holds the
+/// first in `after` until the second arrives.
 #[derive(Drop)]
 struct InTurn {
     /// The piece that is second.

@@ -1,4 +1,4 @@
-//! Whichever allocation fails, either no actor has begun, or no actor notices.
+//! Tests failed allocations in a race: either no actor has begun, or the result is the usual one.
 
 use super::{OPENED_TIME, UPDATE, alike, assert_same, nanosecond_counter};
 use std::sync::atomic::{AtomicU64, Ordering};
@@ -18,9 +18,9 @@ impl Gate for Begun {
     fn after(&self, _piece: usize) {}
 }
 
-/// The first four allocations are for the actors; all others are the race's own. With each of them
-/// refused in turn, the race gives the usual result, or it returns `Memory` before any actor has
-/// begun, or it returns `Threads`.
+/// The first four allocations are for the actors; all others are made by the race. With each of
+/// them refused in turn, the race returns the usual result, or `Memory` before any actor has begun,
+/// or `Threads`.
 #[test]
 fn refused_requests_are_returned_before_any_actor_begins(rt: HostRuntime) -> Result<(), Fail> {
     let desc = nanosecond_counter()?;

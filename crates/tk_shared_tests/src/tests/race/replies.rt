@@ -1,4 +1,4 @@
-//! The replies that actors get.
+//! Tests the replies that actors get.
 
 use super::{OPENED_TIME, UPDATE, alike, assert_same, nanosecond_counter, raced, rise};
 use std::alloc::Global;
@@ -26,7 +26,7 @@ fn two_actors_of_three_updates_make_six_entries(rt: HostRuntime) -> Result<(), F
     for replies in report.replies.as_slice() {
         assert!(&rt; replies.len() == 3 && rise(0, replies.as_slice()));
     }
-    // each reading is the counter's next one, whichever actor gave the command
+    // every reading is the counter's next one, whichever actor gave the command
     for number in 1..=6u64 {
         let entry = report.keeper.entry(number).ok_or("an entry")?;
         assert_same(

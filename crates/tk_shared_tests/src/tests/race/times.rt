@@ -14,7 +14,7 @@ fn timed(front: u64, sec: i64, nsec: u32) -> RaceReply {
     }
 }
 
-/// The clocks open at reading 5, and each action reads 10 ns more. MONOTONIC is 40 ns at the
+/// The clocks open at reading 5, and every action reads 10 ns more. MONOTONIC is 40 ns at the
 /// suspension, which lasts a second by the resume.
 #[test]
 fn times_are_those_of_the_counters_readings(rt: HostRuntime) -> Result<(), Fail> {
@@ -48,7 +48,7 @@ fn times_are_those_of_the_counters_readings(rt: HostRuntime) -> Result<(), Fail>
     Ok(())
 }
 
-/// 2^62 ns after the opening no clock has a value any more.
+/// 2^62 ns after the opening no clock has a value.
 #[test]
 fn a_reading_beyond_the_clocks_is_refused(rt: HostRuntime) -> Result<(), Fail> {
     let actions = vec![in rt.alloc(); Action::Now(ClockId::Monotonic); 1]?;

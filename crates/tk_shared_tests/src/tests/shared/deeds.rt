@@ -1,5 +1,5 @@
-//! Opens a keeper of one or of two callers under a `Brand`, for the tests that differ only in what
-//! the callers then do.
+//! Opens a keeper of one or of two callers under a `Brand`, for the tests that differ only in the
+//! actions of the callers.
 ghost use Rattle.std.specs.Prelude.{◌≡◌};
 ghost use Rattle.tk_shared.specs.Opening.{IsNamed};
 
@@ -11,14 +11,14 @@ use std::sync::Wait;
 use std::test::Fail;
 use tk_shared::{Named, Prepared, Ticker};
 
-/// What the only caller of a keeper does.
+/// The actions of the only caller of a keeper.
 #[derive(Clone, Copy)]
 pub(super) enum Alone {
     Fills,
     Keeps,
 }
 
-/// What the callers 0 and 1 of a keeper do.
+/// The actions of the callers 0 and 1 of a keeper.
 #[derive(Clone, Copy)]
 pub(super) enum Both {
     Fold,
@@ -26,7 +26,7 @@ pub(super) enum Both {
     ReadFast,
 }
 
-/// The only caller of a keeper on this counter does this.
+/// Lets the only caller of a keeper with this counter do its actions.
 pub(super) fn alone_does<R: Wait + Abort>(
     rt: &R,
     alloc: Global,
@@ -53,7 +53,8 @@ fn one_caller<L: Named, R: Wait + Abort>(
     }
 }
 
-/// The two callers of a keeper do this. Its counter is 1,000 ns further at each reading.
+/// Lets the two callers of a keeper do their actions. Its counter advances by 1,000 ns at every
+/// reading.
 pub(super) fn both_do<R: Wait + Abort>(rt: &R, alloc: Global, deed: Both) -> Result<(), Fail> {
     let prepared = ready(rt, alloc, Ticker::new(0, 1_000), 2)?;
     two_callers::<Brand, R>(rt, alloc, prepared, deed)

@@ -1,4 +1,4 @@
-//! Folding under the lock.
+//! Tests folding under the lock.
 ghost use Rattle.std.specs.Prelude.{◌≡◌};
 
 use super::{assert_same, both, commanded, deeds, glanced, read_by};
@@ -49,7 +49,7 @@ pub(super) fn keeps_of_five<L: Named, R: Wait + Abort>(
         let answer = commanded(rt, keeper, caller, Command::Update);
         assert_same(rt, &answer, &Ok(number));
     }
-    // how many are to be listed, and how many are folded then
+    // the number of entries to keep listed, and the number of folded ones after the call
     for (keep, folded) in [(u64::MAX, 0), (5, 0), (2, 3), (4, 3), (0, 5)] {
         assert_same(rt, &keeper.fold(rt, keep), &folded);
     }

@@ -1,4 +1,4 @@
-//! Reads are answered while a command holds the lock.
+//! Tests that reads return while a command holds the lock.
 ghost use Rattle.std.specs.Prelude.{◌≡◌};
 ghost use Rattle.tk_shared.specs.Opening.{IsNamed};
 
@@ -14,10 +14,10 @@ use tk_clock::{Command, Refusal};
 use tk_now::Look;
 use tk_shared::{Caller, Counter, Named, Prepared, SharedKeeper};
 
-/// How often a thread looks for the other before it gives up.
+/// The number of times that a thread checks for the other one before it gives up.
 const TURNS: u32 = 50_000_000;
 
-/// Waits, in a command, until reads were answered. Its reading shows whether they were.
+/// Waits, in a command, until reads have returned. Its reading shows whether they have.
 #[derive(Drop)]
 struct Waits<'a> {
     inside: &'a AtomicU64,
@@ -41,7 +41,7 @@ impl Counter for Waits<'_> {
     }
 }
 
-/// Waits until the flag is set: was it?
+/// Waits until the flag is set. Returns whether it was set in time.
 fn is_set(flag: &AtomicU64) -> bool {
     for _ in 0..TURNS {
         if flag.load(Ordering::SeqCst) == 1 {
@@ -52,7 +52,7 @@ fn is_set(flag: &AtomicU64) -> bool {
     false
 }
 
-/// An Update, and the reading that the clocks then have.
+/// Gives an Update, and returns the reading of the clocks after it.
 fn updates<L: Named, C: Counter, R: Wait>(
     rt: &R,
     keeper: &SharedKeeper<L, C>,
@@ -62,8 +62,8 @@ fn updates<L: Named, C: Counter, R: Wait>(
     (done, read_by(rt, keeper, caller).last())
 }
 
-/// Both reads while a command holds the lock, which is let go after them: was it held, and how many
-/// commands did they find?
+/// Makes both reads while a command holds the lock, which is released after them. Returns whether
+/// it was held, and the numbers of commands that they found.
 fn reads<L: Named, C: Counter, R: Wait>(
     rt: &R,
     keeper: &SharedKeeper<L, C>,

@@ -1,4 +1,4 @@
-//! Four callers, each in its own thread, and every kind of command.
+//! Tests four callers, in a thread each, and every kind of command.
 ghost use Rattle.std.specs.Prelude.{◌≡◌, [], ◌∷◌, length, IfOk};
 ghost use Rattle.tk_shared.specs.Opening.{IsNamed};
 
@@ -16,7 +16,7 @@ use tk_clock::{Command, Refusal, Snapshot};
 use tk_keeper::Timekeeper;
 use tk_shared::{Caller, Named, Prepared, SharedKeeper, Ticker};
 
-/// How many commands each caller gives, and how many lie between two of its reads.
+/// The number of commands of a caller, and the number between two of its reads.
 const COMMANDS: u64 = 50_000;
 
 const READ_EVERY: u64 = 250;
@@ -39,8 +39,8 @@ fn command_of(turn: u64) -> Command {
     }
 }
 
-/// What a caller saw: how many commands were accepted, the snapshots that it read, and whether all
-/// was in order.
+/// The results of a caller: the number of accepted commands, the snapshots that it read, and
+/// whether all was in order.
 #[derive(Drop)]
 struct Seen {
     accepted: u64,
@@ -83,7 +83,7 @@ fn all_commands<L: Named, R: Wait>(
     (caller, Ok(seen))
 }
 
-/// Keeps what a read answers, and a fast one where it answers.
+/// Stores the snapshot of a read, and the snapshot of a fast read if it returns one.
 fn reads_both<L: Named, R: Wait>(
     rt: &R,
     keeper: &SharedKeeper<L, Ticker>,
@@ -103,7 +103,7 @@ fn reads_both<L: Named, R: Wait>(
     Ok(())
 }
 
-/// Two callers at once.
+/// Lets two callers act at once.
 fn two_callers<L: Named + Send + Sync, R: Threads + Wait + Sync>(
     rt: &R,
     alloc: Global,
@@ -128,8 +128,8 @@ fn two_callers<L: Named + Send + Sync, R: Threads + Wait + Sync>(
     )
 }
 
-/// The same journal, entered again command by command, each at one of the ticker's readings: each
-/// snapshot that was read is that of the first entries, as many as its front.
+/// Applies the same journal again, command by command, at the ticker's readings. Checks that every
+/// snapshot that was read is the snapshot at its front.
 fn agrees<R: Abort>(rt: &R, alloc: Global, keeper: &Timekeeper, seen: &Seen) -> Result<(), Fail> {
     let mut again = Timekeeper::open(alloc, nanosecond_counter()?, 0, OPENED_TIME)?;
     for number in 1..=keeper.len() as u64 {
@@ -179,8 +179,8 @@ fn four<L: Named + Send + Sync, R: Threads + Wait + Abort + Sync>(
     all_agree(rt, alloc, &closed, &saw)
 }
 
-/// All was in order in what the callers saw, and each snapshot is of the journal, which has all
-/// accepted commands and no others.
+/// Checks that all results of the callers were in order, and that the snapshots belong to the
+/// journal, which contains all accepted commands and no others.
 fn all_agree<R: Abort>(
     rt: &R,
     alloc: Global,
@@ -197,7 +197,7 @@ fn all_agree<R: Abort>(
     Ok(())
 }
 
-/// A keeper and its callers 0 to 3.
+/// Contains a keeper and its callers 0 to 3.
 type Four<L> = (
     SharedKeeper<L, Ticker>,
     Caller<L>,
@@ -217,7 +217,7 @@ fn open_four<L: Named>(alloc: Global, prepared: Prepared<Ticker>) -> Result<Four
     Ok((keeper, zero, one, two, three))
 }
 
-/// The four callers of a vector.
+/// Returns the four callers of a vector.
 fn four_of<L: Named>(
     mut callers: Vec<Caller<L>>,
 ) -> Result<(Caller<L>, Caller<L>, Caller<L>, Caller<L>), Fail>

@@ -1,4 +1,4 @@
-//! Whichever allocation fails, the call returns what was passed to it, and nothing has changed.
+//! Tests that a call whose allocation fails returns its arguments and changes nothing.
 ghost use Rattle.std.specs.Prelude.{◌≡◌};
 ghost use Rattle.tk_shared.specs.Opening.{IsNamed};
 
@@ -15,18 +15,18 @@ use tk_shared::{
     prepare,
 };
 
-/// How many commands are given: room is made again and again.
+/// The number of commands. It is so great that the capacity grows several times.
 const COMMANDS: u64 = 600;
 
-/// Checks that an allocation failed and that the counter, which is returned, was read once.
+/// Checks that an allocation failed and that the returned counter was read once.
 fn came_back<R: Abort>(rt: &R, fault: OpenFault<Ticker>) -> Result<(), Fail> {
     let OpenFault { error, mut counter } = fault;
     assert_same(rt, &(error, counter.read()), &(OpenError::Memory, 10));
     Ok(())
 }
 
-/// Each call that may want memory. Run with each request refused in turn, every answer is as
-/// without it, or Memory.
+/// Makes all calls that may allocate. With each request refused in turn, every answer is the same
+/// as without a refusal, or `Memory`.
 #[test]
 fn refused_requests_change_nothing(rt: HostRuntime) -> Result<(), Fail> {
     let desc = nanosecond_counter()?;
@@ -61,8 +61,8 @@ fn opened<L: Named, R: Wait + Abort>(
     Ok(())
 }
 
-/// Gives all commands. Each is the next entry, or is refused because an allocation failed and leaves
-/// journal and counts as they were.
+/// Gives all commands. Each one becomes the next entry, or it is refused because an allocation
+/// failed and doesn't change the journal and the counts.
 fn gives_all<L: Named, R: Wait + Abort>(
     rt: &R,
     keeper: &SharedKeeper<L, Ticker>,
@@ -87,11 +87,11 @@ fn gives_all<L: Named, R: Wait + Abort>(
             &(accepted, (accepted, accepted, accepted)),
         );
     }
-    // one request at most is refused
+    // at most one request is refused
     assert!(rt; accepted >= COMMANDS - 1);
 }
 
-/// A reader of a shared counter. If its request is refused, the counter wasn't read.
+/// Opens a reader of a shared counter. If its request is refused, the counter wasn't read.
 #[test]
 fn a_shared_reader_or_no_memory(rt: HostRuntime) -> Result<(), Fail> {
     let ticker = SharedTicker::new(7, 1);

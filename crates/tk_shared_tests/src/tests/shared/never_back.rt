@@ -1,5 +1,5 @@
-//! Four threads ask for the time now while two give commands. No answer for MONOTONIC is below an
-//! earlier one of any thread.
+//! Tests that MONOTONIC never goes back: four threads ask for the time now while two give commands.
+//! No answer is below an earlier answer of any thread.
 ghost use Rattle.std.specs.Prelude.{◌≡◌};
 ghost use Rattle.tk_shared.specs.Opening.{IsNamed};
 
@@ -16,19 +16,19 @@ use tk_counter::CounterDesc;
 use tk_now::SharedTicker;
 use tk_shared::{Caller, Counter, Named, NowFault, Prepared, SharedKeeper, SharedReader};
 
-/// The number of answers that each of the four threads gets, so 10,000,000 in all.
+/// The number of answers of each of the four threads: 10,000,000 in all.
 const ANSWERS: u64 = 2_500_000;
 
-/// The fewest commands that each of the two threads gives. They go on until all answers are there.
+/// The fewest commands of each of the two threads. They continue until no thread asks any more.
 const COMMANDS: u64 = 10_000;
 
-/// The cycles, of a nanosecond, from one reading to the next.
+/// The cycles from one reading to the next. A cycle is a nanosecond.
 const STEP: u64 = 1_000;
 
 /// The first reading: the counter wraps in the middle.
 const START: u64 = (1 << 48) - 5_000_000 * STEP;
 
-/// What the threads share with each other, besides the keeper.
+/// The shared state of the threads, in addition to the keeper.
 #[derive(Drop)]
 struct Board {
     counter: SharedTicker,
@@ -36,7 +36,8 @@ struct Board {
     greatest: AtomicU64,
     /// The number of threads that still ask.
     asking: AtomicU64,
-    /// The number of answers below an earlier one, and of refusals that no thread may meet.
+    /// The number of answers below an earlier one, plus the number of refusals that no thread may
+    /// get.
     faults: AtomicU64,
 }
 
@@ -45,7 +46,7 @@ impl Board {
         self.faults.fetch_add(1, Ordering::SeqCst);
     }
 
-    /// Notes an answer, and whether it is below one that some thread had when the call began.
+    /// Records an answer, and whether it is below one that some thread had when the call began.
     fn notes(&self, before: u64, answer: u64) {
         if answer < before {
             self.fails();
@@ -68,7 +69,7 @@ fn plays<L: Named, C: Counter, R: Wait>(
     }
 }
 
-/// Asks until all answers are there, and is then no more among those that ask.
+/// Asks until it has all its answers, and then subtracts itself from the threads that ask.
 fn asks<L: Named, C: Counter, R: Wait>(
     rt: &R,
     keeper: &SharedKeeper<L, C>,
@@ -91,7 +92,7 @@ fn asks<L: Named, C: Counter, R: Wait>(
     board.asking.fetch_sub(1, Ordering::SeqCst);
 }
 
-/// MONOTONIC now. `None` means that a command came between.
+/// Returns MONOTONIC now. `None` means that a command came in between.
 fn asked<L: Named, C: Counter, R: Wait>(
     rt: &R,
     keeper: &SharedKeeper<L, C>,
@@ -109,7 +110,7 @@ fn asked<L: Named, C: Counter, R: Wait>(
     }
 }
 
-/// Gives commands until no thread asks any more, and now and then folds.
+/// Gives commands until no thread asks any more, and folds from time to time.
 fn gives_commands<L: Named, C: Counter, R: Wait>(
     rt: &R,
     keeper: &SharedKeeper<L, C>,
@@ -133,7 +134,8 @@ fn gives_commands<L: Named, C: Counter, R: Wait>(
     }
 }
 
-/// The fastest and the slowest clocks in turn, a sleep, and steps of REALTIME alone.
+/// The commands: the fastest and the slowest rate in turn, a sleep, and steps that move only
+/// REALTIME.
 fn command_of(turn: u64) -> Command {
     match turn % 8 {
         0 => Command::Freq(500 << 16),

@@ -6,8 +6,8 @@ use std::test::Fail;
 use tk_clock::Timespec;
 use tk_shared::{Counter, OpenError, OpenFault, Ticker, prepare};
 
-/// Returns the error of `prepare` for `callers` callers and the time `real`, and what the counter
-/// answers next.
+/// Returns the error of `prepare` for `callers` callers and the time `real`, and the counter's next
+/// reading.
 fn refused<R: Wait>(
     rt: &R,
     alloc: Global,

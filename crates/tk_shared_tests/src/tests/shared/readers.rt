@@ -1,4 +1,4 @@
-//! One thread commands while another reads the latch.
+//! Tests one thread that gives commands while another reads the latch.
 ghost use Rattle.std.specs.Prelude.{◌≡◌};
 ghost use Rattle.tk_shared.specs.Opening.{IsNamed};
 
@@ -13,17 +13,17 @@ use std::thread::{self, Threads, join};
 use tk_clock::{Command, Snapshot};
 use tk_shared::{Caller, Named, Prepared, SharedKeeper, Ticker};
 
-/// How many commands are given, and the cycles from one to the next.
+/// The number of commands, and the cycles from one to the next.
 const COMMANDS: u64 = 100_000;
 
 const STEP: u64 = 1_000;
 
-/// Is this the snapshot of this number of Updates?
+/// Returns whether this is the snapshot after this number of Updates.
 fn is_whole(seen: &Snapshot) -> bool {
     seen.last() == seen.front().wrapping_mul(STEP) & 0xffff_ffff
 }
 
-/// Gives all commands: was each accepted in order?
+/// Gives all commands. Returns whether all were accepted in order.
 fn commands<L: Named, R: Wait>(
     rt: &R,
     keeper: &SharedKeeper<L, Ticker>,
@@ -38,7 +38,8 @@ fn commands<L: Named, R: Wait>(
     is_good
 }
 
-/// Reads until all commands are given: was each snapshot whole, and none older than one before?
+/// Reads until all commands are given. Returns whether all snapshots were whole, and none was older
+/// than one before it.
 fn glances<L: Named, R: Wait>(
     rt: &R,
     keeper: &SharedKeeper<L, Ticker>,
@@ -63,7 +64,7 @@ fn glances<L: Named, R: Wait>(
     is_good && sees_all(rt, keeper, caller)
 }
 
-/// Do both reads find the last command, once all are given?
+/// Returns whether both reads find the last command after all are given.
 fn sees_all<L: Named, R: Wait>(
     rt: &R,
     keeper: &SharedKeeper<L, Ticker>,

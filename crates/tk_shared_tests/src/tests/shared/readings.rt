@@ -1,4 +1,4 @@
-//! What the counter answers.
+//! Tests the readings of the counter.
 ghost use Rattle.tk_shared.specs.Opening.{IsNamed};
 
 use super::{assert_same, commanded, opened, read_by, ready, ready_on, time};
@@ -12,7 +12,7 @@ use tk_counter::CounterDesc;
 use tk_now::Look;
 use tk_shared::{Caller, Counter, Named, Prepared, SharedKeeper, Ticker};
 
-/// Answers one reading, and then others.
+/// Returns one reading first, and then others.
 #[derive(Drop)]
 struct Answers {
     first: Option<u64>,
@@ -36,7 +36,7 @@ impl Counter for Answers {
     }
 }
 
-/// What an Update answers, and the reading and MONOTONIC that the clocks then have.
+/// The result of an Update, and the reading and MONOTONIC of the clocks after it.
 #[derive(Clone, Copy)]
 struct Updated {
     answer: Result<u64, Refusal>,
@@ -53,7 +53,7 @@ fn accepted(last: u64, nanos: u32) -> Updated {
     }
 }
 
-/// Opens what was prepared, and compares an Update of its first caller with what is wanted.
+/// Opens the prepared keeper, and compares an Update of its first caller with the wanted result.
 fn updates<C: Counter, R: Wait + Abort>(
     rt: &R,
     alloc: Global,

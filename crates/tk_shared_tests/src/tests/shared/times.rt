@@ -1,4 +1,4 @@
-//! The time now in one thread, by a counter whose readings are known.
+//! Tests the time now in one thread, with a counter whose readings are known.
 ghost use Rattle.std.specs.Prelude.{◌≡◌};
 ghost use Rattle.tk_shared.specs.Opening.{IsNamed};
 
@@ -14,7 +14,7 @@ use tk_counter::CounterDesc;
 use tk_now::{HostCounter, SharedCounter, SharedTicker};
 use tk_shared::{Caller, Counter, Named, NowFault, Prepared, SharedKeeper, SharedReader};
 
-/// What happens at a reading, and its result.
+/// The action at a reading, and its result.
 #[derive(Clone, Copy)]
 enum Turn {
     /// The first caller gives a command.
@@ -30,8 +30,8 @@ fn micros(sec: i64, micros: u32) -> Timespec {
     time(sec, micros.wrapping_mul(1_000))
 }
 
-/// A turn for each second of a counter of 1 MHz: the first one is at 1 s. A cycle is 1,000 ns, and
-/// 1,000.5 ns at 500 ppm. The second turn finds the counter wrapped.
+/// One turn per second of a counter of 1 MHz: the first one is at 1 s. A cycle is 1,000 ns, and
+/// 1,000.5 ns at 500 ppm. The counter wraps before the second turn.
 fn seconds() -> [Turn; 17] {
     [
         // 1 s
@@ -75,7 +75,7 @@ fn the_time_now_is_exact(rt: HostRuntime) -> Result<(), Fail> {
     )
 }
 
-/// A turn for each 500,000,000 s. MONOTONIC ends at 946,080,000 s, and BOOTTIME at 9,223,372,036 s.
+/// One turn per 500,000,000 s. MONOTONIC ends at 946,080,000 s, and BOOTTIME at 9,223,372,036 s.
 fn long_turns() -> [Turn; 5] {
     [
         Turn::Asks(ClockId::Monotonic, Ok(micros(500_000_000, 0))),
@@ -94,7 +94,7 @@ fn a_clock_at_its_limit_has_no_time_now(rt: HostRuntime) -> Result<(), Fail> {
 }
 
 /// Takes these turns on a counter that begins with the first of `readings`, and adds the second to
-/// each reading.
+/// every reading.
 fn all_turns<R: Wait + Abort>(
     rt: &R,
     alloc: Global,

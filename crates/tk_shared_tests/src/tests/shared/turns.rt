@@ -1,4 +1,4 @@
-//! Two callers take turns in one thread.
+//! Tests two callers that take turns in one thread.
 ghost use Rattle.std.specs.Prelude.{◌≡◌, [], ◌∷◌, IfOk};
 
 use super::{assert_same, commanded, deeds, glanced, read_by, time};
@@ -10,7 +10,7 @@ use tk_clock::{ClockId, Command, Refusal, Snapshot, Timespec};
 use tk_keeper::Timekeeper;
 use tk_shared::{Caller, Closed, Counter, Missing, Named, SharedKeeper, Ticker};
 
-/// What the first caller sets REALTIME to.
+/// The time to which the first caller sets REALTIME.
 const SET: Command = Command::SetTime(Timespec {
     sec: 2_000_000_000,
     nsec: 0,
@@ -40,7 +40,7 @@ pub(super) fn reads<L: Named, R: Wait + Abort>(
     is_journal(rt, &keeper)
 }
 
-/// Each caller gives a command, and the first one's is read by both.
+/// Lets both callers give a command. Both read the first one's.
 fn both_read<L: Named, R: Wait + Abort>(
     rt: &R,
     keeper: &SharedKeeper<L, Ticker>,
@@ -60,7 +60,8 @@ fn both_read<L: Named, R: Wait + Abort>(
     is_set_between(rt, (first, second), &own, others);
 }
 
-/// Both commands were accepted, and each caller read between them that REALTIME is set.
+/// Checks that both commands were accepted, and that both callers read between them that REALTIME
+/// is set.
 fn is_set_between<R: Abort>(
     rt: &R,
     answers: (Result<u64, Refusal>, Result<u64, Refusal>),
@@ -76,7 +77,7 @@ fn is_set_between<R: Abort>(
     );
 }
 
-/// Closes with the first caller alone, which is refused, and then with both.
+/// Closes with only the first caller, which is refused, and then with both.
 fn closed_late<L: Named, R: Wait>(
     rt: &R,
     alloc: Global,

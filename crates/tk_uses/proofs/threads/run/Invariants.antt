@@ -1,6 +1,6 @@
 use Rattle.tk_uses.proofs.threads.run.Given as goal
 
--- the names are those of what was prepared
+-- the names are the names of the prepared parts
 abbrev pub ghosts-works-L-Named : goal.ghosts-works-L-Named
 ghosts-works-L-Named g a = record {
   page = a.prepared.page;

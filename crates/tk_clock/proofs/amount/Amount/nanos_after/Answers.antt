@@ -2,7 +2,7 @@ use Rattle.std.proofs.Common.{◌≡◌, ℕ, ◌+◌, ◌*◌, ◌/◌, ◌^◌
 use Rattle.tk_clock.proofs.LongUnits.{more_nanos}
 use Rattle.tk_clock.proofs.amount.Amount.nanos_after.Goals as goal
 
--- nanoseconds that are exact, or past 63 bits, are so with whole seconds added too
+-- nanoseconds that are exact, or past 63 bits, are still so after whole seconds are added
 on_top : (whole gained nanos total : ℕ) → whole + nanos ≡ total →
     (gained ≡ nanos) ⊎ ((2 ^ 63 ≤ nanos) × (2 ^ 63 ≤ gained)) →
     (whole + gained ≡ total) ⊎ ((2 ^ 63 ≤ total) × (2 ^ 63 ≤ whole + gained))

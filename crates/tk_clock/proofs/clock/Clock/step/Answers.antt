@@ -26,7 +26,7 @@ set_to-requires-clause-boot c =
     within_boot (λ clock. base_value c.args.now clock c.args.now.last) (Step c.args.by)
     (sym c.if-is_past_limit.ensures)
 
--- REALTIME before the step fits a word
+-- REALTIME before the step fits in 64 bits
 real_low : (c : After-self-inside) →
     c.monotonic_now-monotonic.result + c.self-inside.inside.0.0.real_offset
     < (clock_end + monotonic_end) * 10 ^ 9

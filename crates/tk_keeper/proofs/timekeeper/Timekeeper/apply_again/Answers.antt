@@ -7,7 +7,7 @@ use Rattle.tk_keeper.proofs.timekeeper.Timekeeper.apply_again.Given.{Over}
 use Rattle.tk_keeper.proofs.timekeeper.Timekeeper.apply_again.Goals.{After-apply}
 use Rattle.tk_keeper.proofs.timekeeper.Timekeeper.apply_again.Goals as goal
 
--- the run's last entry leads from the clocks to those of the run's end
+-- the run's last entry leads from the clocks to the clocks at the run's end
 leads : (g : Over) (c : After-apply g) →
     Leads c.args.clock.now c.last_before-entry.result
     (state_of (prefix c.run_end-end.result c.args.self.now.journal))

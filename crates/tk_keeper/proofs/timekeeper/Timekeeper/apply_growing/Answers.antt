@@ -20,7 +20,7 @@ returns-in_err-apply g c =
       refl,
     )
 
--- the journal accepts what the clocks accepted
+-- the journal accepts a command that the clocks accepted
 accepted : (g : Over) (c : After-make_room g) →
     first_refusal c.args.self.now.journal c.args.entry ≡ None
 accepted g c =

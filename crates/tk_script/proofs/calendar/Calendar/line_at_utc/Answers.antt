@@ -4,7 +4,7 @@ use Rattle.tk_script.specs.Utc.{IsDateText, IsUtcText, time_part}
 use Rattle.tk_script.proofs.TextLemmas.{length-date_text}
 use Rattle.tk_script.proofs.calendar.Calendar.line_at_utc.Goals as goal
 
--- the text of a date and that of a time of day make the UTC text
+-- the text of a date and the text of a time of day make the UTC text
 joined : (sec nsec seconds day second : ℕ) (date bytes time : List ℕ) → IsDateText day date →
     bytes ≡ date
     → time ≡ time_part second nsec → seconds ≡ sec → day ≡ seconds / 86400 →

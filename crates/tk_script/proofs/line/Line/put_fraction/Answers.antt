@@ -3,7 +3,7 @@ use Rattle.tk_script.specs.Utc.{nine_digits}
 use Rattle.tk_script.proofs.DigitLemmas.{marked-replaced, marked-within}
 use Rattle.tk_script.proofs.line.Line.put_fraction.Goals as goal
 
--- the ten digits, the first of which the point replaces
+-- the ten digits, the first of which the dot replaces
 digits : (c : goal.After-way_told-1) →
     drop c.self.inside.start c.self.inside.bytes
     ≡ decimal (1000000000 + c.args.nsec) ++ c.args.self.now
@@ -15,7 +15,7 @@ bounds-self-inside-self-inside c =
     c.requires.below (digits c) in
     omega (arith, within, c.self.told)
 
--- the text with the point
+-- the text with the dot
 text : (c : goal.After-way_told-1) →
     drop c.self.inside.start (set c.self.inside.bytes c.self.inside.start 46)
     ≡ 46 ∷ nine_digits c.args.nsec ++ c.args.self.now

@@ -1,4 +1,4 @@
--- `allocate` refuses, or returns what the inner allocator returns. The proof assumes `Logic`.
+-- `allocate` refuses, or returns the result of the inner allocator. The proof assumes `Logic`.
 use Rattle.std.proofs.Common.{◌≡◌, Bool, ap, ℕ, ◌+◌, ◌^◌, ◌<◌, true, false, List, [], ◌∷◌, Ok, Err, refl, w64, Bor}
 use seplogic.Ra.Ura.{Ura}
 use mir.Syntax.{Ty, Args, Fn, a_type, dnil, dcons}
@@ -50,7 +50,7 @@ use Rattle.tk_test_support.proofs.heap.HeapAllocator.allocate.Code as code
 abbrev Next : RattleType
 Next = CE.the_row
 
--- a call of `refuses`: its arguments, and what its caller gets
+-- a call of `refuses`: its arguments, and its results
 module _ {M : Type 1} {𝓤 : Ura M} (𝓛 : Logic 𝓤) (at_mem : Memory → SProp 𝓤) (run : Routine → Fun 𝓤) where
   abbrev Refuses : Contract 𝓤
   Refuses = triple_of 𝓛 RF.signature (RF.spec 𝓛 at_mem run)

@@ -9,8 +9,8 @@ use Rattle.tk_clock.specs.State.{State, state_of, effect}
 use Rattle.tk_clock.proofs.Legal.{state_of-followed_by}
 use Rattle.tk_test_support.proofs.page_desk.PageDesk.command.Goals as goal
 
--- the clocks and the number of commands after an accepted command are those of the journal with its
--- entry
+-- the clocks and the number of commands after an accepted command are the ones of the journal with
+-- its entry
 accepted : (journal : Journal) (clock now : State) (front next reading : ℕ) (cmd : Command) →
     clock ≡ state_of journal → front ≡ accepted_count journal →
     state_refusal clock reading cmd ≡ None → now ≡ effect clock reading cmd → next ≡ front + 1 →

@@ -1,6 +1,6 @@
 use Rattle.tk_shared_tests.proofs.tests.shared.deeds.alone_does.Given as goal
 
--- the names are those of what was prepared
+-- the names are the names of the prepared parts
 abbrev pub ghosts-one_caller-L-Named : goal.ghosts-one_caller-L-Named
 ghosts-one_caller-L-Named g a = record {
   page = a.prepared.page;

@@ -1,6 +1,6 @@
 use Rattle.tk_shared_tests.proofs.tests.shared.deeds.both_do.Given as goal
 
--- the names are those of what was prepared
+-- the names are the names of the prepared parts
 abbrev pub ghosts-two_callers-L-Named : goal.ghosts-two_callers-L-Named
 ghosts-two_callers-L-Named g a = record {
   page = a.prepared.page;

@@ -1,6 +1,6 @@
 use Rattle.tk_shared_tests.proofs.tests.shared.locked.reads_are_answered_while_a_command_holds_the_lock.Given as goal
 
--- the names are those of what was prepared
+-- the names are the names of the prepared parts
 abbrev pub ghosts-beside-L-Named : goal.ghosts-beside-L-Named
 ghosts-beside-L-Named g a = record {
   page = a.prepared.page;

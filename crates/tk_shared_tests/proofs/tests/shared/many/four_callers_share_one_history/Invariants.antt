@@ -1,6 +1,6 @@
 use Rattle.tk_shared_tests.proofs.tests.shared.many.four_callers_share_one_history.Given as goal
 
--- the names are those of what was prepared
+-- the names are the names of the prepared parts
 abbrev pub ghosts-four-L-Named : goal.ghosts-four-L-Named
 ghosts-four-L-Named g a = record {
   page = a.prepared.page;

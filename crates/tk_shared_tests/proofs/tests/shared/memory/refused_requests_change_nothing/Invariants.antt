@@ -1,6 +1,6 @@
 use Rattle.tk_shared_tests.proofs.tests.shared.memory.refused_requests_change_nothing.Given as goal
 
--- the names are those of what was prepared
+-- the names are the names of the prepared parts
 abbrev pub ghosts-opened-L-Named : goal.ghosts-opened-L-Named
 ghosts-opened-L-Named g a = record {
   page = a.prepared.page;

@@ -1,6 +1,6 @@
 use Rattle.tk_shared_tests.proofs.tests.shared.never_back.no_answer_is_below_an_earlier_one.Given as goal
 
--- the names are those of what was prepared
+-- the names are the names of the prepared parts
 abbrev pub ghosts-all_play-L-Named : goal.ghosts-all_play-L-Named
 ghosts-all_play-L-Named g a = record {
   page = a.prepared.page;

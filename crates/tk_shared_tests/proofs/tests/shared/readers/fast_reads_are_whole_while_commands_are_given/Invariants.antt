@@ -1,6 +1,6 @@
 use Rattle.tk_shared_tests.proofs.tests.shared.readers.fast_reads_are_whole_while_commands_are_given.Given as goal
 
--- the names are those of what was prepared
+-- the names are the names of the prepared parts
 abbrev pub ghosts-glances_beside-L-Named : goal.ghosts-glances_beside-L-Named
 ghosts-glances_beside-L-Named g a = record {
   page = a.prepared.page;

@@ -1,6 +1,6 @@
 use Rattle.tk_shared_tests.proofs.tests.shared.readings.updates.Given as goal
 
--- the names are those of what was prepared
+-- the names are the names of the prepared parts
 abbrev pub ghosts-updates_named-L-Named : goal.ghosts-updates_named-L-Named
 ghosts-updates_named-L-Named g a = record {
   page = a.prepared.page;

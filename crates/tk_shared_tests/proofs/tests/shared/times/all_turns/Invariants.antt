@@ -1,6 +1,6 @@
 use Rattle.tk_shared_tests.proofs.tests.shared.times.all_turns.Given as goal
 
--- the names are those of what was prepared
+-- the names are the names of the prepared parts
 abbrev pub ghosts-all_turns_named-L-Named : goal.ghosts-all_turns_named-L-Named
 ghosts-all_turns_named-L-Named g a = record {
   page = a.prepared.page;

@@ -1,6 +1,6 @@
 use Rattle.tk_shared_tests.proofs.tests.shared.times.the_time_now_rises_with_the_hosts_clock.Given as goal
 
--- the names are those of what was prepared
+-- the names are the names of the prepared parts
 abbrev pub ghosts-rises-L-Named : goal.ghosts-rises-L-Named
 ghosts-rises-L-Named g a = record {
   page = a.prepared.page;
