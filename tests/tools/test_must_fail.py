@@ -59,7 +59,8 @@ class MustFail(Case):
     def test_an_edit_with_which_the_crate_is_proved_is_not_refused(self):
         self.write("must-fail-together/first.edit", FIRST)
         found = self.tried("exit 0")
-        self.assertEqual((1, ["low/first.edit: NOT REFUSED: the crate is still proved with it",
+        self.assertEqual((1, ["NOT REFUSED: crates/low/must-fail-together/first.edit",
+                              "low/first.edit: NOT REFUSED: the crate is still proved with it",
                               "must_fail: 0 edits of 1 crates refused, 1 not"]), found)
 
     def test_a_check_that_names_no_function_judges_nothing(self):
