@@ -1,10 +1,12 @@
 -- What the readings of a keeper have to do with its counter.
-use Rattle.std.specs.Prelude.{◌≡◌, ℕ, ◌%◌, ◌^◌}
+use Rattle.std.specs.Prelude.{◌≡◌, ℕ, ◌%◌, ◌^◌, ◌≤◌, List, [], ◌∷◌, ◌++◌}
 use Rattle.tk_counter.specs.Counter.{Counter}
 use Rattle.tk_clock.specs.declared.command.Command.{Command}
 use Rattle.tk_clock.specs.declared.command.Entry.{Entry}
 use Rattle.tk_clock.specs.declared.refusal.Refusal.{Refusal}
 use Rattle.tk_clock.specs.Journal.{Journal, followed_by}
+use Rattle.tk_now.specs.declared.rule.Taken.{Taken}
+use Rattle.tk_now.specs.Views.{taken}
 use Rattle.tk_shared.specs.Callers.{Known, IsRefusalAfter, entry_of}
 
 -- a reading of a counter with this description: an answer that the counter may give next, modulo
@@ -15,16 +17,21 @@ pub record IsReading {C : Type 0} (answers : C → ℕ → Type 0) (counter : C)
   pub given : answers counter answer
   pub kept : reading ≡ answer % 2 ^ described.bits
 
--- the last entry of the history was made at a reading of a counter that followed an announcement,
--- at this moment
+-- the last entry of the history was made at a reading of a counter that followed the announcement
+-- of its own command: the moment of that announcement is the one that the notice lists with the
+-- command, which is the last of these
 pub record EndsAtReading {C : Type 0} (answers : C → ℕ → ℕ → Type 0) (history : Journal)
-    : Type 0 where
+    (commands : List Taken) : Type 0 where
   pub counter : C
   pub from : ℕ
   pub before : Journal
   pub entry : Entry
   pub last : history ≡ followed_by before entry
   pub read : IsReading (λ c. answers c from) counter history.opening.counter entry.reading
+  pub older : List Taken
+  pub to : ℕ
+  pub span : from ≤ to
+  pub listed : commands ≡ older ++ taken from to entry.reading ∷ []
 
 -- a command of a caller was refused at a reading of a counter that followed an announcement, at
 -- this moment, after this history

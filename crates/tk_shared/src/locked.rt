@@ -80,7 +80,7 @@ impl<L: Named, C: Counter> Locked<L, C> {
             (λ number. IsAccepted caller.old caller.new cmd number)
             (λ refusal. IsRefused caller.old caller.new cmd refusal × (self.new ≡ self.old)) }
         ensures reading { MatchResult result
-            (λ _. EndsAtReading C.answers_after caller.new.seen)
+            (λ _. EndsAtReading C.answers_after caller.new.seen caller.new.watched.commands)
             (λ refusal. IsRefusedAtReading C.answers_after caller.old caller.new.seen cmd refusal) }
         ensures seen { caller.new.seen ≡ self.new.history }
         ensures folded { self.new.journal.opening ≡ self.old.journal.opening }

@@ -144,7 +144,7 @@ impl<L: Named, C: Counter> SharedKeeper<L, C> {
             (λ number. IsAccepted caller.old caller.new cmd number)
             (λ refusal. IsRefused caller.old caller.new cmd refusal) }
         ensures reading { MatchResult result
-            (λ _. EndsAtReading C.answers_after caller.new.seen)
+            (λ _. EndsAtReading C.answers_after caller.new.seen caller.new.watched.commands)
             (λ refusal. IsRefusedAtReading C.answers_after caller.old caller.new.seen cmd refusal) }
         ensures same { IsSameCaller caller.old caller.new }
     {

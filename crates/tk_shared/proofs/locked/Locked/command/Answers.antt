@@ -1,4 +1,5 @@
 use Rattle.std.proofs.Common.{◌≡◌, ℕ, ◌+◌, ◌≤◌, ◌++◌, ◌∷◌, [], sym, ap, ◌∙◌, subst, refl, bit_and, List, rules}
+use Rattle.std.proofs.lemmas.Option.{same_Some}
 use Rattle.tk_clock.specs.declared.command.Entry.{Entry}
 use Rattle.tk_clock.specs.Journal.{Journal, followed_by, accepted_count}
 use Rattle.tk_clock.specs.Snapshot.{Snapshot, snapshot_of}
@@ -7,7 +8,7 @@ use Rattle.tk_latch.specs.Latch.{Learnt, Published, told_reader}
 use Rattle.tk_shared.specs.Callers.{Known, known_of, entry_of, made_by, IsAccepted, IsRefused}
 use Rattle.tk_now.specs.declared.rule.Taken.{Taken}
 use Rattle.tk_now.specs.Moments.{IsAcceptedAt}
-use Rattle.tk_now.specs.Views.{Announcing, moment_of}
+use Rattle.tk_now.specs.Views.{Announcing, moment_of, taken}
 use Rattle.tk_shared.specs.Locked.{Guarded, Held, held_of, IsAtRest, IsHeld}
 use Rattle.tk_shared.specs.Readings.{EndsAtReading, IsRefusedAtReading}
 use Rattle.tk_keeper.specs.Keeper.{Keeper}
@@ -228,8 +229,11 @@ returns-clause-reading g c =
     let low = low_bits g.L.Named.page g.L.Named.latch held c.self.invariant.0 (caller_of g c) answer
     c.args.cmd c.publish_for.ensures.begins in
     let seen = ap (λ (s : Sight). s.journal) c.publish_for.ensures.viewer in
+    let at = c.accept.ensures.accepted in
+    let same : at.0 ≡ moment_of c.look.result.now =
+    same_Some _ _ (sym at.2 ∙ c.look.ensures) in
     let found : EndsAtReading g.C.Counter.answers_after
-    (followed_by held.shown.journal (entry_by g c)) =
+    (followed_by held.shown.journal (entry_by g c)) c.tell-4.new.watcher.commands =
     record {
       counter = c.self.inside.counter;
       from = moment_of c.look.result.now;
@@ -237,5 +241,12 @@ returns-clause-reading g c =
       entry = entry_by g c;
       last = refl;
       read = record { answer = answer; given = c.read_after.ensures.given; kept = low };
+      older = c.announce.new.self.commands;
+      to = at.1;
+      span = subst (λ (n : ℕ). n ≤ at.1) same at.3;
+      listed = c.tell-4.ensures.told.commands ∙ (at.4
+          ∙ ap (λ (n : ℕ). c.announce.new.self.commands ++ taken n at.1 (entry_by g c).reading ∷ [])
+          same);
     } in
-    subst (EndsAtReading g.C.Counter.answers_after) (sym seen) found
+    subst (λ (j : Journal).
+    EndsAtReading g.C.Counter.answers_after j c.tell-4.new.watcher.commands) (sym seen) found
