@@ -78,7 +78,7 @@ announces slots id me odd is up s r _ at _ =
       keeps,
       tt,
       stores s r id odd me.0 (Announced now) known.0 refl (omega arith, omega arith)
-          (known.0, known.1, refl),
+          (known.0, known.1, refl, known.3),
       (refl, refl),
     )
 
@@ -112,7 +112,7 @@ accepts slots id me even reading is up s r _ at _ =
           (ordered_push from r.commands t before (omega arith) r.ordered)
           (life_command from r.commands r.log t answered (omega arith) r.alive)
           (λ seat apart own. absurd (apart (own ∙ sym known.0)))
-          (known.0, ap (λ (l : List Taken). l ++ t ∷ []) known.1, refl),
+          (known.0, ap (λ (l : List Taken). l ++ t ∷ []) known.1, refl, known.3),
       (refl, (from, now, refl, omega arith, refl)),
     )
 
@@ -125,8 +125,8 @@ withdraws slots id me even is up s r _ at _ =
       view_of me.0.commands me.0.log Idle,
       keeps,
       tt,
-      stores s r id even me.0 Idle known.0 refl (omega arith) (known.0, known.1, refl),
-      (refl, refl),
+      stores s r id even me.0 Idle known.0 refl (omega arith) (known.0, known.1, refl, known.3),
+      (refl, refl, refl),
     )
 
 -- the announcer's seat gives a watcher's
@@ -166,5 +166,5 @@ starts reading = record {
         Knows 0 (taken 0 0 reading ∷ []) [] Idle 0 seat view.commands view.log view.role
     one zero view e = subst
         (λ (w : View). Knows 0 (taken 0 0 reading ∷ []) [] Idle 0 0 w.commands w.log w.role)
-        (some-injective _ _ e) (refl, refl, refl)
+        (some-injective _ _ e) (refl, refl, refl, ([], refl))
     one (suc seat) view e = absurd (some-ne-none view (sym e))

@@ -35,6 +35,7 @@ others_know m m' cs cs' lg lg' role role' by seat le p q same mine told (Noting 
   sym (same k.0).1 ∙ k.2,
   prefix_trans noted cs cs' k.3 p,
   prefix_trans answers lg lg' k.4 q,
+  prefix_trans told lg lg' k.5 q,
 )
 others_know m m' cs cs' lg lg' role role' by seat le p q same mine told (Resting found) k =
     (prefix_trans mine cs cs' k.0 p, prefix_trans told lg lg' k.1 q)
@@ -42,9 +43,9 @@ others_know m m' cs cs' lg lg' role role' by seat le p q same mine told (Watchin
     let low = k.3 in
     (prefix_trans mine cs cs' k.0 p, prefix_trans told lg lg' k.1 q, k.2, omega arith)
 others_know m m' cs cs' lg lg' role role' by seat le p q same mine told Idle k =
-    (k.0, k.1 ∙ (same k.0).0, sym (same k.0).1 ∙ k.2)
+    (k.0, k.1 ∙ (same k.0).0, sym (same k.0).1 ∙ k.2, prefix_trans told lg lg' k.3 q)
 others_know m m' cs cs' lg lg' role role' by seat le p q same mine told (Announced from) k =
-    (k.0, k.1 ∙ (same k.0).0, sym (same k.0).1 ∙ k.2)
+    (k.0, k.1 ∙ (same k.0).0, sym (same k.0).1 ∙ k.2, prefix_trans told lg lg' k.3 q)
 
 -- what the rule says that this seat knows
 abbrev pub IsKnown : (s : Words) → Kept s → ℕ → View → Type 0

@@ -13,7 +13,6 @@ use Rattle.tk_now.specs.Moments.{AreInOrder, AreInLife}
 use Rattle.tk_now.specs.Rule.{Kept}
 use Rattle.tk_now.specs.Steps.{Seated, compared, recounted}
 use Rattle.tk_now.specs.Views.{view_of, noting, spent, found_by, noted_commands, noted_log, IsIdle, IsResting, IsNoting}
-use Rattle.tk_now.proofs.Lists.{life_first}
 use Rattle.tk_now.proofs.Keeping.{known_of, reseated, parted, loads_as}
 
 -- the announcer takes in what a watcher knew
@@ -24,7 +23,7 @@ notes id view other watcher is there s r at apart from =
     let w = noting view watcher in
     let here = sym (set_else s.views id other w apart) ∙ from in
     let begins = known_of s r other watcher (Resting (found_by watcher.role)) here there in
-    let noted = reseated s r id w (known.0, known.1, known.2, begins.0, begins.1) in
+    let noted = reseated s r id w (known.0, known.1, known.2, begins.0, begins.1, known.3) in
     reseated _ noted other spent tt
 
 -- the announcer compares its note with all commands and answers
@@ -34,18 +33,19 @@ compares slots id me is s r _ at _ =
     let noted = noted_commands me.0.role in
     let answers = noted_log me.0.role in
     let known = known_of s r id me.0 (Noting noted answers) at is in
-    let v = view_of me.0.commands me.0.log Idle in (
+    let v = view_of me.0.commands r.log Idle in (
       v,
       keeps,
       tt,
-      loads_as s r id me.1 v (known.0, known.1, known.2),
+      loads_as s r id me.1 v (known.0, known.1, known.2, prefix_self r.log),
       (
         refl,
         refl,
         subst (IsPrefix noted) (sym known.1) known.3,
         subst (AreInOrder) (sym known.1) r.ordered,
-        subst (λ (l : List Taken). AreInLife l answers) (sym known.1)
-            (life_first r.commands answers r.log known.4 r.alive),
+        known.5,
+        known.4,
+        subst (λ (l : List Taken). AreInLife l r.log) (sym known.1) r.alive,
       ),
     )
 
@@ -67,8 +67,10 @@ recounts slots id me is s r _ at _ =
         known.2,
         subst (IsPrefix mine) known.1 (prefix_self mine),
         prefix_self r.log,
+        known.5,
       ),
       (
+        refl,
         refl,
         refl,
         subst (IsPrefix noted) (sym known.1) known.3,
@@ -87,5 +89,5 @@ returns id view is s r at =
     in
     let left = view_of view.commands view.log Idle in
     let right = view_of view.commands (noted_log view.role) (Resting []) in
-    parted s r id left right (known.0, known.1, known.2)
+    parted s r id left right (known.0, known.1, known.2, known.5)
     (λ seat. (subst (IsPrefix view.commands) known.1 (prefix_self view.commands), known.4))

@@ -42,8 +42,9 @@ module _ (moment : ℕ) (commands : List Taken) (log : List Answer) (role : Role
       IsPrefix mine commands × IsPrefix told log × Counts mine first × (from ≤ moment)
   Knows mine told Spent = Unit {0}
   Knows mine told (Noting noted answers) = (seat ≡ announcer) × (mine ≡ commands) × (role ≡ Idle)
-      × IsPrefix noted commands × IsPrefix answers log
-  Knows mine told own = (seat ≡ announcer) × (mine ≡ commands) × (role ≡ own)
+      × IsPrefix noted commands × IsPrefix answers log × IsPrefix told log
+  Knows mine told own =
+      (seat ≡ announcer) × (mine ≡ commands) × (role ≡ own) × IsPrefix told log
 
 -- the rule: there is a number of steps, a list of the accepted commands and a list of the readings
 -- that all watchers took

@@ -26,7 +26,8 @@ accepted reading move old found new = IsIdle new.0
 
 -- the announced command was refused
 abbrev pub withdrawn : Move → Seated → ℕ → Seated → Type 0
-withdrawn move old found new = (new.0.commands ≡ old.0.commands) × IsIdle new.0
+withdrawn move old found new =
+    (new.0.commands ≡ old.0.commands) × (new.0.log ≡ old.0.log) × IsIdle new.0
 
 -- the first look: the watcher knows all accepted commands and all answers so far, which had their
 -- readings by now
@@ -74,16 +75,18 @@ abbrev pub ended : ℕ → Move → Seated → ℕ → Seated → Type 0
 ended reading move old found new =
     (move.word ≡ 0) × (new.1 ≡ old.1) × IsEnd reading old.0 found new.0
 
--- the noted commands are the first of the announcer's, and the noted answers are in life with all
--- of its commands
+-- the noted commands are the first of the announcer's. It learns all answers so far: they begin with
+-- those that it knew, and with the noted ones, and are in life with all of its commands
 abbrev pub compared : Move → Seated → ℕ → Seated → Type 0
 compared move old found new = (new.0.commands ≡ old.0.commands) × IsIdle new.0
     × IsPrefix (noted_commands old.0.role) old.0.commands × AreInOrder old.0.commands
-    × AreInLife old.0.commands (noted_log old.0.role)
+    × IsPrefix old.0.log new.0.log × IsPrefix (noted_log old.0.role) new.0.log
+    × AreInLife old.0.commands new.0.log
 
 -- the same, and the note has all commands and all answers after that
 abbrev pub recounted : Move → Seated → ℕ → Seated → Type 0
-recounted move old found new = (new.0.commands ≡ old.0.commands) × IsNoting new.0
+recounted move old found new =
+    (new.0.commands ≡ old.0.commands) × (new.0.log ≡ old.0.log) × IsNoting new.0
     × IsPrefix (noted_commands old.0.role) old.0.commands
     × IsPrefix (noted_log old.0.role) (noted_log new.0.role) × AreInOrder old.0.commands
     × AreInLife old.0.commands (noted_log new.0.role)

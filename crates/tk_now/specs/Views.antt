@@ -79,11 +79,13 @@ IsIdle view = view.role ≡ Idle
 abbrev pub IsAnnounced : View → Type 0
 IsAnnounced view = view.role ≡ Announced (from_by view.role)
 
--- an announcer: its notice, the readings of the accepted commands, the opening's first, and the
--- moment of the announcement if a command is in progress
+-- an announcer: its notice, the readings of the accepted commands, the opening's first, the answers
+-- that it knows of, the first of all watchers' answers, and the moment of the announcement if a
+-- command is in progress
 pub record Announcing : Type 0 where
   pub notice : TableId
   pub commands : List Taken
+  pub log : List Answer
   pub since : Option ℕ
 
 -- a watcher: its notice, the readings of commands and of watchers that it knows of, and the words
@@ -99,6 +101,7 @@ abbrev pub opened_announcer : TableId → ℕ → Announcing
 opened_announcer notice reading = record {
   notice = notice;
   commands = taken 0 0 reading ∷ [];
+  log = [];
   since = None;
 }
 

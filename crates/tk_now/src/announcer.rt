@@ -32,6 +32,7 @@ impl Model for Announcer {
     ghost view = { λ a. record {
       notice = a.look.seat.table_id;
       commands = a.look.seat.me.0.commands;
+      log = a.look.seat.me.0.log;
       since = since_by a.look.seat.me.0.role;
     } };
 
@@ -123,17 +124,19 @@ impl Announcer {
     }
 
     /// Takes in a watcher, which is used up. The commands that it knew are the first of this
-    /// announcer's, and each reading that it had listed is in its life among all commands.
+    /// announcer's. The announcer learns all answers so far, of which the watcher knew the first;
+    /// each is in its life among all commands.
     ///
     /// It waits for nobody and allocates nothing.
     pub fn take_in<A: Allocator>(&mut self, notice: &Notice<A>, watcher: Watcher)
         requires notice { self.old.notice ≡ notice.now }
         requires watcher { watcher.notice ≡ notice.now }
         requires idle { self.old.since ≡ None }
-        ensures same { self.new ≡ self.old }
+        ensures same { self.new ≡ record self.old { log = self.new.log } }
         ensures begins { IsPrefix watcher.commands self.old.commands }
         ensures order { AreInOrder self.old.commands }
-        ensures life { AreInLife self.old.commands watcher.log }
+        ensures log { IsPrefix self.old.log self.new.log × IsPrefix watcher.log self.new.log }
+        ensures life { AreInLife self.old.commands self.new.log }
     {
         let Watcher { look } = watcher;
         let Look { seat: former } = look;

@@ -4,6 +4,7 @@ use Rattle.tk_clock.specs.Journal.{Journal, accepted_count}
 use Rattle.tk_clock.specs.Legal.{IsWhole}
 use Rattle.tk_page.specs.History.{Begins}
 use Rattle.tk_now.specs.declared.rule.Taken.{Taken}
+use Rattle.tk_now.specs.declared.rule.Answer.{Answer}
 use Rattle.tk_now.specs.Life.{AreReadings}
 use Rattle.tk_now.specs.Moments.{AreInLife, AreInOrder}
 use mathlib.Core.List.{IsPrefix}
@@ -38,6 +39,16 @@ pub record HasWatched (commands : List Taken) (caller : Known) : Type 0 where
   pub begins : IsPrefix caller.watched.commands commands
   pub life : AreInLife commands caller.watched.log
 
+-- the readings that a caller knows of are the first of these
+abbrev pub HasListed : List Answer → Known → Type 0
+HasListed log caller = IsPrefix caller.watched.log log
+
+-- there is one list of the readings of all these callers, each in its life among all commands
+pub record HaveListed (commands : List Taken) (callers : List Known) : Type 0 where
+  pub log : List Answer
+  pub alive : AreInLife commands log
+  pub each : All (HasListed log) callers
+
 -- just as many entries are a caller's as were accepted
 abbrev pub IsCounted : Journal → Known → Type 0
 IsCounted history caller = made_by caller.id history.entries ≡ caller.accepted
@@ -48,9 +59,12 @@ pub record IsClosed (journal : Journal) (callers : List Known) : Type 0 where
   pub whole : IsWhole history
   pub kept : IsKeptOf history journal
   pub commands : List Taken
+  pub log : List Answer
   pub readings : AreReadings history commands
   pub order : AreInOrder commands
+  pub alive : AreInLife commands log
   pub parts : All (IsPartOf history) callers
   pub watched : All (HasWatched commands) callers
+  pub listed : All (HasListed log) callers
   pub own : All (IsCounted history) callers
   pub counted : accepted_count journal ≡ accepted_by callers

@@ -1,6 +1,8 @@
 //! Closing a shared keeper, once all callers are back.
 ghost use Rattle.std.specs.Prelude.{◌≡◌, ◌+◌, ◌<◌, ◌≤◌, All, MatchResult, None, length, vec_len};
-ghost use Rattle.tk_shared.specs.Closing.{AreDifferent, HasWatched, IsClosed, IsPartOf, accepted_by};
+ghost use mathlib.Core.List.{IsPrefix};
+ghost use Rattle.tk_now.specs.Moments.{AreInLife};
+ghost use Rattle.tk_shared.specs.Closing.{AreDifferent, HasListed, HasWatched, HaveListed, IsClosed, IsPartOf, accepted_by};
 ghost use Rattle.tk_shared.specs.History.{AreSnapshots};
 
 use crate::caller::Caller;
@@ -113,6 +115,7 @@ fn take_all<L: Named, R: Wait>(
     ensures amount { all.new.amount ≡ all.old.amount + accepted_by callers.items }
     ensures seen { All (IsPartOf publisher.old.journal) callers.items }
     ensures watched { All (HasWatched announcer.old.commands) callers.items }
+    ensures listed { HaveListed announcer.old.commands callers.items }
 {
     for caller in callers {
         take_in(
@@ -139,11 +142,16 @@ fn take_in<L: Named, R: Wait>(
     requires idle { announcer.old.since ≡ None }
     requires snapshots { AreSnapshots publisher.old.journal writer.old.publications }
     ensures same { (publisher.new ≡ publisher.old) × (writer.new ≡ writer.old)
-        × (announcer.new ≡ announcer.old) }
+        × (announcer.new.notice ≡ announcer.old.notice)
+        × (announcer.new.commands ≡ announcer.old.commands)
+        × (announcer.new.since ≡ announcer.old.since) }
+    ensures log { IsPrefix announcer.old.log announcer.new.log }
+    ensures alive { AreInLife announcer.old.commands announcer.new.log }
     ensures parts { (all.new.parts ≡ all.old.parts + 1) × (all.new.parts ≤ L.parts) }
     ensures amount { all.new.amount ≡ all.old.amount + caller.accepted }
     ensures seen { IsPartOf publisher.old.journal caller }
     ensures watched { HasWatched announcer.old.commands caller }
+    ensures listed { HasListed announcer.new.log caller }
 {
     let Caller {
         mut viewer,

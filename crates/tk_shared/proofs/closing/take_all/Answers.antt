@@ -1,8 +1,10 @@
-use Rattle.std.proofs.Common.{◌≡◌, ◌∷◌, All, length, sym, ap, ◌∙◌, subst, rules, arith}
+use Rattle.std.proofs.Common.{◌≡◌, List, [], ◌∷◌, All, refl, length, sym, ap, ◌∙◌, subst, rules, arith}
 use Rattle.std.specs.Vec.Iter.{into_iter_items}
 use Rattle.tk_page.specs.History.{History}
-use Rattle.tk_now.specs.Views.{Announcing}
-use Rattle.tk_shared.specs.Closing.{HasWatched, IsPartOf, accepted_by}
+use Rattle.tk_clock.proofs.Lists.{prefix_self, prefix_trans}
+use Rattle.tk_now.specs.declared.rule.Taken.{Taken}
+use Rattle.tk_now.specs.Moments.{AreInLife}
+use Rattle.tk_shared.specs.Closing.{HasListed, HasWatched, IsPartOf, accepted_by}
 use Rattle.tk_shared.proofs.Counts.{accepted-cons, all_first}
 use Rattle.tk_shared.proofs.closing.take_all.Goals as goal
 
@@ -19,14 +21,25 @@ loop-caller-preserved g c =
     let first : IsPartOf history caller =
     subst (λ (h : History). IsPartOf h.journal caller) i.same.0 t.seen in
     let commands = c.args.announcer.now.commands in
+    let log = c.take_in.new.announcer.log in
     let known : HasWatched commands caller =
-    subst (λ (a : Announcing). HasWatched a.commands caller) i.same.2 t.watched in
+    subst (λ (l : List Taken). HasWatched l caller) i.same.3 t.watched in
+    let alive : AreInLife commands log = subst (λ (l : List Taken). AreInLife l log) i.same.3 t.alive
+    in
+    let was = i.listed in
+    let more = prefix_trans was.0 c.loop-caller.announcer.log log was.1 t.log in
     let joined = t.parts.0 in
     let added = t.amount in
     let parts = i.parts in
     let amount = i.amount in
     record {
-      same = (t.same.0 ∙ i.same.0, t.same.1 ∙ i.same.1, t.same.2 ∙ i.same.2);
+      same = (
+        t.same.0 ∙ i.same.0,
+        t.same.1 ∙ i.same.1,
+        t.same.2 ∙ i.same.2,
+        t.same.3 ∙ i.same.3,
+        t.same.4 ∙ i.same.4,
+      );
       parts = omega (arith, joined, longer, parts);
       within = t.parts.1;
       amount = omega (arith, added, sum, amount);
@@ -34,6 +47,14 @@ loop-caller-preserved g c =
           (all_first (IsPartOf history) caller rest first others));
       watched = λ others. i.watched (subst (All (HasWatched commands)) (sym step)
           (all_first (HasWatched commands) caller rest known others));
+      listed = (
+        log,
+        prefix_self log,
+        alive,
+        λ all longer others. was.3 all (prefix_trans was.0 log all more longer)
+            (subst (All (HasListed all)) (sym step) (all_first (HasListed all) caller rest
+            (prefix_trans caller.watched.log log all t.listed longer) others)),
+      );
     }
 
 pub loop-caller-init : goal.loop-caller-init
@@ -47,9 +68,25 @@ loop-caller-init g c =
       amount = search rules;
       seen = λ all. subst (All (IsPartOf c.args.publisher.now.journal)) items all;
       watched = λ all. subst (All (HasWatched c.args.announcer.now.commands)) items all;
+      listed = (
+        [],
+        (c.args.announcer.now.log, refl),
+        λ i place a t at_a at_t. absurd (cc (at_a)),
+        λ all longer rest. subst (All (HasListed all)) items rest,
+      );
     }
 
 pub returns-clause-watched : goal.returns-clause-watched
 returns-clause-watched g c =
     let none : length (into_iter_items c.loop-caller.caller-iterator) ≡ 0 = search rules in
     c.loop-caller.invariant.watched (λ k d low. absurd (omega (arith, none, low)))
+
+pub returns-clause-listed : goal.returns-clause-listed
+returns-clause-listed g c =
+    let none : length (into_iter_items c.loop-caller.caller-iterator) ≡ 0 = search rules in
+    let w = c.loop-caller.invariant.listed in
+    record {
+      log = w.0;
+      alive = w.2;
+      each = w.3 w.0 (prefix_self w.0) (λ k d low. absurd (omega (arith, none, low)));
+    }

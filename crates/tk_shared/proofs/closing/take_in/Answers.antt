@@ -1,6 +1,7 @@
 use Rattle.std.proofs.Common.{subst}
 use Rattle.tk_shared.specs.Callers.{known_of}
 use Rattle.tk_shared.specs.Closing.{HasWatched, IsPartOf}
+use Rattle.tk_now.proofs.Lists.{life_first}
 use Rattle.tk_shared.proofs.Ends.{part_of}
 use Rattle.tk_shared.proofs.closing.take_in.Goals as goal
 
@@ -18,6 +19,10 @@ returns-clause-watched g c =
     let caller = c.caller.inside in
     let known = known_of caller.id caller.accepted caller.viewer caller.reader caller.watcher in
     let commands = c.args.announcer.now.commands in
+    let log = c.take_in.new.self.log in
     let here : HasWatched commands known =
-    record { begins = c.take_in.ensures.begins; life = c.take_in.ensures.life } in
+    record {
+      begins = c.take_in.ensures.begins;
+      life = life_first commands known.watched.log log c.take_in.ensures.log.1 c.take_in.ensures.life;
+    } in
     subst (HasWatched commands) c.caller.view_is here

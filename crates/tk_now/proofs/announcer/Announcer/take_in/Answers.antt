@@ -38,10 +38,19 @@ returns-clause-order g c =
     let e = subst (λ (v : View). AreInOrder v.commands) both c.load.ensures.2.3 in
     subst AreInOrder (ap (λ p. p.commands) c.self.view_is) e
 
+pub returns-clause-log : goal.returns-clause-log
+returns-clause-log g c =
+    let both = ap (λ m. m.0) c.join_seat.ensures.2 in
+    let log = c.load.new.seat.me.0.log in
+    let mine = subst (λ (v : View). IsPrefix v.log log) both c.load.ensures.2.4 in
+    let noted = subst (λ (v : View). IsPrefix (noted_log v.role) log) both c.load.ensures.2.5 in (
+      subst (λ (l : List Answer). IsPrefix l log) (ap (λ p. p.log) c.self.view_is) mine,
+      subst (λ (l : List Answer). IsPrefix l log) (ap (λ p. p.log) c.watcher.view_is) noted,
+    )
+
 pub returns-clause-life : goal.returns-clause-life
 returns-clause-life g c =
     let both = ap (λ m. m.0) c.join_seat.ensures.2 in
-    let e = subst (λ (v : View). AreInLife v.commands (noted_log v.role)) both
-    c.load.ensures.2.4 in
-    subst (λ (t : List Taken × List Answer). AreInLife t.0 t.1)
-    (λ i. (ap (λ p. p.commands) c.self.view_is i, ap (λ p. p.log) c.watcher.view_is i)) e
+    let log = c.load.new.seat.me.0.log in
+    let e = subst (λ (v : View). AreInLife v.commands log) both c.load.ensures.2.6 in
+    subst (λ (l : List Taken). AreInLife l log) (ap (λ p. p.commands) c.self.view_is) e

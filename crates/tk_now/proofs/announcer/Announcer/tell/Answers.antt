@@ -30,4 +30,4 @@ load-requires g c =
     (search rules, search rules, recounts _ _ _ (subst IsNoting (sym both) refl))
 
 pub split_seat-requires : goal.split_seat-requires
-split_seat-requires g c = (search rules, search rules, returns _ _ c.load.ensures.2.1)
+split_seat-requires g c = (search rules, search rules, returns _ _ c.load.ensures.2.2)

@@ -20,5 +20,5 @@ returns g c =
       enough,
       closed g.L.Named.page g.L.Named.latch g.L.Named.notice held inside.announcer
           c.args.callers.items c.keeper.invariant.0 c.keeper.invariant.3 c.requires.different
-          c.take_all.ensures.seen c.take_all.ensures.watched total,
+          c.take_all.ensures.seen c.take_all.ensures.watched c.take_all.ensures.listed total,
     )
