@@ -106,7 +106,7 @@ accepts slots id me even reading is up s r _ at _ =
       tt,
       kept_with s r ws id v now more r.log Idle (length-set s.words 0 even ∙ wide) (omega arith)
           (prefix_push r.commands t) (prefix_self r.log) (omega arith)
-          (before_push from now r.commands t (omega arith) (omega arith) before)
+          (before_push from now r.commands t (omega arith) (omega arith) (omega arith) before)
           (answered_more (length r.commands) (length more) from now r.log (omega arith)
           (omega arith) answered)
           (ordered_push from r.commands t before (omega arith) r.ordered)
@@ -154,7 +154,7 @@ starts reading = record {
   wide = refl;
   stands = refl;
   before = λ place t at. let e = (only_opening reading place t at).1 in
-      subst (λ (x : Taken). x.to ≤ 0) e (omega arith);
+      subst (λ (x : Taken). (x.from ≤ x.to) × (x.to ≤ 0)) e (omega arith, omega arith);
   answered = λ i a at. absurd (cc (at));
   ordered = λ i j t u less at_i at_j. let e = (only_opening reading j u at_j).0 in
       absurd (omega arith);

@@ -33,13 +33,15 @@ module _ {A : Type 0} where
 
 pub before_more : (m m' : ℕ) (commands : List Taken) → m ≤ m' → AreBefore m commands →
     AreBefore m' commands
-before_more m m' commands le b place t at = let l = b place t at in omega arith
+before_more m m' commands le b place t at =
+    let h = b place t at in let l = h.1 in (h.0, omega arith)
 
-pub before_push : (m m' : ℕ) (commands : List Taken) (u : Taken) → m ≤ m' → u.to ≤ m' →
+pub before_push : (m m' : ℕ) (commands : List Taken) (u : Taken) → m ≤ m' → u.from ≤ u.to → u.to ≤ m' →
     AreBefore m commands → AreBefore m' (commands ++ u ∷ [])
-before_push m m' commands u le over b place t at =
-    ⊎_elim (λ old. let l = b place t old in omega arith)
-    (λ (e : (place ≡ length commands) × (u ≡ t)). subst (λ (x : Taken). x.to ≤ m') e.1 over)
+before_push m m' commands u le span over b place t at =
+    ⊎_elim (λ old. let h = b place t old in let l = h.1 in (h.0, omega arith))
+    (λ (e : (place ≡ length commands) × (u ≡ t)).
+    subst (λ (x : Taken). (x.from ≤ x.to) × (x.to ≤ m')) e.1 (span, over))
     (get_push commands u place t at)
 
 pub answered_more : (n n' m m' : ℕ) (log : List Answer) → n ≤ n' → m ≤ m' → AreAnswered n m log →
@@ -67,7 +69,7 @@ ordered_push m commands x b le all i j t u less at_i at_j =
     (get_push commands x i t at_i))
     (λ (new : (j ≡ length commands) × (x ≡ u)). ⊎_elim
     (λ (low : slice_get commands i ≡ Some t).
-    let over = b i t low in
+    let over = (b i t low).1 in
     subst (λ (y : Taken). t.to ≤ y.from) new.1 (omega arith))
     (λ (e : (i ≡ length commands) × (x ≡ t)).
     let same = e.0 in let last = new.0 in absurd (omega arith))
@@ -103,7 +105,7 @@ life_answer commands log b before latest all i place a t at_a at_t =
     ⊎_elim (λ (old : slice_get log i ≡ Some a). all i place a t old at_t)
     (λ (new : (i ≡ length log) × (b ≡ a)).
     let within = slice_get_within commands place t at_t in
-    let over = before place t at_t in
+    let over = (before place t at_t).1 in
     subst (λ (y : Answer).
     (y.place < place → y.taken.to ≤ t.from) × (place ≤ y.place → t.to ≤ y.taken.from)) new.1
     ((λ later. absurd (omega arith)), (λ _. over)))

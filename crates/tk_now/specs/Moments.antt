@@ -5,10 +5,10 @@ use Rattle.tk_now.specs.declared.rule.Taken.{Taken}
 use Rattle.tk_now.specs.declared.rule.Answer.{Answer}
 use Rattle.tk_now.specs.Views.{Announcing, Watched, taken}
 
--- each of these commands had its reading by this moment
+-- each of these commands had its reading between its two moments, and by this moment
 abbrev pub AreBefore : ℕ → List Taken → Type 0
 AreBefore moment commands =
-    (place : ℕ) (t : Taken) → slice_get commands place ≡ Some t → t.to ≤ moment
+    (place : ℕ) (t : Taken) → slice_get commands place ≡ Some t → (t.from ≤ t.to) × (t.to ≤ moment)
 
 -- each of these answers follows one of the first `count` commands, and had its reading by this
 -- moment
@@ -57,7 +57,7 @@ pub record IsTimed {C : Type 0} (answers : C → ℕ → ℕ → Type 0) (counte
   pub above : AreAnswered (length new.commands) from begun
   pub after : AreBefore from new.commands
   pub to : ℕ
-  pub span : from ≤ to
+  pub span : from < to
   pub between : List Answer
   pub extends : IsPrefix begun between
   pub listed : new.log

@@ -1,6 +1,6 @@
 -- What a seat learns from each step of a notice: a relation of the step, the seat before it, the
 -- number found, and the seat after it.
-use Rattle.std.specs.Prelude.{◌≡◌, ℕ, ◌+◌, ◌/◌, ◌%◌, ◌≤◌, List, [], ◌∷◌, ◌++◌, length, Some}
+use Rattle.std.specs.Prelude.{◌≡◌, ℕ, ◌+◌, ◌/◌, ◌%◌, ◌<◌, List, [], ◌∷◌, ◌++◌, length, Some}
 use mathlib.Core.List.{IsPrefix}
 use Rattle.atomic_table.specs.Table.{Me, Step}
 use Rattle.tk_now.specs.declared.rule.Answer.{Answer}
@@ -55,7 +55,7 @@ pub record IsListed (reading : ℕ) (old new : View) : Type 0 where
   pub same : new.commands ≡ old.commands
   pub place : length old.commands ≡ first_by old.role / 2 + 1
   pub to : ℕ
-  pub span : from_by old.role ≤ to
+  pub span : from_by old.role < to
   pub between : List Answer
   pub extends : IsPrefix old.log between
   pub listed : new.log

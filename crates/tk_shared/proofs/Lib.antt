@@ -8,3 +8,4 @@ pub mod Counts
 pub mod Ends
 pub mod Times
 pub mod Back
+pub mod Between

@@ -1,16 +1,22 @@
-//! A law: MONOTONIC never goes back between calls for the time now.
-ghost use Rattle.tk_shared.specs.NeverBack.{NowNeverFalls};
+//! The laws of the time now.
+ghost use Rattle.tk_shared.specs.NeverBack.{NowNeverFalls, TimesNeverFall};
 
-/// Proves that MONOTONIC never goes back from one answer to the next. If a call returned before
-/// another call began, in the same thread or in another one, its answer isn't above the other
-/// call's answer.
-///
-/// The law holds under three conditions. The commands and the answers read one counter. The counter
-/// is honest: its readings come from a count of cycles that never falls. While the clocks are
-/// awake, the count grows by at most half the counter's range from one accepted command to the
-/// next, and from the last one to the answer.
+use tk_now::SharedCounter;
+
+/// Proves that with an honest counter an answer for MONOTONIC that was over before another call
+/// took its first look is not above that call's answer, whichever threads the two are of.
 ///
 /// It does nothing when it runs.
 pub fn now_never_falls()
     ensures { NowNeverFalls }
+{}
+
+/// Proves that with an honest counter a time of MONOTONIC that `now` or `now_fast` returned before
+/// another call of either took its first look is not above that call's time, whichever callers of one
+/// keeper the two are of. The keeper was closed since, and shows the readings of all calls in one
+/// list.
+///
+/// It does nothing when it runs.
+pub fn times_never_fall<S: SharedCounter>()
+    ensures { TimesNeverFall S.answers }
 {}
