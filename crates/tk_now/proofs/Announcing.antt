@@ -14,7 +14,7 @@ use Rattle.tk_now.specs.Moments.{AreBefore, AreAnswered}
 use Rattle.tk_now.specs.Rule.{started, limit, Stands, Knows, Kept}
 use Rattle.tk_now.specs.Steps.{Seated, announced, accepted, withdrawn}
 use Rattle.tk_now.specs.Views.{view_of, taken, from_by, since_by, announcing, IsIdle, IsAnnounced}
-use Rattle.tk_now.proofs.Lists.{prefix_push, before_more, before_push, answered_more, ordered_push, life_command}
+use Rattle.tk_now.proofs.Lists.{prefix_push, none_later, before_more, before_push, answered_more, ordered_push, life_command}
 use Rattle.tk_now.proofs.Keeping.{Words, word, kept_with, parted, known_of, limited}
 
 none_given : false ≡ true → ⊥
@@ -61,11 +61,11 @@ stores s r id n me role own last stands mine =
     let v0 : get_or (set s.words 0 n) 0 0 ≡ n = get_or-set_same s.words 0 n 0 (omega arith) in
     kept_with s r (set s.words 0 n) id (view_of me.commands me.log role) now r.commands r.log role
     (length-set s.words 0 n ∙ wide) (omega arith) (prefix_self r.commands) (prefix_self r.log)
-    (subst (λ w. Stands w now r.commands role) (sym v0) stands)
+    (none_later r.moment r.log) (subst (λ w. Stands w now r.commands role) (sym v0) stands)
     (before_more old (limit role now) r.commands (omega arith) r.before)
     (answered_more (length r.commands) (length r.commands) old (limit role now) r.log (omega arith)
     (omega arith) r.answered)
-    r.ordered r.alive (λ seat apart e. absurd (apart (e ∙ sym own))) mine
+    r.ordered r.alive r.turn (λ seat apart e. absurd (apart (e ∙ sym own))) mine
 
 pub announces : (slots id : ℕ) (me : Seated) (odd : ℕ) → IsIdle me.0 →
     odd + 1 ≡ 2 * length me.0.commands →
@@ -105,12 +105,12 @@ accepts slots id me even reading is up s r _ at _ =
       keeps,
       tt,
       kept_with s r ws id v now more r.log Idle (length-set s.words 0 even ∙ wide) (omega arith)
-          (prefix_push r.commands t) (prefix_self r.log) (omega arith)
+          (prefix_push r.commands t) (prefix_self r.log) (none_later r.moment r.log) (omega arith)
           (before_push from now r.commands t (omega arith) (omega arith) (omega arith) before)
           (answered_more (length r.commands) (length more) from now r.log (omega arith)
           (omega arith) answered)
           (ordered_push from r.commands t before (omega arith) r.ordered)
-          (life_command from r.commands r.log t answered (omega arith) r.alive)
+          (life_command from r.commands r.log t answered (omega arith) r.alive) r.turn
           (λ seat apart own. absurd (apart (own ∙ sym known.0)))
           (known.0, ap (λ (l : List Taken). l ++ t ∷ []) known.1, refl, known.3),
       (refl, (from, now, refl, omega arith, refl)),
@@ -159,6 +159,7 @@ starts reading = record {
   ordered = λ i j t u less at_i at_j. let e = (only_opening reading j u at_j).0 in
       absurd (omega arith);
   alive = λ i place a t at_a at_t. absurd (cc (at_a));
+  turn = λ i j a b less at_a at_b. absurd (cc (at_a));
   each = one;
 }
   where

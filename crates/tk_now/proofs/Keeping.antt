@@ -12,8 +12,9 @@ use Rattle.tk_now.specs.declared.rule.Answer.{Answer}
 use Rattle.tk_now.specs.declared.rule.View.{View}
 use Rattle.tk_now.specs.declared.rule.Role.{Role}
 use Rattle.tk_now.specs.declared.rule.Role.TheVariants.{Spent, Resting, Watching, Idle, Announced, Noting}
-use Rattle.tk_now.specs.Moments.{AreBefore, AreAnswered, AreInOrder, AreInLife}
+use Rattle.tk_now.specs.Moments.{AreBefore, AreAnswered, AreInOrder, AreInLife, AreInTurn, AreLater}
 use Rattle.tk_now.specs.Rule.{limit, Stands, Counts, Knows, Kept}
+use Rattle.tk_now.proofs.Lists.{later_more, none_later}
 
 abbrev pub Words : Type 0
 Words = State (Unit {0}) View
@@ -24,12 +25,12 @@ word s = get_or s.words 0 0
 -- what the other seats know stays true
 others_know : (m m' : ℕ) (commands commands' : List Taken) (log log' : List Answer)
     (role role' : Role) (announcer seat : ℕ) → m ≤ m' → IsPrefix commands commands' →
-    IsPrefix log log' → (seat ≡ announcer → (commands ≡ commands') × (role ≡ role')) →
+    IsPrefix log log' → AreLater m (length log) log' → (seat ≡ announcer → (commands ≡ commands') × (role ≡ role')) →
     (mine : List Taken) (told : List Answer) (own : Role) →
     Knows m commands log role announcer seat mine told own →
     Knows m' commands' log' role' announcer seat mine told own
-others_know m m' cs cs' lg lg' role role' by seat le p q same mine told Spent k = tt
-others_know m m' cs cs' lg lg' role role' by seat le p q same mine told (Noting noted answers) k = (
+others_know m m' cs cs' lg lg' role role' by seat le p q fresh same mine told Spent k = tt
+others_know m m' cs cs' lg lg' role role' by seat le p q fresh same mine told (Noting noted answers) k = (
   k.0,
   k.1 ∙ (same k.0).0,
   sym (same k.0).1 ∙ k.2,
@@ -37,14 +38,19 @@ others_know m m' cs cs' lg lg' role role' by seat le p q same mine told (Noting 
   prefix_trans answers lg lg' k.4 q,
   prefix_trans told lg lg' k.5 q,
 )
-others_know m m' cs cs' lg lg' role role' by seat le p q same mine told (Resting found) k =
+others_know m m' cs cs' lg lg' role role' by seat le p q fresh same mine told (Resting found) k =
     (prefix_trans mine cs cs' k.0 p, prefix_trans told lg lg' k.1 q)
-others_know m m' cs cs' lg lg' role role' by seat le p q same mine told (Watching found first from) k =
-    let low = k.3 in
-    (prefix_trans mine cs cs' k.0 p, prefix_trans told lg lg' k.1 q, k.2, omega arith)
-others_know m m' cs cs' lg lg' role role' by seat le p q same mine told Idle k =
+others_know m m' cs cs' lg lg' role role' by seat le p q fresh same mine told (Watching found first from) k =
+    let low = k.3 in (
+      prefix_trans mine cs cs' k.0 p,
+      prefix_trans told lg lg' k.1 q,
+      k.2,
+      omega arith,
+      later_more from m (length told) lg lg' q low k.4 fresh,
+    )
+others_know m m' cs cs' lg lg' role role' by seat le p q fresh same mine told Idle k =
     (k.0, k.1 ∙ (same k.0).0, sym (same k.0).1 ∙ k.2, prefix_trans told lg lg' k.3 q)
-others_know m m' cs cs' lg lg' role role' by seat le p q same mine told (Announced from) k =
+others_know m m' cs cs' lg lg' role role' by seat le p q fresh same mine told (Announced from) k =
     (k.0, k.1 ∙ (same k.0).0, sym (same k.0).1 ∙ k.2, prefix_trans told lg lg' k.3 q)
 
 -- what the rule says that this seat knows
@@ -55,14 +61,14 @@ IsKnown s r seat view =
 -- the rule after a step
 pub kept_with : (s : Words) (r : Kept s) (ws : List ℕ) (id : ℕ) (v : View) (m : ℕ)
     (commands : List Taken) (log : List Answer) (role : Role) → length ws ≡ 1 → r.moment ≤ m →
-    IsPrefix r.commands commands → IsPrefix r.log log →
+    IsPrefix r.commands commands → IsPrefix r.log log → AreLater r.moment (length r.log) log →
     Stands (get_or ws 0 0) m commands role → AreBefore (limit role m) commands →
     AreAnswered (length commands) (limit role m) log → AreInOrder commands →
-    AreInLife commands log →
+    AreInLife commands log → AreInTurn log →
     ((seat : ℕ) → seat ≢ id → seat ≡ r.announcer → (r.commands ≡ commands) × (r.role ≡ role)) →
     Knows m commands log role r.announcer id v.commands v.log v.role →
     Kept (record { words = ws; homes = s.homes; views = set s.views id v })
-kept_with s r ws id v m commands log role wide le p q stands before answered ordered alive same mine = record {
+kept_with s r ws id v m commands log role wide le p q fresh stands before answered ordered alive turn same mine = record {
   moment = m;
   commands = commands;
   log = log;
@@ -74,18 +80,19 @@ kept_with s r ws id v m commands log role wide le p q stands before answered ord
   answered = answered;
   ordered = ordered;
   alive = alive;
+  turn = turn;
   each = each_after (λ seat u. Knows m commands log role r.announcer seat u.commands u.log u.role)
       s.views id v mine
       (λ seat u apart at. others_know r.moment m r.commands commands r.log log r.role role
-      r.announcer seat le p q (same seat apart) u.commands u.log u.role (r.each seat u at));
+      r.announcer seat le p q fresh (same seat apart) u.commands u.log u.role (r.each seat u at));
 }
 
 -- one seat knows something else
 pub reseated : (s : Words) (r : Kept s) (id : ℕ) (view : View) → IsKnown s r id view →
     Kept (record { words = s.words; homes = s.homes; views = set s.views id view })
 reseated s r id view mine = kept_with s r s.words id view r.moment r.commands r.log r.role r.wide
-    (omega arith) (prefix_self r.commands) (prefix_self r.log) r.stands r.before r.answered
-    r.ordered r.alive (λ seat apart own. (refl, refl)) mine
+    (omega arith) (prefix_self r.commands) (prefix_self r.log) (none_later r.moment r.log) r.stands
+    r.before r.answered r.ordered r.alive r.turn (λ seat apart own. (refl, refl)) mine
 
 -- one seat knows something else, and there is one more seat
 pub parted : (s : Words) (r : Kept s) (id : ℕ) (left right : View) → IsKnown s r id left →
@@ -103,6 +110,7 @@ parted s r id left right mine theirs = record {
   answered = r.answered;
   ordered = r.ordered;
   alive = r.alive;
+  turn = r.turn;
   each = λ seat u e. ⊎_elim
       (each_after (IsKnown s r) s.views id left mine (λ i y _ at. r.each i y at) seat u)
       (λ (t : right ≡ u). subst (λ x. IsKnown s r seat x) t (theirs seat))
@@ -112,23 +120,23 @@ parted s r id left right mine theirs = record {
 -- the rule after a load
 pub loads : (s : Words) (r : Kept s) (id : ℕ) (cs : List (ℕ × Unit {0})) (v : View) (m : ℕ)
     (log : List Answer) → r.moment ≤ m → IsPrefix r.log log →
-    Stands (word s) m r.commands r.role → AreBefore (limit r.role m) r.commands →
+    AreLater r.moment (length r.log) log → Stands (word s) m r.commands r.role → AreBefore (limit r.role m) r.commands →
     AreAnswered (length r.commands) (limit r.role m) log → AreInLife r.commands log →
-    Knows m r.commands log r.role r.announcer id v.commands v.log v.role →
+    AreInTurn log → Knows m r.commands log r.role r.announcer id v.commands v.log v.role →
     Kept (stepped s 0 (word s) id cs v keeps)
-loads s r id cs v m log le q stands before answered alive mine =
+loads s r id cs v m log le q fresh stands before answered alive turn mine =
     let after : List ℕ → Words =
     λ ws. record { words = ws; homes = s.homes; views = set s.views id v } in
     subst (λ ws. Kept (after ws)) (sym (set-get_or s.words 0 0))
-    (kept_with s r s.words id v m r.commands log r.role r.wide le (prefix_self r.commands) q
-    stands before answered r.ordered alive (λ seat apart own. (refl, refl)) mine)
+    (kept_with s r s.words id v m r.commands log r.role r.wide le (prefix_self r.commands) q fresh
+    stands before answered r.ordered alive turn (λ seat apart own. (refl, refl)) mine)
 
 -- a load at which no moment passes and nothing is listed
 pub loads_as : (s : Words) (r : Kept s) (id : ℕ) (cs : List (ℕ × Unit {0})) (v : View) →
     IsKnown s r id v →
     Kept (stepped s 0 (word s) id cs v keeps)
 loads_as s r id cs v mine = loads s r id cs v r.moment r.log (omega arith) (prefix_self r.log)
-    r.stands r.before r.answered r.alive mine
+    (none_later r.moment r.log) r.stands r.before r.answered r.alive r.turn mine
 
 -- what the rule knows of one seat
 pub known_of : (s : Words) (r : Kept s) (id : ℕ) (view : View) (own : Role) →

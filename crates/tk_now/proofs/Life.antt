@@ -1,21 +1,16 @@
 -- With an honest counter each listed reading is in the life of its snapshot.
-use Rattle.std.proofs.Common.{◌≡◌, ℕ, zero, suc, ◌+◌, ◌-◌, ◌/◌, ◌%◌, ◌^◌, ◌<◌, ◌≤◌, List, [], ◌∷◌, length, Some, slice_get, refl, sym, ap, ◌∙◌, arith, inl, inr, Bool, true, false}
+use Rattle.std.proofs.Common.{◌≡◌, ℕ, ◌+◌, ◌-◌, ◌/◌, ◌%◌, ◌^◌, ◌<◌, ◌≤◌, refl, sym, ap, ◌∙◌, arith, inl, inr, Bool, true, false}
 use Rattle.std.proofs.lemmas.Nat.{pow_pos}
 use Rattle.tk_counter.specs.Counter.{Counter, gap, half}
 use Rattle.tk_counter.proofs.Gaps.{counted_gap}
 use Rattle.tk_clock.specs.Journal.{Journal, reading_at, is_asleep_at}
 use Rattle.tk_clock.specs.Life.{IsInLife}
 use Rattle.tk_now.proofs.Honesty.{in_order}
+use Rattle.tk_now.proofs.Lists.{there}
 use Rattle.tk_now.specs.Life.{AnswersAreInLife}
 
 below : (d : ℕ) (n : ℕ) → 0 < d → n ≤ (d - 1) / 2 → n < d
 below d n some low = omega arith
-
--- there is an item at each place of a list
-pub there : {A : Type 0} (xs : List A) (i : ℕ) → i < length xs → (x : A) × (slice_get xs i ≡ Some x)
-there [] i l = absurd (omega arith)
-there (x ∷ xs) zero l = (x, refl)
-there (x ∷ xs) (suc i) l = there xs i (omega arith)
 
 -- the gap between readings of two true counts
 pub true_gap : (counter : Counter) (c d r s : ℕ) → r ≡ c % 2 ^ counter.bits →

@@ -1,10 +1,11 @@
 -- Lists of commands and of answers, and one more of them.
-use Rattle.std.proofs.Common.{◌≡◌, ℕ, zero, suc, ◌+◌, ◌<◌, ◌≤◌, ◌⊎◌, List, [], ◌∷◌, ◌++◌, length, Some, slice_get, refl, ap, subst, ⊎_elim, inl, inr, arith}
+use Rattle.std.proofs.Common.{◌≡◌, ℕ, zero, suc, ◌+◌, ◌<◌, ◌≤◌, ◌⊎◌, List, [], ◌∷◌, ◌++◌, length, Some, slice_get, refl, sym, ap, ◌∙◌, subst, ⊎_elim, inl, inr, arith}
+use Rattle.std.proofs.lemmas.Bool.{cases_lt}
 use Rattle.std.proofs.lemmas.Option.{same_Some, slice_get_within}
 use mathlib.Core.List.{IsPrefix}
 use Rattle.tk_now.specs.declared.rule.Taken.{Taken}
 use Rattle.tk_now.specs.declared.rule.Answer.{Answer}
-use Rattle.tk_now.specs.Moments.{AreBefore, AreAnswered, AreInOrder, AreInLife}
+use Rattle.tk_now.specs.Moments.{AreBefore, AreAnswered, AreInOrder, AreInLife, AreInTurn, AreLater}
 
 module _ {A : Type 0} where
   pub prefix_push : (xs : List A) (x : A) → IsPrefix xs (xs ++ x ∷ [])
@@ -30,6 +31,53 @@ module _ {A : Type 0} where
       slice_get ys i ≡ Some y
   get_first xs ys p i y e =
       subst (λ (l : List A). slice_get l i ≡ Some y) p.1 (get_append xs p.0 i y e)
+
+-- there is an item at each place of a list
+pub there : {A : Type 0} (xs : List A) (i : ℕ) → i < length xs → (x : A) × (slice_get xs i ≡ Some x)
+there [] i l = absurd (omega arith)
+there (x ∷ xs) zero l = (x, refl)
+there (x ∷ xs) (suc i) l = there xs i (omega arith)
+
+-- no item of a list is after its end
+pub none_later : (m : ℕ) (log : List Answer) → AreLater m (length log) log
+none_later m log i a at le = let within = slice_get_within log i a at in absurd (omega arith)
+
+-- what is listed after this moment is over after an earlier one too
+pub later_more : (from m count : ℕ) (log log' : List Answer) → IsPrefix log log' → from ≤ m →
+    AreLater from count log → AreLater m (length log) log' → AreLater from count log'
+later_more from m count log log' p le old new i a at past = elim (cases_lt i (length log)) [
+  | inl less ↦
+      let b = there log i (omega (arith, less)) in
+      let same : b.0 ≡ a = same_Some b.0 a (sym (get_first log log' p i b.0 b.1) ∙ at) in
+      subst (λ (x : Answer). from < x.taken.to) same (old i b.0 b.1 past)
+  | inr no_less ↦ let over = new i a at (omega (arith, no_less)) in omega (arith, over, le)
+]
+
+-- one more answer, which is over after this moment
+pub later_push : (m : ℕ) (log : List Answer) (b : Answer) → m < b.taken.to →
+    AreLater m (length log) (log ++ b ∷ [])
+later_push m log b over i a at past =
+    ⊎_elim (λ old. let within = slice_get_within log i a old in absurd (omega arith))
+    (λ (e : (i ≡ length log) × (b ≡ a)). subst (λ (x : Answer). m < x.taken.to) e.1 over)
+    (get_push log b i a at)
+
+pub turn_push : (n m : ℕ) (log : List Answer) (b : Answer) → AreAnswered n m log →
+    m < b.taken.to → AreInTurn log → AreInTurn (log ++ b ∷ [])
+turn_push n m log b answered over all i j a c less at_a at_c =
+    ⊎_elim
+    (λ (late : slice_get log j ≡ Some c). ⊎_elim
+    (λ (early : slice_get log i ≡ Some a). all i j a c less early late)
+    (λ (e : (i ≡ length log) × (b ≡ a)).
+    let same = e.0 in let within = slice_get_within log j c late in absurd (omega arith))
+    (get_push log b i a at_a))
+    (λ (new : (j ≡ length log) × (b ≡ c)). ⊎_elim
+    (λ (early : slice_get log i ≡ Some a).
+    let low = (answered i a early).1 in
+    subst (λ (x : Answer). a.taken.to < x.taken.to) new.1 (omega arith))
+    (λ (e : (i ≡ length log) × (b ≡ a)).
+    let same = e.0 in let last = new.0 in absurd (omega arith))
+    (get_push log b i a at_a))
+    (get_push log b j c at_c)
 
 pub before_more : (m m' : ℕ) (commands : List Taken) → m ≤ m' → AreBefore m commands →
     AreBefore m' commands

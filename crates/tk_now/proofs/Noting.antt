@@ -46,6 +46,7 @@ compares slots id me is s r _ at _ =
         known.5,
         known.4,
         subst (λ (l : List Taken). AreInLife l r.log) (sym known.1) r.alive,
+        r.turn,
       ),
     )
 

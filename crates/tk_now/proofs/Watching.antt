@@ -11,11 +11,11 @@ use Rattle.tk_now.specs.declared.rule.Taken.{Taken}
 use Rattle.tk_now.specs.declared.rule.Answer.{Answer}
 use Rattle.tk_now.specs.declared.rule.View.{View}
 use Rattle.tk_now.specs.declared.rule.Role.TheVariants.{Resting, Watching}
-use Rattle.tk_now.specs.Moments.{AreBefore, AreAnswered, AreInLife, IsTimed, IsBusy}
+use Rattle.tk_now.specs.Moments.{AreBefore, AreAnswered, AreInLife, AreInTurn, AreLater, IsTimed, IsBusy}
 use Rattle.tk_now.specs.Rule.{limit, Knows, Kept}
 use Rattle.tk_now.specs.Steps.{Seated, began, ended, IsBegun, IsEnd, IsListed, answer_of}
 use Rattle.tk_now.specs.Views.{Watched, view_of, found_by, first_by, from_by, IsResting, IsWatching}
-use Rattle.tk_now.proofs.Lists.{prefix_push, before_more, answered_more, answered_push, life_answer}
+use Rattle.tk_now.proofs.Lists.{prefix_push, none_later, later_more, later_push, turn_push, before_more, answered_more, answered_push, life_answer}
 use Rattle.tk_now.proofs.Keeping.{Words, word, loads, known_of, counted, at_rest, stands_on, limit_on, limited}
 
 -- one moment later, with no new answer
@@ -28,17 +28,17 @@ answered_on s r =
 
 -- one moment passes at a look
 looks : (s : Words) (r : Kept s) (id : ℕ) (cs : List (ℕ × Unit {0})) (v : View)
-    (log : List Answer) → IsPrefix r.log log →
+    (log : List Answer) → IsPrefix r.log log → AreLater r.moment (length r.log) log →
     AreAnswered (length r.commands) (limit r.role (r.moment + 1)) log → AreInLife r.commands log →
-    Knows (r.moment + 1) r.commands log r.role r.announcer id v.commands v.log v.role →
+    AreInTurn log → Knows (r.moment + 1) r.commands log r.role r.announcer id v.commands v.log v.role →
     Kept (stepped s 0 (word s) id cs v keeps)
-looks s r id cs v log more answered alive mine =
+looks s r id cs v log more fresh answered alive turn mine =
     let now = r.moment + 1 in
-    loads s r id cs v now log (omega arith) more
+    loads s r id cs v now log (omega arith) more fresh
     (stands_on (word s) r.moment now r.commands r.role (omega arith) r.stands)
     (before_more (limit r.role r.moment) (limit r.role now) r.commands
     (limit_on r.role r.moment now (omega arith)) r.before)
-    answered alive mine
+    answered alive turn mine
 
 -- the first look
 pub begins : (slots id : ℕ) (me : Seated) → IsResting me.0 →
@@ -55,8 +55,14 @@ begins slots id me is s r _ at _ =
       v,
       keeps,
       tt,
-      looks s r id me.1 v r.log (prefix_self r.log) (answered_on s r) r.alive
-          (prefix_self r.commands, prefix_self r.log, counts, omega arith),
+      looks s r id me.1 v r.log (prefix_self r.log) (none_later r.moment r.log) (answered_on s r)
+          r.alive r.turn (
+            prefix_self r.commands,
+            prefix_self r.log,
+            counts,
+            omega arith,
+            none_later now r.log,
+          ),
       (
         refl,
         refl,
@@ -85,15 +91,15 @@ Held id me s r = Knows r.moment r.commands r.log r.role r.announcer id me.0.comm
 
 -- the second look, after which this is the log
 rested : (reading slots id : ℕ) (me : Seated) (s : Words) (r : Kept s) (log : List Answer) →
-    Held id me s r → IsPrefix r.log log →
+    Held id me s r → IsPrefix r.log log → AreLater r.moment (length r.log) log →
     AreAnswered (length r.commands) (limit r.role (r.moment + 1)) log → AreInLife r.commands log →
-    (let new = view_of r.commands log (Resting (found_by me.0.role ++ word s ∷ [])) in
+    AreInTurn log → (let new = view_of r.commands log (Resting (found_by me.0.role ++ word s ∷ [])) in
     word s ≡ first_by me.0.role → word s % 2 ≡ 0 → IsListed reading me.0 new) →
     Ends reading slots id me s
-rested reading slots id me s r log known more answered alive answer =
+rested reading slots id me s r log known more fresh answered alive turn answer =
     let w = view_of r.commands log (Resting (found_by me.0.role ++ word s ∷ [])) in (
       w,
-      looks s r id me.1 w log more answered alive (prefix_self r.commands, prefix_self log),
+      looks s r id me.1 w log more fresh answered alive turn (prefix_self r.commands, prefix_self log),
       (
         refl,
         refl,
@@ -104,6 +110,7 @@ rested reading slots id me s r log known more answered alive answer =
           log = prefix_trans me.0.log r.log log known.1 more;
           ordered = r.ordered;
           alive = alive;
+          turn = turn;
           answer = answer;
         },
       ),
@@ -129,14 +136,17 @@ listed reading slots id me s r before known here even =
     prefix_whole me.0.commands r.commands known.0 (omega arith) in
     let stands = stands_on n r.moment now r.commands r.role (omega arith) r.stands in
     let rest = at_rest n now r.commands r.role stands even in
+    let least = limited n r.moment r.commands r.role r.stands in
     let a = answer_of first from now reading in
     let place : length me.0.commands ≡ first / 2 + 1 = omega arith in
     let long : length r.commands ≡ first / 2 + 1 = sym (ap length all) ∙ place in
     let alive = life_answer r.commands r.log a
     (subst (AreBefore from) all before) (omega arith) r.alive in
-    rested reading slots id me s r (r.log ++ a ∷ []) known (prefix_push r.log a)
+    let fresh = later_push r.moment r.log a (omega arith) in
+    rested reading slots id me s r (r.log ++ a ∷ []) known (prefix_push r.log a) fresh
     (answered_push (length r.commands) (limit r.role now) r.log a (omega arith) (omega arith)
     (answered_on s r)) alive
+    (turn_push (length r.commands) (limit r.role r.moment) r.log a r.answered (omega arith) r.turn)
     (λ _ _. record {
       same = sym all;
       place = place;
@@ -145,13 +155,16 @@ listed reading slots id me s r before known here even =
       between = r.log;
       extends = known.1;
       listed = refl;
+      later = later_more from r.moment (length me.0.log) r.log (r.log ++ a ∷ [])
+          (prefix_push r.log a) past known.4 fresh;
     })
 
 -- it does not
 unlisted : (reading slots id : ℕ) (me : Seated) (s : Words) (r : Kept s) → Held id me s r →
     (word s ≡ first_by me.0.role → ¬ (word s % 2 ≡ 0)) → Ends reading slots id me s
 unlisted reading slots id me s r known moved =
-    rested reading slots id me s r r.log known (prefix_self r.log) (answered_on s r) r.alive
+    rested reading slots id me s r r.log known (prefix_self r.log) (none_later r.moment r.log)
+    (answered_on s r) r.alive r.turn
     (λ here even. absurd (moved here even))
 
 -- the second look
@@ -219,6 +232,7 @@ times answers counter old v0 v1 v2 table first last reading log found b e given 
       begun = v1.log;
       known = subst (λ (l : List Answer). IsPrefix l v1.log) (sym log) b.log;
       above = subst (λ (n : ℕ). AreAnswered n from v1.log) (sym long) b.answered;
+      later = a.later;
       after = subst (AreBefore from) (sym a.same) b.before;
       to = a.to;
       span = a.span;

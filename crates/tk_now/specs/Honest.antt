@@ -18,7 +18,7 @@ masked bits t = record t { reading = t.reading % 2 ^ bits }
 -- `at` is the true count at each moment, which never falls; `command` and `answer` are the true
 -- counts of the readings of commands and of watchers, by their positions. A watcher's reading may
 -- have bits above the counter's
-pub record IsHonest (at command answer : ℕ → ℕ) (bits : ℕ) (commands : List Taken)
+pub record AreTrueCounts (at command answer : ℕ → ℕ) (bits : ℕ) (commands : List Taken)
     (log : List Answer) : Type 0 where
   pub grows : (m n : ℕ) → m ≤ n → at m ≤ at n
   pub commands_read : (place : ℕ) (t : Taken) → slice_get commands place ≡ Some t →
@@ -43,5 +43,5 @@ pub record AreTrueCountsInOrder (command answer : ℕ → ℕ) (commands : List 
 abbrev pub CountsAreInOrder : Type 0
 CountsAreInOrder = (at command answer : ℕ → ℕ) (bits : ℕ) (commands : List Taken)
     (log : List Answer) → AreInOrder commands → AreInLife commands log →
-    IsHonest at command answer bits commands log →
+    AreTrueCounts at command answer bits commands log →
     AreTrueCountsInOrder command answer commands log

@@ -6,7 +6,7 @@ use Rattle.tk_clock.specs.Life.{IsInLife, NeverFalls}
 use Rattle.tk_clock.specs.Monotonic.{monotonic}
 use Rattle.tk_now.specs.declared.rule.Taken.{Taken}
 use Rattle.tk_now.specs.declared.rule.Answer.{Answer}
-use Rattle.tk_now.specs.Honest.{IsHonest}
+use Rattle.tk_now.specs.Honest.{AreTrueCounts}
 use Rattle.tk_now.specs.Moments.{AreInOrder, AreInLife}
 
 -- the commands of a notice are the entries of a history, the opening first
@@ -27,7 +27,7 @@ abbrev pub AnswersAreInLife : Type 0
 AnswersAreInLife = (history : Journal) (at command answer : ℕ → ℕ) (commands : List Taken)
     (log : List Answer) → AreReadings history commands → AreInOrder commands →
     AreInLife commands log →
-    IsHonest at command answer history.opening.counter.bits commands log → AreNear history command →
+    AreTrueCounts at command answer history.opening.counter.bits commands log → AreNear history command →
     NeverFalls history → (i : ℕ) (a : Answer) → slice_get log i ≡ Some a →
     a.place < length history.entries →
     let m = 2 ^ history.opening.counter.bits in

@@ -16,6 +16,17 @@ abbrev pub AreAnswered : ℕ → ℕ → List Answer → Type 0
 AreAnswered count moment log =
     (i : ℕ) (a : Answer) → slice_get log i ≡ Some a → (a.place < count) × (a.taken.to ≤ moment)
 
+-- the answers of this list after its first `count` were over after this moment
+abbrev pub AreLater : ℕ → ℕ → List Answer → Type 0
+AreLater moment count log =
+    (i : ℕ) (a : Answer) → slice_get log i ≡ Some a → count ≤ i → moment < a.taken.to
+
+-- each answer was over before those that are listed after it
+abbrev pub AreInTurn : List Answer → Type 0
+AreInTurn log =
+    (i j : ℕ) (a b : Answer) → i < j → slice_get log i ≡ Some a → slice_get log j ≡ Some b →
+    a.taken.to < b.taken.to
+
 -- each command had its reading before the next one's was begun
 abbrev pub AreInOrder : List Taken → Type 0
 AreInOrder commands =
@@ -38,12 +49,13 @@ IsReadAt answers counter since reading =
 -- one more command was accepted, at a reading that was taken since its announcement
 abbrev pub IsAcceptedAt : Option ℕ → List Taken → ℕ → List Taken → Type 0
 IsAcceptedAt since commands reading commands' =
-    (from to : ℕ) × (since ≡ Some from) × (from ≤ to)
+    (from to : ℕ) × (since ≡ Some from) × (from < to)
     × (commands' ≡ commands ++ taken from to reading ∷ [])
 
 -- a watcher's answer: the counter gave the reading to a read that followed this call's first look.
--- It follows the latest accepted command. The answers that any thread had by the first look are of
--- no later command, and had their readings by then. It is listed after them
+-- It follows the latest accepted command. The answers in `begun` are those that any thread had by
+-- the first look: they are of no later command, and had their readings by then, and no other answer
+-- was over by then. It is listed after them
 pub record IsTimed {C : Type 0} (answers : C → ℕ → ℕ → Type 0) (counter : C) (old new : Watched)
     (place reading : ℕ) : Type 0 where
   pub word : ℕ
@@ -55,6 +67,7 @@ pub record IsTimed {C : Type 0} (answers : C → ℕ → ℕ → Type 0) (counte
   pub begun : List Answer
   pub known : IsPrefix old.log begun
   pub above : AreAnswered (length new.commands) from begun
+  pub later : AreLater from (length begun) new.log
   pub after : AreBefore from new.commands
   pub to : ℕ
   pub span : from < to

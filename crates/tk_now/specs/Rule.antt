@@ -9,7 +9,7 @@ use Rattle.tk_now.specs.declared.rule.Answer.{Answer}
 use Rattle.tk_now.specs.declared.rule.View.{View}
 use Rattle.tk_now.specs.declared.rule.Role.{Role}
 use Rattle.tk_now.specs.declared.rule.Role.TheVariants.{Spent, Resting, Watching, Idle, Announced, Noting}
-use Rattle.tk_now.specs.Moments.{AreBefore, AreAnswered, AreInOrder, AreInLife}
+use Rattle.tk_now.specs.Moments.{AreBefore, AreAnswered, AreInOrder, AreInLife, AreInTurn, AreLater}
 use Rattle.tk_now.specs.Views.{view_of, taken}
 
 -- the announcer of a notice that was just opened
@@ -40,6 +40,7 @@ module _ (moment : ℕ) (commands : List Taken) (log : List Answer) (role : Role
   Knows mine told (Resting found) = IsPrefix mine commands × IsPrefix told log
   Knows mine told (Watching found first from) =
       IsPrefix mine commands × IsPrefix told log × Counts mine first × (from ≤ moment)
+      × AreLater from (length told) log
   Knows mine told Spent = Unit {0}
   Knows mine told (Noting noted answers) = (seat ≡ announcer) × (mine ≡ commands) × (role ≡ Idle)
       × IsPrefix noted commands × IsPrefix answers log × IsPrefix told log
@@ -60,5 +61,6 @@ pub record Kept (state : State (Unit {0}) View) : Type 0 where
   pub answered : AreAnswered (length commands) (limit role moment) log
   pub ordered : AreInOrder commands
   pub alive : AreInLife commands log
+  pub turn : AreInTurn log
   pub each : (seat : ℕ) (view : View) → get_elem? state.views seat ≡ some view →
       Knows moment commands log role announcer seat view.commands view.log view.role

@@ -5,7 +5,7 @@ use mathlib.Core.List.{IsPrefix}
 use Rattle.atomic_table.specs.Table.{Me, Step}
 use Rattle.tk_now.specs.declared.rule.Answer.{Answer}
 use Rattle.tk_now.specs.declared.rule.View.{View}
-use Rattle.tk_now.specs.Moments.{AreBefore, AreAnswered, AreInOrder, AreInLife, IsAcceptedAt}
+use Rattle.tk_now.specs.Moments.{AreBefore, AreAnswered, AreInOrder, AreInLife, AreInTurn, AreLater, IsAcceptedAt}
 use Rattle.tk_now.specs.Rule.{Counts}
 use Rattle.tk_now.specs.Views.{noted_commands, noted_log, taken, found_by, first_by, from_by, IsResting, IsWatching, IsIdle, IsNoting, IsAnnounced}
 
@@ -50,7 +50,8 @@ answer_of first from to reading = record {
   taken = taken from to reading;
 }
 
--- an answer, which is listed after all answers so far
+-- an answer, which is listed after all answers so far. Those that the watcher didn't know at its
+-- first look were over later
 pub record IsListed (reading : ℕ) (old new : View) : Type 0 where
   pub same : new.commands ≡ old.commands
   pub place : length old.commands ≡ first_by old.role / 2 + 1
@@ -60,6 +61,7 @@ pub record IsListed (reading : ℕ) (old new : View) : Type 0 where
   pub extends : IsPrefix old.log between
   pub listed : new.log
       ≡ between ++ answer_of (first_by old.role) (from_by old.role) to reading ∷ []
+  pub later : AreLater (from_by old.role) (length old.log) new.log
 
 -- the second look: the reading is listed if the word is the same and even
 pub record IsEnd (reading : ℕ) (old : View) (found : ℕ) (new : View) : Type 0 where
@@ -69,6 +71,7 @@ pub record IsEnd (reading : ℕ) (old : View) (found : ℕ) (new : View) : Type 
   pub log : IsPrefix old.log new.log
   pub ordered : AreInOrder new.commands
   pub alive : AreInLife new.commands new.log
+  pub turn : AreInTurn new.log
   pub answer : found ≡ first_by old.role → found % 2 ≡ 0 → IsListed reading old new
 
 abbrev pub ended : ℕ → Move → Seated → ℕ → Seated → Type 0
@@ -76,12 +79,13 @@ ended reading move old found new =
     (move.word ≡ 0) × (new.1 ≡ old.1) × IsEnd reading old.0 found new.0
 
 -- the noted commands are the first of the announcer's. It learns all answers so far: they begin with
--- those that it knew, and with the noted ones, and are in life with all of its commands
+-- those that it knew, and with the noted ones, are in life with all of its commands, and are listed
+-- in turn
 abbrev pub compared : Move → Seated → ℕ → Seated → Type 0
 compared move old found new = (new.0.commands ≡ old.0.commands) × IsIdle new.0
     × IsPrefix (noted_commands old.0.role) old.0.commands × AreInOrder old.0.commands
     × IsPrefix old.0.log new.0.log × IsPrefix (noted_log old.0.role) new.0.log
-    × AreInLife old.0.commands new.0.log
+    × AreInLife old.0.commands new.0.log × AreInTurn new.0.log
 
 -- the same, and the note has all commands and all answers after that
 abbrev pub recounted : Move → Seated → ℕ → Seated → Type 0

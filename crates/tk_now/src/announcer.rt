@@ -45,7 +45,7 @@ impl Model for Announcer {
 impl Announcer {
     ghost use Rattle.std.specs.Prelude.{IsSome};
     ghost use mathlib.Core.List.{IsPrefix};
-    ghost use Rattle.tk_now.specs.Moments.{AreInLife, AreInOrder, IsReadAt, IsTold};
+    ghost use Rattle.tk_now.specs.Moments.{AreInLife, AreInOrder, AreInTurn, IsReadAt, IsTold};
 
     /// Announces a command, before the command takes its reading.
     ///
@@ -125,7 +125,7 @@ impl Announcer {
 
     /// Takes in a watcher, which is used up. The commands that it knew are the first of this
     /// announcer's. The announcer learns all answers so far, of which the watcher knew the first;
-    /// each is in its life among all commands.
+    /// each is in its life among all commands, and they are listed in turn.
     ///
     /// It waits for nobody and allocates nothing.
     pub fn take_in<A: Allocator>(&mut self, notice: &Notice<A>, watcher: Watcher)
@@ -137,6 +137,7 @@ impl Announcer {
         ensures order { AreInOrder self.old.commands }
         ensures log { IsPrefix self.old.log self.new.log × IsPrefix watcher.log self.new.log }
         ensures life { AreInLife self.old.commands self.new.log }
+        ensures turn { AreInTurn self.new.log }
     {
         let Watcher { look } = watcher;
         let Look { seat: former } = look;

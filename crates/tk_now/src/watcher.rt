@@ -1,6 +1,6 @@
 ghost use Rattle.std.specs.Prelude.{◌≡◌, MatchResult};
 ghost use mathlib.Core.List.{IsPrefix};
-ghost use Rattle.tk_now.specs.Moments.{AreBefore, AreInLife, AreInOrder};
+ghost use Rattle.tk_now.specs.Moments.{AreBefore, AreInLife, AreInOrder, AreInTurn};
 ghost use Rattle.tk_now.specs.Steps.{IsBegun, IsEnd};
 ghost use Rattle.tk_now.specs.Views.{IsResting, IsWatching, from_by};
 
@@ -77,6 +77,7 @@ impl Watcher {
         ensures extends { IsPrefix self.old.commands self.new.commands
             × IsPrefix self.old.log self.new.log }
         ensures life { AreInOrder self.new.commands × AreInLife self.new.commands self.new.log }
+        ensures turn { AreInTurn self.new.log }
         ensures answer { MatchResult result
             (λ timed. IsTimed C.answers counter.now self.old self.new timed.place timed.reading)
             (λ busy. IsBusy self.old self.new busy.first busy.last) }

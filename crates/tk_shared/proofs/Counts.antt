@@ -101,16 +101,16 @@ together_within callers (entry ∷ entries) different =
     let rest = together_within callers entries different in
     omega (arith, parts, first, rest)
 
-abbrev Each : (Known → Type 0) → List Known → Type 0
+abbrev pub Each : (Known → Type 0) → List Known → Type 0
 Each P [] = Unit {0}
 Each P (caller ∷ callers) = P caller × Each P callers
 
-each_of : (P : Known → Type 0) (callers : List Known) → All P callers → Each P callers
+pub each_of : (P : Known → Type 0) (callers : List Known) → All P callers → Each P callers
 each_of P [] all = tt
 each_of P (caller ∷ callers) all =
     (all 0 caller (omega arith), each_of P callers (λ k d l. all (suc k) d (omega arith)))
 
-all_of : (P : Known → Type 0) (callers : List Known) → Each P callers → All P callers
+pub all_of : (P : Known → Type 0) (callers : List Known) → Each P callers → All P callers
 all_of P [] each k d l = absurd (omega arith)
 all_of P (caller ∷ callers) each zero d l = each.0
 all_of P (caller ∷ callers) each (suc k) d l = all_of P callers each.1 k d (omega arith)

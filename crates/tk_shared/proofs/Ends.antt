@@ -29,7 +29,8 @@ part_of history publications caller are begins learnt own = record {
 pub closed : (page : TableId) (latch : LatchId) (notice : TableId) (held : Held)
     (announcer : Announcing) (callers : List Known) → IsHeld page latch held →
     IsAtRest notice held.shown.journal announcer → AreDifferent callers →
-    All (IsPartOf held.shown.journal) callers → All (HasWatched announcer.commands) callers → HaveListed announcer.commands callers →
+    All (IsPartOf held.shown.journal) callers → All (HasWatched announcer.commands) callers →
+    HaveListed announcer.commands callers →
     held.total ≡ accepted_by callers → IsClosed held.kept callers
 closed page latch notice held announcer callers is rest different parts watched listed total =
     let history = held.shown.journal in
@@ -43,9 +44,11 @@ closed page latch notice held announcer callers is rest different parts watched 
       readings = rest.readings;
       order = rest.order;
       alive = listed.alive;
+      turn = listed.turn;
       parts = parts;
       watched = watched;
       listed = listed.each;
+      known = listed.known;
       own = all_counted history callers different parts all;
       counted = kept_count history held.kept is.whole is.kept ∙ all;
     }

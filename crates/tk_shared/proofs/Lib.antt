@@ -8,4 +8,7 @@ pub mod Counts
 pub mod Ends
 pub mod Times
 pub mod Back
+pub mod Cut
+pub mod Calls
 pub mod Between
+pub mod Listed

@@ -1,12 +1,12 @@
 -- What closing guarantees, once all callers are back.
-use Rattle.std.specs.Prelude.{◌≡◌, ◌≢◌, ℕ, ◌≤◌, List, [], ◌∷◌, All, sum_by}
+use Rattle.std.specs.Prelude.{◌≡◌, ◌≢◌, ◌⊎◌, ℕ, ◌≤◌, List, [], ◌∷◌, All, Some, slice_get, sum_by}
 use Rattle.tk_clock.specs.Journal.{Journal, accepted_count}
 use Rattle.tk_clock.specs.Legal.{IsWhole}
 use Rattle.tk_page.specs.History.{Begins}
 use Rattle.tk_now.specs.declared.rule.Taken.{Taken}
 use Rattle.tk_now.specs.declared.rule.Answer.{Answer}
 use Rattle.tk_now.specs.Life.{AreReadings}
-use Rattle.tk_now.specs.Moments.{AreInLife, AreInOrder}
+use Rattle.tk_now.specs.Moments.{AreInLife, AreInOrder, AreInTurn}
 use mathlib.Core.List.{IsPrefix}
 use Rattle.tk_shared.specs.Callers.{Known, made_by}
 use Rattle.tk_shared.specs.History.{IsKeptOf, AreSnapshots}
@@ -43,11 +43,20 @@ pub record HasWatched (commands : List Taken) (caller : Known) : Type 0 where
 abbrev pub HasListed : List Answer → Known → Type 0
 HasListed log caller = IsPrefix caller.watched.log log
 
--- there is one list of the readings of all these callers, each in its life among all commands
+-- these are all the readings that one of these callers knows of, or there are none
+abbrev pub IsKnownLog : List Answer → List Known → Type 0
+IsKnownLog log callers = (log ≡ [])
+    ⊎ ((place : ℕ) × (caller : Known) × (slice_get callers place ≡ Some caller)
+    × (caller.watched.log ≡ log))
+
+-- there is one list of the readings of all these callers, each in its life among all commands and
+-- over before the next one. What each caller knows begins it, and one caller knows all of it
 pub record HaveListed (commands : List Taken) (callers : List Known) : Type 0 where
   pub log : List Answer
   pub alive : AreInLife commands log
+  pub turn : AreInTurn log
   pub each : All (HasListed log) callers
+  pub known : IsKnownLog log callers
 
 -- just as many entries are a caller's as were accepted
 abbrev pub IsCounted : Journal → Known → Type 0
@@ -63,8 +72,10 @@ pub record IsClosed (journal : Journal) (callers : List Known) : Type 0 where
   pub readings : AreReadings history commands
   pub order : AreInOrder commands
   pub alive : AreInLife commands log
+  pub turn : AreInTurn log
   pub parts : All (IsPartOf history) callers
   pub watched : All (HasWatched commands) callers
   pub listed : All (HasListed log) callers
+  pub known : IsKnownLog log callers
   pub own : All (IsCounted history) callers
   pub counted : accepted_count journal ≡ accepted_by callers

@@ -1,40 +1,43 @@
--- With an honest counter, no answer is below one that was over before its call began.
-use Rattle.std.specs.Prelude.{◌≡◌, ◌⊎◌, ℕ, ◌-◌, ◌%◌, ◌^◌, ◌<◌, ◌≤◌, ◌≤ℤ◌, List, false, length, Ok, Some, slice_get}
+-- With an honest counter MONOTONIC never falls, whichever callers ask for it.
+use Rattle.std.specs.Prelude.{◌≡◌, ◌⊎◌, ℕ, ◌-◌, ◌<◌, ◌≤◌, ◌≤ℤ◌, List, false, length, Ok, Some, slice_get}
 use mathlib.Core.List.{IsPrefix}
 use Rattle.tk_counter.specs.Counter.{half}
 use Rattle.tk_clock.specs.declared.clock_id.ClockId.TheVariants.{Monotonic}
 use Rattle.tk_clock.specs.declared.timespec.Timespec.{Timespec}
-use Rattle.tk_clock.specs.Journal.{Journal, prefix, is_asleep, is_asleep_at}
+use Rattle.tk_clock.specs.Journal.{Journal, is_asleep_at}
 use Rattle.tk_clock.specs.Time.{nanoseconds}
 use Rattle.tk_page.specs.History.{Begins}
-use Rattle.tk_clock.specs.Monotonic.{monotonic}
 use Rattle.tk_now.specs.declared.rule.Taken.{Taken}
 use Rattle.tk_now.specs.declared.rule.Answer.{Answer}
-use Rattle.tk_now.specs.Honest.{IsHonest}
-use Rattle.tk_now.specs.Life.{AreNear, AreReadings}
-use Rattle.tk_now.specs.Moments.{AreInLife, AreInOrder}
+use Rattle.tk_now.specs.Honest.{IsTrueCount, masked}
+use Rattle.tk_now.specs.Life.{AreNear}
+use Rattle.tk_now.specs.Views.{taken}
 use Rattle.tk_shared.specs.Callers.{Known}
 use Rattle.tk_shared.specs.Closing.{IsClosed}
 use Rattle.tk_shared.specs.Now.{IsNow, IsSeenBy}
 
--- MONOTONIC of an answer, in nanoseconds, by a history of which the answer's place is an entry
-abbrev pub monotonic_of : Journal → Answer → ℕ
-monotonic_of history a =
-    monotonic (prefix a.place history) (a.taken.reading % 2 ^ history.opening.counter.bits)
-
--- the commands are those of a history up to the place of answer b. Answer a was over before b's
--- reading was begun, and is of no later place; `IsTimed` states both of b and of each answer of any
--- thread that was listed when b's call looked first. While the clocks are awake, b's reading is at
--- most half the mask after the last command's. Then a's MONOTONIC is at most b's
-abbrev pub NowNeverFalls : Type 0
-NowNeverFalls = (history : Journal) (at command answer : ℕ → ℕ) (commands : List Taken)
-    (log : List Answer) → AreReadings history commands → AreInOrder commands →
-    AreInLife commands log →
-    IsHonest at command answer history.opening.counter.bits commands log → AreNear history command →
-    (i j : ℕ) (a b : Answer) → slice_get log i ≡ Some a → slice_get log j ≡ Some b →
-    a.taken.to ≤ b.taken.from → a.place ≤ b.place → b.place ≡ length history.entries →
-    (is_asleep history ≡ false → answer j - command b.place ≤ half history.opening.counter) →
-    monotonic_of history a ≤ monotonic_of history b
+-- the counter was honest at all commands and at two answers. `at` is the true count of cycles at each
+-- moment, which never falls; the counts of the readings are ones that the counter reached while the
+-- reading was taken
+pub record IsHonest (history : Journal) (commands : List Taken) (first second : Answer)
+    : Type 0 where
+  pub at : ℕ → ℕ
+  pub grows : (m n : ℕ) → m ≤ n → at m ≤ at n
+  -- the true counts of the commands' readings, the opening's first, and of the answers' readings
+  pub command : ℕ → ℕ
+  pub one : ℕ
+  pub two : ℕ
+  pub commands_read : (place : ℕ) (t : Taken) → slice_get commands place ≡ Some t →
+      IsTrueCount at history.opening.counter.bits t (command place)
+  pub first_read : IsTrueCount at history.opening.counter.bits
+      (masked history.opening.counter.bits first.taken) one
+  pub second_read : IsTrueCount at history.opening.counter.bits
+      (masked history.opening.counter.bits second.taken) two
+  -- while the clocks are awake, at most half the counter's range passes from one command to the next,
+  -- and from the last command before the second answer to that answer
+  pub near : AreNear history command
+  pub close : is_asleep_at history second.place ≡ false →
+      two - command second.place ≤ half history.opening.counter
 
 -- a call that a caller made: the caller before it and after it, and at the end, as one of these. What
 -- the caller knew after the call is part of what it knew at the end, as the clauses of each later call
@@ -57,66 +60,45 @@ HasSeen answers counter old new time =
 abbrev pub HasTaken : {S : Type 0} → (S → ℕ → ℕ → Type 0) → S → Known → Known → Timespec → Type 0
 HasTaken answers counter old new time = IsNow answers counter Monotonic old new time
 
--- the moments of a call's looks, its place, and its position in the list of all readings
-pub record Looks : Type 0 where
-  pub from : ℕ
-  pub to : ℕ
-  pub place : ℕ
-  pub position : ℕ
-
-abbrev pub looks_seen : {S : Type 0} (answers : S → ℕ → ℕ → Type 0) (counter : S) (old new : Known)
-    (time : Timespec) → HasSeen answers counter old new time → Looks
-looks_seen answers counter old new time is = record {
-  from = is.timed.from;
-  to = is.timed.to;
+-- the answer that such a call listed: the number of commands before it, the moments of its two looks,
+-- and its reading
+abbrev pub answer_seen : {S : Type 0} (answers : S → ℕ → ℕ → Type 0) (counter : S)
+    (old new : Known) (time : Timespec) → HasSeen answers counter old new time → Answer
+answer_seen answers counter old new time is = record {
   place = length new.seen.entries;
-  position = length is.timed.between;
+  taken = taken is.timed.from is.timed.to is.answer;
 }
 
-abbrev pub looks_taken : {S : Type 0} (answers : S → ℕ → ℕ → Type 0) (counter : S)
-    (old new : Known) (time : Timespec) → HasTaken answers counter old new time → Looks
-looks_taken answers counter old new time is = record {
-  from = is.2.timed.from;
-  to = is.2.timed.to;
+abbrev pub answer_taken : {S : Type 0} (answers : S → ℕ → ℕ → Type 0) (counter : S)
+    (old new : Known) (time : Timespec) → HasTaken answers counter old new time → Answer
+answer_taken answers counter old new time is = record {
   place = is.0.front;
-  position = length is.2.timed.between;
+  taken = taken is.2.timed.from is.2.timed.to is.2.answer;
 }
 
--- a call of `now` or of `now_fast` that returned this time, and its looks
-abbrev pub IsNowOf : {S : Type 0} → (S → ℕ → ℕ → Type 0) → S → Known → Known → Timespec → Looks →
+-- a call of `now` or of `now_fast` returned this time, and listed this answer
+abbrev pub IsNowOf : {S : Type 0} → (S → ℕ → ℕ → Type 0) → S → Known → Known → Timespec → Answer →
     Type 0
-IsNowOf answers counter old new time looks =
+IsNowOf answers counter old new time answer =
     ((is : HasSeen answers counter old new time)
-    × (looks ≡ looks_seen answers counter old new time is))
+    × (answer ≡ answer_seen answers counter old new time is))
     ⊎ ((is : HasTaken answers counter old new time)
-    × (looks ≡ looks_taken answers counter old new time is))
-
--- an honest counter, for the readings of all these callers. A reading's position is the same in each
--- caller's list
-abbrev pub AreHonest : (at command answer : ℕ → ℕ) (bits : ℕ) → List Taken → List Known → Type 0
-AreHonest at command answer bits commands callers =
-    (place : ℕ) (caller : Known) → slice_get callers place ≡ Some caller →
-    IsHonest at command answer bits commands caller.watched.log
+    × (answer ≡ answer_taken answers counter old new time is))
 
 -- the first call was over before the second one looked first: its second look was no later than the
--- second call's first one. That is so if one caller made both, one after the other, and if a command
--- was accepted between the two places
-abbrev pub IsOverBefore : Known → Known → Looks → Looks → Type 0
-IsOverBefore new old' looks looks' = (looks.to ≤ looks'.from)
-    ⊎ IsPrefix new.watched.log old'.watched.log ⊎ (looks.place < looks'.place)
+-- second call's first one. That is so if the second caller knew then what the first one knew after
+-- its call, as a caller does of its own calls, and if a command was accepted between the two
+-- answers. For other calls no clause gives the order of the moments
+abbrev pub IsOverBefore : Known → Known → Answer → Answer → Type 0
+IsOverBefore new old' first second = (first.taken.to ≤ second.taken.from)
+    ⊎ IsPrefix new.watched.log old'.watched.log ⊎ (first.place < second.place)
 
--- two calls by callers of one keeper that was closed, with an honest counter. The first call was over
--- before the second one looked first. While the clocks are awake, the second call's reading is at
--- most half the mask after the command at its place. Then the first time is at most the second
-abbrev pub TimesNeverFall : {S : Type 0} → (S → ℕ → ℕ → Type 0) → Type 0
-TimesNeverFall {S} answers = (journal : Journal) (callers : List Known)
-    (closed : IsClosed journal callers) (at command answer : ℕ → ℕ) →
-    AreHonest at command answer closed.history.opening.counter.bits closed.commands callers →
-    AreNear closed.history command → (first second : S) (old new old' new' : Known)
-    (time time' : Timespec) (looks looks' : Looks) → IsCallOf callers old new →
-    IsCallOf callers old' new' → IsNowOf answers first old new time looks →
-    IsNowOf answers second old' new' time' looks' →
-    IsOverBefore new old' looks looks' →
-    (is_asleep_at closed.history looks'.place ≡ false →
-    answer looks'.position - command looks'.place ≤ half closed.history.opening.counter) →
-    nanoseconds time ≤ℤ nanoseconds time'
+-- two calls by callers of one keeper, which was closed since. The first was over before the second
+-- looked first, and the counter was honest. Then the first time is at most the second
+abbrev pub NowNeverFalls : {S : Type 0} → (S → ℕ → ℕ → Type 0) → Type 0
+NowNeverFalls {S} answers = (journal : Journal) (callers : List Known)
+    (closed : IsClosed journal callers) (counter counter' : S) (old new old' new' : Known)
+    (time time' : Timespec) (first second : Answer) → IsCallOf callers old new →
+    IsCallOf callers old' new' → IsNowOf answers counter old new time first →
+    IsNowOf answers counter' old' new' time' second → IsOverBefore new old' first second →
+    IsHonest closed.history closed.commands first second → nanoseconds time ≤ℤ nanoseconds time'

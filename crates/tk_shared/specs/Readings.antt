@@ -1,5 +1,5 @@
 -- What the readings of a keeper have to do with its counter.
-use Rattle.std.specs.Prelude.{◌≡◌, ℕ, ◌%◌, ◌^◌, ◌≤◌, List, [], ◌∷◌, ◌++◌}
+use Rattle.std.specs.Prelude.{◌≡◌, ℕ, ◌%◌, ◌^◌, ◌<◌, List, [], ◌∷◌, ◌++◌}
 use Rattle.tk_counter.specs.Counter.{Counter}
 use Rattle.tk_clock.specs.declared.command.Command.{Command}
 use Rattle.tk_clock.specs.declared.command.Entry.{Entry}
@@ -30,7 +30,7 @@ pub record EndsAtReading {C : Type 0} (answers : C → ℕ → ℕ → Type 0) (
   pub read : IsReading (λ c. answers c from) counter history.opening.counter entry.reading
   pub older : List Taken
   pub to : ℕ
-  pub span : from ≤ to
+  pub span : from < to
   pub listed : commands ≡ older ++ taken from to entry.reading ∷ []
 
 -- a command of a caller was refused at a reading of a counter that followed an announcement, at

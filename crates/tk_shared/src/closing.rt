@@ -1,7 +1,7 @@
 //! Closing a shared keeper, once all callers are back.
 ghost use Rattle.std.specs.Prelude.{◌≡◌, ◌+◌, ◌<◌, ◌≤◌, All, MatchResult, None, length, vec_len};
 ghost use mathlib.Core.List.{IsPrefix};
-ghost use Rattle.tk_now.specs.Moments.{AreInLife};
+ghost use Rattle.tk_now.specs.Moments.{AreInLife, AreInTurn};
 ghost use Rattle.tk_shared.specs.Closing.{AreDifferent, HasListed, HasWatched, HaveListed, IsClosed, IsPartOf, accepted_by};
 ghost use Rattle.tk_shared.specs.History.{AreSnapshots};
 
@@ -147,6 +147,7 @@ fn take_in<L: Named, R: Wait>(
         × (announcer.new.since ≡ announcer.old.since) }
     ensures log { IsPrefix announcer.old.log announcer.new.log }
     ensures alive { AreInLife announcer.old.commands announcer.new.log }
+    ensures turn { AreInTurn announcer.new.log }
     ensures parts { (all.new.parts ≡ all.old.parts + 1) × (all.new.parts ≤ L.parts) }
     ensures amount { all.new.amount ≡ all.old.amount + caller.accepted }
     ensures seen { IsPartOf publisher.old.journal caller }

@@ -6,6 +6,7 @@ use Rattle.tk_now.specs.declared.rule.Taken.{Taken}
 use Rattle.tk_now.specs.Moments.{AreInLife}
 use Rattle.tk_shared.specs.Closing.{HasListed, HasWatched, IsPartOf, accepted_by}
 use Rattle.tk_shared.proofs.Counts.{accepted-cons, all_first}
+use Rattle.tk_shared.proofs.Listed.{have_listed}
 use Rattle.tk_shared.proofs.closing.take_all.Goals as goal
 
 pub loop-caller-preserved : goal.loop-caller-preserved
@@ -51,7 +52,8 @@ loop-caller-preserved g c =
         log,
         prefix_self log,
         alive,
-        λ all longer others. was.3 all (prefix_trans was.0 log all more longer)
+        t.turn,
+        λ all longer others. was.4 all (prefix_trans was.0 log all more longer)
             (subst (All (HasListed all)) (sym step) (all_first (HasListed all) caller rest
             (prefix_trans caller.watched.log log all t.listed longer) others)),
       );
@@ -72,6 +74,7 @@ loop-caller-init g c =
         [],
         (c.args.announcer.now.log, refl),
         λ i place a t at_a at_t. absurd (cc (at_a)),
+        λ i j a b less at_a at_b. absurd (cc (at_a)),
         λ all longer rest. subst (All (HasListed all)) items rest,
       );
     }
@@ -85,8 +88,5 @@ pub returns-clause-listed : goal.returns-clause-listed
 returns-clause-listed g c =
     let none : length (into_iter_items c.loop-caller.caller-iterator) ≡ 0 = search rules in
     let w = c.loop-caller.invariant.listed in
-    record {
-      log = w.0;
-      alive = w.2;
-      each = w.3 w.0 (prefix_self w.0) (λ k d low. absurd (omega (arith, none, low)));
-    }
+    let all = w.4 w.0 (prefix_self w.0) (λ k d low. absurd (omega (arith, none, low))) in
+    have_listed c.args.announcer.now.commands w.0 c.args.callers.items w.2 w.3 all

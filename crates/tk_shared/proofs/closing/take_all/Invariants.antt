@@ -1,7 +1,7 @@
 use Rattle.std.proofs.Common.{◌≡◌, ◌+◌, ◌≤◌, List, All, length}
 use mathlib.Core.List.{IsPrefix}
 use Rattle.tk_now.specs.declared.rule.Answer.{Answer}
-use Rattle.tk_now.specs.Moments.{AreInLife}
+use Rattle.tk_now.specs.Moments.{AreInLife, AreInTurn}
 use Rattle.std.specs.Vec.Iter.{into_iter_items}
 use Rattle.tk_shared.specs.Closing.{HasListed, HasWatched, IsPartOf, accepted_by}
 use Rattle.tk_shared.proofs.closing.take_all.Given as goal
@@ -25,7 +25,7 @@ invariant-loop-caller g l = record {
   -- the readings of the callers so far are the first of what the announcer knows. If the callers that
   -- are left know the first of a longer list too, all do
   listed : (log : List Answer) × IsPrefix log l.announcer.log
-      × AreInLife l.initial.announcer.commands log
+      × AreInLife l.initial.announcer.commands log × AreInTurn log
       × ((all : List Answer) → IsPrefix log all →
       All (HasListed all) (into_iter_items l.caller-iterator) → All (HasListed all) l.fn.callers.items);
 }

@@ -1,4 +1,4 @@
-use Rattle.std.proofs.Common.{◌≡◌, ℕ, ◌+◌, ◌≤◌, ◌++◌, ◌∷◌, [], sym, ap, ◌∙◌, subst, refl, bit_and, List, rules}
+use Rattle.std.proofs.Common.{◌≡◌, ℕ, ◌+◌, ◌<◌, ◌≤◌, ◌++◌, ◌∷◌, [], sym, ap, ◌∙◌, subst, refl, bit_and, List, rules}
 use Rattle.std.proofs.lemmas.Option.{same_Some}
 use Rattle.tk_clock.specs.declared.command.Entry.{Entry}
 use Rattle.tk_clock.specs.Journal.{Journal, followed_by, accepted_count}
@@ -243,7 +243,7 @@ returns-clause-reading g c =
       read = record { answer = answer; given = c.read_after.ensures.given; kept = low };
       older = c.announce.new.self.commands;
       to = at.1;
-      span = subst (λ (n : ℕ). n ≤ at.1) same at.3;
+      span = subst (λ (n : ℕ). n < at.1) same at.3;
       listed = c.tell-4.ensures.told.commands ∙ (at.4
           ∙ ap (λ (n : ℕ). c.announce.new.self.commands ++ taken n at.1 (entry_by g c).reading ∷ [])
           same);

@@ -1,5 +1,0 @@
-use Rattle.tk_shared.proofs.Between.{times_in_order}
-use Rattle.tk_shared.proofs.never_back.times_never_fall.Goals as goal
-
-pub returns : goal.returns
-returns g c = times_in_order _
