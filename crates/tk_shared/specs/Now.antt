@@ -1,5 +1,5 @@
 -- The time now: a reading of a shared counter, converted by the snapshot of the history at its place.
-use Rattle.std.specs.Prelude.{◌≡◌, ◌≢◌, ℕ, ◌%◌, ◌^◌, ◌<◌, pos, ◌≤ℤ◌, length, MatchResult, Result, Some, None}
+use Rattle.std.specs.Prelude.{◌≡◌, ℕ, ◌%◌, ◌^◌, ◌<◌, pos, ◌≤ℤ◌, length, MatchResult, Result, Some, None}
 use mathlib.Core.List.{IsPrefix}
 use Rattle.tk_clock.specs.declared.clock_id.ClockId.{ClockId}
 use Rattle.tk_clock.specs.declared.refusal.ReadError.{ReadError}
@@ -14,7 +14,7 @@ use Rattle.tk_now.specs.Moments.{AreInLife, AreInOrder, IsBusy, IsTimed}
 use Rattle.tk_now.specs.Views.{Watched}
 use Rattle.tk_shared.specs.Callers.{Known}
 use Rattle.tk_shared.specs.declared.now_fault.NowFault.{NowFault}
-use Rattle.tk_shared.specs.declared.now_fault.NowFault.TheVariants.{Refused, Moved, Busy, Late}
+use Rattle.tk_shared.specs.declared.now_fault.NowFault.TheVariants.{Refused, Moved, Busy, Late, Ahead}
 
 -- a clock's time at a reading
 abbrev pub IsTimeAt : ReadBase → ClockId → ℕ → Timespec → Type 0
@@ -56,7 +56,11 @@ module _ {S : Type 0} (answers : S → ℕ → ℕ → Type 0) (counter : S) (le
   IsNoTimeBy clock (Late late) =
       (snapshot : Snapshot) × (answer : ℕ) × IsRead learnt learnt' snapshot
       × IsTimed answers counter watched watched' late.place answer
-      × (snapshot.front ≡ late.front) × (late.front ≢ late.place)
+      × (snapshot.front ≡ late.front) × (late.front < late.place)
+  IsNoTimeBy clock (Ahead late) =
+      (snapshot : Snapshot) × (answer : ℕ) × IsRead learnt learnt' snapshot
+      × IsTimed answers counter watched watched' late.place answer
+      × (snapshot.front ≡ late.front) × (late.place < late.front)
 
 -- the same of a caller
 abbrev pub IsNow : {S : Type 0} → (S → ℕ → ℕ → Type 0) → S → ClockId → Known → Known → Timespec →

@@ -1,6 +1,8 @@
 //! The time now.
-ghost use Rattle.std.specs.Prelude.{◌≡◌, MatchResult};
+ghost use Rattle.std.specs.Prelude.{◌≡◌, ◌<◌, MatchResult};
 ghost use mathlib.Core.List.{IsPrefix};
+ghost use Rattle.tk_clock.specs.State.{base_of};
+ghost use Rattle.tk_keeper.specs.Keeper.{ReadsAs};
 ghost use Rattle.tk_page.specs.History.{Begins};
 ghost use Rattle.tk_shared.specs.Now.{IsNow, IsNowBy, IsNoTime, IsNoTimeBy, IsSeenBy, KnowsMore};
 
@@ -39,10 +41,12 @@ impl<L: Named, C: Counter> SharedKeeper<L, C> {
         counter: &S,
         clock: ClockId,
     ) -> Result<Timespec, ReadError>
+        ensures reads { caller.old.reads < caller.new.reads }
         ensures extends { Begins caller.old.seen caller.new.seen }
         ensures watched { KnowsMore caller.old caller.new }
         ensures answer { IsSeenBy S.answers counter.now clock caller.new.seen caller.old.watched
             caller.new.watched result }
+        ensures clocks { ReadsAs caller.new.seen (base_of caller.new.seen) }
         ensures same { (caller.new.id ≡ caller.old.id)
             × (caller.new.accepted ≡ caller.old.accepted)
             × (caller.new.learnt ≡ caller.old.learnt) }
@@ -75,9 +79,10 @@ impl<L: Named, C: Counter> SharedKeeper<L, C> {
     /// - `Moved` if a publication was begun or made while the latch was read.
     /// - `Busy` if a command was in progress while the counter was read.
     /// - `Late` if a command was accepted after the latch was read and before the counter was.
+    /// - `Ahead` if the latch gave a publication whose command wasn't accepted yet. No run gives it.
     /// - `Refused` if the clock refuses the reading: `ReadError::Range`.
     ///
-    /// After each of the first three, call it again.
+    /// After each fault except for `Refused`, call it again.
     #[inline]
     pub fn now_fast<S: SharedCounter>(
         &self,
@@ -115,6 +120,7 @@ fn time_seen<R: Wait, S: SharedCounter>(
     requires notice { watcher.old.notice ≡ notice.now }
     ensures page { viewer.new.page ≡ viewer.old.page }
     ensures notice { watcher.new.notice ≡ watcher.old.notice }
+    ensures reads { viewer.old.reads < viewer.new.reads }
     ensures begins { Begins viewer.old.journal viewer.new.journal }
     ensures watched { IsPrefix watcher.old.commands watcher.new.commands
         × IsPrefix watcher.old.log watcher.new.log }
@@ -166,8 +172,11 @@ fn time_by<S: SharedCounter>(
         Err(busy) => return Err(NowFault::Busy(busy)),
     };
     let (front, place) = (snapshot.front(), timed.place);
-    if front != place {
+    if front < place {
         return Err(NowFault::Late(Late { front, place }));
+    }
+    if place < front {
+        return Err(NowFault::Ahead(Late { front, place }));
     }
     let reading = timed.reading & snapshot.desc().mask();
     match snapshot.get(clock, reading) {

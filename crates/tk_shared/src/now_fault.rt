@@ -11,6 +11,10 @@ pub enum NowFault {
     Busy(tk_now::Busy),
     /// A command was accepted after the latch was read and before the counter was.
     Late(Late),
+    /// The latch gave the publication of a command that wasn't accepted by the counter's reading:
+    /// the command was in progress. No run gives this, since each command is announced until after
+    /// its publication; `Busy` comes first. No clause excludes it.
+    Ahead(Late),
 }
 
 /// Contains the two numbers of commands that differ.

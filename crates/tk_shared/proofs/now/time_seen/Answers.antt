@@ -1,4 +1,4 @@
-use Rattle.std.proofs.Common.{ap, ◌∙◌}
+use Rattle.std.proofs.Common.{ap, ◌∙◌, arith}
 use Rattle.tk_counter.specs.Counter.{mask}
 use Rattle.tk_clock.proofs.Lists.{prefix_trans}
 use Rattle.tk_page.proofs.Beginnings.{begins-trans}
@@ -29,6 +29,8 @@ pub loop-preserved-in_default : goal.loop-preserved-in_default
 loop-preserved-in_default g c = record {
   page = c.read-snapshot.ensures.page ∙ c.loop.invariant.page;
   notice = c.time.ensures.notice ∙ c.loop.invariant.notice;
+  reads = let low = c.loop.invariant.reads in let once = c.read-snapshot.ensures.reads in
+      omega (arith, low, once);
   begins = begins-trans _ _ _ c.loop.invariant.begins c.read-snapshot.ensures.begins;
   commands = prefix_trans _ _ _ c.loop.invariant.commands c.time.ensures.extends.0;
   log = prefix_trans _ _ _ c.loop.invariant.log c.time.ensures.extends.1;
@@ -38,6 +40,8 @@ pub loop-preserved : goal.loop-preserved
 loop-preserved g c = record {
   page = c.read-snapshot.ensures.page ∙ c.loop.invariant.page;
   notice = c.time.ensures.notice ∙ c.loop.invariant.notice;
+  reads = let low = c.loop.invariant.reads in let once = c.read-snapshot.ensures.reads in
+      omega (arith, low, once);
   begins = begins-trans _ _ _ c.loop.invariant.begins c.read-snapshot.ensures.begins;
   commands = prefix_trans _ _ _ c.loop.invariant.commands c.time.ensures.extends.0;
   log = prefix_trans _ _ _ c.loop.invariant.log c.time.ensures.extends.1;

@@ -1,4 +1,4 @@
-use Rattle.std.proofs.Common.{◌≡◌}
+use Rattle.std.proofs.Common.{◌≡◌, ◌≤◌}
 use mathlib.Core.List.{IsPrefix}
 use Rattle.tk_page.specs.History.{Begins}
 use Rattle.tk_shared.proofs.now.time_seen.Given as goal
@@ -7,6 +7,7 @@ abbrev pub invariant-loop : goal.invariant-loop
 invariant-loop g l = record {
   page : l.viewer.page ≡ l.initial.viewer.page;
   notice : l.watcher.notice ≡ l.initial.watcher.notice;
+  reads : l.initial.viewer.reads ≤ l.viewer.reads;
   begins : Begins l.initial.viewer.journal l.viewer.journal;
   commands : IsPrefix l.initial.watcher.commands l.watcher.commands;
   log : IsPrefix l.initial.watcher.log l.watcher.log;
