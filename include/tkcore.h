@@ -447,6 +447,9 @@ enum tkc_code tkc_clock_from_words(struct tkc_clock *out, const struct tkc_count
 				   const uint64_t words[TKC_WORDS], int64_t frequency,
 				   int64_t tick);
 
+/* A parser that reads only declarations, such as cffi's, is given TKC_NO_INLINE. */
+#ifndef TKC_NO_INLINE
+
 /* Returns the name of a code, such as "TKC_BEHIND", or "TKC_?" if no code has the number. */
 TKC_INLINE const char *tkc_code_name(uint32_t code)
 {
@@ -519,6 +522,8 @@ TKC_INLINE enum tkc_code tkc_clock_resume(struct tkc_clock *clock, uint64_t read
 {
 	return tkc_clock_apply(clock, reading, TKC_CMD_RESUME, sec, nsec);
 }
+
+#endif /* TKC_NO_INLINE */
 
 #ifdef __cplusplus
 }

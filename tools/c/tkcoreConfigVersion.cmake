@@ -1,7 +1,13 @@
-# Before version 1.0.0 each minor version is another interface.
+# Before version 1.0.0 each minor version is another interface. A project that asks for the major
+# version only takes any minor version of it.
 set(PACKAGE_VERSION "@VERSION@")
-string(REGEX MATCH "^[0-9]+\\.[0-9]+" TKCORE_INTERFACE "${PACKAGE_VERSION}")
-string(REGEX MATCH "^[0-9]+\\.[0-9]+" TKCORE_WANTED "${PACKAGE_FIND_VERSION}")
+if(PACKAGE_FIND_VERSION_COUNT GREATER 1)
+  string(REGEX MATCH "^[0-9]+\\.[0-9]+" TKCORE_INTERFACE "${PACKAGE_VERSION}")
+  string(REGEX MATCH "^[0-9]+\\.[0-9]+" TKCORE_WANTED "${PACKAGE_FIND_VERSION}")
+else()
+  string(REGEX MATCH "^[0-9]+" TKCORE_INTERFACE "${PACKAGE_VERSION}")
+  set(TKCORE_WANTED "${PACKAGE_FIND_VERSION_MAJOR}")
+endif()
 
 if(PACKAGE_FIND_VERSION STREQUAL PACKAGE_VERSION)
   set(PACKAGE_VERSION_EXACT TRUE)
