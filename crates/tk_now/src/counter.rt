@@ -1,10 +1,12 @@
-ghost use Rattle.std.specs.Prelude.{◌≡◌, IfOk};
+ghost use Rattle.std.specs.Prelude.{◌≡◌, ◌%◌, ◌^◌, IfOk, MatchResult};
+ghost use Rattle.std.specs.Duration.{as_nanos};
 
 use crate::rule::{View, Words};
 use atomic_table::Seat;
 use std::alloc::{AllocError, Allocator};
+use std::io;
 use std::sync::atomic::{AtomicU64, Ordering};
-use std::time::{Clock, Instant};
+use std::time::{Clock, Duration, Instant};
 
 /// Shows that a look at a notice, or an announcement, was made. A read of a counter follows it.
 ///
@@ -113,10 +115,24 @@ impl<'c, C: Clock> SharedCounter for HostCounter<'c, C> {
     ghost answers = { λ _ _ answer. answer < 2 ^ 64 };
 
     fn read(&self, _look: &Look) -> u64 {
-        let Ok(time) = self.start.elapsed(self.clock) else {
-            return 0;
-        };
-        let seconds = time.as_secs().wrapping_mul(1_000_000_000);
-        seconds.wrapping_add(u64::from(time.subsec_nanos()))
+        reading_at(self.start.elapsed(self.clock))
     }
+}
+
+/// Returns the reading after this time, or 0 if the host didn't give the time.
+fn reading_at(elapsed: io::Result<Duration>) -> u64
+    ensures { MatchResult elapsed (λ time. result ≡ as_nanos time % 2 ^ 64) (λ _. result ≡ 0) }
+{
+    match elapsed {
+        Ok(time) => nanos_of(time),
+        Err(_) => 0,
+    }
+}
+
+/// Returns the nanoseconds of a time, modulo 2^64.
+fn nanos_of(time: Duration) -> u64
+    ensures { result ≡ as_nanos time % 2 ^ 64 }
+{
+    let seconds = time.as_secs().wrapping_mul(1_000_000_000);
+    seconds.wrapping_add(u64::from(time.subsec_nanos()))
 }

@@ -1,5 +1,6 @@
 //! Tests values that contracts do not fix, the edges of each range, and threads.
 
+mod host;
 mod latch;
 mod now;
 mod page;
