@@ -6,12 +6,11 @@
  * of readers read; a reader needs only read access. The header needs C11 or C++11, whose atomics
  * have the same layout. It isn't for kernels, which have their own (seqcount_t, seqcount_latch_t).
  *
- *     tkc_page_init(&page, &counter, &snapshot);           before any reader has the page
+ *     tkc_page_init_clock(&page, &counter, &clock);        before any reader has the page
  *
  *     tkc_page_begin(&page);                               the writer, for each command
  *     code = tkc_clock_update(&clock, read_counter(NULL));
- *     tkc_clock_snapshot(&snapshot, &clock);
- *     tkc_page_publish(&page, &snapshot);                  also if the command was refused
+ *     tkc_page_publish_clock(&page, &clock);               also if the command was refused
  *
  *     code = tkc_page_now(&page, TKC_CLOCK_MONOTONIC, read_counter, NULL, &time);     a reader
  *
@@ -20,11 +19,37 @@
  *     in each half of the counter's range (tkcore.h, "Limits"). For this the writer reads the
  *     counter after tkc_page_begin, and tkc_page_now reads it before the reader's second look. A
  *     reader waits while a writer is between tkc_page_begin and tkc_page_publish, so a handler that
- *     may interrupt the writer must not read the page. If the writer ends there, readers wait
- *     forever.
+ *     may interrupt the writer must not wait for the page: tkc_page_try_now returns TKC_BUSY.
  *   - A latch: a reader never waits for a writer that it interrupted, so an NMI or a signal handler
  *     may read it. MONOTONIC may go back by the change of the rate times the time since the
  *     writer's reading (as in ktime_get_mono_fast_ns in kernel/time/timekeeping.c).
+ *   A writer that publishes on both publishes on the page first.
+ *
+ * If the writer dies
+ *   A writer may die at any instruction. What readers then see depends on its last store:
+ *   - In tkc_page_init or tkc_latch_init: tkc_page_attach or tkc_latch_attach returns
+ *     TKC_BAD_LAYOUT.
+ *   - Before tkc_page_begin has made the sequence odd, or after tkc_page_publish has made it even:
+ *     readers of the page get the last snapshot that was published.
+ *   - Between these two: readers of the page wait until there is a new writer, and
+ *     tkc_page_try_now returns TKC_BUSY. The last snapshot that was published is still whole.
+ *   - In tkc_latch_publish, while the sequence is odd: readers of the latch get the former
+ *     snapshot, in copy 1. After the sequence is even again: they get the new one, in copy 0. They
+ *     never wait.
+ *   No reader gets a mixture of two snapshots. A new writer must know that the former one is dead:
+ *   a robust mutex returns EOWNERDEAD, for example. It takes over before it publishes anything:
+ *
+ *     if (tkc_page_clock(&page, &clock))                   or with clocks that it has
+ *             return -1;
+ *     tkc_page_recover(&page, &clock);
+ *     tkc_latch_recover(&latch, &clock);
+ *
+ *   Without tkc_latch_recover, readers of the latch may get a mixture of two snapshots while the
+ *   new writer publishes. tkc_page_clock rebuilds the clocks of the last publication, so MONOTONIC
+ *   doesn't go back for readers of the page. A command after that publication is lost; no reader
+ *   of the page has seen it. Since the page is published first, the page's clocks are at least as
+ *   new as the latch's. With clocks from elsewhere MONOTONIC may go back. If the new writer dies
+ *   too, even in these calls, the next one takes over in the same way.
  *
  * What is proved
  *   Nothing in this header is proved. The crates tk_page, tk_latch and tk_now are, and the steps
@@ -34,10 +59,12 @@
  *     reads the counter. Here there is no notice. tkc_page_now and tkc_latch_now read the counter
  *     between the two looks at the sequence. tkc_page_begin makes the page's sequence odd before
  *     the command reads the counter; nothing does that for a latch.
+ *   - A page has two copies, and a writer writes the one that isn't read. tk_page has one copy.
  *   - After a failed try, a reader tries again. A reader of tk_page then takes the page for itself,
  *     and tk_latch returns Moved.
  *   - Loads, stores and fences have a weaker order. In the crates all are sequentially consistent.
  *   - A latch stores all words. tk_latch stores only the words that changed.
+ *   - No writer of the crates dies. The section above is only tested.
  *   Each read passes the words to tkc_counter_new and tkc_snapshot_from_words, which validate them.
  *   So neither a fault in this header nor another process that overwrites the memory can produce an
  *   invalid snapshot.
@@ -49,6 +76,10 @@
  *   - x86-64: "lfence; rdtsc; lfence" or "rdtscp; lfence", if the TSC is constant and the same on
  *     all processors. The last lfence keeps the second look from running before the reading.
  *   - A device: a load that the device orders with memory.
+ *
+ * Codes
+ *   A call that can't return TKC_BUSY or TKC_BAD_LAYOUT returns an enum tkc_code. A call that can
+ *   returns a uint32_t, because these two aren't in the enum: no call of the library returns them.
  */
 #ifndef TKCORE_PAGE_H
 #define TKCORE_PAGE_H
@@ -69,10 +100,28 @@ typedef _Atomic uint64_t tkc_word;
 #define TKC_FENCE(order) atomic_thread_fence(memory_order_##order)
 #endif
 
-/* The ten 64-bit words of a snapshot (tkc_snapshot_words). */
-struct tkc_page_words {
-	tkc_word words[TKC_WORDS];
-};
+/* Lets the other thread of a core run while a reader waits. */
+#ifdef __GNUC__
+#define TKC_PAUSE() __builtin_ia32_pause()
+#else
+#define TKC_PAUSE() ((void)0)
+#endif
+
+/* The layouts of this header: "tkcpage" and "tkclatc", and a number that rises when the struct or
+ * the meaning of its words changes. The first layout had neither. */
+#define TKC_PAGE_LAYOUT UINT64_C(0x746b637061676502)
+#define TKC_LATCH_LAYOUT UINT64_C(0x746b636c61746302)
+
+/* Codes of this header. enum tkc_code never gets the numbers 48 to 63. */
+
+/* A writer was inside at each try. */
+#define TKC_BUSY 48
+/* The memory contains no page, or no latch, of this layout. */
+#define TKC_BAD_LAYOUT 49
+
+/* The 64-bit words of a page's copy: those of a snapshot (tkc_snapshot_words), the frequency, and
+ * the tick (tkc_clock_words). A tick of 0 means that only a snapshot was published. */
+#define TKC_PAGE_WORDS (TKC_WORDS + 2)
 
 /* The numbers of the counter (tkc_counter_numbers). They don't change. */
 struct tkc_page_counter {
@@ -80,19 +129,20 @@ struct tkc_page_counter {
 };
 
 /*
- * A page. The sequence is even at rest, and odd while the words are written.
- *   Writer: 1. makes the sequence odd.
+ * A page. The sequence is even at rest, and odd while a writer is inside. The copy to read is
+ * sequence / 2 % 2.
+ *   Writer: 1. makes the sequence odd, which selects the same copy.
  *           2. reads the counter and applies the command.
- *           3. writes the words.
- *           4. makes the sequence even.
- *   Reader: 5. loads the sequence: the first look.
- *           6. loads the words and reads the counter.
- *           7. loads the sequence again: the second look. Starts again if the sequence was odd or
- *              has changed.
+ *           3. writes the words of the other copy.
+ *           4. makes the sequence even, which selects that copy.
+ *   Reader: 5. loads the sequence: the first look. Starts again if it is odd.
+ *           6. loads the words of the copy that the sequence selects, and reads the counter.
+ *           7. loads the sequence again: the second look. Starts again if it has changed.
  */
 struct tkc_page {
+	tkc_word layout; /* TKC_PAGE_LAYOUT */
 	tkc_word sequence;
-	struct tkc_page_words copy;
+	tkc_word copies[2][TKC_PAGE_WORDS];
 	struct tkc_page_counter counter;
 };
 
@@ -107,28 +157,29 @@ struct tkc_page {
  *           7. loads the sequence again: the second look. Starts again if it has changed.
  */
 struct tkc_latch {
+	tkc_word layout; /* TKC_LATCH_LAYOUT */
 	tkc_word sequence;
-	struct tkc_page_words copies[2];
+	tkc_word copies[2][TKC_WORDS];
 	struct tkc_page_counter counter;
 };
 
 /* Returns a counter's reading (see "The counter" above). */
 typedef uint64_t tkc_read_counter(void *context);
 
-static inline void tkc_words_store(struct tkc_page_words *copy, const uint64_t *words)
+static inline void tkc_words_store(tkc_word *copy, const uint64_t *words, int count)
 {
 	int i;
 
-	for (i = 0; i < TKC_WORDS; i++)
-		TKC_STORE(&copy->words[i], words[i], relaxed);
+	for (i = 0; i < count; i++)
+		TKC_STORE(&copy[i], words[i], relaxed);
 }
 
-static inline void tkc_words_load(const struct tkc_page_words *copy, uint64_t *words)
+static inline void tkc_words_load(const tkc_word *copy, uint64_t *words, int count)
 {
 	int i;
 
-	for (i = 0; i < TKC_WORDS; i++)
-		words[i] = TKC_LOAD(&copy->words[i], relaxed);
+	for (i = 0; i < count; i++)
+		words[i] = TKC_LOAD(&copy[i], relaxed);
 }
 
 /* Makes the snapshot that loaded words and a stored counter represent. */
@@ -149,26 +200,73 @@ static inline void tkc_page_counter_store(struct tkc_page_counter *stored,
 	stored->padding = 0;
 }
 
+/* Stores the words of a page's copy. */
+static inline void tkc_page_clock_words(uint64_t *words, const struct tkc_clock *clock)
+{
+	int64_t frequency, tick;
+
+	tkc_clock_words(words, &frequency, &tick, clock);
+	words[TKC_WORDS] = (uint64_t)frequency;
+	words[TKC_WORDS + 1] = (uint64_t)tick;
+}
+
+static inline void tkc_page_snapshot_words(uint64_t *words, const struct tkc_snapshot *snapshot)
+{
+	tkc_snapshot_words(words, snapshot);
+	words[TKC_WORDS] = 0;
+	words[TKC_WORDS + 1] = 0;
+}
+
+/* Makes a page. Its layout is 0 until all else is stored. */
+static inline void tkc_page_init_words(struct tkc_page *page, const struct tkc_counter *counter,
+				       const uint64_t *words)
+{
+	TKC_STORE(&page->layout, 0, relaxed);
+	TKC_FENCE(release);
+	tkc_page_counter_store(&page->counter, counter);
+	tkc_words_store(page->copies[0], words, TKC_PAGE_WORDS);
+	TKC_STORE(&page->sequence, 0, relaxed);
+	TKC_STORE(&page->layout, TKC_PAGE_LAYOUT, release);
+}
+
 /*
- * Makes a page with its first snapshot. No other thread may use the page before this call returns.
- * Pass the page to other threads by a call that orders memory, such as pthread_create or an atomic
- * store.
+ * Makes a page with its first snapshot. No other thread may use the page before this call returns,
+ * except by tkc_page_attach. Pass the page to other threads by a call that orders memory, such as
+ * pthread_create or an atomic store.
  */
 static inline void tkc_page_init(struct tkc_page *page, const struct tkc_counter *counter,
 				 const struct tkc_snapshot *snapshot)
 {
-	uint64_t words[TKC_WORDS];
+	uint64_t words[TKC_PAGE_WORDS];
 
-	tkc_snapshot_words(words, snapshot);
-	tkc_page_counter_store(&page->counter, counter);
-	tkc_words_store(&page->copy, words);
-	TKC_STORE(&page->sequence, 0, release);
+	tkc_page_snapshot_words(words, snapshot);
+	tkc_page_init_words(page, counter, words);
+}
+
+/* Does the same with clocks of the counter, which tkc_page_clock can then rebuild. */
+static inline void tkc_page_init_clock(struct tkc_page *page, const struct tkc_counter *counter,
+				       const struct tkc_clock *clock)
+{
+	uint64_t words[TKC_PAGE_WORDS];
+
+	tkc_page_clock_words(words, clock);
+	tkc_page_init_words(page, counter, words);
+}
+
+/*
+ * Returns TKC_OK if the memory contains a page of this header's layout, and otherwise
+ * TKC_BAD_LAYOUT. Call it once before the first read, if another program may have made the page.
+ * The memory must be as large as a struct tkc_page, and aligned to 8 bytes.
+ */
+static inline uint32_t tkc_page_attach(const struct tkc_page *page)
+{
+	return TKC_LOAD(&page->layout, acquire) == TKC_PAGE_LAYOUT ? TKC_OK : TKC_BAD_LAYOUT;
 }
 
 /*
  * Does the writer's step 1. Read the counter for the command after this call. Readers wait between
  * this call and tkc_page_publish, so do nothing else there. The caller's lock must exclude other
- * writers.
+ * writers. After a former writer has died inside, the sequence is odd, and stays so.
  *
  * The fence must be a full one: all readers must be able to see the odd sequence before the writer
  * reads the counter. Otherwise a reader may accept the old words with a reading after the command's
@@ -180,19 +278,41 @@ static inline void tkc_page_begin(struct tkc_page *page)
 {
 	uint64_t sequence = TKC_LOAD(&page->sequence, relaxed);
 
-	TKC_STORE(&page->sequence, sequence + 1, relaxed);
+	TKC_STORE(&page->sequence, sequence | 1, relaxed);
 	TKC_FENCE(seq_cst);
 }
 
-/* Does the writer's steps 3 and 4. After a refused command, publish the same snapshot again. */
+/*
+ * Does the writer's steps 3 and 4. Without tkc_page_begin, readers still get whole snapshots, but
+ * MONOTONIC may go back. The fence is for this case: the former sequence must be visible before the
+ * words are.
+ */
+static inline void tkc_page_publish_words(struct tkc_page *page, const uint64_t *words)
+{
+	uint64_t sequence = TKC_LOAD(&page->sequence, relaxed) | 1;
+
+	TKC_FENCE(release);
+	tkc_words_store(page->copies[(sequence + 1) / 2 % 2], words, TKC_PAGE_WORDS);
+	TKC_STORE(&page->sequence, sequence + 1, release);
+}
+
+/* Publishes a snapshot. After a refused command, publish the same snapshot again. */
 static inline void tkc_page_publish(struct tkc_page *page, const struct tkc_snapshot *snapshot)
 {
-	uint64_t sequence = TKC_LOAD(&page->sequence, relaxed);
-	uint64_t words[TKC_WORDS];
+	uint64_t words[TKC_PAGE_WORDS];
 
-	tkc_snapshot_words(words, snapshot);
-	tkc_words_store(&page->copy, words);
-	TKC_STORE(&page->sequence, sequence + 1, release);
+	tkc_page_snapshot_words(words, snapshot);
+	tkc_page_publish_words(page, words);
+}
+
+/* Publishes the snapshot of clocks, which tkc_page_clock can then rebuild. They must be clocks of
+ * the page's counter. After a refused command, publish the same clocks again. */
+static inline void tkc_page_publish_clock(struct tkc_page *page, const struct tkc_clock *clock)
+{
+	uint64_t words[TKC_PAGE_WORDS];
+
+	tkc_page_clock_words(words, clock);
+	tkc_page_publish_words(page, words);
 }
 
 /* Does the reader's step 7. */
@@ -203,18 +323,95 @@ static inline int tkc_page_moved(const tkc_word *sequence, uint64_t first)
 }
 
 /*
+ * Rebuilds the clocks of the last publication, for a new writer, also if the former one died inside
+ * (see "If the writer dies"). Returns, in this order:
+ *   TKC_BAD_LAYOUT  the memory contains no page of this layout
+ *   TKC_BUSY        a writer has published during the call: the former one isn't dead
+ *   TKC_BAD_BITS to TKC_BAD_ADJUST
+ *                   something else than these calls wrote the page
+ *   TKC_BAD_WORDS   the same; or tkc_page_init or tkc_page_publish wrote the last publication, and
+ *                   not tkc_page_init_clock, tkc_page_publish_clock or tkc_page_recover
+ */
+static inline uint32_t tkc_page_clock(const struct tkc_page *page, struct tkc_clock *out)
+{
+	uint64_t words[TKC_PAGE_WORDS], sequence;
+	struct tkc_counter counter;
+	enum tkc_code code;
+
+	if (tkc_page_attach(page) != TKC_OK)
+		return TKC_BAD_LAYOUT;
+	sequence = TKC_LOAD(&page->sequence, acquire);
+	tkc_words_load(page->copies[sequence / 2 % 2], words, TKC_PAGE_WORDS);
+	if (tkc_page_moved(&page->sequence, sequence))
+		return TKC_BUSY;
+	code = tkc_counter_new(&counter, page->counter.bits, page->counter.mult,
+			       page->counter.shift);
+	if (code != TKC_OK)
+		return code;
+	return tkc_clock_from_words(out, &counter, words, (int64_t)words[TKC_WORDS],
+				    (int64_t)words[TKC_WORDS + 1]);
+}
+
+/*
+ * Makes a page whole from a new writer's clocks, wherever the former writer died. They must be
+ * clocks of the page's counter. Readers that waited go on.
+ */
+static inline void tkc_page_recover(struct tkc_page *page, const struct tkc_clock *clock)
+{
+	tkc_page_begin(page);
+	tkc_page_publish_clock(page, clock);
+}
+
+/* Does the reader's steps once, and reads the first ten words. Returns 0 if a writer was inside. */
+static inline int tkc_page_try(const struct tkc_page *page, tkc_read_counter *read_counter,
+			       void *context, uint64_t *words, uint64_t *reading)
+{
+	uint64_t sequence = TKC_LOAD(&page->sequence, acquire);
+
+	if (sequence % 2) {
+		TKC_PAUSE();
+		return 0;
+	}
+	tkc_words_load(page->copies[sequence / 2 % 2], words, TKC_WORDS);
+	*reading = read_counter(context);
+	return !tkc_page_moved(&page->sequence, sequence);
+}
+
+/* For a read without a reading. */
+static inline uint64_t tkc_no_reading(void *context)
+{
+	(void)context;
+	return 0;
+}
+
+/*
  * Reads the latest snapshot. At a reading that is taken after this call, it may give a later time
- * than the next snapshot gives. So use tkc_page_now to read a clock. Returns TKC_BAD_WORDS, or
- * TKC_BAD_BITS to TKC_BAD_ADJUST, if anything else than these calls wrote the page.
+ * than the next snapshot gives. So use tkc_page_now or tkc_page_look to read a clock. Returns
+ * TKC_BAD_WORDS, or TKC_BAD_BITS to TKC_BAD_ADJUST, if anything else than these calls wrote the
+ * page.
  */
 static inline enum tkc_code tkc_page_read(const struct tkc_page *page, struct tkc_snapshot *out)
 {
-	uint64_t words[TKC_WORDS], sequence;
+	uint64_t words[TKC_WORDS], reading;
 
-	do {
-		sequence = TKC_LOAD(&page->sequence, acquire);
-		tkc_words_load(&page->copy, words);
-	} while (sequence % 2 || tkc_page_moved(&page->sequence, sequence));
+	while (!tkc_page_try(page, tkc_no_reading, NULL, words, &reading))
+		;
+	return tkc_words_checked(out, &page->counter, words);
+}
+
+/*
+ * Reads the latest snapshot, and reads the counter while it is the latest. So several clocks can be
+ * read at one reading, and MONOTONIC at this reading doesn't go back. *reading is written with any
+ * code. Returns the codes of tkc_page_read.
+ */
+static inline enum tkc_code tkc_page_look(const struct tkc_page *page,
+					  tkc_read_counter *read_counter, void *context,
+					  struct tkc_snapshot *out, uint64_t *reading)
+{
+	uint64_t words[TKC_WORDS];
+
+	while (!tkc_page_try(page, read_counter, context, words, reading))
+		;
 	return tkc_words_checked(out, &page->counter, words);
 }
 
@@ -226,17 +423,32 @@ static inline enum tkc_code tkc_page_now(const struct tkc_page *page, uint32_t c
 					 tkc_read_counter *read_counter, void *context,
 					 struct tkc_time *out)
 {
-	uint64_t words[TKC_WORDS], sequence, reading;
+	struct tkc_snapshot snapshot;
+	uint64_t reading;
+	enum tkc_code code = tkc_page_look(page, read_counter, context, &snapshot, &reading);
+
+	return code != TKC_OK ? code : tkc_snapshot_get(out, &snapshot, clock, reading);
+}
+
+/*
+ * Reads a clock now, in at most `tries` tries, and so never waits. Returns TKC_BUSY if a writer was
+ * inside at each of them, and otherwise the codes of tkc_page_now.
+ */
+static inline uint32_t tkc_page_try_now(const struct tkc_page *page, uint32_t tries, uint32_t clock,
+					tkc_read_counter *read_counter, void *context,
+					struct tkc_time *out)
+{
+	uint64_t words[TKC_WORDS], reading;
 	struct tkc_snapshot snapshot;
 	enum tkc_code code;
 
-	do {
-		sequence = TKC_LOAD(&page->sequence, acquire);
-		tkc_words_load(&page->copy, words);
-		reading = read_counter(context);
-	} while (sequence % 2 || tkc_page_moved(&page->sequence, sequence));
-	code = tkc_words_checked(&snapshot, &page->counter, words);
-	return code != TKC_OK ? code : tkc_snapshot_get(out, &snapshot, clock, reading);
+	for (; tries; tries--) {
+		if (!tkc_page_try(page, read_counter, context, words, &reading))
+			continue;
+		code = tkc_words_checked(&snapshot, &page->counter, words);
+		return code != TKC_OK ? code : tkc_snapshot_get(out, &snapshot, clock, reading);
+	}
+	return TKC_BUSY;
 }
 
 /* Makes a latch with its first snapshot, as tkc_page_init makes a page. */
@@ -246,40 +458,90 @@ static inline void tkc_latch_init(struct tkc_latch *latch, const struct tkc_coun
 	uint64_t words[TKC_WORDS];
 
 	tkc_snapshot_words(words, snapshot);
+	TKC_STORE(&latch->layout, 0, relaxed);
+	TKC_FENCE(release);
 	tkc_page_counter_store(&latch->counter, counter);
-	tkc_words_store(&latch->copies[0], words);
-	tkc_words_store(&latch->copies[1], words);
-	TKC_STORE(&latch->sequence, 0, release);
+	tkc_words_store(latch->copies[0], words, TKC_WORDS);
+	tkc_words_store(latch->copies[1], words, TKC_WORDS);
+	TKC_STORE(&latch->sequence, 0, relaxed);
+	TKC_STORE(&latch->layout, TKC_LATCH_LAYOUT, release);
+}
+
+/* Returns TKC_OK or TKC_BAD_LAYOUT, as tkc_page_attach does. */
+static inline uint32_t tkc_latch_attach(const struct tkc_latch *latch)
+{
+	return TKC_LOAD(&latch->layout, acquire) == TKC_LATCH_LAYOUT ? TKC_OK : TKC_BAD_LAYOUT;
 }
 
 /*
  * Does the writer's steps. It stores a sequence after the copy that the sequence selects is whole,
  * and before it writes the other copy (raw_write_seqcount_latch in include/linux/seqlock.h). The
- * caller's lock must exclude other writers.
+ * caller's lock must exclude other writers. The sequence is odd at first only in tkc_latch_recover.
  */
 static inline void tkc_latch_publish(struct tkc_latch *latch, const struct tkc_snapshot *snapshot)
 {
-	uint64_t sequence = TKC_LOAD(&latch->sequence, relaxed);
+	uint64_t sequence = (TKC_LOAD(&latch->sequence, relaxed) + 1) | 1;
 	uint64_t words[TKC_WORDS];
 	uint64_t i;
 
 	tkc_snapshot_words(words, snapshot);
 	for (i = 0; i < 2; i++) {
-		TKC_STORE(&latch->sequence, sequence + 1 + i, release);
+		TKC_STORE(&latch->sequence, sequence + i, release);
 		TKC_FENCE(release);
-		tkc_words_store(&latch->copies[i], words);
+		tkc_words_store(latch->copies[i], words, TKC_WORDS);
 	}
+}
+
+/*
+ * Makes a latch whole and publishes the snapshot of a new writer's clocks, wherever the former
+ * writer died. They must be clocks of the latch's counter. The copy that the sequence selects is
+ * whole, and is copied to the other one first. The fence makes the sequence visible before that
+ * copy changes, for a reader that is still reading it.
+ */
+static inline void tkc_latch_recover(struct tkc_latch *latch, const struct tkc_clock *clock)
+{
+	uint64_t whole = TKC_LOAD(&latch->sequence, acquire) & 1;
+	struct tkc_snapshot snapshot;
+	uint64_t words[TKC_WORDS];
+
+	tkc_words_load(latch->copies[whole], words, TKC_WORDS);
+	TKC_FENCE(release);
+	tkc_words_store(latch->copies[!whole], words, TKC_WORDS);
+	tkc_clock_snapshot(&snapshot, clock);
+	tkc_latch_publish(latch, &snapshot);
+}
+
+/* Does the reader's steps once. Returns 0 if the sequence has changed. */
+static inline int tkc_latch_try(const struct tkc_latch *latch, tkc_read_counter *read_counter,
+				void *context, uint64_t *words, uint64_t *reading)
+{
+	uint64_t sequence = TKC_LOAD(&latch->sequence, acquire);
+
+	tkc_words_load(latch->copies[sequence & 1], words, TKC_WORDS);
+	*reading = read_counter(context);
+	return !tkc_page_moved(&latch->sequence, sequence);
 }
 
 /* Reads the latest whole snapshot. Returns the codes of tkc_page_read. */
 static inline enum tkc_code tkc_latch_read(const struct tkc_latch *latch, struct tkc_snapshot *out)
 {
-	uint64_t words[TKC_WORDS], sequence;
+	uint64_t words[TKC_WORDS], reading;
 
-	do {
-		sequence = TKC_LOAD(&latch->sequence, acquire);
-		tkc_words_load(&latch->copies[sequence & 1], words);
-	} while (tkc_page_moved(&latch->sequence, sequence));
+	while (!tkc_latch_try(latch, tkc_no_reading, NULL, words, &reading))
+		;
+	return tkc_words_checked(out, &latch->counter, words);
+}
+
+/* Reads the latest whole snapshot and the counter, as tkc_page_look does. Returns the codes of
+ * tkc_page_read. */
+static inline enum tkc_code tkc_latch_look(const struct tkc_latch *latch,
+					   tkc_read_counter *read_counter, void *context,
+					   struct tkc_snapshot *out, uint64_t *reading)
+{
+	uint64_t words[TKC_WORDS];
+
+	while (!tkc_latch_try(latch, read_counter, context, words, reading))
+		;
 	return tkc_words_checked(out, &latch->counter, words);
 }
 
@@ -288,21 +550,16 @@ static inline enum tkc_code tkc_latch_now(const struct tkc_latch *latch, uint32_
 					  tkc_read_counter *read_counter, void *context,
 					  struct tkc_time *out)
 {
-	uint64_t words[TKC_WORDS], sequence, reading;
 	struct tkc_snapshot snapshot;
-	enum tkc_code code;
+	uint64_t reading;
+	enum tkc_code code = tkc_latch_look(latch, read_counter, context, &snapshot, &reading);
 
-	do {
-		sequence = TKC_LOAD(&latch->sequence, acquire);
-		tkc_words_load(&latch->copies[sequence & 1], words);
-		reading = read_counter(context);
-	} while (tkc_page_moved(&latch->sequence, sequence));
-	code = tkc_words_checked(&snapshot, &latch->counter, words);
 	return code != TKC_OK ? code : tkc_snapshot_get(out, &snapshot, clock, reading);
 }
 
 #undef TKC_LOAD
 #undef TKC_STORE
 #undef TKC_FENCE
+#undef TKC_PAUSE
 
 #endif /* TKCORE_PAGE_H */

@@ -73,6 +73,14 @@ void clocks_command(struct clocks *clocks, struct entry *entry)
 	raw_spin_lock_irqsave(&clocks->lock, flags);
 	WRITE_ONCE(clocks->writer, smp_processor_id());
 	write_seqcount_begin(&clocks->seq);
+	/*
+	 * All processors must see the odd sequence before the counter is read.
+	 * On x86 write_seqcount_begin() orders only the compiler: rdtsc may run
+	 * while the odd sequence is still in the store buffer. A reader would
+	 * then accept the old snapshot with a reading after this one, and
+	 * MONOTONIC would go back.
+	 */
+	smp_mb();
 	entry->row.reading = clocks->read_counter();
 	apply(clocks, entry);
 	write_seqcount_end(&clocks->seq);

@@ -21,7 +21,7 @@ struct entry {
 };
 
 struct clocks {
-	u64 (*read_counter)(void);
+	u64 (*read_counter)(void); /* ordered after and before other loads */
 	raw_spinlock_t lock; /* serializes commands; timekeeper_lock */
 	struct tkc_counter counter;
 	struct tkc_clock clock;

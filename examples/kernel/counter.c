@@ -10,15 +10,25 @@
 
 enum { BITS = 64, SPAN_SEC = 600 };
 
+/*
+ * rdtsc_ordered() waits for the loads before it. rmb() makes the loads after
+ * it wait: a reader must not test the sequence before it reads the counter.
+ */
 static u64 read_tsc(void)
 {
-	return rdtsc_ordered();
+	u64 reading = rdtsc_ordered();
+
+	rmb();
+	return reading;
 }
 
-/* ktime_get_raw() for any context. */
+/* ktime_get_raw() for any context, which reads by rdtsc_ordered(). */
 static u64 read_raw(void)
 {
-	return ktime_get_raw_fast_ns();
+	u64 reading = ktime_get_raw_fast_ns();
+
+	rmb();
+	return reading;
 }
 
 static bool counts_tsc(void)
@@ -34,13 +44,17 @@ u64 counter_reading(const struct system_time_snapshot *kernel)
 
 static bool describe(const char *name)
 {
-	u32 bits;
+	u32 bits, code;
 
 	trial.clocks.read_counter = strcmp(name, "raw") ? read_tsc : read_raw;
-	trial.hz = counts_tsc() ? tsc_khz * 1000 : NSEC_PER_SEC;
-	if (tkc_counter_from_hz(&trial.clocks.counter, BITS, trial.hz,
-				SPAN_SEC))
+	trial.hz = counts_tsc() ? (u64)tsc_khz * 1000 : NSEC_PER_SEC;
+	code = tkc_counter_from_hz(&trial.clocks.counter, BITS, trial.hz,
+				   SPAN_SEC);
+	if (code) {
+		pr_err("a counter of %llu Hz is refused: %s\n", trial.hz,
+		       tkc_code_name(code));
 		return false;
+	}
 	tkc_counter_numbers(&bits, &trial.mult, &trial.shift,
 			    &trial.clocks.counter);
 	return true;
@@ -59,7 +73,7 @@ bool counter_open(const char *name)
 		pr_err("the TSC isn't the clocksource: load with counter=raw\n");
 		return false;
 	}
-	pr_info("counter %s: %u Hz, mult %u, shift %u\n",
+	pr_info("counter %s: %llu Hz, mult %u, shift %u\n",
 		counts_tsc() ? "tsc" : "raw", trial.hz, trial.mult,
 		trial.shift);
 	return !clocks_open(clocks, trial.opened, &trial.time);

@@ -20,7 +20,7 @@ enum { TEXT_LIMIT = 1 << 20, LINE_LIMIT = 64 };
 
 static int show_script(struct seq_file *file, void *unused)
 {
-	seq_printf(file, "openhz,64,%u,600,%llu,%lld,%u\n", trial.hz,
+	seq_printf(file, "openhz,64,%llu,600,%llu,%lld,%u\n", trial.hz,
 		   trial.opened, trial.time.sec, trial.time.nsec);
 	for (size_t i = 0; i < trial.clocks.count; i++)
 		print_row(file, &trial.clocks.entries[i].row);

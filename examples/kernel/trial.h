@@ -20,7 +20,7 @@ struct times {
 /* The clocks of the trial, and their opening. */
 struct trial {
 	struct clocks clocks;
-	u32 hz;
+	u64 hz; /* more than 2^32 - 1 is refused */
 	u32 mult, shift; /* of the counter */
 	u64 opened; /* the reading */
 	struct tkc_time time; /* REALTIME there */
