@@ -100,6 +100,12 @@ typedef _Atomic uint64_t tkc_word;
 #define TKC_FENCE(order) atomic_thread_fence(memory_order_##order)
 #endif
 
+/* With -fsanitize=thread, which doesn't follow fences, gcc warns of each one (-Wtsan). */
+#if defined(__SANITIZE_THREAD__) && defined(__GNUC__) && !defined(__clang__)
+#undef TKC_FENCE
+#define TKC_FENCE(order) __asm__ __volatile__("mfence" ::: "memory")
+#endif
+
 /* Lets the other thread of a core run while a reader waits. */
 #ifdef __GNUC__
 #define TKC_PAUSE() __builtin_ia32_pause()
