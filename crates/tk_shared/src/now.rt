@@ -12,6 +12,7 @@ use crate::named::Named;
 use crate::now_fault::{Late, NowFault};
 use crate::shared_keeper::SharedKeeper;
 use std::sync::Wait;
+use std::thread;
 use tk_clock::{ClockId, ReadError, Timespec};
 use tk_latch::{Latch, LatchReader};
 use tk_now::{Notice, SharedCounter, Watcher};
@@ -21,8 +22,8 @@ impl<L: Named, C: Counter> SharedKeeper<L, C> {
     /// Returns a clock's time now, at a reading of `counter` taken by this call (`ktime_get`).
     ///
     /// It reads the page, and then the counter between two loads of the notice. It tries again if a
-    /// command was in progress or was accepted in between, and may wait for a thread that holds the
-    /// words of the page.
+    /// command was accepted in between, or was in progress: then it first yields its processor. It
+    /// may wait for a thread that holds the words of the page.
     ///
     /// MONOTONIC never goes back, neither for one caller nor between callers, under three
     /// conditions (`now_never_falls`). The keeper's commands read the same counter, as with
@@ -130,6 +131,8 @@ fn time_seen<R: Wait, S: SharedCounter>(
     for _ in rt.forever() {
         let snapshot = viewer.read(rt, page);
         let Ok(timed) = watcher.time(notice, counter) else {
+            // whoever gives the command may need this processor
+            thread::yield_now();
             continue;
         };
         if viewer.front() == timed.place {
