@@ -1,9 +1,7 @@
 -- The history of a shared keeper: every command that was accepted since the clocks were opened.
-use Rattle.std.specs.Prelude.{◌≡◌, ℕ, ◌+◌, ◌-◌, ◌<◌, ◌≤◌, List, length, max, slice_get, Some}
-use Rattle.tk_counter.specs.Counter.{Counter}
+use Rattle.std.specs.Prelude.{◌≡◌, ℕ, ◌+◌, ◌<◌, ◌≤◌, List, length, slice_get, Some}
 use Rattle.tk_clock.specs.Folding.{folded_by}
 use Rattle.tk_clock.specs.Journal.{Journal, prefix}
-use Rattle.tk_clock.specs.Legal.{IsWhole}
 use Rattle.tk_clock.specs.Snapshot.{Snapshot, snapshot_of}
 
 -- what a timekeeper's journal keeps of a history: the first entries are folded into its opening,
@@ -11,16 +9,6 @@ use Rattle.tk_clock.specs.Snapshot.{Snapshot, snapshot_of}
 pub record IsKeptOf (history kept : Journal) : Type 0 where
   pub within : kept.opening.count ≤ length history.entries
   pub folded : kept ≡ folded_by kept.opening.count history
-
--- a fold so that at most `keep` entries are listed, on a keeper of this counter: the journal that it
--- found keeps a whole history, and as many entries are folded then as before, or as it takes
-pub record IsFold (described : Counter) (keep folded : ℕ) : Type 0 where
-  pub history : Journal
-  pub journal : Journal
-  pub counter : history.opening.counter ≡ described
-  pub whole : IsWhole history
-  pub kept : IsKeptOf history journal
-  pub answer : folded ≡ max journal.opening.count (length history.entries - keep)
 
 -- publication k is the snapshot of the first k entries
 pub record AreSnapshots (history : Journal) (publications : List Snapshot) : Type 0 where

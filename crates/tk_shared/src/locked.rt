@@ -6,7 +6,6 @@ ghost use Rattle.tk_clock.specs.Journal.{accepted_count};
 ghost use Rattle.tk_clock.specs.Limits.{counted_most};
 ghost use Rattle.tk_page.specs.History.{Begins};
 ghost use Rattle.tk_shared.specs.Callers.{IsAccepted, IsRefused, IsSameCaller};
-ghost use Rattle.tk_shared.specs.History.{IsFold};
 ghost use Rattle.tk_shared.specs.Readings.{EndsAtReading, IsRefusedAtReading};
 
 use crate::caller::Caller;
@@ -119,7 +118,6 @@ impl<L: Named, C: Counter> Locked<L, C> {
         ensures journal { let before = self.old.journal in
             self.new.journal ≡ folded_by (result - before.opening.count) before }
         ensures history { self.new.history ≡ self.old.history }
-        ensures fold { IsFold L.latch.counter keep result }
     {
         self.keeper.fold(keep)
     }

@@ -7,7 +7,6 @@ ghost use Rattle.tk_page.specs.History.{Begins};
 ghost use Rattle.tk_latch.specs.Latch.{IsRead, IsMoved, opened_reader};
 ghost use Rattle.tk_now.specs.Views.{opened_announcer};
 ghost use Rattle.tk_shared.specs.Callers.{IsAccepted, IsRefused, IsSameCaller, newcomers};
-ghost use Rattle.tk_shared.specs.History.{IsFold};
 ghost use Rattle.tk_shared.specs.Opening.{IsNamed, most_callers};
 ghost use Rattle.tk_shared.specs.Readings.{EndsAtReading, IsRefusedAtReading};
 
@@ -199,9 +198,10 @@ impl<L: Named, C: Counter> SharedKeeper<L, C> {
     ///
     /// It waits for the lock and allocates nothing. It publishes nothing, and no answer to a reader
     /// changes.
-    pub fn fold<R: Wait>(&self, rt: &R, keep: u64) -> u64
-        ensures { IsFold L.latch.counter keep result }
-    {
+    ///
+    /// No clause states the number: the lock hides the journal, and the call has no caller who could
+    /// have seen it. The clauses of `Locked::fold`, which does the work, state it.
+    pub fn fold<R: Wait>(&self, rt: &R, keep: u64) -> u64 {
         self.locked.lock(rt).fold(keep)
     }
 }

@@ -1,8 +1,7 @@
-use Rattle.std.proofs.Common.{ℕ, ◌-◌, length, max, sym, ap, ◌∙◌, subst}
+use Rattle.std.proofs.Common.{◌-◌, length, sym, subst}
 use Rattle.tk_clock.specs.Journal.{Journal}
 use Rattle.tk_shared.specs.Locked.{Held, held_of, IsHeld}
 use Rattle.tk_shared.proofs.Held.{held_folded, folds_few}
-use Rattle.tk_shared.proofs.Kept.{kept_count}
 use Rattle.tk_shared.proofs.locked.Locked.fold.Goals as goal
 
 pub invariant_of-self : goal.invariant_of-self
@@ -22,19 +21,3 @@ invariant_of-self g c =
       c.self.invariant.2,
       c.self.invariant.3,
     )
-
-pub returns-clause-fold : goal.returns-clause-fold
-returns-clause-fold g c =
-    let is = c.self.invariant.0 in
-    let history = c.self.inside.publisher.journal in
-    let kept = c.self.inside.keeper.journal in
-    record {
-      history = history;
-      journal = kept;
-      counter = sym is.counter;
-      whole = is.whole;
-      kept = is.kept;
-      answer = c.fold.ensures.answer
-          ∙ ap (λ (n : ℕ). max kept.opening.count (n - c.args.keep))
-          (kept_count history kept is.whole is.kept);
-    }
