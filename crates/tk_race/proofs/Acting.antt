@@ -3,8 +3,6 @@ use Rattle.std.proofs.Common.{◌≡◌, ℕ, ◌+◌, ◌<◌, List, [], ◌∷
 use Rattle.std.proofs.lemmas.List.{take_more}
 use Rattle.std.proofs.lemmas.List.Sums.{sum_by_push}
 use Rattle.tk_clock.specs.Journal.{Journal}
-use Rattle.tk_now.specs.declared.rule.Taken.{Taken}
-use Rattle.tk_now.proofs.Lists.{life_first}
 use Rattle.tk_shared.specs.Callers.{Known}
 use Rattle.tk_clock.proofs.Lists.{prefix_trans}
 use Rattle.tk_shared.proofs.Snapshots.{snapshots_prefix}
@@ -15,19 +13,14 @@ use Rattle.tk_race.specs.Replies.{AreReplies, IsReply, front_after, mark_after, 
 use Rattle.tk_page.proofs.Beginnings.{begins-trans}
 
 -- a history of what a caller knows is one of what it knew before
-history_before : (now next : Known) (done looks times : ℕ) (history : Journal)
-    (commands : List Taken) → IsLater now next done looks times →
-    IsHistoryOf next history commands → IsHistoryOf now history commands
-history_before now next done looks times history commands later is = record {
+history_before : (now next : Known) (done looks times : ℕ) (history : Journal) →
+    IsLater now next done looks times →
+    IsHistoryOf next history → IsHistoryOf now history
+history_before now next done looks times history later is = record {
   whole = is.whole;
   begins = begins-trans now.seen next.seen history later.seen is.begins;
   learnt = snapshots_prefix history now.learnt.publications next.learnt.publications is.learnt
       later.learnt;
-  watched = record {
-    begins = prefix_trans now.watched.commands next.watched.commands commands later.commands
-        is.watched.begins;
-    life = life_first commands now.watched.log next.watched.log later.log is.watched.life;
-  };
 }
 
 later_twice : (start now next : Known) (one other both saw more all asked again times : ℕ) →
@@ -43,18 +36,15 @@ later_twice start now next one other both saw more all asked again times p q sum
       (let first = p.looked (omega (arith, none, counted)) in
       let rest = q.looked (omega (arith, none, counted)) in
       omega (arith, first, rest, total));
-  commands = prefix_trans start.watched.commands now.watched.commands next.watched.commands
-      p.commands q.commands;
-  log = prefix_trans start.watched.log now.watched.log next.watched.log p.log q.log;
 }
 
 -- one more right reply
-module _ (history : Journal) (commands : List Taken) (id : ℕ) where
+module _ (history : Journal) (id : ℕ) where
   replies_push : (front mark : ℕ) (actions : List Action) (replies : List RaceReply)
       (action : Action) (reply : RaceReply) →
-      AreReplies history commands id front mark actions replies →
-      IsReply history commands id (last_front front replies) (last_mark mark replies) action reply →
-      AreReplies history commands id front mark (actions ++ action ∷ []) (replies ++ reply ∷ [])
+      AreReplies history id front mark actions replies →
+      IsReply history id (last_front front replies) (last_mark mark replies) action reply →
+      AreReplies history id front mark (actions ++ action ∷ []) (replies ++ reply ∷ [])
   replies_push front mark [] [] action reply are last = (last, tt)
   replies_push front mark [] (r ∷ rs) action reply are last = absurd are
   replies_push front mark (a ∷ acts) [] action reply are last = absurd are
@@ -82,17 +72,17 @@ acted_push start now next actions replies action reply acted answer = record {
   later = later_twice start now next _ (done_by reply) _ _ (reads_by reply) _ _ (times_by reply) _
       acted.later answer.later (sum_by_push done_by replies reply)
       (sum_by_push reads_by replies reply) (sum_by_push times_by replies reply);
-  right = λ history commands is.
+  right = λ history is.
       (let was =
-      acted.right history commands
-      (history_before now next (done_by reply) (reads_by reply) (times_by reply) history commands
+      acted.right history
+      (history_before now next (done_by reply) (reads_by reply) (times_by reply) history
       answer.later is) in
       let front = last_front 0 replies in
       let mark = last_mark 0 replies in
-      let stated = answer.right history commands is front mark was.1 in
-      let last = subst (λ (id : ℕ). IsReply history commands id front mark action reply) acted.later.id
+      let stated = answer.right history is front mark was.1 in
+      let last = subst (λ (id : ℕ). IsReply history id front mark action reply) acted.later.id
       stated.0 in (
-        replies_push history commands start.id 0 0 actions replies action reply was.0 last,
+        replies_push history start.id 0 0 actions replies action reply was.0 last,
         subst (λ (t : ℕ × ℕ). Knows next t.0 t.1)
             (λ i. (sym (last_front-push 0 replies reply) i, sym (last_mark-push 0 replies reply) i))
             stated.1,

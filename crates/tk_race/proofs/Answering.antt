@@ -11,7 +11,6 @@ use Rattle.tk_clock.specs.declared.refusal.Refusal.{Refusal}
 use Rattle.tk_clock.specs.Journal.{Opening, Journal, prefix}
 use Rattle.tk_page.specs.History.{Begins}
 use Rattle.tk_latch.specs.Latch.{Learnt, mark_of}
-use Rattle.tk_now.specs.Views.{Watched}
 use Rattle.tk_shared.specs.Callers.{Known, IsAccepted, IsRefused, IsSameCaller, IsRefusalAfter, entry_of}
 use Rattle.tk_shared.proofs.Kept.{whole_count}
 use Rattle.tk_clock.proofs.Lists.{prefix_self, prefix_trans, prefix_length}
@@ -73,10 +72,8 @@ done old new cmd number stated same =
         learnt = stated.learnt;
         counted = stated.counted;
         looked = λ none. (let still = same.2 in omega (arith, still));
-        commands = stated.commands;
-        log = stated.log;
       };
-      right = λ history commands is front least known.
+      right = λ history is front least known.
           (let low = known.0 in
           let high = known.1 in
           let rest = is.begins.1.0 in
@@ -111,12 +108,8 @@ refused old new cmd refusal stated same =
             (sym stated.learnt) (prefix_self old.learnt.publications);
         counted = omega (arith, counted);
         looked = λ none. (let still = same.2 in omega (arith, still));
-        commands = subst (λ (w : Watched). IsPrefix old.watched.commands w.commands)
-            (sym stated.watched) (prefix_self old.watched.commands);
-        log = subst (λ (w : Watched). IsPrefix old.watched.log w.log) (sym stated.watched)
-            (prefix_self old.watched.log);
       };
-      right = λ history commands is front mark known.
+      right = λ history is front mark known.
           (let low = known.0 in
           let high = known.1 in
           let learnt = ap (λ (l : Learnt). mark_of l.publications) stated.learnt in (

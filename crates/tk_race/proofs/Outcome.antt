@@ -6,9 +6,8 @@ use Rattle.tk_clock.specs.Legal.{IsWhole}
 use Rattle.tk_page.specs.History.{Begins}
 use Rattle.atomic_table.specs.Seated.{TableId}
 use Rattle.tk_latch.specs.Latch.{LatchId}
-use Rattle.tk_now.specs.declared.rule.Taken.{Taken}
 use Rattle.tk_shared.specs.Callers.{Known, made_by, newcomer, newcomers}
-use Rattle.tk_shared.specs.Closing.{IsApart, AreDifferent, IsClosed, HasWatched, IsCounted, IsPartOf, accepted_by}
+use Rattle.tk_shared.specs.Closing.{IsApart, AreDifferent, IsClosed, IsCounted, IsPartOf, accepted_by}
 use Rattle.tk_race.specs.declared.action.Action.{Action}
 use Rattle.tk_race.specs.declared.action.RaceReply.{RaceReply}
 use Rattle.tk_race.specs.Actor.{Actor, HasActed, HaveActed, IsHistoryOf}
@@ -111,35 +110,34 @@ module _ (latch : LatchId) (notice : TableId) (start : Journal) where
       different_from 0 actions news (all_raced n actions olds news is have)
 
   -- an actor's part in the history
-  part : (history : Journal) (commands : List Taken) (k : ℕ) (actions : List Action)
+  part : (history : Journal) (k : ℕ) (actions : List Action)
       (new : Actor) → IsWhole history →
       HasActed (newcomer latch notice start k) new.caller actions new.replies →
-      IsPartOf history new.caller → HasWatched commands new.caller → IsCounted history new.caller →
-      IsActed history commands k actions new.replies
-  part history commands k actions new whole acted is watched own =
-      let known : IsHistoryOf new.caller history commands =
-      record { whole = whole; begins = is.begins; learnt = is.learnt; watched = watched } in
+      IsPartOf history new.caller → IsCounted history new.caller →
+      IsActed history k actions new.replies
+  part history k actions new whole acted is own =
+      let known : IsHistoryOf new.caller history =
+      record { whole = whole; begins = is.begins; learnt = is.learnt } in
       let counted : new.caller.accepted ≡ 0 + done_in new.replies = acted.later.counted in
       record {
-        right = (acted.right history commands known).0;
+        right = (acted.right history known).0;
         own = subst (λ (id : ℕ). made_by id history.entries ≡ done_in new.replies) acted.later.id
             (own ∙ omega (arith, counted));
       }
 
-  all_from : (history : Journal) (commands : List Taken) (k : ℕ) (actions : List (List Action))
+  all_from : (history : Journal) (k : ℕ) (actions : List (List Action))
       (news : List Actor) → IsWhole history → HaveRaced k actions news →
       All (IsPartOf history) (map (λ a. a.caller) news) →
-      All (HasWatched commands) (map (λ a. a.caller) news) →
       All (IsCounted history) (map (λ a. a.caller) news) →
-      HaveAll history commands k actions (map (λ a. a.replies) news)
-  all_from history commands k [] [] whole have parts watched own = tt
-  all_from history commands k [] (new ∷ news) whole have parts watched own = absurd have
-  all_from history commands k (a ∷ acts) [] whole have parts watched own = absurd have
-  all_from history commands k (a ∷ acts) (new ∷ news) whole have parts watched own = (
-    part history commands k a new whole have.0 (parts 0 new.caller (omega arith))
-        (watched 0 new.caller (omega arith)) (own 0 new.caller (omega arith)),
-    all_from history commands (k + 1) acts news whole have.1
-        (λ i d l. parts (suc i) d (omega (arith, l))) (λ i d l. watched (suc i) d (omega (arith, l)))
+      HaveAll history k actions (map (λ a. a.replies) news)
+  all_from history k [] [] whole have parts own = tt
+  all_from history k [] (new ∷ news) whole have parts own = absurd have
+  all_from history k (a ∷ acts) [] whole have parts own = absurd have
+  all_from history k (a ∷ acts) (new ∷ news) whole have parts own = (
+    part history k a new whole have.0 (parts 0 new.caller (omega arith))
+        (own 0 new.caller (omega arith)),
+    all_from history (k + 1) acts news whole have.1
+        (λ i d l. parts (suc i) d (omega (arith, l)))
         (λ i d l. own (suc i) d (omega (arith, l))),
   )
 
@@ -176,20 +174,15 @@ module _ (latch : LatchId) (notice : TableId) (start : Journal) where
   outcome journal n actions olds news callers replies some is have known stated closed =
       let raced = all_raced n actions olds news is have in
       let history = closed.history in
-      let commands = closed.commands in
       let parts = subst (All (IsPartOf history)) known closed.parts in
-      let watched = subst (All (HasWatched commands)) known closed.watched in
       let own = subst (All (IsCounted history)) known closed.own in
       record {
         history = history;
         begins = begins_all history actions news some raced parts;
         whole = closed.whole;
         kept = closed.kept;
-        commands = commands;
-        readings = closed.readings;
-        order = closed.order;
-        each = subst (HaveAll history commands 0 actions) (sym stated)
-            (all_from history commands 0 actions news closed.whole raced parts watched own);
+        each = subst (HaveAll history 0 actions) (sym stated)
+            (all_from history 0 actions news closed.whole raced parts own);
         counted = closed.counted ∙ ap accepted_by known ∙ counted_from 0 actions news raced
             ∙ sym (ap (λ l. sum_by done_in l) stated);
       }

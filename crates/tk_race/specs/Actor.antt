@@ -6,9 +6,7 @@ use Rattle.tk_clock.specs.Journal.{Journal}
 use Rattle.tk_clock.specs.Legal.{IsWhole}
 use Rattle.tk_page.specs.History.{Begins}
 use Rattle.tk_latch.specs.Latch.{mark_of}
-use Rattle.tk_now.specs.declared.rule.Taken.{Taken}
 use Rattle.tk_shared.specs.Callers.{Known}
-use Rattle.tk_shared.specs.Closing.{HasWatched}
 use Rattle.tk_shared.specs.History.{AreSnapshots}
 use Rattle.tk_race.specs.declared.action.Action.{Action}
 use Rattle.tk_race.specs.declared.action.RaceReply.{RaceReply}
@@ -29,13 +27,11 @@ abbrev pub AreReady : List (List Action) → List Actor → Type 0
 AreReady actions actors = AllZip IsReady actions actors
 
 -- `history` is a whole journal that begins with the entries that the caller has seen, and the
--- publications that the caller has learnt of are its snapshots. The readings that the caller knows
--- of from the notice are in their life among these commands
-pub record IsHistoryOf (caller : Known) (history : Journal) (commands : List Taken) : Type 0 where
+-- publications that the caller has learnt of are its snapshots
+pub record IsHistoryOf (caller : Known) (history : Journal) : Type 0 where
   pub whole : IsWhole history
   pub begins : Begins caller.seen history
   pub learnt : AreSnapshots history caller.learnt.publications
-  pub watched : HasWatched commands caller
 
 -- from one moment of a caller to a later one, with this many orders done, reads of the page made
 -- and times asked for, which read the page as often as they need
@@ -45,8 +41,6 @@ pub record IsLater (old new : Known) (done looks times : ℕ) : Type 0 where
   pub learnt : IsPrefix old.learnt.publications new.learnt.publications
   pub counted : new.accepted ≡ old.accepted + done
   pub looked : times ≡ 0 → new.reads ≡ old.reads + looks
-  pub commands : IsPrefix old.watched.commands new.watched.commands
-  pub log : IsPrefix old.watched.log new.watched.log
 
 -- replies so far may state this front and this mark: the caller knows at least as much
 abbrev pub Knows : Known → ℕ → ℕ → Type 0
@@ -56,9 +50,9 @@ Knows caller front mark =
 -- an action and its reply; the reply is right for every history that is still possible
 pub record IsAnswer (old new : Known) (action : Action) (reply : RaceReply) : Type 0 where
   pub later : IsLater old new (done_by reply) (reads_by reply) (times_by reply)
-  pub right : (history : Journal) (commands : List Taken) → IsHistoryOf new history commands →
+  pub right : (history : Journal) → IsHistoryOf new history →
       (front mark : ℕ) → Knows old front mark →
-      IsReply history commands old.id front mark action reply
+      IsReply history old.id front mark action reply
       × Knows new (front_after front reply) (mark_after mark reply)
 
 -- the front and the mark after some replies
@@ -75,8 +69,8 @@ last_mark mark (reply ∷ replies) = last_mark (mark_after mark reply) replies
 pub record HasActed (old new : Known) (actions : List Action) (replies : List RaceReply)
     : Type 0 where
   pub later : IsLater old new (done_in replies) (reads_in replies) (times_in replies)
-  pub right : (history : Journal) (commands : List Taken) → IsHistoryOf new history commands →
-      AreReplies history commands old.id 0 0 actions replies
+  pub right : (history : Journal) → IsHistoryOf new history →
+      AreReplies history old.id 0 0 actions replies
       × Knows new (last_front 0 replies) (last_mark 0 replies)
 
 -- each of these actors has done all of its actions

@@ -5,9 +5,6 @@ use Rattle.tk_clock.specs.declared.timespec.Timespec.{Timespec}
 use Rattle.tk_clock.specs.Journal.{Journal, accepted_count}
 use Rattle.tk_clock.specs.Legal.{IsWhole}
 use Rattle.tk_page.specs.History.{Begins}
-use Rattle.tk_now.specs.declared.rule.Taken.{Taken}
-use Rattle.tk_now.specs.Life.{AreReadings}
-use Rattle.tk_now.specs.Moments.{AreInOrder}
 use Rattle.tk_shared.specs.Opening.{IsOpened}
 use Rattle.tk_shared.specs.History.{IsKeptOf}
 use Rattle.tk_race.specs.declared.action.Action.{Action}
@@ -24,27 +21,22 @@ abbrev pub orders_in : List Action → ℕ
 orders_in actions = sum_by order_by actions
 
 -- one list of replies for each actor, the actors being numbered on from this id
-abbrev pub HaveAll : Journal → List Taken → ℕ → List (List Action) → List (List RaceReply) →
-    Type 0
-HaveAll history commands id [] [] = Unit {0}
-HaveAll history commands id (actions ∷ others) (replies ∷ more) =
-    IsActed history commands id actions replies × HaveAll history commands (id + 1) others more
-HaveAll history commands id _ _ = ⊥
+abbrev pub HaveAll : Journal → ℕ → List (List Action) → List (List RaceReply) → Type 0
+HaveAll history id [] [] = Unit {0}
+HaveAll history id (actions ∷ others) (replies ∷ more) =
+    IsActed history id actions replies × HaveAll history (id + 1) others more
+HaveAll history id _ _ = ⊥
 
 -- the outcome of a race that starts with an opened journal: there is a whole history that begins
 -- with it, and the keeper's journal is what it keeps of that history. The replies of each actor are
--- right in the history, and there is one entry for each order that was done. The commands are the
--- readings of the entries, each of which was over before the next one was begun
+-- right in the history, and there is one entry for each order that was done
 pub record IsOutcome (start : Journal) (actors : List (List Action)) (journal : Journal)
     (replies : List (List RaceReply)) : Type 0 where
   pub history : Journal
   pub begins : Begins start history
   pub whole : IsWhole history
   pub kept : IsKeptOf history journal
-  pub commands : List Taken
-  pub readings : AreReadings history commands
-  pub order : AreInOrder commands
-  pub each : HaveAll history commands 0 actors replies
+  pub each : HaveAll history 0 actors replies
   pub counted : accepted_count journal ≡ sum_by done_in replies
 
 -- the outcome of a race on clocks that were opened over this counter, at some reading of it, with

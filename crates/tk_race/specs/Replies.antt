@@ -1,5 +1,5 @@
 -- What an actor's replies state about the history, which lists every accepted command.
-use Rattle.std.specs.Prelude.{◌≡◌, ℕ, ◌%◌, ◌^◌, ◌<◌, ◌≤◌, List, [], ◌∷◌, length, sum_by, Ok, Err, Result, Some}
+use Rattle.std.specs.Prelude.{◌≡◌, ℕ, ◌<◌, ◌≤◌, List, [], ◌∷◌, length, sum_by, Ok, Err, Result, Some}
 use Rattle.tk_counter.specs.Counter.{mask}
 use Rattle.tk_clock.specs.declared.command.Command.{Command}
 use Rattle.tk_clock.specs.declared.command.Entry.{Entry}
@@ -10,8 +10,6 @@ use Rattle.tk_clock.specs.declared.timespec.Timespec.{Timespec}
 use Rattle.tk_clock.specs.Journal.{Journal, prefix}
 use Rattle.tk_clock.specs.State.{base_of}
 use Rattle.tk_keeper.specs.Keeper.{entry_at}
-use Rattle.tk_now.specs.declared.rule.Taken.{Taken}
-use Rattle.tk_now.specs.Moments.{AreInLife}
 use Rattle.tk_shared.specs.Callers.{IsRefusalAfter, made_by}
 use Rattle.tk_shared.specs.Now.{IsResultAt}
 use Rattle.tk_race.specs.declared.action.Action.{Action}
@@ -39,21 +37,18 @@ pub record IsRefusedIn (history : Journal) (id known : ℕ) (cmd : Command) (ref
   pub masked : reading ≤ mask history.opening.counter
   pub reason : IsRefusalAfter (prefix front history) (order_of id reading cmd) refusal
 
--- a clock's result after the first `front` entries of the history, which are at least as many as
--- the actor knew of. Its reading is in the life of these entries: it was taken after theirs, and
--- before that of any later entry
-pub record IsTimedIn (history : Journal) (commands : List Taken) (known : ℕ) (clock : ClockId)
-    (front : ℕ) (result : Result Timespec ReadError) : Type 0 where
+-- at some reading of the counter this is the clock's result after the first `front` entries of the
+-- history, which are at least as many as the actor knew of
+pub record IsTimedIn (history : Journal) (known : ℕ) (clock : ClockId) (front : ℕ)
+    (result : Result Timespec ReadError) : Type 0 where
+  pub reading : ℕ
   pub least : known ≤ front
   pub within : front ≤ length history.entries
-  pub taken : Taken
-  pub life : AreInLife commands ((record { place = front; taken = taken }) ∷ [])
-  pub read : IsResultAt (base_of (prefix front history)) clock
-      (taken.reading % 2 ^ history.opening.counter.bits) result
+  pub masked : reading ≤ mask history.opening.counter
+  pub read : IsResultAt (base_of (prefix front history)) clock reading result
 
--- the reply to an action is right, when the actor's replies so far state this front and this mark.
--- The commands are the readings of the history's entries
-module _ (history : Journal) (commands : List Taken) (id front mark : ℕ) where
+-- the reply to an action is right, when the actor's replies so far state this front and this mark
+module _ (history : Journal) (id front mark : ℕ) where
   abbrev pub IsReply : Action → RaceReply → Type 0
   IsReply (Order cmd) (Done number) =
       (front < number) × (mark < number) × HasEntry history number id cmd
@@ -61,9 +56,8 @@ module _ (history : Journal) (commands : List Taken) (id front mark : ℕ) where
   IsReply Look (Saw read) = (front ≤ read) × (read ≤ length history.entries)
   IsReply Glance (Glanced read) = (mark ≤ read) × (read ≤ length history.entries)
   IsReply Glance Moved = Unit {0}
-  IsReply (Now clock) (Timed read time) = IsTimedIn history commands front clock read (Ok time)
-  IsReply (Now clock) (Untimed read refusal) =
-      IsTimedIn history commands front clock read (Err refusal)
+  IsReply (Now clock) (Timed read time) = IsTimedIn history front clock read (Ok time)
+  IsReply (Now clock) (Untimed read refusal) = IsTimedIn history front clock read (Err refusal)
   IsReply _ _ = ⊥
 
 -- the front after a reply: the number that the last done order, look or time stated; right replies
@@ -83,12 +77,12 @@ mark_after mark (Glanced read) = read
 mark_after mark _ = mark
 
 -- there is one right reply to each action, in order
-abbrev pub AreReplies : Journal → List Taken → ℕ → ℕ → ℕ → List Action → List RaceReply → Type 0
-AreReplies history commands id front mark [] [] = Unit {0}
-AreReplies history commands id front mark (action ∷ actions) (reply ∷ replies) =
-    IsReply history commands id front mark action reply
-    × AreReplies history commands id (front_after front reply) (mark_after mark reply) actions replies
-AreReplies history commands id front mark _ _ = ⊥
+abbrev pub AreReplies : Journal → ℕ → ℕ → ℕ → List Action → List RaceReply → Type 0
+AreReplies history id front mark [] [] = Unit {0}
+AreReplies history id front mark (action ∷ actions) (reply ∷ replies) =
+    IsReply history id front mark action reply
+    × AreReplies history id (front_after front reply) (mark_after mark reply) actions replies
+AreReplies history id front mark _ _ = ⊥
 
 -- the number of orders that were done, in one reply and in a list of replies
 abbrev pub done_by : RaceReply → ℕ
@@ -116,7 +110,7 @@ abbrev pub times_in : List RaceReply → ℕ
 times_in replies = sum_by times_by replies
 
 -- an actor's part: its replies are right, and it has as many entries as orders that were done
-pub record IsActed (history : Journal) (commands : List Taken) (id : ℕ) (actions : List Action)
-    (replies : List RaceReply) : Type 0 where
-  pub right : AreReplies history commands id 0 0 actions replies
+pub record IsActed (history : Journal) (id : ℕ) (actions : List Action) (replies : List RaceReply)
+    : Type 0 where
+  pub right : AreReplies history id 0 0 actions replies
   pub own : made_by id history.entries ≡ done_in replies
