@@ -11,8 +11,9 @@
 enum { BITS = 64, SPAN_SEC = 600 };
 
 /*
- * rdtsc_ordered() waits for the loads before it. rmb() makes the loads after
- * it wait: a reader must not test the sequence before it reads the counter.
+ * rdtsc_ordered() waits for the loads before it. By the processor's manual only
+ * a fence makes the loads after it wait, and a reader must not test the
+ * sequence before it reads the counter.
  */
 static u64 read_tsc(void)
 {
