@@ -135,7 +135,7 @@ extern "C" {
 /* The number of 64-bit words that a snapshot is stored as. */
 #define TKC_WORDS 10
 
-/* The codes that calls return. */
+/* The codes that calls return. The numbers 48 to 63 are kept for tkcore_page.h. */
 enum tkc_code {
 	/* The call is done. */
 	TKC_OK = 0,

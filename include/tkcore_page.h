@@ -18,38 +18,37 @@
  *   - A page: MONOTONIC never goes back for any reader, if the clocks get a command at least once
  *     in each half of the counter's range (tkcore.h, "Limits"). For this the writer reads the
  *     counter after tkc_page_begin, and tkc_page_now reads it before the reader's second look. A
- *     reader waits while a writer is between tkc_page_begin and tkc_page_publish, so a handler that
- *     may interrupt the writer must not wait for the page: tkc_page_try_now returns TKC_BUSY.
+ *     reader waits while a writer is inside, that is between tkc_page_begin and tkc_page_publish.
+ *     So a handler that may interrupt the writer must not wait: it may call tkc_page_try_now, which
+ *     returns TKC_BUSY.
  *   - A latch: a reader never waits for a writer that it interrupted, so an NMI or a signal handler
  *     may read it. MONOTONIC may go back by the change of the rate times the time since the
  *     writer's reading (as in ktime_get_mono_fast_ns in kernel/time/timekeeping.c).
- *   A writer that publishes on both publishes on the page first.
+ *   A writer that has both publishes on the page first.
  *
  * If the writer dies
- *   A writer may die at any instruction. What readers then see depends on its last store:
+ *   A writer may die at any instruction. Readers then see what its last store left:
  *   - In tkc_page_init or tkc_latch_init: tkc_page_attach or tkc_latch_attach returns
  *     TKC_BAD_LAYOUT.
- *   - Before tkc_page_begin has made the sequence odd, or after tkc_page_publish has made it even:
- *     readers of the page get the last snapshot that was published.
- *   - Between these two: readers of the page wait until there is a new writer, and
- *     tkc_page_try_now returns TKC_BUSY. The last snapshot that was published is still whole.
- *   - In tkc_latch_publish, while the sequence is odd: readers of the latch get the former
- *     snapshot, in copy 1. After the sequence is even again: they get the new one, in copy 0. They
- *     never wait.
- *   No reader gets a mixture of two snapshots. A new writer must know that the former one is dead:
- *   a robust mutex returns EOWNERDEAD, for example. It takes over before it publishes anything:
+ *   - Inside a page: readers wait until there is a new writer, and tkc_page_try_now returns
+ *     TKC_BUSY. The last snapshot that was published is still whole.
+ *   - At any other place, readers of the page get the last snapshot that was published.
+ *   - In tkc_latch_publish while the sequence is odd: readers of the latch get the former snapshot,
+ *     in copy 1. After the sequence is even again they get the new one, in copy 0. They never wait.
+ *   No reader gets a mixture of two snapshots. A new writer must know that the former one is dead
+ *   (a robust mutex returns EOWNERDEAD, for example). Before it publishes anything it takes over:
  *
  *     if (tkc_page_clock(&page, &clock))                   or with clocks that it has
  *             return -1;
  *     tkc_page_recover(&page, &clock);
  *     tkc_latch_recover(&latch, &clock);
  *
- *   Without tkc_latch_recover, readers of the latch may get a mixture of two snapshots while the
- *   new writer publishes. tkc_page_clock rebuilds the clocks of the last publication, so MONOTONIC
- *   doesn't go back for readers of the page. A command after that publication is lost; no reader
- *   of the page has seen it. Since the page is published first, the page's clocks are at least as
- *   new as the latch's. With clocks from elsewhere MONOTONIC may go back. If the new writer dies
- *   too, even in these calls, the next one takes over in the same way.
+ *   tkc_page_clock rebuilds the clocks of the last publication, so MONOTONIC doesn't go back for
+ *   readers of the page. A command after that publication is lost; no reader of the page has seen
+ *   it. Since the page is published first, its clocks are at least as new as the latch's. With
+ *   clocks from elsewhere MONOTONIC may go back. Without tkc_latch_recover, readers of the latch
+ *   may get a mixture of two snapshots while the new writer publishes. If the new writer dies too,
+ *   even in these calls, the next one takes over in the same way.
  *
  * What is proved
  *   Nothing in this header is proved. The crates tk_page, tk_latch and tk_now are, and the steps
@@ -78,8 +77,8 @@
  *   - A device: a load that the device orders with memory.
  *
  * Codes
- *   A call that can't return TKC_BUSY or TKC_BAD_LAYOUT returns an enum tkc_code. A call that can
- *   returns a uint32_t, because these two aren't in the enum: no call of the library returns them.
+ *   TKC_BUSY and TKC_BAD_LAYOUT aren't in enum tkc_code, because no call of the library returns
+ *   them. A call that may return one of them returns a uint32_t, and otherwise an enum tkc_code.
  */
 #ifndef TKCORE_PAGE_H
 #define TKCORE_PAGE_H
@@ -113,12 +112,12 @@ typedef _Atomic uint64_t tkc_word;
 #define TKC_PAUSE() ((void)0)
 #endif
 
-/* The layouts of this header: "tkcpage" and "tkclatc", and a number that rises when the struct or
- * the meaning of its words changes. The first layout had neither. */
-#define TKC_PAGE_LAYOUT UINT64_C(0x746b637061676502)
-#define TKC_LATCH_LAYOUT UINT64_C(0x746b636c61746302)
+/* The layouts of this header: the bytes of "tkcpage" or "tkclatc", and a number that rises when the
+ * struct or the meaning of its words changes. */
+#define TKC_PAGE_LAYOUT UINT64_C(0x746b637061676501)
+#define TKC_LATCH_LAYOUT UINT64_C(0x746b636c61746301)
 
-/* Codes of this header. enum tkc_code never gets the numbers 48 to 63. */
+/* The codes of this header. enum tkc_code keeps the numbers 48 to 63 free for them. */
 
 /* A writer was inside at each try. */
 #define TKC_BUSY 48
@@ -206,7 +205,7 @@ static inline void tkc_page_counter_store(struct tkc_page_counter *stored,
 	stored->padding = 0;
 }
 
-/* Stores the words of a page's copy. */
+/* Stores the words of a page's copy, from clocks or from a snapshot only. */
 static inline void tkc_page_clock_words(uint64_t *words, const struct tkc_clock *clock)
 {
 	int64_t frequency, tick;
@@ -266,7 +265,9 @@ static inline void tkc_page_init_clock(struct tkc_page *page, const struct tkc_c
  */
 static inline uint32_t tkc_page_attach(const struct tkc_page *page)
 {
-	return TKC_LOAD(&page->layout, acquire) == TKC_PAGE_LAYOUT ? TKC_OK : TKC_BAD_LAYOUT;
+	if (TKC_LOAD(&page->layout, acquire) != TKC_PAGE_LAYOUT)
+		return TKC_BAD_LAYOUT;
+	return TKC_OK;
 }
 
 /*
@@ -289,9 +290,9 @@ static inline void tkc_page_begin(struct tkc_page *page)
 }
 
 /*
- * Does the writer's steps 3 and 4. Without tkc_page_begin, readers still get whole snapshots, but
- * MONOTONIC may go back. The fence is for this case: the former sequence must be visible before the
- * words are.
+ * Does the writer's steps 3 and 4. Without a tkc_page_begin readers still get whole snapshots, but
+ * MONOTONIC may go back. The fence is for this case: readers must be able to see the former
+ * sequence before the words.
  */
 static inline void tkc_page_publish_words(struct tkc_page *page, const uint64_t *words)
 {
@@ -368,7 +369,7 @@ static inline void tkc_page_recover(struct tkc_page *page, const struct tkc_cloc
 	tkc_page_publish_clock(page, clock);
 }
 
-/* Does the reader's steps once, and reads the first ten words. Returns 0 if a writer was inside. */
+/* Does the reader's steps once, for the words of a snapshot. Returns 0 if a writer was inside. */
 static inline int tkc_page_try(const struct tkc_page *page, tkc_read_counter *read_counter,
 			       void *context, uint64_t *words, uint64_t *reading)
 {
@@ -406,9 +407,9 @@ static inline enum tkc_code tkc_page_read(const struct tkc_page *page, struct tk
 }
 
 /*
- * Reads the latest snapshot, and reads the counter while it is the latest. So several clocks can be
- * read at one reading, and MONOTONIC at this reading doesn't go back. *reading is written with any
- * code. Returns the codes of tkc_page_read.
+ * Reads the latest snapshot, and the counter while that snapshot is the latest. So several clocks
+ * can be read at one reading, and MONOTONIC at these readings doesn't go back. The call writes
+ * *reading even if it fails. Returns the codes of tkc_page_read.
  */
 static inline enum tkc_code tkc_page_look(const struct tkc_page *page,
 					  tkc_read_counter *read_counter, void *context,
@@ -437,8 +438,8 @@ static inline enum tkc_code tkc_page_now(const struct tkc_page *page, uint32_t c
 }
 
 /*
- * Reads a clock now, in at most `tries` tries, and so never waits. Returns TKC_BUSY if a writer was
- * inside at each of them, and otherwise the codes of tkc_page_now.
+ * Reads a clock now, in at most `tries` tries, and so doesn't wait. Returns TKC_BUSY if a writer
+ * was inside at each of them, and otherwise the codes of tkc_page_now.
  */
 static inline uint32_t tkc_page_try_now(const struct tkc_page *page, uint32_t tries, uint32_t clock,
 					tkc_read_counter *read_counter, void *context,
@@ -476,7 +477,9 @@ static inline void tkc_latch_init(struct tkc_latch *latch, const struct tkc_coun
 /* Returns TKC_OK or TKC_BAD_LAYOUT, as tkc_page_attach does. */
 static inline uint32_t tkc_latch_attach(const struct tkc_latch *latch)
 {
-	return TKC_LOAD(&latch->layout, acquire) == TKC_LATCH_LAYOUT ? TKC_OK : TKC_BAD_LAYOUT;
+	if (TKC_LOAD(&latch->layout, acquire) != TKC_LATCH_LAYOUT)
+		return TKC_BAD_LAYOUT;
+	return TKC_OK;
 }
 
 /*
@@ -501,8 +504,8 @@ static inline void tkc_latch_publish(struct tkc_latch *latch, const struct tkc_s
 /*
  * Makes a latch whole and publishes the snapshot of a new writer's clocks, wherever the former
  * writer died. They must be clocks of the latch's counter. The copy that the sequence selects is
- * whole, and is copied to the other one first. The fence makes the sequence visible before that
- * copy changes, for a reader that is still reading it.
+ * whole, and is copied to the other one first. The fence is for a reader that still reads the other
+ * copy: it must be able to see the present sequence before that copy changes.
  */
 static inline void tkc_latch_recover(struct tkc_latch *latch, const struct tkc_clock *clock)
 {

@@ -60,14 +60,12 @@ static uint64_t advance_counter(struct machine *machine)
 static uint32_t command(struct machine *machine, uint32_t command,
 			int64_t number)
 {
-	struct tkc_snapshot snapshot;
 	uint32_t code;
 
 	tkc_page_begin(&machine->page);
 	code = tkc_clock_apply(&machine->clock, advance_counter(machine),
 			       command, number, 0);
-	tkc_clock_snapshot(&snapshot, &machine->clock);
-	tkc_page_publish(&machine->page, &snapshot);
+	tkc_page_publish_clock(&machine->page, &machine->clock);
 	return code;
 }
 
@@ -135,7 +133,6 @@ static void *read_all(void *argument)
 
 static uint32_t open_machine(struct machine *machine)
 {
-	struct tkc_snapshot snapshot;
 	uint32_t code;
 
 	code = tkc_counter_from_hz(&machine->counter, 56, 1000000000, 600);
@@ -145,8 +142,7 @@ static uint32_t open_machine(struct machine *machine)
 			      read_counter(&machine->cycles), 1700000000, 0);
 	if (code)
 		return code;
-	tkc_clock_snapshot(&snapshot, &machine->clock);
-	tkc_page_init(&machine->page, &machine->counter, &snapshot);
+	tkc_page_init_clock(&machine->page, &machine->counter, &machine->clock);
 	return TKC_OK;
 }
 
