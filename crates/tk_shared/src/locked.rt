@@ -1,9 +1,10 @@
 //! The value that the lock protects, and the calls on it.
-ghost use Rattle.std.specs.Prelude.{◌≡◌, ◌+◌, ◌-◌, ◌<◌, max, ◌++◌, ◌∷◌, [], length, MatchResult};
+ghost use Rattle.std.specs.Prelude.{◌≡◌, ◌+◌, ◌-◌, ◌^◌, ◌<◌, max, ◌++◌, ◌∷◌, [], length, MatchResult, IsSome, None};
 ghost use mathlib.Core.List.{IsPrefix};
 ghost use Rattle.tk_clock.specs.Folding.{folded_by};
 ghost use Rattle.tk_clock.specs.Journal.{accepted_count};
 ghost use Rattle.tk_clock.specs.Limits.{counted_most};
+ghost use Rattle.tk_now.specs.Moments.{IsAcceptedAt};
 ghost use Rattle.tk_page.specs.History.{Begins};
 ghost use Rattle.tk_shared.specs.Callers.{IsAccepted, IsRefused, IsSameCaller};
 ghost use Rattle.tk_shared.specs.Readings.{EndsAtReading, IsRefusedAtReading};
@@ -102,7 +103,13 @@ impl<L: Named, C: Counter> Locked<L, C> {
         let (publisher, viewer) = (&mut self.publisher, &mut caller.viewer);
         publisher.publish_for(rt, page, entry, &snapshot, viewer);
         show_on_latch(latch, &mut self.writer, snapshot);
-        self.announcer.accept(notice, reading);
+        accept(
+            notice,
+            &mut self.announcer,
+            reading,
+            &self.publisher,
+            &self.writer,
+        );
         latch.tell(&mut self.writer, &mut caller.reader);
         self.announcer.tell(notice, &mut caller.watcher);
         self.book.add(&mut caller.share, 1);
@@ -121,6 +128,28 @@ impl<L: Named, C: Counter> Locked<L, C> {
     {
         self.keeper.fold(keep)
     }
+}
+
+/// Ends the announced command, which was accepted at `reading` and is published on the page and on
+/// the latch. Until then it is announced.
+fn accept(
+    notice: &Notice,
+    announcer: &mut Announcer,
+    reading: u64,
+    publisher: &Publisher,
+    writer: &LatchWriter,
+)
+    requires notice { announcer.old.notice ≡ notice.now }
+    requires announced { IsSome announcer.old.since }
+    requires room { length announcer.old.commands < 2 ^ 63 }
+    requires on_page { length publisher.now.journal.entries ≡ length announcer.old.commands }
+    requires on_latch { length writer.now.publications ≡ length announcer.old.commands + 1 }
+    ensures notice { announcer.new.notice ≡ announcer.old.notice }
+    ensures idle { announcer.new.since ≡ None }
+    ensures accepted { IsAcceptedAt announcer.old.since announcer.old.commands reading
+        announcer.new.commands }
+{
+    announcer.accept(notice, reading);
 }
 
 /// Publishes the next snapshot on the latch. The latch has room for as many publications as a

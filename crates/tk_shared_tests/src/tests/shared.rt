@@ -10,6 +10,7 @@ mod many;
 mod memory;
 mod never_back;
 mod openings;
+mod published;
 mod readers;
 mod readings;
 mod times;

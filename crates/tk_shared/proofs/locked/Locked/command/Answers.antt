@@ -74,14 +74,14 @@ latched g c =
 
 at_rest : (g : Over) (c : goal.After-caller-1 g) →
     IsAtRest g.L.Named.notice (followed_by c.self.inside.publisher.journal (entry_by g c))
-    c.accept.new.self
+    c.accept.new.announcer
 at_rest g c =
     let entry = entry_by g c in
     accepted_at_rest g.L.Named.notice c.self.inside.publisher.journal c.self.inside.announcer
-    c.accept.new.self entry c.announce.new.self.since entry.reading c.self.invariant.3
+    c.accept.new.announcer entry c.announce.new.self.since entry.reading c.self.invariant.3
     (c.accept.ensures.notice ∙ c.announce.ensures.same.0) c.accept.ensures.idle refl
     (subst (λ (l : List Taken). IsAcceptedAt c.announce.new.self.since l entry.reading
-    c.accept.new.self.commands) c.announce.ensures.same.1 c.accept.ensures.accepted)
+    c.accept.new.announcer.commands) c.announce.ensures.same.1 c.accept.ensures.accepted)
     c.tell-4.ensures.told.order
 
 pub returns-in-Err-clause-answer : goal.returns-in-Err-clause-answer
@@ -201,7 +201,7 @@ returns-clause-answer g c =
     let answer = c.in-Ok.ensures.answer in
     let stated = accepted g.L.Named.page g.L.Named.latch (held_by g c) c.self.invariant.0 old
     c.read_after.result c.args.cmd c.publish_for.ensures.begins c.in-Ok.number c.tell-2.ensures.extends
-    answer.0 (answer.2 ∙ ap accepted_count answer.1) g.L.Named.notice c.accept.new.self
+    answer.0 (answer.2 ∙ ap accepted_count answer.1) g.L.Named.notice c.accept.new.announcer
     c.tell-4.new.watcher (at_rest g c) c.tell-4.ensures.told in
     let seen = ap (λ (s : Sight). s.journal) c.publish_for.ensures.viewer in
     let reads = ap (λ (s : Sight). s.reads) c.publish_for.ensures.viewer in
