@@ -57,7 +57,7 @@ fn count_orders(replies: &[RaceReply]) -> Counts
         match reply {
             RaceReply::Done(_) => accepted += 1,
             RaceReply::Refused(_) => refused += 1,
-            RaceReply::Saw(_) | RaceReply::Glanced(_) | RaceReply::Moved => {}
+            RaceReply::Saw(_) | RaceReply::Glanced(_) | RaceReply::Moved { .. } => {}
             RaceReply::Timed { .. } | RaceReply::Untimed { .. } => {}
         }
     }

@@ -1,5 +1,5 @@
 -- An actor between its actions, and the result of all of its actions.
-use Rattle.std.specs.Prelude.{◌≡◌, ℕ, ◌+◌, ◌≤◌, List, [], ◌∷◌, length, map}
+use Rattle.std.specs.Prelude.{◌≡◌, ℕ, ◌+◌, ◌/◌, ◌≤◌, List, [], ◌∷◌, ◌++◌, length, map}
 use Rattle.std.specs.List.{AllZip}
 use mathlib.Core.List.{IsPrefix}
 use Rattle.tk_clock.specs.Journal.{Journal}
@@ -10,6 +10,7 @@ use Rattle.tk_shared.specs.Callers.{Known}
 use Rattle.tk_shared.specs.History.{AreSnapshots}
 use Rattle.tk_race.specs.declared.action.Action.{Action}
 use Rattle.tk_race.specs.declared.action.RaceReply.{RaceReply}
+use Rattle.tk_race.specs.declared.action.RaceReply.TheVariants.{Glanced, Moved}
 use Rattle.tk_race.specs.Replies.{IsReply, AreReplies, front_after, mark_after, done_by, done_in, reads_by, reads_in, times_by, times_in}
 
 -- an actor: the knowledge of its caller, its replies so far, and the number of replies that it has
@@ -54,6 +55,14 @@ pub record IsAnswer (old new : Known) (action : Action) (reply : RaceReply) : Ty
       (front mark : ℕ) → Knows old front mark →
       IsReply history old.id front mark action reply
       × Knows new (front_after front reply) (mark_after mark reply)
+
+-- the sequence numbers of the latch that a glance's own loads have found: one number twice, or two
+-- numbers if it moved
+abbrev pub IsFound : List ℕ → List ℕ → RaceReply → Type 0
+IsFound old new (Glanced read) =
+    (sequence : ℕ) × (sequence / 2 ≡ read) × (new ≡ old ++ sequence ∷ sequence ∷ [])
+IsFound old new (Moved first last) = new ≡ old ++ first ∷ last ∷ []
+IsFound old new _ = Unit {0}
 
 -- the front and the mark after some replies
 abbrev pub last_front : ℕ → List RaceReply → ℕ

@@ -1,5 +1,5 @@
 -- What an actor's replies state about the history, which lists every accepted command.
-use Rattle.std.specs.Prelude.{◌≡◌, ℕ, ◌<◌, ◌≤◌, List, [], ◌∷◌, length, sum_by, Ok, Err, Result, Some}
+use Rattle.std.specs.Prelude.{◌≡◌, ℕ, ◌*◌, ◌/◌, ◌<◌, ◌≤◌, List, [], ◌∷◌, length, sum_by, Ok, Err, Result, Some}
 use Rattle.tk_counter.specs.Counter.{mask}
 use Rattle.tk_clock.specs.declared.command.Command.{Command}
 use Rattle.tk_clock.specs.declared.command.Entry.{Entry}
@@ -55,7 +55,8 @@ module _ (history : Journal) (id front mark : ℕ) where
   IsReply (Order cmd) (Refused refusal) = IsRefusedIn history id front cmd refusal
   IsReply Look (Saw read) = (front ≤ read) × (read ≤ length history.entries)
   IsReply Glance (Glanced read) = (mark ≤ read) × (read ≤ length history.entries)
-  IsReply Glance Moved = Unit {0}
+  IsReply Glance (Moved first last) =
+      (2 * mark ≤ first) × (first < last) × (last / 2 ≤ length history.entries)
   IsReply (Now clock) (Timed read time) = IsTimedIn history front clock read (Ok time)
   IsReply (Now clock) (Untimed read refusal) = IsTimedIn history front clock read (Err refusal)
   IsReply _ _ = ⊥
@@ -69,11 +70,13 @@ front_after front (Timed read time) = read
 front_after front (Untimed read refusal) = read
 front_after front _ = front
 
--- the mark after a reply: the number that the last done order or the last glance stated; right
+-- the mark after a reply: the number that the last done order or the last glance stated, where a
+-- glance that found the latch moved states half its last sequence number, rounded down. Right
 -- replies never state a smaller one than before
 abbrev pub mark_after : ℕ → RaceReply → ℕ
 mark_after mark (Done number) = number
 mark_after mark (Glanced read) = read
+mark_after mark (Moved first last) = last / 2
 mark_after mark _ = mark
 
 -- there is one right reply to each action, in order

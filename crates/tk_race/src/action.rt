@@ -26,10 +26,23 @@ pub enum RaceReply {
     Saw(u64),
     /// The glance found a snapshot. This many commands were accepted before it.
     Glanced(u64),
-    /// The glance read nothing, because a publication came between.
-    Moved,
+    /// The glance read nothing, because a publication was begun or made between its two loads of
+    /// the latch's sequence number: twice the number of publications that were made, plus 1 while
+    /// one is in progress.
+    Moved {
+        /// The number that the first load found.
+        first: u64,
+        /// The number that the last load found.
+        last: u64,
+    },
     /// The time now, and the number of commands that were accepted before its reading.
-    Timed { front: u64, time: Timespec },
+    Timed {
+        front: u64,
+        time: Timespec,
+    },
     /// The clock refuses the reading, which came after this many accepted commands.
-    Untimed { front: u64, refusal: ReadError },
+    Untimed {
+        front: u64,
+        refusal: ReadError,
+    },
 }

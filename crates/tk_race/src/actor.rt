@@ -1,10 +1,11 @@
 //! An actor, and its work in its thread.
 ghost use Rattle.std.specs.Prelude.{◌≡◌, ◌≤◌, [], length};
-ghost use Rattle.tk_race.specs.Actor.{IsAnswer, HasActed, IsReady};
+ghost use Rattle.tk_race.specs.Actor.{IsAnswer, IsFound, HasActed, IsReady};
 
 use crate::action::{Action, RaceReply};
 use std::marker::Model;
 use std::sync::Wait;
+use tk_latch::Moved;
 use tk_now::SharedTicker;
 use tk_pieces::Gate;
 use tk_shared::{Caller, Named, SharedKeeper, SharedReader};
@@ -40,7 +41,8 @@ fn answer<L: Named, R: Wait>(
     caller: &mut Caller<L>,
     action: Action,
 ) -> RaceReply
-    ensures { IsAnswer caller.old caller.new action result }
+    ensures right { IsAnswer caller.old caller.new action result }
+    ensures found { IsFound caller.old.learnt.found caller.new.learnt.found result }
 {
     match action {
         Action::Order(cmd) => match keeper.command(rt, caller, cmd) {
@@ -50,7 +52,7 @@ fn answer<L: Named, R: Wait>(
         Action::Look => RaceReply::Saw(keeper.read(rt, caller).front()),
         Action::Glance => match keeper.fast_read(caller) {
             Ok(snapshot) => RaceReply::Glanced(snapshot.front()),
-            Err(_) => RaceReply::Moved,
+            Err(Moved { first, last }) => RaceReply::Moved { first, last },
         },
         Action::Now(clock) => match keeper.now(rt, caller, counter, clock) {
             Ok(time) => RaceReply::Timed {

@@ -3,24 +3,24 @@ use Rattle.tk_race.proofs.Answering.{done, refused}
 use Rattle.tk_race.proofs.Timing.{timed}
 use Rattle.tk_race.proofs.actor.answer.Goals as goal
 
-pub returns-in-Ok : goal.returns-in-Ok
-returns-in-Ok g c =
+pub returns-in-Ok-clause-right : goal.returns-in-Ok-clause-right
+returns-in-Ok-clause-right g c =
     let promised = c.in-Ok.ensures in
     rw c.in-Order.is (done _ _ _ _ promised.answer promised.same)
 
-pub returns-in-Err : goal.returns-in-Err
-returns-in-Err g c =
+pub returns-in-Err-clause-right : goal.returns-in-Err-clause-right
+returns-in-Err-clause-right g c =
     let promised = c.in-Err.ensures in
     rw c.in-Order.is (refused _ _ _ _ promised.answer promised.same)
 
-pub returns-in-Ok-now : goal.returns-in-Ok-now
-returns-in-Ok-now g c =
+pub returns-in-Ok-now-clause-right : goal.returns-in-Ok-now-clause-right
+returns-in-Ok-now-clause-right g c =
     let promised = c.in-Ok-now.ensures in
     rw c.in-Now.is (timed _ c.args.counter.now _ _ _ (Ok _) _ promised.extends promised.watched
     promised.answer promised.same c.front-in-Ok-now.ensures)
 
-pub returns-in-Err-now : goal.returns-in-Err-now
-returns-in-Err-now g c =
+pub returns-in-Err-now-clause-right : goal.returns-in-Err-now-clause-right
+returns-in-Err-now-clause-right g c =
     let promised = c.in-Err-now.ensures in
     rw c.in-Now.is (timed _ c.args.counter.now _ _ _ (Err _) _ promised.extends promised.watched
     promised.answer promised.same c.front-in-Err-now.ensures)

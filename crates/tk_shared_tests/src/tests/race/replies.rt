@@ -122,6 +122,19 @@ fn one_actor_is_answered_as_on_one_thread(rt: HostRuntime) -> Result<(), Fail> {
     Ok(())
 }
 
+#[test]
+fn a_first_glance_finds_the_opening(rt: HostRuntime) -> Result<(), Fail> {
+    let desc = nanosecond_counter()?;
+    let actors = alike(rt.alloc(), 3, Action::Glance, 2)?;
+    let report = raced(&rt, rt.alloc(), desc, (5, 10), actors.as_slice(), &NoGate)?;
+    // nobody publishes, so no glance finds that the latch moved
+    let expected = [RaceReply::Glanced(0), RaceReply::Glanced(0)];
+    for replies in report.replies.as_slice() {
+        assert!(&rt; replies.as_slice() == expected.as_slice());
+    }
+    Ok(())
+}
+
 /// Returns the error of a race of `actors` actors without actions.
 fn error_of<R: Abort + Threads + Wait + Sync>(
     rt: &R,
