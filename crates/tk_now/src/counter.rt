@@ -75,6 +75,14 @@ impl SharedTicker {
         let next = AtomicU64::new(start);
         SharedTicker { next, step }
     }
+
+    /// Returns the reading that the next read returns, and adds nothing. It is taken during the
+    /// call, after `look` was made.
+    ///
+    /// It never waits and allocates nothing.
+    pub fn peek(&self, _look: &Look) -> u64 {
+        self.next.load(Ordering::SeqCst)
+    }
 }
 
 impl SharedCounter for SharedTicker {

@@ -3,6 +3,7 @@ ghost use Rattle.std.specs.Prelude.{◌≡◌, ◌≤◌, [], length};
 ghost use Rattle.tk_race.specs.Actor.{IsAnswer, IsFound, HasActed, IsReady};
 
 use crate::action::{Action, RaceReply};
+use crate::one_step::OneStep;
 use std::marker::Model;
 use std::sync::Wait;
 use tk_latch::Moved;
@@ -54,7 +55,7 @@ fn answer<L: Named, R: Wait>(
             Ok(snapshot) => RaceReply::Glanced(snapshot.front()),
             Err(Moved { first, last }) => RaceReply::Moved { first, last },
         },
-        Action::Now(clock) => match keeper.now(rt, caller, counter, clock) {
+        Action::Now(clock) => match keeper.now(rt, caller, &OneStep::of(counter), clock) {
             Ok(time) => RaceReply::Timed {
                 front: caller.front(),
                 time,

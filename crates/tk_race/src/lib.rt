@@ -16,6 +16,7 @@
 
 mod action;
 mod actor;
+mod one_step;
 mod race_error;
 mod racing;
 mod report;

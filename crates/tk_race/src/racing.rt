@@ -25,7 +25,9 @@ use tk_shared::{CALLERS_LIMIT, Caller, Named, Prepared, SharedKeeper, SharedRead
 /// `now`.
 ///
 /// The counter reads `reading` at the opening, and `step` cycles more, modulo 2^64, in each order and
-/// whenever a time now reads it.
+/// in each time now. A time now that tries again reads the counter as it is then. An order is
+/// refused as `Behind` if the counter has moved by more than half its range since the last accepted
+/// order. So keep `step` times the number of all orders and times below `2^(bits - 1)`.
 /// Actor k is piece k of the gate: `before(k)` runs before its first action, `after(k)` after its
 /// last. The call waits until all actors are done. It reserves all capacity before it starts a
 /// thread.

@@ -1,6 +1,7 @@
 //! Tests the time now in races.
 
-use super::{nanosecond_counter, raced};
+use super::{UPDATE, assert_same, nanosecond_counter, raced};
+use std::alloc::{AllocError, Global};
 use std::test::Fail;
 use tk_clock::{ClockId, Command, ReadError, Timespec};
 use tk_counter::CounterDesc;
@@ -45,6 +46,42 @@ fn times_are_those_of_the_counters_readings(rt: HostRuntime) -> Result<(), Fail>
     ];
     let replies = report.replies.first().ok_or("replies")?;
     assert!(&rt; replies.as_slice() == expected.as_slice());
+    Ok(())
+}
+
+/// The number of orders of each actor. It asks for the time between them.
+const ORDERS: u64 = 300;
+
+/// Returns an order, and then this many times a time and an order.
+fn times_among_orders(alloc: Global, times: u64) -> Result<Vec<Action>, AllocError> {
+    let mut actions = vec![in alloc; UPDATE; 1]?;
+    for _ in 0..times {
+        actions.push(Action::Now(ClockId::Monotonic))?;
+        actions.push(UPDATE)?;
+    }
+    Ok(actions)
+}
+
+/// Each of 64 actors ends with an order, so the last entry has the last of all readings. A time that
+/// tried again has moved the counter once, as every other action.
+#[test]
+fn each_order_and_each_time_adds_one_step(rt: HostRuntime) -> Result<(), Fail> {
+    let mut actors = Vec::new(rt.alloc());
+    for _ in 0..64 {
+        actors.push(times_among_orders(rt.alloc(), ORDERS - 1)?)?;
+    }
+    let desc = nanosecond_counter()?;
+    let report = raced(
+        &rt,
+        rt.alloc(),
+        desc,
+        (0, 1_009),
+        actors.as_slice(),
+        &NoGate,
+    )?;
+    assert_same(&rt, &(report.keeper.len() as u64), &(64 * ORDERS));
+    let last = report.keeper.entry(64 * ORDERS).ok_or("an entry")?;
+    assert_same(&rt, &last.reading, &(64 * (2 * ORDERS - 1) * 1_009));
     Ok(())
 }
 
