@@ -1,7 +1,8 @@
 //! Runs the clocks of a counter of 1 MHz through settings, a timer, a sleep and a fold, and prints
-//! their values on the way. At the end three threads share clocks.
+//! their values on the way. At the end threads share clocks.
 #![tactic(auto)]
 
+mod in_turn;
 mod numbers;
 mod stop;
 mod threads;
@@ -31,7 +32,8 @@ fn main(rt: HostRuntime) -> Result<(), Stop> {
     settings(&rt, &mut keeper)?;
     sleep(&rt, &mut keeper)?;
     fold(&rt, &mut keeper)?;
-    threads::run(&rt, rt.alloc())
+    threads::run(&rt, rt.alloc())?;
+    in_turn::run(&rt, rt.alloc())
 }
 
 /// Opens the clocks of a counter with 1 microsecond a cycle and 32-bit readings. At the reading 0

@@ -1,0 +1,28 @@
+-- The callers of a keeper that was just opened.
+use Rattle.std.proofs.Common.{◌≡◌, ℕ, zero, suc, List, [], ◌∷◌, ◌++◌, length, Some, slice_get, sym, ap, ⊎_elim}
+use Rattle.tk_clock.proofs.Append.{slice_get-push}
+use Rattle.tk_now.proofs.Lists.{get_first, get_push}
+use Rattle.tk_shared.specs.Callers.{Known, newcomer, newcomers}
+use Rattle.tk_shared.specs.Opening.{Start}
+
+module _ (start : Start) where
+  abbrev all : ℕ → List Known
+  all count = newcomers start.latch start.notice start.journal count
+
+  abbrev one_of : ℕ → Known
+  one_of id = newcomer start.latch start.notice start.journal id
+
+  seen_at : (n i : ℕ) (k : Known) → slice_get (all n) i ≡ Some k → k.seen ≡ start.journal
+  seen_at zero i k at = absurd (cc (at))
+  seen_at (suc n) i k at = ⊎_elim (λ old. seen_at n i k old)
+      (λ (new : (i ≡ length (all n)) × (one_of n ≡ k)). ap (λ (x : Known). x.seen) (sym new.1))
+      (get_push (all n) (one_of n) i k at)
+
+  -- the last but one has seen the clocks as they were opened
+  pub seen_before : (n : ℕ) (rest : List Known) (one two : Known) →
+      newcomers start.latch start.notice start.journal n ≡ (rest ++ one ∷ []) ++ two ∷ [] →
+      one.seen ≡ start.journal
+  seen_before n rest one two is =
+      let first = get_first (rest ++ one ∷ []) (all n) (two ∷ [], sym is) (length rest) one
+      (slice_get-push rest one) in
+      seen_at n (length rest) one first

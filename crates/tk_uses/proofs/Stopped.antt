@@ -1,0 +1,66 @@
+-- A counter that stands still is honest.
+use Rattle.std.proofs.Common.{◌≡◌, ℕ, ◌%◌, ◌^◌, List, length, Some, slice_get, sym, ap, ◌∙◌, subst, arith, ⊎_elim}
+use Rattle.std.proofs.lemmas.List.{length_push}
+use Rattle.std.proofs.lemmas.Option.{slice_get_within}
+use Rattle.tk_clock.specs.Journal.{Journal, Opening, reading_at}
+use Rattle.tk_now.specs.declared.rule.Taken.{Taken}
+use Rattle.tk_now.specs.Life.{AreReadings}
+use Rattle.tk_now.specs.Views.{taken}
+use Rattle.tk_now.proofs.Lists.{get_push}
+use Rattle.tk_shared.specs.Readings.{EndsAtReading}
+use Rattle.tk_uses.specs.InTurn.{IsTrusted}
+
+module _ {C S : Type 0} (n : ℕ) (after : C → ℕ → ℕ → Type 0) (answers : S → ℕ → ℕ → Type 0)
+    (counter : S) (opening : Opening) (of_command : (c : C) (m a : ℕ) → after c m a → a ≡ n)
+    (of_answer : (m a : ℕ) → answers counter m a → a ≡ n)
+    (opened : opening.reading ≡ n % 2 ^ opening.counter.bits) where
+  -- each command was at that reading
+  commands_at : (history : Journal) (commands : List Taken) → history.opening ≡ opening →
+      length history.entries ≡ 1 → AreReadings history commands →
+      EndsAtReading after history commands → (place : ℕ) (t : Taken) →
+      slice_get commands place ≡ Some t →
+      t.reading ≡ n % 2 ^ history.opening.counter.bits
+  commands_at history commands same one readings ends place t at =
+      let m = 2 ^ history.opening.counter.bits in
+      let last = taken ends.from ends.to ends.entry.reading in
+      let all = ap length ends.listed ∙ length_push ends.older last in
+      let count = readings.count in
+      let first = subst (λ (o : Opening). o.reading ≡ n % 2 ^ o.counter.bits) (sym same) opened in
+      ⊎_elim
+      (λ (old : slice_get ends.older place ≡ Some t).
+      let within = slice_get_within ends.older place t old in
+      let none : place ≡ 0 = omega (arith, within, all, count, one) in
+      readings.each place t at ∙ ap (reading_at history) none ∙ first)
+      (λ (new : (place ≡ length ends.older) × (last ≡ t)).
+      ap (λ (x : Taken). x.reading) (sym new.1) ∙ ends.read.kept
+      ∙ ap (λ (a : ℕ). a % m) (of_command ends.counter ends.from ends.read.answer ends.read.given))
+      (get_push ends.older last place t
+      (subst (λ (l : List Taken). slice_get l place ≡ Some t) ends.listed at))
+
+  pub is_trusted : IsTrusted after answers counter opening
+  is_trusted history commands first second same one readings order ends given given' life =
+      let m = 2 ^ history.opening.counter.bits in
+      record {
+        at = λ _. n;
+        grows = λ _ _ _. omega arith;
+        command = λ _. n;
+        one = n;
+        two = n;
+        commands_read = λ place t at. record {
+          read = commands_at history commands same one readings ends place t at;
+          from = omega arith;
+          to = omega arith;
+        };
+        first_read = record {
+          read = ap (λ (a : ℕ). a % m) (of_answer first.taken.from first.taken.reading given);
+          from = omega arith;
+          to = omega arith;
+        };
+        second_read = record {
+          read = ap (λ (a : ℕ). a % m) (of_answer second.taken.from second.taken.reading given');
+          from = omega arith;
+          to = omega arith;
+        };
+        near = λ place within awake. omega arith;
+        close = λ awake. omega arith;
+      }

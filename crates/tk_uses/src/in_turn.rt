@@ -1,0 +1,187 @@
+//! Two threads ask for MONOTONIC, with a command between them: the later answer isn't smaller.
+ghost use Rattle.std.specs.Prelude.{◌≡◌, ◌≤ℤ◌, IfOk, IfSome, length, None};
+ghost use Rattle.tk_clock.specs.Time.{nanoseconds};
+ghost use Rattle.tk_now.specs.Life.{AreReadings};
+ghost use Rattle.tk_shared.specs.Opening.{IsNamed};
+ghost use Rattle.tk_shared.specs.Readings.{EndsAtReading};
+ghost use Rattle.tk_uses.specs.InTurn.{HasAsked, IsTrusted};
+
+use crate::stop::Stop;
+use std::alloc::Global;
+use std::marker::Brand;
+use std::sync::Wait;
+use std::thread::{self, Threads};
+use tk_clock::{ClockId, Command, Timespec};
+use tk_counter::CounterDesc;
+use tk_now::{Look, SharedCounter};
+use tk_shared::{
+    Caller, Counter, Named, OpenError, Prepared, SharedKeeper, SharedReader, now_never_falls,
+    prepare,
+};
+
+/// A counter that stands still: each reading is `READING`.
+#[derive(Drop)]
+struct Stopped<const READING: u64>;
+
+impl<const READING: u64> SharedCounter for Stopped<READING> {
+    ghost use Rattle.std.specs.Prelude.{◌≡◌};
+
+    ghost answers = { λ _ _ answer. answer ≡ READING };
+
+    fn read(&self, _look: &Look) -> u64 {
+        READING
+    }
+}
+
+/// A caller, the time that it got, and the number of commands before that.
+#[derive(Drop)]
+struct Asked<L: Named> {
+    caller: Caller<L>,
+    time: Timespec,
+    front: u64,
+}
+
+/// Opens clocks on a counter that stands still, for two callers, and prints what they got.
+pub(crate) fn run<R: Threads + Wait + Print + Sync>(rt: &R, alloc: Global) -> Result<(), Stop> {
+    let stopped = Stopped::<1_000_000>;
+    match rises(rt, alloc, &stopped)? {
+        Some((first, then)) => {
+            println!(rt;
+                "two threads: {}.{:09}, then {}.{:09}",
+                first.sec, first.nsec, then.sec, then.nsec
+            )?;
+        }
+        None => println!(rt; "two threads: other commands came between")?,
+    }
+    Ok(())
+}
+
+/// Returns MONOTONIC before a command and after it, of two threads. The counter's readings are
+/// known, so that nothing has to be assumed of it.
+fn rises<R: Threads + Wait + Sync>(
+    rt: &R,
+    alloc: Global,
+    stopped: &Stopped<1_000_000>,
+) -> Result<Option<(Timespec, Timespec)>, Stop>
+    ensures { IfOk result (λ times. IfSome times (λ t. nanoseconds t.0 ≤ℤ nanoseconds t.1)) }
+{
+    let desc = CounterDesc::from_hz(32, 1_000_000, 600)?;
+    let real = Timespec {
+        sec: 1_700_000_000,
+        nsec: 0,
+    };
+    let counter = SharedReader::new(alloc, stopped)?;
+    let prepared = match prepare(alloc, rt, desc, real, counter, 2, 0) {
+        Ok(prepared) => prepared,
+        Err(fault) => return Err(Stop::Open(fault.error)),
+    };
+    in_turn::<Brand, _, _, _>(rt, alloc, prepared, stopped)
+}
+
+/// Opens what was prepared, and returns MONOTONIC before a command and after it, of two threads.
+/// The first one's call is over before the second thread starts. `None` means that the keeper has
+/// other callers too, or that another command came between.
+fn in_turn<L: Named + Send + Sync, C: Counter, S: SharedCounter + Sync, R: Threads + Wait + Sync>(
+    rt: &R,
+    alloc: Global,
+    prepared: Prepared<C>,
+    counter: &S,
+) -> Result<Option<(Timespec, Timespec)>, Stop>
+    requires named { IsNamed prepared L.page L.latch L.notice L.name L.parts L.callers }
+    requires trusted { IsTrusted C.answers_after S.answers counter.now prepared.journal.opening }
+    ensures { IfOk result (λ times. IfSome times (λ t. nanoseconds t.0 ≤ℤ nanoseconds t.1)) }
+{
+    let (keeper, mut callers) = match SharedKeeper::<L, C>::open(alloc, prepared) {
+        Ok(opened) => opened,
+        Err(fault) => return Err(Stop::Open(fault.error)),
+    };
+    let (Some(two), Some(one)) = (callers.pop(), callers.pop()) else {
+        return Err(Stop::Open(OpenError::Count));
+    };
+    let lent = &keeper;
+    let (first, ()) = thread::join(rt, move || asks_first(rt, lent, one, counter), || {});
+    let first = first?;
+    let (later, ()) = thread::join(rt, move || asks_later(rt, lent, two, counter), || {});
+    let later = later?;
+    compared(rt, alloc, keeper, counter, first, later)
+}
+
+/// Asks for MONOTONIC, and then gives a command.
+fn asks_first<L: Named, C: Counter, S: SharedCounter, R: Wait>(
+    rt: &R,
+    keeper: &SharedKeeper<L, C>,
+    caller: Caller<L>,
+    counter: &S,
+) -> Result<Asked<L>, Stop>
+    ensures asked { IfOk result (λ asked.
+        HasAsked S.answers counter.now asked.caller asked.time asked.front) }
+    ensures reading { IfOk result (λ asked.
+        EndsAtReading C.answers_after asked.caller.seen asked.caller.watched.commands) }
+    ensures readings { IfOk result (λ asked.
+        AreReadings asked.caller.seen asked.caller.watched.commands) }
+    ensures opening { IfOk result (λ asked. asked.caller.seen.opening ≡ caller.seen.opening) }
+{
+    let mut caller = caller;
+    let time = keeper.now(rt, &mut caller, counter, ClockId::Monotonic)?;
+    let front = caller.front();
+    keeper.command(rt, &mut caller, Command::Update)?;
+    Ok(Asked {
+        caller,
+        time,
+        front,
+    })
+}
+
+/// Asks for MONOTONIC.
+fn asks_later<L: Named, C: Counter, S: SharedCounter, R: Wait>(
+    rt: &R,
+    keeper: &SharedKeeper<L, C>,
+    caller: Caller<L>,
+    counter: &S,
+) -> Result<Asked<L>, Stop>
+    ensures { IfOk result (λ asked.
+        HasAsked S.answers counter.now asked.caller asked.time asked.front) }
+{
+    let mut caller = caller;
+    let time = keeper.now(rt, &mut caller, counter, ClockId::Monotonic)?;
+    let front = caller.front();
+    Ok(Asked {
+        caller,
+        time,
+        front,
+    })
+}
+
+/// Closes the keeper, and returns both times if the command between them was the only one.
+fn compared<L: Named, C: Counter, S: SharedCounter, R: Wait>(
+    rt: &R,
+    alloc: Global,
+    keeper: SharedKeeper<L, C>,
+    counter: &S,
+    first: Asked<L>,
+    later: Asked<L>,
+) -> Result<Option<(Timespec, Timespec)>, Stop>
+    requires first { HasAsked S.answers counter.now first.caller first.time first.front }
+    requires later { HasAsked S.answers counter.now later.caller later.time later.front }
+    requires reading { EndsAtReading C.answers_after first.caller.seen first.caller.watched.commands }
+    requires readings { AreReadings first.caller.seen first.caller.watched.commands }
+    requires trusted { IsTrusted C.answers_after S.answers counter.now first.caller.seen.opening }
+    ensures { IfOk result (λ times. IfSome times (λ t. nanoseconds t.0 ≤ℤ nanoseconds t.1)) }
+{
+    let _ = counter;
+    let (before, after) = (first.front, later.front);
+    if before >= after || first.caller.id() == later.caller.id() {
+        return Ok(None);
+    }
+    let mut callers = Vec::with_capacity(alloc, 2)?;
+    callers.push_reserved(first.caller);
+    callers.push_reserved(later.caller);
+    let Ok(closed) = keeper.close(rt, callers) else {
+        return Ok(None);
+    };
+    if closed.keeper.len() != 1 {
+        return Ok(None);
+    }
+    now_never_falls::<S>();
+    Ok(Some((first.time, later.time)))
+}
