@@ -1,4 +1,4 @@
--- What every step of a latch must keep.
+-- The facts that every step of a latch must keep.
 use Rattle.std.proofs.Common.{◌≡◌, ◌≢◌, ℕ, ◌≤◌, List, get_or, set, sym, ◌∙◌, subst, arith, length-set}
 use Rattle.std.proofs.lemmas.List.{set-get_or}
 use mathlib.Core.Option.{some}
@@ -23,7 +23,7 @@ word s i = get_or s.words i 0
 abbrev pub history_of : View → History
 history_of view = view.history
 
--- what any seat except the writer's knows stays true
+-- the knowledge of any seat except the writer's stays true
 others_know : (n n' : ℕ) (history history' : History) (role role' : Role) (writer seat : ℕ) →
     seat ≢ writer → n ≤ n' → IsBeginning history history' →
     (known : History) (own : Role) → Knows n history role writer seat known own →
@@ -40,11 +40,11 @@ others_know n n' h h' role role' writer seat apart le more known (Copying count)
 others_know n n' h h' role role' writer seat apart le more known (Noting note) k =
     absurd (apart k.0)
 
--- what the rule says that this seat knows
+-- the knowledge of this seat by the rule
 abbrev pub IsKnown : (s : Words) → Latched s → ℕ → View → Type 0
 IsKnown s r seat view = Knows (word s 0) r.history r.role r.writer seat view.history view.role
 
--- the rule holds for other views, if each seat knows what its view says
+-- the rule holds for other views, if all seats know the statement of their views
 pub with_views : (s : Words) (r : Latched s) (views : List View) →
     ((seat : ℕ) (view : View) → get_elem? views seat ≡ some view → IsKnown s r seat view) →
     Latched (record { words = s.words; homes = s.homes; views = views })
@@ -94,12 +94,12 @@ unmoved s r i id cs view mine =
     (with_views s r (set s.views id view)
     (each_after (IsKnown s r) s.views id view mine (λ seat v apart at. r.each seat v at)))
 
--- what the rule knows of one seat
+-- the facts of the rule about one seat
 pub known_of : (s : Words) (r : Latched s) (id : ℕ) (view is : View) →
     get_elem? s.views id ≡ some view → view ≡ is → IsKnown s r id is
 known_of s r id view is at same = subst (λ w. IsKnown s r id w) same (r.each id view at)
 
--- what the sequence shows of the publications
+-- the facts about the publications that the sequence shows
 pub counted : (words : List ℕ) (list : List Snapshot) (role : Role) → Copies words list role →
     Counts list (get_or words 0 0)
 counted words list Spent c = absurd c

@@ -1,4 +1,4 @@
--- Each step of a reader keeps the rule, and the result of a whole read.
+-- The steps of a reader keep the rule, and the result of a whole read.
 use Rattle.std.proofs.Common.{◌≡◌, ℕ, ◌+◌, ◌*◌, ◌%◌, ◌<◌, ◌≤◌, List, [], ◌∷◌, ◌++◌, length, slice_get, Some, get_or, set, refl, sym, ap, ◌∙◌, subst, arith, append_assoc, length-set, get_or-set_other, get_or-set_same}
 use Rattle.std.proofs.lemmas.List.{ext_get_or}
 use Rattle.std.proofs.lemmas.Option.{same_Some}
@@ -38,7 +38,7 @@ named words list (Copying count) c n i here l =
     ap (λ (k : ℕ). get_or words k 0) even ∙ c.2 i l
 named words list (Noting note) c n i here l = absurd c
 
--- a reader that knows as many publications as there are knows all of them
+-- a reader that knows the number of all publications knows all of them
 all_known : (known history : History) (first n : ℕ) → IsBeginning known history →
     Counts known.list first → Counts history.list n → n ≡ first →
     known ≡ history
@@ -194,7 +194,7 @@ gathers_one begun first words old new i x g now is later inside right =
           (λ other. get_or-set_other words i j x 0 other ∙ g.4 (omega arith) j (omega arith)),
     )
 
--- what the first load of the sequence showed, and what the second one showed
+-- the facts that the first and the second load of the sequence showed
 abbrev pub Begun : View → View → ℕ → Type 0
 Begun old begun first =
     (later : History) × (begun ≡ reading later (found_by old.role ++ first ∷ []) first first)
@@ -245,7 +245,7 @@ looks old begun view new first last words b g finish =
           subst (λ h. AreLatest h words) after (subst (AreLatest known) (sym words_are) latest);
     }
 
--- what a reader knows by its view
+-- the knowledge of a reader by its view
 abbrev pub learnt_of : TableId → View → Learnt
 learnt_of table view = record {
   latch = record { table = table; counter = view.history.counter };

@@ -1,5 +1,4 @@
--- A reader may get what the writer knows, and the writer may note what a reader knew: both keep the
--- rule.
+-- A reader may get the writer's knowledge, and the writer may note a reader's: both keep the rule.
 use Rattle.std.proofs.Common.{◌≡◌, ℕ, List, [], ◌∷◌, ◌++◌, set, refl, sym, ap, ◌∙◌, subst, ⊎_elim}
 use mathlib.Core.Option.{some, none}
 use lib.ListN.{get_elem?}
@@ -30,7 +29,7 @@ hands id view history is s r at =
     (λ (t : new ≡ u). subst (λ x. IsKnown s r seat x) t mine)
     (at_snoc (set s.views id view) new u seat e))
 
--- the writer takes in what a reader knew
+-- the writer takes in a reader's knowledge
 pub notes : (id : ℕ) (view : View) (other : ℕ) (reader : View) (history note : History)
     (found : List ℕ) → view ≡ copying history 10 →
     reader ≡ resting note found → Joins Latched id view other reader

@@ -12,6 +12,6 @@ fault_text Memory = codes "out of memory"
 abbrev pub full_text : List ℕ
 full_text = codes "page full"
 
--- why no snapshot was read: the two sequence numbers that the read found
+-- why a read returned no snapshot: the two sequence numbers that it found
 abbrev pub moved_text : ℕ → ℕ → List ℕ
 moved_text first last = codes "moved from " ++ decimal first ++ codes " to " ++ decimal last

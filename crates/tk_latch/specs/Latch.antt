@@ -1,22 +1,22 @@
--- What a latch's writer and readers know, and what a read returns (seqcount_latch_t in
+-- The knowledge of a latch's writer and readers, and the result of a read (seqcount_latch_t in
 -- Documentation/locking/seqlock.rst).
 use Rattle.std.specs.Prelude.{◌≡◌, ℕ, ◌-◌, ◌*◌, ◌/◌, ◌^◌, ◌<◌, ◌≤◌, List, [], ◌∷◌, ◌++◌, length, slice_get, Some}
 use Rattle.atomic_table.specs.Seated.{TableId}
 use Rattle.tk_counter.specs.Counter.{Counter}
 use Rattle.tk_clock.specs.Snapshot.{Snapshot}
 
--- which latch it is, and the counter of all its snapshots
+-- the identity of a latch, and the counter of all its snapshots
 pub record LatchId : Type 0 where
   pub table : TableId
   pub counter : Counter
 
--- what the writer knows: all publications, the opening first
+-- the knowledge of the writer: all publications, the opening first
 pub record Published : Type 0 where
   pub latch : LatchId
   pub publications : List Snapshot
 
--- what a reader knows: the first of the publications, and in order the sequence numbers that its
--- loads have found
+-- the knowledge of a reader: the first of the publications, and in order the sequence numbers that
+-- its loads have found
 pub record Learnt : Type 0 where
   pub latch : LatchId
   pub publications : List Snapshot
@@ -42,11 +42,11 @@ most_publications = 2 ^ 63 - 1
 abbrev pub opened_writer : LatchId → Snapshot → Published
 opened_writer latch opening = record { latch = latch; publications = opening ∷ [] }
 
--- each reader of a latch that was just opened
+-- a reader of a latch that was just opened
 abbrev pub opened_reader : LatchId → Snapshot → Learnt
 opened_reader latch opening = record { latch = latch; publications = opening ∷ []; found = [] }
 
--- a reader that has learnt of all that the writer published
+-- a reader that has learnt of all publications
 abbrev pub told_reader : Published → Learnt
 told_reader writer = record { latch = writer.latch; publications = writer.publications; found = [] }
 

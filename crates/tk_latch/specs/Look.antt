@@ -1,4 +1,4 @@
--- What a read has found so far.
+-- The findings of a read so far.
 use Rattle.std.specs.Prelude.{◌≡◌, ℕ, ◌+◌, ◌*◌, ◌<◌, ◌≤◌, List, [], ◌∷◌, ◌++◌, length, slice_index, slice_get, Some}
 use Rattle.tk_clock.specs.Snapshot.{Snapshot}
 use Rattle.tk_clock.specs.Words.{restored}
@@ -8,8 +8,8 @@ use Rattle.tk_latch.specs.Publications.{latest_words, IsBeginning}
 use Rattle.tk_latch.specs.Rule.{Counts}
 use Rattle.tk_latch.specs.Views.{resting, reading, found_by}
 
--- the first `count` words that were loaded are those of the latest publication, if the sequence is
--- still that of the read's beginning
+-- the first `count` loaded words are the latest publication's, if the sequence is still the same as
+-- at the read's beginning
 abbrev pub Gathered : View → ℕ → List ℕ → View → ℕ → Type 0
 Gathered begun first words view count =
     (now : ℕ) × (view ≡ reading begun.history (found_by begun.role) first now) × (first ≤ now)
@@ -17,7 +17,7 @@ Gathered begun first words view count =
     × (now ≤ first → (i : ℕ) → i < count →
     slice_index words i ≡ slice_index (latest_words begun.history.list) i)
 
--- these words are those of the latest publication of the history
+-- these words are the latest publication's of the history
 pub record AreLatest (history : History) (words : List ℕ) : Type 0 where
   pub snapshot : Snapshot
   pub answer : restored history.counter words ≡ Some snapshot

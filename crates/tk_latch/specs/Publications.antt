@@ -12,7 +12,7 @@ latest_words [] = []
 latest_words (snapshot ∷ []) = words_of snapshot
 latest_words (snapshot ∷ next ∷ more) = latest_words (next ∷ more)
 
--- publication k of a latch over this counter: its words restore it, and its front is k
+-- publication k of a latch with this counter: its words restore it, and its front is k
 pub record IsPublication (counter : Counter) (k : ℕ) (snapshot : Snapshot) : Type 0 where
   pub whole : restored counter (words_of snapshot) ≡ Some snapshot
   pub front : snapshot.front ≡ k
@@ -23,12 +23,12 @@ AreNumbered counter k [] = Unit {0}
 AreNumbered counter k (snapshot ∷ more) =
     IsPublication counter k snapshot × AreNumbered counter (k + 1) more
 
--- a history is a beginning of a later one: it has the same counter, and the first of the later
--- one's publications
+-- a history is a beginning of a later one: the counter is the same, and its publications are the
+-- first ones of the later one
 abbrev pub IsBeginning : History → History → Type 0
 IsBeginning history later = (history.counter ≡ later.counter) × IsPrefix history.list later.list
 
--- the history that has only the opening
+-- the history with only the opening
 abbrev pub opening_of : Snapshot → History
 opening_of snapshot = record { counter = snapshot.base.counter; list = snapshot ∷ [] }
 

@@ -1,5 +1,5 @@
--- The rule of a latch (seqcount_latch_t in Documentation/locking/seqlock.rst): what its words are,
--- and what each seat knows of them.
+-- The rule of a latch (seqcount_latch_t in Documentation/locking/seqlock.rst): its words, and the
+-- knowledge of its seats.
 use Rattle.std.specs.Prelude.{◌≡◌, ℕ, ◌+◌, ◌*◌, ◌<◌, ◌≤◌, List, length, slice_index}
 use mathlib.Core.Option.{some}
 use lib.ListN.{get_elem?}
@@ -12,7 +12,7 @@ use Rattle.tk_latch.specs.declared.rule.Role.TheVariants.{Spent, Resting, Readin
 use Rattle.tk_latch.specs.Publications.{latest_words, AreNumbered, IsBeginning, opening_of}
 use Rattle.tk_latch.specs.Views.{copying}
 
--- the writer of a latch that was just opened: both copies hold the opening
+-- the writer of a latch that was just opened: both copies contain the opening
 abbrev pub started : Snapshot → View
 started opening = copying (opening_of opening) 10
 
@@ -25,9 +25,9 @@ abbrev pub InCopy1 : List ℕ → ℕ → List ℕ → Type 0
 InCopy1 words count copy = (i : ℕ) → i < count → slice_index words (i + 11) ≡ slice_index copy i
 
 -- word 0 is the sequence: twice the number of the latest publication, plus 1 while the next one is
--- being made. While it is odd, copy 1 is the latest publication, and copy 0 has the words that the
--- writer has written. While it is even, copy 0 is the latest publication, and copy 1 has its first
--- `count` words
+-- being made. While it is odd, copy 1 is the latest publication, and copy 0 contains the words that
+-- the writer has written. While it is even, copy 0 is the latest publication, and copy 1 contains
+-- its first `count` words
 abbrev pub Copies : List ℕ → List Snapshot → Role → Type 0
 Copies words list (Making written) =
     (slice_index words 0 + 2 ≡ 2 * length list + 1) × (length written ≤ 10)
@@ -41,8 +41,8 @@ Copies words list _ = ⊥
 abbrev pub Counts : List Snapshot → ℕ → Type 0
 Counts list sequence = (2 * length list ≤ sequence + 2) × (sequence + 1 ≤ 2 * length list)
 
--- what a seat knows, by its role: a reader's history is a beginning of the publications, and the
--- writer's history is all of them
+-- the knowledge of a seat, by its role: a reader's history is a beginning of the publications, and
+-- the writer's history is all of them
 module _ (sequence : ℕ) (history : History) (role : Role) (writer seat : ℕ) where
   abbrev pub Knows : History → Role → Type 0
   Knows known Spent = Unit {0}

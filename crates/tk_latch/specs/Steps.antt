@@ -1,5 +1,5 @@
--- What a seat learns from each step of a latch: a relation of the step, the seat before it, the
--- number found, and the seat after it.
+-- The knowledge that a seat gains by the steps of a latch: relations of the step, the seat before
+-- it, the number found, and the seat after it.
 use Rattle.std.specs.Prelude.{◌≡◌, ◌≢◌, ℕ, ◌+◌, ◌*◌, ◌%◌, ◌<◌, ◌≤◌, List, [], ◌∷◌, ◌++◌, slice_index}
 use Rattle.atomic_table.specs.Table.{Me, Step}
 use Rattle.tk_latch.specs.declared.rule.History.{History}
@@ -25,7 +25,7 @@ found_word move old found new =
     (history : History) (written : List ℕ) → old.0 ≡ making history written →
     new.0 ≡ making history (written ++ found ∷ [])
 
--- the word of copy 0 that was found last is replaced
+-- the last found word of copy 0 is replaced
 abbrev pub replaced_word : Move → Seated → ℕ → Seated → Type 0
 replaced_word move old found new =
     (history : History) (written : List ℕ) (former : ℕ) →
@@ -38,8 +38,8 @@ committed move old found new =
     (history : History) (written : List ℕ) → old.0 ≡ making history written →
     new.0 ≡ copying (pushed_words history written) 0
 
--- the next word of copy 1 is found: copy 1 has one more word of the latest publication exactly if
--- it is that word
+-- the next word of copy 1 is found: copy 1 contains one more word of the latest publication exactly
+-- if it is that word
 abbrev pub checked_word : Move → Seated → ℕ → Seated → Type 0
 checked_word move old found new =
     (history : History) (count : ℕ) → old.0 ≡ copying history count →
@@ -60,8 +60,8 @@ began move old found new = (move.word ≡ 0) × (new.1 ≡ old.1)
     (later : History) × (new.0 ≡ reading later (before ++ found ∷ []) found found)
     × IsBeginning known later × Counts later.list found × AreNumbered later.counter 0 later.list)
 
--- a word is loaded. If the sequence is still that of the beginning, and the word is one of the copy
--- that the sequence names, it is a word of the latest publication
+-- a word is loaded. If the sequence is still the same as at the beginning, and the word belongs to
+-- the copy that the sequence names, it is a word of the latest publication
 abbrev pub loaded : Move → Seated → ℕ → Seated → Type 0
 loaded move old found new = (new.1 ≡ old.1)
     × ((known : History) (before : List ℕ) (first last : ℕ) →
@@ -71,7 +71,7 @@ loaded move old found new = (new.1 ≡ old.1)
     found ≡ slice_index (latest_words known.list) i))
 
 -- a read ends with a load of the sequence, which is listed; the reader then knows all publications
--- so far. If the sequence is still the same, they are those of the beginning
+-- so far. If the sequence is still the same, they are the publications at the beginning
 abbrev pub ended : Move → Seated → ℕ → Seated → Type 0
 ended move old found new = (move.word ≡ 0) × (new.1 ≡ old.1)
     × ((known : History) (before : List ℕ) (first last : ℕ) →

@@ -1,4 +1,4 @@
--- What a seat of a latch may know.
+-- The possible knowledge of a latch's seat.
 use Rattle.std.specs.Prelude.{ℕ, List, []}
 use Rattle.tk_latch.specs.declared.rule.History.{History}
 use Rattle.tk_latch.specs.declared.rule.View.{View}

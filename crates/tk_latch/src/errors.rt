@@ -4,26 +4,27 @@ ghost use Rattle.tk_latch.specs.Errors.{fault_text, full_text, moved_text};
 use std::error::Error;
 use std::fmt;
 
-/// Says why a latch can't be opened: the first variant, in this order, that applies.
+/// Says why a latch can't be opened: the first variant that applies, in this order.
 #[derive(Clone, Copy, Debug, PartialEq, Eq)]
 pub enum LatchError {
-    /// Fewer readers than 1 or more than 64 were asked for.
+    /// The number of readers is below 1 or above 64.
     Count,
     /// An allocation for the words or for the readers failed.
     Memory,
 }
 
-/// Says that a snapshot wasn't published: 2^63 - 1 were, and the sequence can't count further.
+/// Says that a snapshot wasn't published, because 2^63 - 1 were, and the sequence can't count
+/// further.
 #[derive(Clone, Copy, Debug, PartialEq, Eq)]
 pub struct PageFull;
 
 /// Says that a read returned no snapshot, because a publication was begun or made between its two
-/// looks at the sequence.
+/// loads of the sequence.
 #[derive(Clone, Copy, Debug, PartialEq, Eq)]
 pub struct Moved {
-    /// The sequence number that the first look found.
+    /// The sequence number that the first load found.
     pub first: u64,
-    /// The sequence number that the second look found. It is greater.
+    /// The sequence number that the second load found. It is greater.
     pub last: u64,
 }
 

@@ -3,36 +3,37 @@
 //! The words are the sequence, copy 0 and copy 1. The sequence is twice the number of the latest
 //! publication, plus 1 while the next one is being made:
 //!
-//! - Even: at rest. Copy 0 is whole and is the latest publication. Copy 1 may still have words of
-//!   the one before.
+//! - Even: at rest. Copy 0 is whole and is the latest publication. Copy 1 may still contain words
+//!   of the publication before it.
 //! - Odd: copy 0 is being written. Copy 1 is whole and is the latest publication.
 //!
-//! So the copy to read is always `sequence & 1`. Each load and each store is one atomic step.
+//! So the copy to read is always `sequence & 1`. All loads and stores are single atomic steps.
 //!
 //! The writer publishes:
 //!
-//! 1. It makes the sequence odd: from now on readers take copy 1.
-//! 2. It loads each word of copy 0, and stores the new word if the two differ.
-//! 3. It makes the sequence even. This is the publication: from now on readers take copy 0.
-//! 4. It loads each word of copy 1, and stores the new word if the two differ.
+//! 1. It makes the sequence odd: readers now take copy 1.
+//! 2. It loads the words of copy 0, and replaces the words that differ from the new ones.
+//! 3. It makes the sequence even. This is the publication: readers now take copy 0.
+//! 4. It loads the words of copy 1, and replaces the words that differ from the new ones.
 //!
 //! A reader reads:
 //!
-//! 5. It loads the sequence: the first look.
-//! 6. It loads each word of the copy that the sequence names.
-//! 7. It loads the sequence again: the second look. If the number is the same, the words are one
-//!    publication, whole. If it isn't, the words may be of two, and the answer is `Moved`.
+//! 5. It loads the sequence.
+//! 6. It loads the words of the copy that the sequence names.
+//! 7. It loads the sequence again. If the number is the same, the words are one whole publication.
+//!    Otherwise the words may be a mixture of two, and the call returns `Moved`.
 //!
-//! A reader learns what was published (`tell`):
+//! A reader learns of all publications (`tell`):
 //!
-//! 8. The reader gets the writer's history, and the writer gets what the reader knew, as a note.
+//! 8. The reader gets the writer's history, and the writer gets the reader's former history as a
+//!    note.
 //! 9. The writer loads the sequence, which shows that the note is a beginning of its history.
 //!
-//! Who waits: nobody. `try_read` takes 12 loads whatever the writer does, so it may be called where
-//! nothing may wait, such as in an interrupt handler. It doesn't guarantee that `Moved` ever ends
-//! while others publish. `publish` takes 20 loads and 4 to 22 stores: the sequence twice, and in
-//! each copy the front and every other word that changed. A load costs less than a store, which is
-//! an exchange on x86-64. `publish` doesn't wait either, nor does `tell`. Only `open` allocates.
+//! No call waits, and only `open` allocates. `try_read` takes 12 loads, whatever the writer does,
+//! so an interrupt handler may call it. It may return `Moved` again and again while others publish.
+//! `publish` takes 20 loads and 4 to 22 stores: the sequence twice, and in both copies the front
+//! and all other words that changed. A load costs less than a store, which is an exchange on
+//! x86-64.
 //!
 //! This is the kernel's `seqcount_latch_t` (Documentation/locking/seqlock.rst,
 //! include/linux/seqlock.h).
@@ -61,12 +62,12 @@ pub(crate) const COPY_1: usize = COPY_0 + SNAPSHOT_WORDS;
 
 const WORDS: usize = COPY_1 + SNAPSHOT_WORDS;
 
-/// The greatest number of readers that a latch is opened with.
+/// The greatest number of readers of a latch.
 pub const READERS_LIMIT: usize = 64;
 
 /// Holds a sequence word and two copies of a snapshot's ten words.
 ///
-/// The memory comes from the allocator that the latch was opened with. Contracts see a latch as its
+/// The words are allocated from the allocator that `open` got. Contracts see a latch as its
 /// identity and the counter of its snapshots.
 #[derive(Drop)]
 pub struct Latch<A: Allocator = Global> {
@@ -91,13 +92,13 @@ impl<A: Allocator + Copy> Latch<A> {
     ghost use Rattle.tk_latch.specs.Latch.{IsReaderCount, opened_writer, opened_reader};
 
     /// Opens a latch whose publication 0 is `snapshot`, which has front 0. Returns it with its
-    /// writer and as many readers as `readers` says, each with mark 0.
+    /// writer and `readers` readers, all with mark 0.
     ///
-    /// It allocates the words and the list of readers. It waits for nobody.
+    /// It allocates the words and the list of readers.
     ///
     /// # Errors
     ///
-    /// - `LatchError::Count` if `readers` is less than 1 or more than 64.
+    /// - `LatchError::Count` if `readers` is below 1 or above 64.
     /// - `LatchError::Memory` if an allocation fails.
     pub fn open(
         alloc: A,
@@ -126,7 +127,7 @@ impl<A: Allocator + Copy> Latch<A> {
         Ok((latch, writer, seats))
     }
 
-    /// Makes the words of a latch, with this snapshot in both copies, and its writer.
+    /// Makes the words of a latch, with this snapshot in both copies, and the latch's writer.
     fn with_writer(alloc: A, snapshot: Snapshot) -> Result<(Latch<A>, LatchWriter), AllocError>
         requires opening { snapshot.front ≡ 0 }
         ensures { IfOk result (λ opened. (opened.0.counter ≡ snapshot.base.counter)
@@ -148,7 +149,7 @@ impl<A: Allocator + Copy> Latch<A> {
 impl<A: Allocator> Latch<A> {
     ghost use Rattle.tk_latch.specs.Latch.{told_reader};
 
-    /// Returns one more reader, which knows what the writer knows.
+    /// Returns one more reader, which knows all publications.
     fn reader(&self, writer: &mut LatchWriter) -> LatchReader
         requires latch { writer.old.latch ≡ self.now }
         ensures writer { writer.new ≡ writer.old }
@@ -160,10 +161,10 @@ impl<A: Allocator> Latch<A> {
         }
     }
 
-    /// Gives a reader all that was published: its mark becomes the number of the latest
+    /// Gives a reader the knowledge of all publications: its mark becomes the number of the latest
     /// publication, which is at least its former mark.
     ///
-    /// It waits for nobody and allocates nothing. Writer and reader are those of this latch.
+    /// Writer and reader must belong to this latch.
     pub fn tell(&self, writer: &mut LatchWriter, reader: &mut LatchReader)
         requires writer { writer.old.latch ≡ self.now }
         requires reader { reader.old.latch ≡ self.now }
@@ -171,7 +172,7 @@ impl<A: Allocator> Latch<A> {
         ensures reader { reader.new ≡ told_reader writer.old }
         ensures extends { IsPrefix reader.old.publications writer.old.publications }
     {
-        // 8. The reader gets the writer's history, and the writer a note of what the reader knew.
+        // 8. The reader gets the writer's history, and the writer a note of the reader's.
         let shared = &self.words.shared;
         let given = shared.split_seat::<Hands>(&mut writer.seat);
         let former = mem::replace(&mut reader.seat, given);

@@ -11,10 +11,10 @@ use std::alloc::Allocator;
 use std::marker::Model;
 use tk_clock::Snapshot;
 
-/// Reads a latch, and keeps a mark: the number of the latest publication that it knows of.
+/// Reads a latch, and stores a mark: the number of the latest publication that it knows of.
 ///
 /// It belongs to one thread at a time. Contracts see it as the publications that it knows of and
-/// the sequence numbers that its looks have found.
+/// the sequence numbers that its loads have found.
 #[derive(Drop)]
 pub struct LatchReader {
     pub(crate) seat: Seat<(), View>,
@@ -43,8 +43,6 @@ impl LatchReader {
     ghost use Rattle.tk_latch.specs.Latch.{IsRead, IsMoved};
 
     /// Returns the number of the latest publication that this reader knows of. It is 0 at first.
-    ///
-    /// The call never waits and allocates nothing.
     pub fn mark(&self) -> u64
         ensures { result + 1 ≡ length self.now.publications }
     {
@@ -53,13 +51,12 @@ impl LatchReader {
 
     /// Returns the latest publication, whole. Its number becomes the mark.
     ///
-    /// It waits for nobody, not even for the writer, and allocates nothing. The contract ties the
-    /// answer to the sequence numbers that this very call loaded.
+    /// The contract relates the result to the sequence numbers that this call loaded.
     ///
     /// # Errors
     ///
     /// `Moved` if the sequence changed during the call, with the two sequence numbers that it
-    /// found. The mark then becomes half the second one, rounded down.
+    /// found. In this case the mark becomes half the second one, rounded down.
     #[inline(always)]
     pub fn try_read<A: Allocator>(&mut self, latch: &Latch<A>) -> Result<Snapshot, Moved>
         requires latch { self.old.latch ≡ latch.now }
@@ -94,10 +91,10 @@ fn look_twice<A: Allocator>(latch: &Latch<A>, seat: &mut Seat<(), View>) -> Look
     ensures look { IsLook seat.old.me.0 seat.new.me.0 result.first result.words result.last }
 {
     let shared = &latch.words.shared;
-    // 5. The first look.
+    // 5. The first load of the sequence.
     let first = shared.load::<Begins>(seat, SEQUENCE);
     let words = gather(latch, seat, first);
-    // 7. The second look.
+    // 7. The second load of the sequence.
     let last = shared.load::<Ends>(seat, SEQUENCE);
     Look { first, words, last }
 }

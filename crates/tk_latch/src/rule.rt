@@ -1,6 +1,6 @@
-//! What the seats of a latch know, and the rule that every step keeps.
+//! The knowledge of a latch's seats, and the rule that every step keeps.
 //!
-//! The types are for proofs: no value of them is ever made.
+//! The types are for proofs: no value of them ever exists.
 
 mod steps;
 
@@ -22,14 +22,14 @@ pub struct History {
     pub list: LinkedList<Snapshot>,
 }
 
-/// Describes what a seat is doing.
+/// Describes the activity of a seat.
 pub enum Role {
-    /// Nothing any more: the seat was joined to another.
+    /// No activity: the seat was joined to another one.
     Spent,
-    /// A reader at rest, with the sequence numbers that its looks have found.
+    /// A reader at rest, with the sequence numbers that its loads have found.
     Resting(LinkedList<u64>),
-    /// A reader between its two looks: the sequence numbers found so far, the one that this read
-    /// began with, and the latest that it knows of.
+    /// A reader between its two loads of the sequence: the sequence numbers found so far, the first
+    /// one of this read, and the latest one that it knows of.
     Reading(LinkedList<u64>, u64, u64),
     /// The writer while the sequence is odd, with the words of the new publication that are in
     /// copy 0.
@@ -37,15 +37,15 @@ pub enum Role {
     /// The writer while the sequence is even, with the number of words of the latest publication
     /// that are in copy 1.
     Copying(u64),
-    /// The writer at rest, with a note of what a reader has seen.
+    /// The writer at rest, with a note of the publications that a reader knew.
     Noting(History),
 }
 
-/// Describes what a seat knows.
+/// Describes the knowledge of a seat.
 pub struct View {
     /// The publications that it knows of.
     pub history: History,
-    /// What it is doing.
+    /// Its activity.
     pub role: Role,
 }
 

@@ -10,10 +10,10 @@ use std::alloc::Allocator;
 use std::marker::Model;
 use tk_clock::Snapshot;
 
-/// The greatest even sequence, that of the last publication.
+/// The greatest even sequence: the sequence of the last publication.
 const SEQUENCE_LIMIT: u64 = u64::MAX - 1;
 
-/// Publishes snapshots in a latch. Each latch has one writer, which knows every publication.
+/// Publishes snapshots in a latch. A latch has one writer, which knows every publication.
 #[derive(Drop)]
 pub struct LatchWriter {
     pub(crate) seat: Seat<(), View>,
@@ -45,11 +45,9 @@ impl LatchWriter {
     /// Publishes a snapshot of the latch's counter, whose front is the number of this publication,
     /// from 1.
     ///
-    /// It waits for nobody and allocates nothing.
-    ///
     /// # Errors
     ///
-    /// `PageFull` if 2^63 - 1 snapshots were published. The call then changes nothing.
+    /// `PageFull` if 2^63 - 1 snapshots were published. In this case the call changes nothing.
     pub fn publish<A: Allocator>(
         &mut self,
         latch: &Latch<A>,
@@ -90,7 +88,7 @@ fn make<A: Allocator>(
     ensures writer { seat.new.me.0 ≡ making seat.old.me.0.history words.now }
 {
     let shared = &latch.words.shared;
-    // 1. From now on readers take copy 1.
+    // 1. Readers now take copy 1.
     shared.store::<Opens>(seat, SEQUENCE, odd);
     for i in 0..SNAPSHOT_WORDS {
         // 2. A word of copy 0 is replaced if it differs.
@@ -101,7 +99,7 @@ fn make<A: Allocator>(
     }
 }
 
-/// Publishes what is in copy 0, and writes copy 1, while readers take copy 0.
+/// Publishes copy 0, and writes copy 1, while readers take copy 0.
 fn commit<A: Allocator>(
     latch: &Latch<A>,
     seat: &mut Seat<(), View>,
@@ -116,7 +114,7 @@ fn commit<A: Allocator>(
     ensures writer { seat.new.me.0 ≡ copying (pushed_words seat.old.me.0.history words.now) 10 }
 {
     let shared = &latch.words.shared;
-    // 3. The publication: from now on readers take copy 0.
+    // 3. The publication: readers now take copy 0.
     shared.store::<Commits>(seat, SEQUENCE, even);
     for i in 0..SNAPSHOT_WORDS {
         // 4. A word of copy 1 is replaced if it differs.

@@ -1,4 +1,4 @@
--- Each step of the announcer keeps the rule, as do a new watcher and a new notice.
+-- The steps of the announcer keep the rule, as do a new watcher and a new notice.
 use Rattle.std.proofs.Common.{◌≡◌, ℕ, zero, suc, ◌+◌, ◌*◌, ◌≤◌, List, [], ◌∷◌, ◌++◌, length, Some, None, IsSome, true, false, true≢false, slice_get, get_or, set, refl, sym, ap, ◌∙◌, subst, arith, length-append, length-set, get_or-set_same}
 use Rattle.std.proofs.lemmas.Option.{same_Some}
 use mathlib.Core.List.{IsPrefix}

@@ -1,4 +1,4 @@
--- With an honest counter, the order of moments is that of true counts.
+-- With an honest counter, the order of moments is the order of true counts.
 use Rattle.std.proofs.Common.{ℕ, ◌≤◌, arith}
 use Rattle.tk_now.specs.declared.rule.Taken.{Taken}
 use Rattle.tk_now.specs.Honest.{IsTrueCount, CountsAreInOrder, masked}

@@ -1,4 +1,4 @@
--- What every step of a notice must keep.
+-- The facts that every step of a notice must keep.
 use Rattle.std.proofs.Common.{◌≡◌, ◌≢◌, ℕ, ◌%◌, ◌≤◌, List, [], ◌∷◌, ◌++◌, length, get_or, set, sym, refl, ◌∙◌, subst, ⊎_elim, arith}
 use Rattle.std.proofs.lemmas.List.{set-get_or}
 use mathlib.Core.List.{IsPrefix}
@@ -22,7 +22,7 @@ Words = State (Unit {0}) View
 abbrev pub word : Words → ℕ
 word s = get_or s.words 0 0
 
--- what the other seats know stays true
+-- the knowledge of the other seats stays true
 others_know : (m m' : ℕ) (commands commands' : List Taken) (log log' : List Answer)
     (role role' : Role) (announcer seat : ℕ) → m ≤ m' → IsPrefix commands commands' →
     IsPrefix log log' → AreLater m (length log) log' → (seat ≡ announcer → (commands ≡ commands') × (role ≡ role')) →
@@ -53,7 +53,7 @@ others_know m m' cs cs' lg lg' role role' by seat le p q fresh same mine told Id
 others_know m m' cs cs' lg lg' role role' by seat le p q fresh same mine told (Announced from) k =
     (k.0, k.1 ∙ (same k.0).0, sym (same k.0).1 ∙ k.2, prefix_trans told lg lg' k.3 q)
 
--- what the rule says that this seat knows
+-- the knowledge of this seat by the rule
 abbrev pub IsKnown : (s : Words) → Kept s → ℕ → View → Type 0
 IsKnown s r seat view =
     Knows r.moment r.commands r.log r.role r.announcer seat view.commands view.log view.role
@@ -138,7 +138,7 @@ pub loads_as : (s : Words) (r : Kept s) (id : ℕ) (cs : List (ℕ × Unit {0}))
 loads_as s r id cs v mine = loads s r id cs v r.moment r.log (omega arith) (prefix_self r.log)
     (none_later r.moment r.log) r.stands r.before r.answered r.alive r.turn mine
 
--- what the rule knows of one seat
+-- the facts of the rule about one seat
 pub known_of : (s : Words) (r : Kept s) (id : ℕ) (view : View) (own : Role) →
     get_elem? s.views id ≡ some view → view.role ≡ own →
     Knows r.moment r.commands r.log r.role r.announcer id view.commands view.log own
@@ -146,7 +146,7 @@ known_of s r id view own at same =
     subst (λ (w : Role). Knows r.moment r.commands r.log r.role r.announcer id view.commands
     view.log w) same (r.each id view at)
 
--- what the word shows of the commands
+-- the facts about the commands that the word shows
 pub counted : (n m : ℕ) (commands : List Taken) (role : Role) → Stands n m commands role →
     Counts commands n
 counted n m commands Spent h = absurd h

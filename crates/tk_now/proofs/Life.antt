@@ -1,4 +1,4 @@
--- With an honest counter each listed reading is in the life of its snapshot.
+-- With an honest counter all listed readings are in the lives of their snapshots.
 use Rattle.std.proofs.Common.{◌≡◌, ℕ, ◌+◌, ◌-◌, ◌/◌, ◌%◌, ◌^◌, ◌<◌, ◌≤◌, refl, sym, ap, ◌∙◌, arith, inl, inr, Bool, true, false}
 use Rattle.std.proofs.lemmas.Nat.{pow_pos}
 use Rattle.tk_counter.specs.Counter.{Counter, gap, half}

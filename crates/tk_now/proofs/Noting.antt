@@ -1,4 +1,4 @@
--- The announcer may take in what a watcher knew, and compare it with all commands: both keep the
+-- The announcer may take in a watcher's knowledge, and compare it with all commands: both keep the
 -- rule.
 use Rattle.std.proofs.Common.{ℕ, List, [], refl, sym, ◌∙◌, subst}
 use mathlib.Core.List.{IsPrefix}
@@ -15,7 +15,7 @@ use Rattle.tk_now.specs.Steps.{Seated, compared, recounted}
 use Rattle.tk_now.specs.Views.{view_of, noting, spent, found_by, noted_commands, noted_log, IsIdle, IsResting, IsNoting}
 use Rattle.tk_now.proofs.Keeping.{known_of, reseated, parted, loads_as}
 
--- the announcer takes in what a watcher knew
+-- the announcer takes in a watcher's knowledge
 pub notes : (id : ℕ) (view : View) (other : ℕ) (watcher : View) → IsIdle view →
     IsResting watcher → Joins Kept id view other watcher (noting view watcher) spent
 notes id view other watcher is there s r at apart from =

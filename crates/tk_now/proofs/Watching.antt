@@ -1,4 +1,4 @@
--- Each look of a watcher keeps the rule, and the result of two looks.
+-- The loads of a watcher keep the rule, and the result of two loads.
 use Rattle.std.proofs.Common.{◌≡◌, ℕ, ◌+◌, ◌/◌, ◌%◌, List, [], ◌∷◌, ◌++◌, length, refl, sym, ap, ◌∙◌, subst, arith, append_assoc}
 use mathlib.Core.List.{IsPrefix}
 use mathlib.Core.Logic.{dite}
@@ -26,7 +26,7 @@ answered_on s r =
     answered_more count count (limit r.role r.moment) (limit r.role (r.moment + 1)) r.log
     (omega arith) (limit_on r.role r.moment (r.moment + 1) (omega arith)) r.answered
 
--- one moment passes at a look
+-- one moment passes at a load
 looks : (s : Words) (r : Kept s) (id : ℕ) (cs : List (ℕ × Unit {0})) (v : View)
     (log : List Answer) → IsPrefix r.log log → AreLater r.moment (length r.log) log →
     AreAnswered (length r.commands) (limit r.role (r.moment + 1)) log → AreInLife r.commands log →
@@ -40,7 +40,7 @@ looks s r id cs v log more fresh answered alive turn mine =
     (limit_on r.role r.moment now (omega arith)) r.before)
     answered alive turn mine
 
--- the first look
+-- the first load
 pub begins : (slots id : ℕ) (me : Seated) → IsResting me.0 →
     Allows Kept slots id me 0 (λ n. n) (began (step slots 0 0 0 none) me)
 begins slots id me is s r _ at _ =
@@ -84,12 +84,12 @@ abbrev Ends : ℕ → ℕ → ℕ → Seated → Words → Type 0
 Ends reading slots id me s = (w : View) × Kept (stepped s 0 (word s) id me.1 w keeps)
     × ended reading (step slots 0 0 0 none) me (word s) (w, me.1)
 
--- what a watcher knows between its looks
+-- the knowledge of a watcher between its loads
 abbrev Held : ℕ → Seated → (s : Words) → Kept s → Type 0
 Held id me s r = Knows r.moment r.commands r.log r.role r.announcer id me.0.commands me.0.log
     (Watching (found_by me.0.role) (first_by me.0.role) (from_by me.0.role))
 
--- the second look, after which this is the log
+-- the second load, after which this is the log
 rested : (reading slots id : ℕ) (me : Seated) (s : Words) (r : Kept s) (log : List Answer) →
     Held id me s r → IsPrefix r.log log → AreLater r.moment (length r.log) log →
     AreAnswered (length r.commands) (limit r.role (r.moment + 1)) log → AreInLife r.commands log →
@@ -116,7 +116,7 @@ rested reading slots id me s r log known more fresh answered alive turn answer =
       ),
     )
 
--- the second look finds the first one's word, which is even: the reading is listed
+-- the second load finds the first one's word, which is even: the reading is listed
 listed : (reading slots id : ℕ) (me : Seated) (s : Words) (r : Kept s) →
     AreBefore (from_by me.0.role) me.0.commands → Held id me s r → word s ≡ first_by me.0.role →
     word s % 2 ≡ 0 → Ends reading slots id me s
@@ -181,7 +181,7 @@ ends reading slots id me is before s r _ at _ =
     (λ other. unlisted reading slots id me s r known (λ here. absurd (other here))) in
     (e.0, keeps, tt, e.1, e.2)
 
--- the words that both looks found
+-- the words that both loads found
 pub both_found : (old begun new : View) (first last reading : ℕ) → IsBegun old first begun →
     IsEnd reading begun last new →
     found_by new.role ≡ found_by old.role ++ first ∷ last ∷ []
@@ -189,7 +189,7 @@ both_found old begun new first last reading b e =
     e.found_is ∙ (ap (λ (f : List ℕ). f ++ last ∷ []) b.found_is
     ∙ append_assoc (found_by old.role) (first ∷ []) (last ∷ []))
 
--- both looks only add to what the watcher knows
+-- both loads only add to the watcher's knowledge
 pub both_prefixes : (old : Watched) (v0 v1 v2 : View) (first last reading : ℕ) →
     old.commands ≡ v0.commands → old.log ≡ v0.log → IsBegun v0 first v1 →
     IsEnd reading v1 last v2 →
@@ -201,7 +201,7 @@ both_prefixes old v0 v1 v2 first last reading commands log b e = (
       (prefix_trans v0.log v1.log v2.log b.log e.log),
 )
 
--- two looks that found one even word, and a reading between them
+-- two loads that found one even word, and a reading between them
 pub times : {C : Type 0} (answers : C → ℕ → ℕ → Type 0) (counter : C) (old : Watched)
     (v0 v1 v2 : View) (table : TableId) (first last reading : ℕ) → old.log ≡ v0.log →
     old.found ≡ found_by v0.role → IsBegun v0 first v1 → IsEnd reading v1 last v2 →
@@ -241,7 +241,7 @@ times answers counter old v0 v1 v2 table first last reading log found b e given 
       listed = a.listed ∙ ap (λ (n : ℕ). a.between ++ answer_of n from a.to reading ∷ []) is;
     }
 
--- two looks that found two words, or an odd one
+-- two loads that found two words, or an odd one
 pub is_busy : (old : Watched) (v0 v1 v2 : View) (table : TableId) (first last reading : ℕ) →
     old.commands ≡ v0.commands → old.found ≡ found_by v0.role → IsBegun v0 first v1 →
     IsEnd reading v1 last v2 → (first ≡ last → first % 2 ≡ 1) → IsBusy old (record {

@@ -1,11 +1,11 @@
--- An honest counter: its readings are those of true counts of cycles, which never fall.
+-- An honest counter: its readings come from true counts of cycles, which never fall.
 use Rattle.std.specs.Prelude.{◌≡◌, ℕ, ◌%◌, ◌^◌, ◌<◌, ◌≤◌, List, Some, slice_get}
 use Rattle.tk_now.specs.declared.rule.Taken.{Taken}
 use Rattle.tk_now.specs.declared.rule.Answer.{Answer}
 use Rattle.tk_now.specs.Moments.{AreInOrder, AreInLife}
 
--- the true count that a reading of a counter of this many bits is of: one that the counter had
--- reached when the read was over, and not passed when it began
+-- the true count of a reading of a counter with this number of bits: the counter had reached it
+-- when the read was over, and had not passed it when the read began
 pub record IsTrueCount (at : ℕ → ℕ) (bits : ℕ) (t : Taken) (count : ℕ) : Type 0 where
   pub read : t.reading ≡ count % 2 ^ bits
   pub from : at t.from ≤ count
@@ -26,9 +26,9 @@ pub record AreTrueCounts (at command answer : ℕ → ℕ) (bits : ℕ) (command
   pub answers_read : (i : ℕ) (a : Answer) → slice_get log i ≡ Some a →
       IsTrueCount at bits (masked bits a.taken) (answer i)
 
--- with an honest counter, the true counts of commands never fall; that of an answer is at least
--- that of each command up to its own and at most that of each later one; and an answer whose
--- reading was over when another's began is not above it
+-- with an honest counter, the true counts of commands never fall; the count of an answer is at
+-- least the counts of all commands up to its own, and at most the counts of all later ones; and an
+-- answer whose reading was over when another's began is not above it
 pub record AreTrueCountsInOrder (command answer : ℕ → ℕ) (commands : List Taken)
     (log : List Answer) : Type 0 where
   pub commands_rise : (i j : ℕ) (t u : Taken) → i < j → slice_get commands i ≡ Some t →

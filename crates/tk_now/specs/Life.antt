@@ -1,4 +1,4 @@
--- The life of a listed reading, over true counts.
+-- The life of a listed reading, by true counts.
 use Rattle.std.specs.Prelude.{◌≡◌, ℕ, ◌+◌, ◌-◌, ◌%◌, ◌^◌, ◌<◌, ◌≤◌, List, false, length, Some, slice_get}
 use Rattle.tk_counter.specs.Counter.{half}
 use Rattle.tk_clock.specs.Journal.{Journal, prefix, reading_at, is_asleep_at}
@@ -21,8 +21,8 @@ AreNear history command =
     (place : ℕ) → place < length history.entries → is_asleep_at history place ≡ false →
     command (place + 1) - command place ≤ half history.opening.counter
 
--- each answer is in the life of the history's first entries up to its place, so MONOTONIC at it is
--- at most MONOTONIC of the whole history at any reading
+-- all answers are in the lives of the history's first entries up to their places, so MONOTONIC at
+-- them is at most MONOTONIC of the whole history at any reading
 abbrev pub AnswersAreInLife : Type 0
 AnswersAreInLife = (history : Journal) (at command answer : ℕ → ℕ) (commands : List Taken)
     (log : List Answer) → AreReadings history commands → AreInOrder commands →

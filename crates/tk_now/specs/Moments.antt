@@ -10,7 +10,7 @@ abbrev pub AreBefore : ℕ → List Taken → Type 0
 AreBefore moment commands =
     (place : ℕ) (t : Taken) → slice_get commands place ≡ Some t → (t.from ≤ t.to) × (t.to ≤ moment)
 
--- each of these answers follows one of the first `count` commands, and had its reading by this
+-- all these answers follow one of the first `count` commands, and their readings were over by this
 -- moment
 abbrev pub AreAnswered : ℕ → ℕ → List Answer → Type 0
 AreAnswered count moment log =
@@ -27,14 +27,14 @@ AreInTurn log =
     (i j : ℕ) (a b : Answer) → i < j → slice_get log i ≡ Some a → slice_get log j ≡ Some b →
     a.taken.to < b.taken.to
 
--- each command had its reading before the next one's was begun
+-- the reading of a command was over before the next command's was begun
 abbrev pub AreInOrder : List Taken → Type 0
 AreInOrder commands =
     (i j : ℕ) (t u : Taken) → i < j → slice_get commands i ≡ Some t →
     slice_get commands j ≡ Some u → t.to ≤ u.from
 
--- each answer's reading was over before that of any later command was begun, and was begun after
--- those of its command and of the earlier ones were over
+-- an answer's reading was over before the reading of any later command was begun, and was begun
+-- after the readings of its command and of all earlier ones were over
 abbrev pub AreInLife : List Taken → List Answer → Type 0
 AreInLife commands log =
     (i place : ℕ) (a : Answer) (t : Taken) → slice_get log i ≡ Some a →
@@ -52,10 +52,10 @@ IsAcceptedAt since commands reading commands' =
     (from to : ℕ) × (since ≡ Some from) × (from < to)
     × (commands' ≡ commands ++ taken from to reading ∷ [])
 
--- a watcher's answer: the counter gave the reading to a read that followed this call's first look.
--- It follows the latest accepted command. The answers in `begun` are those that any thread had by
--- the first look: they are of no later command, and had their readings by then, and no other answer
--- was over by then. It is listed after them
+-- a watcher's answer: the counter returned the reading to a read after this call's first load. It
+-- follows the latest accepted command. The answers in `begun` are those that any thread had by the
+-- first look: they are of no later command, and had their readings by then, and no other answer was
+-- over by then. It is listed after them
 pub record IsTimed {C : Type 0} (answers : C → ℕ → ℕ → Type 0) (counter : C) (old new : Watched)
     (place reading : ℕ) : Type 0 where
   pub word : ℕ
@@ -76,15 +76,15 @@ pub record IsTimed {C : Type 0} (answers : C → ℕ → ℕ → Type 0) (counte
   pub listed : new.log
       ≡ between ++ (record { place = place; taken = taken from to reading }) ∷ []
 
--- no answer: the two looks found these words, which differ or are odd. The first is no earlier than
--- the commands that were known
+-- no answer: the two loads found these words, which differ or are odd. The first is no earlier than
+-- the known commands
 pub record IsBusy (old new : Watched) (first last : ℕ) : Type 0 where
   pub found : new.found ≡ old.found ++ first ∷ last ∷ []
   pub from : 2 * length old.commands ≤ first + 2
   pub busy : first ≡ last → first % 2 ≡ 1
 
--- a watcher was given all that is known: it knows the announcer's commands, of which it knew the
--- first, and the answers of all watchers, of which it knew the first. Its looks are counted anew
+-- a watcher got all knowledge: it knows the announcer's commands, of which it knew the first, and
+-- the answers of all watchers, of which it knew the first. Its loads are counted anew
 pub record IsTold (announcer : Announcing) (old new : Watched) : Type 0 where
   pub notice : new.notice ≡ old.notice
   pub commands : new.commands ≡ announcer.commands

@@ -1,4 +1,4 @@
--- The rule of a notice: what its word is, and what each seat knows.
+-- The rule of a notice: its word, and the knowledge of its seats.
 use Rattle.std.specs.Prelude.{◌≡◌, ℕ, ◌+◌, ◌*◌, ◌≤◌, List, [], ◌∷◌, length, slice_index}
 use mathlib.Core.List.{IsPrefix}
 use mathlib.Core.Option.{some}
@@ -33,7 +33,7 @@ Stands word moment commands _ = ⊥
 abbrev pub Counts : List Taken → ℕ → Type 0
 Counts commands word = (2 * length commands ≤ word + 2) × (word + 1 ≤ 2 * length commands)
 
--- what a seat knows, by its role
+-- the knowledge of a seat, by its role
 module _ (moment : ℕ) (commands : List Taken) (log : List Answer) (role : Role)
     (announcer seat : ℕ) where
   abbrev pub Knows : List Taken → List Answer → Role → Type 0

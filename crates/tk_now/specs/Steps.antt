@@ -1,5 +1,5 @@
--- What a seat learns from each step of a notice: a relation of the step, the seat before it, the
--- number found, and the seat after it.
+-- The knowledge that a seat gains by the steps of a notice: relations of the step, the seat before
+-- it, the number found, and the seat after it.
 use Rattle.std.specs.Prelude.{◌≡◌, ℕ, ◌+◌, ◌/◌, ◌%◌, ◌<◌, List, [], ◌∷◌, ◌++◌, length, Some}
 use mathlib.Core.List.{IsPrefix}
 use Rattle.atomic_table.specs.Table.{Me, Step}
@@ -29,8 +29,8 @@ abbrev pub withdrawn : Move → Seated → ℕ → Seated → Type 0
 withdrawn move old found new =
     (new.0.commands ≡ old.0.commands) × (new.0.log ≡ old.0.log) × IsIdle new.0
 
--- the first look: the watcher knows all accepted commands and all answers so far, which had their
--- readings by now
+-- the first load: the watcher knows all accepted commands and all answers so far, whose readings
+-- are over
 pub record IsBegun (old : View) (found : ℕ) (new : View) : Type 0 where
   pub watching : IsWatching new
   pub first : first_by new.role ≡ found
@@ -63,7 +63,7 @@ pub record IsListed (reading : ℕ) (old new : View) : Type 0 where
       ≡ between ++ answer_of (first_by old.role) (from_by old.role) to reading ∷ []
   pub later : AreLater (from_by old.role) (length old.log) new.log
 
--- the second look: the reading is listed if the word is the same and even
+-- the second load: the reading is listed if the word is the same and even
 pub record IsEnd (reading : ℕ) (old : View) (found : ℕ) (new : View) : Type 0 where
   pub resting : IsResting new
   pub found_is : found_by new.role ≡ found_by old.role ++ found ∷ []
@@ -87,7 +87,7 @@ compared move old found new = (new.0.commands ≡ old.0.commands) × IsIdle new.
     × IsPrefix old.0.log new.0.log × IsPrefix (noted_log old.0.role) new.0.log
     × AreInLife old.0.commands new.0.log × AreInTurn new.0.log
 
--- the same, and the note has all commands and all answers after that
+-- the same, and the note contains all commands and all answers afterwards
 abbrev pub recounted : Move → Seated → ℕ → Seated → Type 0
 recounted move old found new =
     (new.0.commands ≡ old.0.commands) × (new.0.log ≡ old.0.log) × IsNoting new.0

@@ -1,4 +1,4 @@
--- What the seats of a notice may know.
+-- The possible knowledge of a notice's seats.
 use Rattle.std.specs.Prelude.{◌≡◌, ℕ, List, [], ◌∷◌, Option, Some, None}
 use Rattle.atomic_table.specs.Seated.{TableId}
 use Rattle.tk_now.specs.declared.rule.Taken.{Taken}
@@ -14,13 +14,13 @@ view_of commands log role = record { commands = commands; log = log; role = role
 abbrev pub taken : ℕ → ℕ → ℕ → Taken
 taken from to reading = record { from = from; to = to; reading = reading }
 
--- the words that a watcher's looks have found, in order
+-- the words that a watcher's loads have found, in order
 abbrev pub found_by : Role → List ℕ
 found_by (Resting found) = found
 found_by (Watching found first from) = found
 found_by _ = []
 
--- the word that the first look found
+-- the word that the first load found
 abbrev pub first_by : Role → ℕ
 first_by (Watching found first from) = first
 first_by _ = 0
@@ -45,7 +45,7 @@ abbrev pub announcing : Option ℕ → Role
 announcing None = Idle
 announcing (Some from) = Announced from
 
--- the announcer with a note of what a watcher knew
+-- the announcer with a note of a watcher's knowledge
 abbrev pub noting : View → View → View
 noting announcer watcher =
     view_of announcer.commands announcer.log (Noting watcher.commands watcher.log)
@@ -89,7 +89,7 @@ pub record Announcing : Type 0 where
   pub since : Option ℕ
 
 -- a watcher: its notice, the readings of commands and of watchers that it knows of, and the words
--- that its looks have found, in order
+-- that its loads have found, in order
 pub record Watched : Type 0 where
   pub notice : TableId
   pub commands : List Taken

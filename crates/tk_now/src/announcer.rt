@@ -12,7 +12,7 @@ use std::alloc::Allocator;
 use std::marker::{Brand, Model};
 use std::mem;
 
-/// Announces commands in a notice. Each notice has one announcer.
+/// Announces commands in a notice. A notice has one announcer.
 ///
 /// Contracts see it as the readings of the accepted commands, and the moment of the announcement
 /// if a command is in progress.
@@ -57,7 +57,7 @@ impl Announcer {
         ensures same { (self.new.notice ≡ self.old.notice)
             × (self.new.commands ≡ self.old.commands) }
     {
-        // 1. From now on no reading is listed.
+        // 1. No reading is listed until the command ends.
         let odd = 2 * self.number + 1;
         notice
             .words
@@ -86,7 +86,7 @@ impl Announcer {
         counter.read(&self.look)
     }
 
-    /// Ends the announced command, which was accepted at `reading`. Call it once the command's
+    /// Ends the announced command, which was accepted at `reading`. Call it after the command's
     /// effect is published.
     ///
     /// It waits for nobody and allocates nothing.
@@ -103,8 +103,7 @@ impl Announcer {
         accept_reading::<Brand, A>(notice, &mut self.look, 2 * self.number, reading);
     }
 
-    /// Gives a watcher all that is known: the readings of all accepted commands, and of all
-    /// watchers.
+    /// Gives a watcher the readings of all accepted commands and of all watchers.
     ///
     /// It waits for nobody and allocates nothing.
     pub fn tell<A: Allocator>(&mut self, notice: &Notice<A>, watcher: &mut Watcher)

@@ -8,9 +8,9 @@ use std::io;
 use std::sync::atomic::{AtomicU64, Ordering};
 use std::time::{Clock, Duration, Instant};
 
-/// Shows that a look at a notice, or an announcement, was made. A read of a counter follows it.
+/// Shows that a load of a notice, or an announcement, was made. A read of a counter follows it.
 ///
-/// It has no bytes. Contracts see in it the moment of that look.
+/// It has no bytes. Contracts see it as the moment of that load.
 #[derive(Drop)]
 pub struct Look {
     pub(crate) seat: Seat<(), View>,
@@ -19,10 +19,10 @@ pub struct Look {
 impl Look {
     ghost use Rattle.tk_now.specs.Views.{moment_of};
 
-    /// Returns a look for a read that comes before there is a notice, such as an opening's. Its
+    /// Returns a look for a read before the notice exists, such as the read of an opening. Its
     /// moment is 0.
     ///
-    /// It allocates a word, which it frees again. It waits for nobody.
+    /// It allocates a word, and frees it again.
     ///
     /// # Errors
     ///
@@ -35,18 +35,18 @@ impl Look {
     }
 }
 
-/// Gives the readings of a counter that many threads share, in cycles.
+/// Returns the readings, in cycles, of a counter that many threads share.
 ///
-/// A reading has to be taken during the call. If the counter is an instruction of the processor,
-/// such as `rdtsc`, put a fence before it and one after it: it must follow the load before the
-/// call, and the load after the call must follow it. The announcement of a command must be visible
-/// to all threads before the command's own `rdtsc`. Each step on a notice is sequentially
-/// consistent, which on x86-64 makes a store an exchange, but doesn't order `rdtsc`.
+/// A reading must be taken during the call. If the counter is an instruction of the processor, such
+/// as `rdtsc`, put a fence before it and one after it: it must follow the load before the call, and
+/// the load after the call must follow it. The announcement of a command must be visible to all
+/// threads before the command's `rdtsc`. All steps on a notice are sequentially consistent, which
+/// on x86-64 makes a store an exchange, but doesn't order `rdtsc`.
 pub trait SharedCounter {
     ghost use Rattle.std.specs.Prelude.{ℕ};
     ghost use Rattle.tk_now.specs.Views.{moment_of};
 
-    // The answers that the counter may give to a read that follows a look at this moment.
+    // The possible readings of the counter after a look at this moment.
     ghost answers: { Self → ℕ → ℕ → Type 0 };
 
     /// Returns a reading that is taken during the call, after `look` was made.
@@ -54,9 +54,10 @@ pub trait SharedCounter {
         ensures given { answers self.now (moment_of look.now) result };
 }
 
-/// Counts the reads of all threads: each reading is the one before plus a fixed step, modulo 2^64.
+/// Counts the reads of all threads: a reading is the reading before it plus a fixed step, modulo
+/// 2^64.
 ///
-/// It simulates a counter for tests. No clause says what its word holds.
+/// It simulates a counter for tests. No clause states the contents of its word.
 #[derive(Drop)]
 pub struct SharedTicker {
     next: AtomicU64,
@@ -66,7 +67,7 @@ pub struct SharedTicker {
 impl SharedTicker {
     ghost use Rattle.std.specs.Prelude.{◌≡◌};
 
-    /// Returns a counter whose first reading is `start` and which adds `step` cycles each time.
+    /// Returns a counter whose first reading is `start` and which adds `step` cycles at every read.
     ///
     /// It never waits and allocates nothing.
     pub fn new(start: u64, step: u64) -> SharedTicker
@@ -97,8 +98,8 @@ impl SharedCounter for SharedTicker {
 
 /// Counts the nanoseconds of the host's monotonic clock since this counter was made: 1 GHz.
 ///
-/// Reading 0 means that the host didn't give the time, or that none has passed. Linux always gives
-/// it.
+/// Reading 0 means that the host didn't return the time, or that no time has passed. Linux always
+/// returns it.
 #[derive(Drop)]
 pub struct HostCounter<'c, C: Clock> {
     clock: &'c C,

@@ -1,25 +1,25 @@
 //! The notice: a word that says whether a command is in progress.
 //!
 //! The word is twice the number of the accepted commands, plus 1 while a command is in progress.
-//! Each load and each store is one atomic step.
+//! All loads and stores are single atomic steps.
 //!
 //! A command, under the caller's lock:
 //!
-//! 1. It makes the word odd: the announcement. From now on no reading is listed.
+//! 1. It makes the word odd: the announcement. No reading is listed until step 3.
 //! 2. It reads the counter.
 //! 3. Once its effect is published, it makes the word even. An accepted command counts, and a
 //!    refused one doesn't.
 //!
 //! A watcher:
 //!
-//! 4. It loads the word: the first look.
+//! 4. It loads the word.
 //! 5. It reads the counter.
-//! 6. It loads the word again: the second look. If the number is the same and even, no accepted
-//!    command was in progress at any moment between the looks, and the reading is listed. It is no
-//!    later than the reading of any command that is accepted after that. If the number differs or
-//!    is odd, the answer is `Busy`.
+//! 6. It loads the word again. If the number is the same and even, no accepted command was in
+//!    progress at any moment between the two loads, and the reading is listed. It is no later than
+//!    the reading of any command that is accepted afterwards. If the number differs or is odd, the
+//!    call returns `Busy`.
 //!
-//! Who waits: nobody. Only `open` and `Look::first` allocate.
+//! No call waits. Only `open` and `Look::first` allocate.
 ghost use Rattle.std.specs.Prelude.{◌≡◌, IfOk, None};
 ghost use Rattle.tk_now.specs.Views.{opened_announcer, opened_watcher};
 
@@ -33,7 +33,7 @@ use std::marker::Model;
 /// The position of the only word.
 pub(crate) const WORD: usize = 0;
 
-/// Says whether a command is in progress, and how many commands were accepted.
+/// Contains the number of accepted commands, and whether a command is in progress.
 #[derive(Drop)]
 pub struct Notice<A: Allocator = Global> {
     pub(crate) words: Words<A>,
@@ -55,7 +55,7 @@ impl<A: Allocator> Notice<A> {
     /// Opens a notice with no command in progress, and returns it with its announcer. `reading` is
     /// the reading of the opening, which is command 0.
     ///
-    /// It allocates the word. It waits for nobody.
+    /// It allocates the word.
     ///
     /// # Errors
     ///
@@ -69,8 +69,6 @@ impl<A: Allocator> Notice<A> {
     }
 
     /// Returns one more watcher, which knows the accepted commands and no reading.
-    ///
-    /// It waits for nobody and allocates nothing.
     pub fn watcher(&self, announcer: &mut Announcer) -> Watcher
         requires notice { announcer.old.notice ≡ self.now }
         requires idle { announcer.old.since ≡ None }

@@ -1,6 +1,6 @@
-//! What the seats of a notice know, and the rule that every step keeps.
+//! The knowledge of a notice's seats, and the rule that every step keeps.
 //!
-//! The types are for proofs: no value of them is ever made.
+//! The types are for proofs: no value of them ever exists.
 
 mod steps;
 
@@ -30,31 +30,31 @@ pub struct Answer {
     pub taken: Taken,
 }
 
-/// Describes what a seat is doing.
+/// Describes the activity of a seat.
 pub enum Role {
-    /// Nothing any more: the seat was joined to the announcer's.
+    /// No activity: the seat was joined to the announcer's.
     Spent,
-    /// A watcher at rest, with the words that its looks have found.
+    /// A watcher at rest, with the words that its loads have found.
     Resting(LinkedList<u64>),
-    /// A watcher between its two looks: the words found so far, the one that the first look found,
-    /// and the moment of that look.
+    /// A watcher between its two loads: the words found so far, the word that the first load found,
+    /// and the moment of that load.
     Watching(LinkedList<u64>, u64, u64),
     /// The announcer while no command is in progress.
     Idle,
     /// The announcer while a command is in progress, and the moment of the announcement.
     Announced(u64),
-    /// The announcer while no command is in progress, with a note of what a watcher knew: commands
-    /// and answers.
+    /// The announcer while no command is in progress, with a note of the commands and answers that
+    /// a watcher knew.
     Noting(LinkedList<Taken>, LinkedList<Answer>),
 }
 
-/// Describes what a seat knows.
+/// Describes the knowledge of a seat.
 pub struct View {
     /// The readings of the accepted commands, the opening's first.
     pub commands: LinkedList<Taken>,
     /// The readings that watchers took, of all threads.
     pub log: LinkedList<Answer>,
-    /// What it is doing.
+    /// Its activity.
     pub role: Role,
 }
 

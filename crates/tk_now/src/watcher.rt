@@ -13,7 +13,7 @@ use std::marker::{Brand, Model};
 /// Takes readings of a shared counter while no command is in progress.
 ///
 /// It belongs to one thread at a time. Contracts see it as the readings of commands and of watchers
-/// that it knows of, and the words that its looks have found.
+/// that it knows of, and the words that its loads of the notice have found.
 #[derive(Drop)]
 pub struct Watcher {
     pub(crate) look: Look,
@@ -35,7 +35,7 @@ impl Model for Watcher {
     ghost invariant = { λ a. IsResting a.look.seat.me.0 × (a.look.seat.me.1 ≡ []) };
 }
 
-/// A reading, and the latest accepted command before it.
+/// Contains a reading, and the latest accepted command before it.
 #[derive(Clone, Copy, Debug, PartialEq, Eq)]
 pub struct Timed {
     /// The number of that command; the opening is number 0.
@@ -45,12 +45,12 @@ pub struct Timed {
 }
 
 /// Says that no reading was taken, because a command was in progress or was accepted between the
-/// two looks.
+/// two loads of the notice.
 #[derive(Clone, Copy, Debug, PartialEq, Eq)]
 pub struct Busy {
-    /// The word that the first look found.
+    /// The word that the first load found.
     pub first: u64,
-    /// The word that the second look found.
+    /// The word that the second load found.
     pub last: u64,
 }
 
@@ -59,13 +59,13 @@ impl Watcher {
 
     /// Reads the counter while no command is in progress.
     ///
-    /// It waits for nobody and allocates nothing. The reading is no later than that of any command
-    /// that is accepted after it, and no reading that any thread had when the call began was taken
-    /// after it.
+    /// The reading is no later than the reading of any command that is accepted after it. No
+    /// reading that any thread had when the call began was taken after it.
     ///
     /// # Errors
     ///
-    /// `Busy` if a command was in progress at one of the two looks, or was accepted between them.
+    /// `Busy` if a command was in progress at one of the two loads of the notice, or was accepted
+    /// between them.
     #[inline(always)]
     pub fn time<C: SharedCounter, A: Allocator>(
         &mut self,
@@ -83,7 +83,7 @@ impl Watcher {
             (λ busy. IsBusy self.old self.new busy.first busy.last) }
     {
         let first = begin(notice, &mut self.look);
-        // 5. The reading follows the first look.
+        // 5. The reading follows the first load.
         let reading = counter.read(&self.look);
         let last = end::<Brand, A>(notice, &mut self.look, reading);
         if first != last || first % 2 != 0 {
@@ -96,7 +96,7 @@ impl Watcher {
     }
 }
 
-/// Looks at the notice.
+/// Loads the notice's word.
 fn begin<A: Allocator>(notice: &Notice<A>, look: &mut Look) -> u64
     requires notice { look.old.seat.table_id ≡ notice.now }
     requires resting { IsResting look.old.seat.me.0 }
@@ -104,11 +104,11 @@ fn begin<A: Allocator>(notice: &Notice<A>, look: &mut Look) -> u64
     ensures carried { look.new.seat.me.1 ≡ look.old.seat.me.1 }
     ensures begun { IsBegun look.old.seat.me.0 result look.new.seat.me.0 }
 {
-    // 4. The first look.
+    // 4. The first load.
     notice.words.shared.load::<Begins>(&mut look.seat, WORD)
 }
 
-/// Looks at the notice again, and lists a reading that the type `R` names.
+/// Loads the notice's word again, and lists a reading that the type `R` names.
 fn end<R: NamesReading, A: Allocator>(notice: &Notice<A>, look: &mut Look, reading: u64) -> u64
     requires notice { look.old.seat.table_id ≡ notice.now }
     requires named { R.reading ≡ reading }
@@ -118,6 +118,6 @@ fn end<R: NamesReading, A: Allocator>(notice: &Notice<A>, look: &mut Look, readi
     ensures carried { look.new.seat.me.1 ≡ look.old.seat.me.1 }
     ensures ended { IsEnd reading look.old.seat.me.0 result look.new.seat.me.0 }
 {
-    // 6. The second look.
+    // 6. The second load.
     notice.words.shared.load::<Ends<R>>(&mut look.seat, WORD)
 }

@@ -1,4 +1,4 @@
--- Each step keeps the rule of the page.
+-- The steps keep the rule of the page.
 use Rattle.std.proofs.Common.{◌≡◌, ◌≢◌, ℕ, zero, suc, ◌+◌, List, [], ◌∷◌, length, set, true, refl, sym, subst}
 use mathlib.Core.Option.{some, some-ne-none, some-injective}
 use lib.ListN.{get_elem?}
@@ -99,7 +99,7 @@ viewer_copies by count seen words views kept at =
     cut words views by (Viewing count seen) (Viewing count seen) (Viewing 0 seen) kept at refl refl refl
     (λ _ _ fits. fits) (λ _ _ _ fits. fits)
 
--- step 5: all that a viewer knows goes to a new pass
+-- step 5: a viewer's knowledge goes to a new pass
 viewer_leaves : (by count : ℕ) (seen : Journal) →
     Forks Kept by (Viewing count seen) Spent (Viewing count seen)
 viewer_leaves by count seen words views kept at =

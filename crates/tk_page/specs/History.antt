@@ -1,17 +1,16 @@
--- What a publisher or a viewer of a page knows: a journal that was published, entry by entry.
+-- The knowledge of a publisher or a viewer of a page: a journal that was published, entry by entry.
 use Rattle.std.specs.Prelude.{◌≡◌, ℕ, [], length, false, pos, nat_lt, if◌then◌else◌}
 use mathlib.Core.List.{IsPrefix}
 use Rattle.atomic_table.specs.Seated.{TableId}
 use Rattle.tk_clock.specs.Journal.{Journal}
 use Rattle.tk_clock.specs.Snapshot.{Snapshot, snapshot_of}
 
--- what the publisher knows: the page, and all of its journal
+-- the knowledge of the publisher: the page, and all of its journal
 pub record History : Type 0 where
   pub page : TableId
   pub journal : Journal
 
--- what a viewer knows: the page, the number of reads that it has made of it, and the journal that
--- it has seen
+-- the knowledge of a viewer: the page, the number of its reads, and the journal that it has seen
 pub record Sight : Type 0 where
   pub page : TableId
   pub reads : ℕ
@@ -44,7 +43,7 @@ opened_by snapshot =
       entries = [];
     }
 
--- the snapshot is that of a journal without entries
+-- the snapshot belongs to a journal without entries
 abbrev pub IsOpening : Snapshot → Type 0
 IsOpening snapshot = snapshot ≡ snapshot_of (opened_by snapshot)
 

@@ -1,4 +1,4 @@
--- The rule of the page's cell: what its ten words are, whatever each pass to it knows.
+-- The rule of the page's cell: its ten words, and the knowledge of the passes to it.
 use Rattle.std.specs.Prelude.{◌≡◌, ℕ, ◌+◌, List, length, Bool, true, false, Some}
 use mathlib.Core.Option.{some}
 use lib.ListN.{get_elem?}
@@ -24,7 +24,7 @@ abbrev pub reads_of : View → ℕ
 reads_of (Viewing count seen) = count
 reads_of _ = 0
 
--- what a viewer saw, noted next to the publisher's journal
+-- the journal that a viewer saw, noted next to the publisher's journal
 abbrev pub noted_of : View → Journal
 noted_of (Comparing own noted) = noted
 noted_of _ = no_journal
@@ -41,7 +41,7 @@ pub record IsViewer (view : View) (counter : Counter) (front : ℕ) : Type 0 whe
   pub fronted : front ≡ length (journal_of view).entries
   pub whole : (journal_of view).opening.count ≡ 0
 
--- the words are those of a journal's snapshot, and the snapshot can be restored from them
+-- the words encode a journal's snapshot, and the snapshot can be restored from them
 pub record Shows (words : List ℕ) (journal : Journal) : Type 0 where
   pub value : words ≡ words_of (snapshot_of journal)
   pub back : restored journal.opening.counter words ≡ Some (snapshot_of journal)
@@ -56,8 +56,8 @@ Fits published seat by (Publishing own) = (by ≡ seat) × (own ≡ published)
 Fits published seat by (Comparing own noted) =
     (by ≡ seat) × (own ≡ published) × Begins noted published
 
--- the words are those of the snapshot of the journal published so far, and the knowledge of each
--- pass is true of it; if a pass is fresh, it is the only one
+-- the words encode the snapshot of the journal published so far, and the knowledge of every pass is
+-- true of it; if a pass is fresh, it is the only one
 pub record Kept (words : List ℕ) (views : List View) : Type 0 where
   pub published : Journal
   pub seat : ℕ
@@ -70,26 +70,26 @@ pub record Kept (words : List ℕ) (views : List View) : Type 0 where
 abbrev pub Opened : Journal → View → List ℕ → List ℕ → View → Type 0
 Opened journal view before after view' = view' ≡ Publishing journal
 
--- the publisher's journal has one more entry, and the noted journal begins what it was before
+-- the publisher's journal gets one more entry, and the noted journal begins its former journal
 abbrev pub Published : Entry → View → List ℕ → List ℕ → View → Type 0
 Published entry view before after view' =
     (view' ≡ Publishing (followed_by (journal_of view) entry))
     × Begins (noted_of view) (journal_of view)
 
--- one read more: the journal published so far is seen, and the words are those of its snapshot
+-- one more read: the journal published so far is seen, and the words encode its snapshot
 abbrev pub Seen : View → List ℕ → List ℕ → View → Type 0
 Seen view before after view' =
     (view' ≡ Viewing (reads_of view + 1) (journal_of view'))
     × Begins (journal_of view) (journal_of view') × Shows after (journal_of view')
 
--- the noted journal begins the publisher's, and the words are those of the snapshot of the
--- publisher's journal
+-- the noted journal begins the publisher's, and the words encode the snapshot of the publisher's
+-- journal
 abbrev pub Compared : View → List ℕ → List ℕ → View → Type 0
 Compared view before after view' =
     (view' ≡ Publishing (journal_of view)) × Begins (noted_of view) (journal_of view)
     × Shows after (journal_of view)
 
--- a viewer that knows as much, and has made no read itself
+-- a viewer with the same knowledge that has made no read itself
 abbrev pub copy_of : View → View
 copy_of view = Viewing 0 (journal_of view)
 

@@ -1,7 +1,8 @@
 //! The page's cell, and the calls on it.
 //!
-//! The calls of crossbeam_utils on a cell are generic in words, knowledge and rule. A proof takes 3
-//! to 20 s longer wherever one is, so they are called here alone, except to make the cell.
+//! The calls of crossbeam_utils on a cell are generic in words, knowledge and rule. A proof of a
+//! function that calls one takes 3 to 20 s longer, so they are called only here, except to make the
+//! cell.
 ghost use Rattle.std.specs.Prelude.{◌≡◌, []};
 ghost use Rattle.crossbeam_utils.specs.Register.{Forks, Merges, Turns};
 ghost use Rattle.crossbeam_utils.specs.Seq.{cell_view, IsSamePass};
@@ -24,7 +25,7 @@ pub type Cell = RuledSeqCell<Words, View, Law, 10>;
 /// The access to the cell that a publisher or a viewer holds. It has no bytes.
 pub type Pass = seq_cell::Pass<Words, View>;
 
-/// Stores these words. Waits for whoever holds the cell.
+/// Stores these words. Waits for the thread that holds the cell.
 #[inline]
 pub(crate) fn store<M: Outcome<Words, View>, R: Wait>(
     rt: &R,
@@ -40,7 +41,7 @@ pub(crate) fn store<M: Outcome<Words, View>, R: Wait>(
     cell.swap_as::<M, R>(rt, pass, words)
 }
 
-/// Returns the words. If its first try fails, it waits for whoever holds the cell.
+/// Returns the words. If its first try fails, it waits for the thread that holds the cell.
 #[inline(always)]
 pub(crate) fn load<M: Outcome<Words, View>, R: Wait>(rt: &R, cell: &Cell, pass: &mut Pass) -> Words
     requires cell { pass.old.table_id ≡ cell.now.table.shared.table_id }
@@ -51,7 +52,7 @@ pub(crate) fn load<M: Outcome<Words, View>, R: Wait>(rt: &R, cell: &Cell, pass: 
     cell.load_as::<M, R>(rt, pass)
 }
 
-/// Divides what a pass knows between it and a new pass.
+/// Divides the knowledge of a pass between it and a new pass.
 #[inline]
 pub(crate) fn split<M: Split<View>>(cell: &Cell, pass: &mut Pass) -> Pass
     requires cell { pass.old.table_id ≡ cell.now.table.shared.table_id }
@@ -65,7 +66,7 @@ pub(crate) fn split<M: Split<View>>(cell: &Cell, pass: &mut Pass) -> Pass
     cell.split_pass::<M>(pass)
 }
 
-/// Joins to a pass what a new pass knows.
+/// Adds the knowledge of a new pass to a pass.
 #[inline]
 pub(crate) fn join<M: Join<View>>(cell: &Cell, pass: &mut Pass, other: Pass)
     requires cell { pass.old.table_id ≡ cell.now.table.shared.table_id }

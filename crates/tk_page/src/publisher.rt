@@ -14,7 +14,7 @@ use std::marker::{Brand, Model};
 use std::sync::Wait;
 use tk_clock::{Entry, Snapshot};
 
-/// Adds entries to the journal of a page and publishes its snapshots. Each page has one publisher.
+/// Adds entries to the journal of a page and publishes its snapshots. A page has one publisher.
 ///
 /// Contracts see it as the page and the whole journal that was published on it.
 #[derive(Drop)]
@@ -40,10 +40,10 @@ impl Model for Publisher {
 }
 
 impl Publisher {
-    /// Adds `entry` to the journal and publishes `snapshot`, which is that of the longer journal.
+    /// Adds `entry` to the journal and publishes `snapshot`, the snapshot of the longer journal.
     ///
-    /// It allocates nothing. It waits for a viewer that holds the words after a failed try. After
-    /// 2^63 - 2 publications it waits for ever.
+    /// It waits for a viewer that holds the words after a failed try. After 2^63 - 2 publications
+    /// it waits for ever.
     pub fn publish<R: Wait>(&mut self, rt: &R, page: &Page, entry: Entry, snapshot: Snapshot)
         requires page { self.old.page ≡ page.now }
         requires snapshot { snapshot ≡ snapshot_of (followed_by self.old.journal entry) }
@@ -54,10 +54,10 @@ impl Publisher {
         publish_entry::<Brand, R>(rt, &page.cell, &mut self.pass, entry, &snapshot);
     }
 
-    /// Does what `publish` does, and gives a viewer the longer journal. The viewer's former journal
-    /// begins the publisher's. This is no read of the viewer's.
+    /// Publishes as `publish` does, and gives a viewer the longer journal. The viewer's former
+    /// journal begins the publisher's. It doesn't count as a read by the viewer.
     ///
-    /// It allocates nothing, and waits as `publish` does.
+    /// It waits as `publish` does.
     pub fn publish_for<R: Wait>(
         &mut self,
         rt: &R,
@@ -80,7 +80,7 @@ impl Publisher {
     }
 }
 
-/// Publishes an entry, when a viewer's journal is noted. The type `E` names the entry, so that the
+/// Publishes an entry after a viewer's journal is noted. The type `E` names the entry, so that the
 /// step's outcome can name it too.
 fn publish_entry<E: NamesEntry, R: Wait>(
     rt: &R,

@@ -1,11 +1,11 @@
-//! The rule of the page's cell, and the outcome of each step on it.
+//! The rule of the page's cell, and the outcomes of the steps on it.
 use crate::cell::Words;
 use crate::view::View;
 use atomic_table::{Join, Split};
 use crossbeam_utils::rule::{Outcome, Protocol};
 use std::marker::{Brand, PhantomData};
 
-/// States the rule of the cell: what is true of its words and passes between any two steps.
+/// States the rule of the cell: the facts about its words and passes between any two steps.
 pub struct Law;
 
 impl Protocol<Words, View> for Law {
@@ -17,7 +17,7 @@ impl Protocol<Words, View> for Law {
     ghost first = { Fresh };
 }
 
-/// Names the journal that a page is opened with.
+/// Names the journal with which a page is opened.
 pub trait NamesJournal {
     ghost use Rattle.tk_clock.specs.Journal.{Journal};
 
@@ -83,7 +83,7 @@ impl Outcome<Words, View> for Compares {
     ghost then = { Compared };
 }
 
-/// Gives a second pass, of a viewer, the same knowledge.
+/// Gives a second pass, a viewer's, the same knowledge.
 pub struct Copies;
 
 impl Split<View> for Copies {
@@ -94,7 +94,7 @@ impl Split<View> for Copies {
     ghost right = { copy_of };
 }
 
-/// Moves all that a pass knows to a second one.
+/// Moves the knowledge of a pass to a second one.
 pub struct Leaves;
 
 impl Split<View> for Leaves {

@@ -1,7 +1,7 @@
 //! The knowledge that the passes of a page's cell carry in proofs.
 use std::marker::Model;
 
-/// Represents a known journal. No value of it is made.
+/// Represents a known journal. No value of this type exists.
 pub struct Known;
 
 impl Model for Known {
@@ -13,11 +13,11 @@ impl Model for Known {
     ghost view = { λ _. no_journal };
 }
 
-/// Describes what a pass knows of the page. No value of it is made.
+/// Describes the knowledge of a pass. No value of this type exists.
 pub enum View {
     /// The pass knows nothing yet: the page is being opened.
     Fresh,
-    /// The pass knows nothing any more: its knowledge went to another pass.
+    /// The pass knows nothing: its knowledge went to another pass.
     Spent,
     /// The pass is a viewer's: the number of its reads, and the journal that it has seen.
     Viewing(u64, Known),

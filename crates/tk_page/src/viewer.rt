@@ -10,13 +10,13 @@ use std::sync::Wait;
 use tk_clock::Snapshot;
 use tk_counter::CounterDesc;
 
-/// Reads a page.
+/// Reads the snapshots of a page.
 ///
 /// Contracts see it as the page, the number of its reads, and the journal that it has seen.
 #[derive(Drop)]
 pub struct Viewer {
     pub(crate) pass: Pass,
-    /// The counter that the snapshots are of.
+    /// The counter of the snapshots.
     pub(crate) desc: CounterDesc,
     /// The number of entries that it has seen.
     pub(crate) front: u64,
@@ -41,11 +41,11 @@ impl Model for Viewer {
 }
 
 impl Viewer {
-    /// Returns the snapshot of the journal published so far, which is no shorter than any that
-    /// this viewer saw.
+    /// Returns the latest published snapshot. Its journal is no shorter than any that this viewer
+    /// saw.
     ///
-    /// It reads the page once, which clause `reads` states. It takes no keeper's lock and allocates
-    /// nothing. If its first try fails, it waits for whoever holds the words.
+    /// It reads the page once, as clause `reads` states. If its first try fails, it waits for the
+    /// thread that holds the words.
     #[inline(always)]
     pub fn read<R: Wait>(&mut self, rt: &R, page: &Page) -> Snapshot
         requires page { self.old.page ≡ page.now }
@@ -62,7 +62,7 @@ impl Viewer {
 
     /// Returns the number of entries that this viewer has seen: the front of its latest snapshot.
     ///
-    /// No entry was folded before the first one. The call never waits and allocates nothing.
+    /// No entry was folded before the first one.
     pub fn front(&self) -> u64
         ensures value { result ≡ length self.now.journal.entries }
         ensures whole { self.now.journal.opening.count ≡ 0 }
@@ -71,7 +71,7 @@ impl Viewer {
     }
 
     /// Returns two viewers that have both seen what this one saw. The first keeps the count of
-    /// reads, the second starts at 0. It never waits and allocates nothing.
+    /// reads, and the second starts at 0.
     pub fn split(self, page: &Page) -> (Viewer, Viewer)
         requires page { self.page ≡ page.now }
         ensures first { result.0 ≡ self }
@@ -96,8 +96,6 @@ impl Viewer {
 
     /// Joins two viewers of one page: the result has seen the longer of their journals, and counts
     /// the reads of both.
-    ///
-    /// It never waits and allocates nothing.
     pub fn join(self, other: Viewer, page: &Page) -> Viewer
         requires page { self.page ≡ page.now }
         requires other { other.page ≡ page.now }
@@ -112,8 +110,8 @@ impl Viewer {
             front,
         } = self;
         let mut left = other.pass;
-        // Steps 5 and 6: a pass that has read can't itself be joined, so a new pass gets what it
-        // knows first.
+        // Steps 5 and 6: a pass that has read can't itself be joined, so a new pass gets its
+        // knowledge first.
         let whole = split::<Leaves>(&page.cell, &mut left);
         join::<KeepsLonger>(&page.cell, &mut pass, whole);
         Viewer {

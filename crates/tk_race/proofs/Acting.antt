@@ -12,7 +12,7 @@ use Rattle.tk_race.specs.Actor.{IsAnswer, IsHistoryOf, IsLater, HasActed, Knows,
 use Rattle.tk_race.specs.Replies.{AreReplies, IsReply, front_after, mark_after, done_by, reads_by, times_by}
 use Rattle.tk_page.proofs.Beginnings.{begins-trans}
 
--- a history of what a caller knows is one of what it knew before
+-- a history for the knowledge of a caller is also one for its former knowledge
 history_before : (now next : Known) (done looks times : ℕ) (history : Journal) →
     IsLater now next done looks times →
     IsHistoryOf next history → IsHistoryOf now history

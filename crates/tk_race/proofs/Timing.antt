@@ -99,7 +99,7 @@ answered answers counter old new clock (Err refusal) read asked = record {
   right = right_by answers counter old new clock (Err refusal) read asked;
 }
 
--- the reply to a time now is right, be it a time or a refusal
+-- the reply to a time now is right, whether it is a time or a refusal
 pub timed : {S : Type 0} (answers : S → ℕ → ℕ → Type 0) (counter : S) (old new : Known)
     (clock : ClockId) (result : Result Timespec ReadError) (read : ℕ) → Begins old.seen new.seen →
     KnowsMore old new →

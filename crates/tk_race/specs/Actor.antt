@@ -13,8 +13,7 @@ use Rattle.tk_race.specs.declared.action.RaceReply.{RaceReply}
 use Rattle.tk_race.specs.declared.action.RaceReply.TheVariants.{Glanced, Moved}
 use Rattle.tk_race.specs.Replies.{IsReply, AreReplies, front_after, mark_after, done_by, done_in, reads_by, reads_in, times_by, times_in}
 
--- an actor: the knowledge of its caller, its replies so far, and the number of replies that it has
--- capacity for
+-- an actor: the knowledge of its caller, its replies so far, and its capacity in replies
 pub record Actor : Type 0 where
   pub caller : Known
   pub replies : List RaceReply
@@ -82,14 +81,15 @@ pub record HasActed (old new : Known) (actions : List Action) (replies : List Ra
       AreReplies history old.id 0 0 actions replies
       × Knows new (last_front 0 replies) (last_mark 0 replies)
 
--- each of these actors has done all of its actions
+-- all these actors have done all of their actions
 abbrev pub HaveActed : List (List Action) → List Actor → List Actor → Type 0
 HaveActed [] [] [] = Unit {0}
 HaveActed (actions ∷ others) (old ∷ olds) (new ∷ news) =
     HasActed old.caller new.caller actions new.replies × HaveActed others olds news
 HaveActed _ _ _ = ⊥
 
--- callers that knew `before` have done their actions, and know `after`; each has its list of replies
+-- callers that knew `before` have done their actions, and know `after`; every caller has its list
+-- of replies
 pub record HaveDone (actions : List (List Action)) (before after : List Known)
     (replies : List (List RaceReply)) : Type 0 where
   pub olds : List Actor

@@ -12,7 +12,7 @@ use Rattle.tk_race.specs.declared.action.Action.TheVariants.{Order}
 use Rattle.tk_race.specs.declared.action.RaceReply.{RaceReply}
 use Rattle.tk_race.specs.Replies.{IsActed, done_in}
 
--- how many orders there are among these actions
+-- the number of orders among these actions
 abbrev pub order_by : Action → ℕ
 order_by (Order cmd) = 1
 order_by _ = 0
@@ -20,7 +20,7 @@ order_by _ = 0
 abbrev pub orders_in : List Action → ℕ
 orders_in actions = sum_by order_by actions
 
--- one list of replies for each actor, the actors being numbered on from this id
+-- one list of replies for each actor; the actors are numbered from this id
 abbrev pub HaveAll : Journal → ℕ → List (List Action) → List (List RaceReply) → Type 0
 HaveAll history id [] [] = Unit {0}
 HaveAll history id (actions ∷ others) (replies ∷ more) =
@@ -39,7 +39,7 @@ pub record IsOutcome (start : Journal) (actors : List (List Action)) (journal : 
   pub each : HaveAll history 0 actors replies
   pub counted : accepted_count journal ≡ sum_by done_in replies
 
--- the outcome of a race on clocks that were opened over this counter, at some reading of it, with
+-- the outcome of a race on clocks that were opened with this counter, at some reading of it, with
 -- this REALTIME
 abbrev pub IsRaced : Counter → Timespec → List (List Action) → Journal → List (List RaceReply) →
     Type 0

@@ -9,7 +9,7 @@ use Rattle.tk_shared.specs.Opening.{most_callers}
 use Rattle.tk_race.specs.declared.race_error.RaceError.{RaceError}
 use Rattle.tk_race.specs.declared.race_error.RaceError.TheVariants.{Count, Invalid, Memory, Threads}
 
--- the greatest number of actors of a race: each is a caller of the keeper
+-- the greatest number of actors of a race: every actor is a caller of the keeper
 abbrev pub most_actors : ℕ
 most_actors = most_callers
 
@@ -27,7 +27,7 @@ IsRaceError actors counter reading real Memory = race_error actors counter readi
 IsRaceError actors counter reading real Threads = race_error actors counter reading real ≡ None
 IsRaceError actors counter reading real error = race_error actors counter reading real ≡ Some error
 
--- the error that a fault of the keeper's opening becomes
+-- the error for a fault of the keeper's opening
 abbrev pub error_of : OpenError → RaceError
 error_of faults.Count = Count
 error_of faults.Invalid = Invalid

@@ -1,4 +1,4 @@
--- What an actor's replies state about the history, which lists every accepted command.
+-- The statements of an actor's replies about the history, which lists every accepted command.
 use Rattle.std.specs.Prelude.{◌≡◌, ℕ, ◌*◌, ◌/◌, ◌<◌, ◌≤◌, List, [], ◌∷◌, length, sum_by, Ok, Err, Result, Some}
 use Rattle.tk_counter.specs.Counter.{mask}
 use Rattle.tk_clock.specs.declared.command.Command.{Command}
@@ -95,7 +95,7 @@ done_by _ = 0
 abbrev pub done_in : List RaceReply → ℕ
 done_in replies = sum_by done_by replies
 
--- how many times the page was read, by these replies
+-- the number of reads of the page, by these replies
 abbrev pub reads_by : RaceReply → ℕ
 reads_by (Saw read) = 1
 reads_by _ = 0
@@ -103,7 +103,7 @@ reads_by _ = 0
 abbrev pub reads_in : List RaceReply → ℕ
 reads_in replies = sum_by reads_by replies
 
--- how many times the time now was asked for, by these replies
+-- the number of requests for the time now, by these replies
 abbrev pub times_by : RaceReply → ℕ
 times_by (Timed read time) = 1
 times_by (Untimed read refusal) = 1
@@ -112,7 +112,8 @@ times_by _ = 0
 abbrev pub times_in : List RaceReply → ℕ
 times_in replies = sum_by times_by replies
 
--- an actor's part: its replies are right, and it has as many entries as orders that were done
+-- an actor's part: its replies are right, and the number of its entries is the number of its done
+-- orders
 pub record IsActed (history : Journal) (id : ℕ) (actions : List Action) (replies : List RaceReply)
     : Type 0 where
   pub right : AreReplies history id 0 0 actions replies

@@ -3,15 +3,15 @@ use tk_clock::{ClockId, Command, ReadError, Refusal, Timespec};
 /// Describes one action of an actor.
 #[derive(Clone, Copy, Debug, PartialEq, Eq)]
 pub enum Action {
-    /// Gives a command, at the reading that the counter has then. It may wait for the lock and for
-    /// readers of the page.
+    /// Gives a command, at the counter's next reading. It may wait for the lock and for readers of
+    /// the page.
     Order(Command),
-    /// Reads the page. It may wait for whoever holds its words.
+    /// Reads the page. It may wait for a thread that holds its words.
     Look,
-    /// Reads the latch. It waits for nobody.
+    /// Reads the latch. It never waits.
     Glance,
-    /// Asks for a clock's time now, by the page. It takes a reading of the counter, and may wait for
-    /// whoever holds the words of the page.
+    /// Asks for a clock's time now, by the page. It takes a reading of the counter, and may wait
+    /// for a thread that holds the words of the page.
     Now(ClockId),
 }
 
@@ -22,9 +22,9 @@ pub enum RaceReply {
     Done(u64),
     /// The order was refused.
     Refused(Refusal),
-    /// The look found a snapshot. This many commands were accepted before it.
+    /// The look found a snapshot. The value is the number of commands accepted before it.
     Saw(u64),
-    /// The glance found a snapshot. This many commands were accepted before it.
+    /// The glance found a snapshot. The value is the number of commands accepted before it.
     Glanced(u64),
     /// The glance read nothing, because a publication was begun or made between its two loads of
     /// the latch's sequence number: twice the number of publications that were made, plus 1 while
@@ -40,7 +40,7 @@ pub enum RaceReply {
         front: u64,
         time: Timespec,
     },
-    /// The clock refuses the reading, which came after this many accepted commands.
+    /// The clock refuses the reading, and the number of commands that were accepted before it.
     Untimed {
         front: u64,
         refusal: ReadError,

@@ -1,4 +1,4 @@
-//! An actor, and its work in its thread.
+//! Actors, and their work in their threads.
 ghost use Rattle.std.specs.Prelude.{◌≡◌, ◌≤◌, [], length};
 ghost use Rattle.tk_race.specs.Actor.{IsAnswer, IsFound, HasActed, IsReady};
 
@@ -31,7 +31,7 @@ impl<L: Named> Model for Actor<L> {
     } };
 }
 
-/// The keeper of a race, over a counter that orders and times read.
+/// The keeper of a race, with a counter that orders and times read.
 pub(crate) type RaceKeeper<'c, L> = SharedKeeper<L, SharedReader<'c, SharedTicker>>;
 
 /// Does an action and returns the reply to it.

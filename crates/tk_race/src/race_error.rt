@@ -7,16 +7,16 @@ use std::error::Error;
 use std::fmt;
 use tk_shared::OpenError;
 
-/// Says why a race gives no report: the first variant, in this order, that applies.
+/// Says why a race returns no report: the first variant that applies, in this order.
 #[derive(Clone, Copy, Debug, PartialEq, Eq)]
 pub enum RaceError {
-    /// There are fewer actors than 1 or more than 64.
+    /// The number of actors is below 1 or above 64.
     Count,
     /// The reading is above the mask, or REALTIME may not be set to the requested time.
     Invalid,
     /// An allocation failed, before any thread was started.
     Memory,
-    /// A thread couldn't be started. Those that were started have ended.
+    /// A thread couldn't be started. The threads that were started have ended.
     Threads,
 }
 

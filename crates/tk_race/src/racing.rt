@@ -20,8 +20,8 @@ use tk_now::SharedTicker;
 use tk_pieces::Gate;
 use tk_shared::{CALLERS_LIMIT, Caller, Named, Prepared, SharedKeeper, SharedReader, prepare};
 
-/// Runs a race: each actor does its actions in its own thread, all on one keeper. Returns the
-/// keeper and the replies, which are those of `SharedKeeper`'s `command`, `read`, `fast_read` and
+/// Runs a race: all actors do their actions in separate threads, on one keeper. Returns the keeper
+/// and the replies, which are the results of `SharedKeeper`'s `command`, `read`, `fast_read` and
 /// `now`.
 ///
 /// The counter reads `reading` at the opening, and `step` cycles more, modulo 2^64, in each order and
@@ -34,10 +34,10 @@ use tk_shared::{CALLERS_LIMIT, Caller, Named, Prepared, SharedKeeper, SharedRead
 ///
 /// # Errors
 ///
-/// - `Count` if there are fewer actors than 1 or more than 64.
+/// - `Count` if the number of actors is below 1 or above 64.
 /// - `Invalid` if `reading` is above the mask, or REALTIME may not be set to `real`.
 /// - `Memory` if an allocation fails. No thread was started.
-/// - `Threads` if a thread can't be started. Those that were started have ended.
+/// - `Threads` if a thread can't be started. The threads that were started have ended.
 pub fn race<G: Gate + Sync, R: Threads + Wait + Sync>(
     alloc: Global,
     rt: &R,
@@ -94,7 +94,7 @@ fn orders_of(actions: &[Action]) -> usize
 
 /// Opens the keeper, lets all actors act, and closes it.
 ///
-/// The keeper has capacity for every order, or for as many as a journal lists.
+/// The keeper has capacity for all orders, at most for the number that a journal lists.
 fn raced<L: Named + Send + Sync, G: Gate + Sync, R: Threads + Wait + Sync>(
     alloc: Global,
     rt: &R,
@@ -126,7 +126,7 @@ fn raced<L: Named + Send + Sync, G: Gate + Sync, R: Threads + Wait + Sync>(
     })
 }
 
-/// Lets the callers act, each in its own thread. Returns them and their replies.
+/// Lets the callers act in separate threads. Returns them and their replies.
 ///
 /// All memory is allocated before the first thread is started.
 fn act_all<L: Named + Send + Sync, G: Gate + Sync, R: Threads + Wait + Sync>(
@@ -152,7 +152,7 @@ fn act_all<L: Named + Send + Sync, G: Gate + Sync, R: Threads + Wait + Sync>(
     Ok((back, replies))
 }
 
-/// Makes an actor for each caller, with room for its replies.
+/// Makes an actor for each caller, with capacity for its replies.
 fn ready<L: Named>(
     alloc: Global,
     actions: &[Vec<Action>],
@@ -171,7 +171,7 @@ fn ready<L: Named>(
     Ok(actors)
 }
 
-/// Moves the callers of these actors, and their replies, into vectors that have room for them.
+/// Moves the callers of these actors, and their replies, into vectors with capacity for them.
 fn part<L: Named>(
     actors: Vec<Actor<L>>,
     callers: &mut Vec<Caller<L>>,

@@ -6,7 +6,6 @@ use tk_keeper::Timekeeper;
 pub struct RaceReport {
     /// The clocks, with the journal of all accepted orders.
     pub keeper: Timekeeper,
-    /// The replies to the actions of each actor: one list per actor, each in the order of the
-    /// actions.
+    /// The replies to the actions: one list per actor, in the order of its actions.
     pub replies: Vec<Vec<RaceReply>>,
 }

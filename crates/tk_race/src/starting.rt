@@ -1,4 +1,4 @@
-//! Starting each actor in its own thread.
+//! Starts actors in separate threads.
 ghost use Rattle.std.specs.Prelude.{◌≡◌, length, map, IfOk, vec_len, vec_capacity, MatchResult};
 ghost use Rattle.tk_race.specs.Actor.{HasActed, IsReady, HaveActed, AreReady};
 
@@ -13,8 +13,7 @@ use tk_now::SharedTicker;
 use tk_pieces::Gate;
 use tk_shared::{Caller, Named};
 
-/// States what an actor's thread promises: that it has done these actions, starting from this
-/// caller.
+/// States the promise of an actor's thread: it has done these actions, starting with this caller.
 #[derive(Drop)]
 struct Acts<L: Named> {
     caller: Snapshot<Caller<L>>,
@@ -59,8 +58,8 @@ fn start<'s, 'c: 'e, 'e, L: Named + Send + Sync + 'e, G: Gate + Sync, R: Threads
     }
 }
 
-/// Starts a thread for each actor, the last one first, and joins them all. It allocates no list:
-/// the actors that come back are in the list that was passed.
+/// Starts a thread for each actor, the last one first, and joins them all. The actors that come
+/// back are in the list that was passed.
 fn start_all<'s, 'c: 'e, 'e, L: Named + Send + Sync + 'e, G: Gate + Sync, R: Threads + Wait + Sync>(
     scope: &'s Scope<'s, &'e ()>,
     rt: &'e R,
@@ -86,9 +85,9 @@ fn start_all<'s, 'c: 'e, 'e, L: Named + Send + Sync + 'e, G: Gate + Sync, R: Thr
     Ok(back)
 }
 
-/// Lets all actors act at once, each in its own thread, until all are done.
+/// Lets all actors act at once, in separate threads, until all are done.
 ///
-/// Returns `Threads` if a thread couldn't be started. Those that were started have ended then too.
+/// Returns `Threads` if a thread couldn't be started. The threads that were started have ended.
 pub(crate) fn act_at_once<L: Named + Send + Sync, G: Gate + Sync, R: Threads + Wait + Sync>(
     rt: &R,
     keeper: &RaceKeeper<'_, L>,

@@ -1,4 +1,4 @@
--- Where the callers have different numbers, none has more entries than were accepted.
+-- If the callers have different numbers, none has more entries than were accepted.
 use Rattle.std.proofs.Common.{◌≡◌, ◌≢◌, ℕ, zero, suc, ◌+◌, ◌≤◌, ◌==◌, Bool, true, false, cond, List, [], ◌∷◌, ◌++◌, All, length, ap, sym, ◌∙◌, arith, refl, ne_eqb}
 use Rattle.std.proofs.lemmas.Bool.{eq-eqb}
 use Rattle.std.proofs.lemmas.List.Sums.{sum_by-append}
@@ -45,7 +45,7 @@ made_at_most id entry = go (entry.who == id)
 made_by_other : (id : ℕ) (entry : Entry) → entry.who ≢ id → made_by id (entry ∷ []) ≡ 0
 made_by_other id entry other = ap (λ (b : Bool). 0 + cond b 1 0) (ne_eqb entry.who id other)
 
--- how many of the entries these callers made together
+-- the number of entries that these callers made together
 made_together : List Known → List Entry → ℕ
 made_together [] entries = 0
 made_together (caller ∷ callers) entries =
@@ -66,7 +66,7 @@ together-cons (caller ∷ callers) entry entries =
     let rest = together-cons callers entry entries in
     omega (arith, first, rest)
 
--- an entry of one caller is none of the others'
+-- an entry of one caller isn't an entry of another one
 together_apart : (id : ℕ) (callers : List Known) (entry : Entry) → entry.who ≡ id →
     IsApart id callers → made_together callers (entry ∷ []) ≡ 0
 unfolding made_together

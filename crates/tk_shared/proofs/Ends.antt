@@ -1,4 +1,4 @@
--- What is known once all callers are back.
+-- The facts that hold after all callers are back.
 use Rattle.std.proofs.Common.{◌≡◌, ◌≤◌, List, All, length, sym, ◌∙◌}
 use mathlib.Core.List.{IsPrefix}
 use Rattle.atomic_table.specs.Seated.{TableId}

@@ -1,4 +1,4 @@
--- What lies under the lock, after each call.
+-- The values under the lock after every call.
 use Rattle.std.proofs.Common.{◌≡◌, ℕ, ◌+◌, ◌-◌, ◌≤◌, [], ◌∷◌, ◌++◌, length, arith}
 use Rattle.std.specs.Prelude.{None, max}
 use Rattle.std.proofs.lemmas.Bool.Decides.{nat_tests}

@@ -1,4 +1,4 @@
--- What a timekeeper keeps of a whole history.
+-- The part of a whole history that a timekeeper keeps.
 use Rattle.std.proofs.Common.{◌≡◌, ℕ, ◌≤◌, [], ◌∷◌, length, ap, ◌∙◌, arith, length-drop, length-append}
 use Rattle.tk_clock.specs.declared.command.Entry.{Entry}
 use Rattle.tk_clock.specs.Folding.{folded_by}
@@ -45,14 +45,14 @@ kept_folded history kept more whole is few =
           ∙ folded_by-folded history kept.opening.count more whole.accepted;
     }
 
--- the clocks are those of the whole history
+-- the clocks are the whole history's
 pub kept_snapshot : (history kept : Journal) → IsWhole history → IsKeptOf history kept →
     snapshot_of kept ≡ snapshot_of history
 kept_snapshot history kept whole is =
     ap snapshot_of is.folded
     ∙ snapshot_of-folded history kept.opening.count is.within whole.accepted
 
--- and an entry is refused as after the whole history, want of room apart
+-- and an entry is refused as after the whole history, except for a full journal
 pub kept_refusal : (history kept : Journal) → IsWhole history → IsKeptOf history kept →
     (entry : Entry) → clock_refusal kept entry ≡ clock_refusal history entry
 kept_refusal history kept whole is entry =

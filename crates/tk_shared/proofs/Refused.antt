@@ -14,7 +14,7 @@ use Rattle.tk_shared.specs.History.{IsKeptOf}
 use Rattle.tk_clock.proofs.Refusals.{clock_refusal-stated, is_full-refused, passes_clock}
 use Rattle.tk_shared.proofs.Kept.{kept_count, kept_refusal}
 
--- a journal that is full was preceded by as many entries as one lists
+-- a full journal was preceded by the number of entries that a journal lists
 full_long : (listed counted all : ℕ) → listed ≤ all → counted ≡ all →
     nat_le listed_most listed || nat_le counted_most counted ≡ true → listed_most ≤ all
 full_long listed counted all few same full = grind (arith, nat_tests)

@@ -1,4 +1,4 @@
--- What a command shows its caller.
+-- The knowledge that a command gives its caller.
 use Rattle.std.proofs.Common.{◌≡◌, ℕ, ◌+◌, ◌%◌, ◌^◌, List, [], ◌∷◌, length, refl, ◌∙◌, ap, arith, bit_and, subst, sym}
 use Rattle.std.specs.Prelude.{None}
 use Rattle.std.proofs.lemmas.List.{length_push}
@@ -33,7 +33,7 @@ module _ (page : TableId) (latch : LatchId) (held : Held) (is : IsHeld page latc
   pub low_bits : reading ≡ answer % 2 ^ held.shown.journal.opening.counter.bits
   low_bits = ap (bit_and answer) is.masked ∙ and_mask answer held.shown.journal.opening.counter.bits
 
-  -- the history gives the reason of the refusal
+  -- the reason of the refusal follows from the history
   pub reason : (refusal : Refusal) → IsRefusal held.kept (entry_of old reading cmd) refusal →
       IsRefusalAfter held.shown.journal (entry_of old reading cmd) refusal
   reason refusal told = refused_after held.shown.journal held.kept (entry_of old reading cmd) refusal
@@ -53,7 +53,7 @@ module _ (page : TableId) (latch : LatchId) (held : Held) (is : IsHeld page latc
     watched = refl;
   }
 
-  -- what the caller knows, where its command was accepted
+  -- the knowledge of the caller if its command was accepted
   abbrev pub told : Watched → Known
   told watched =
       let now = with_entry held (entry_of old reading cmd) in

@@ -1,4 +1,4 @@
--- What a caller knows, and what a command adds to that.
+-- The knowledge of a caller, and the knowledge that a command adds.
 use Rattle.std.specs.Prelude.{◌≡◌, ℕ, zero, suc, ◌+◌, ◌<◌, ◌≤◌, ◌==◌, List, [], ◌∷◌, ◌++◌, length, count_by, Some, None}
 use mathlib.Core.List.{IsPrefix}
 use Rattle.tk_counter.specs.Counter.{mask}
@@ -21,9 +21,9 @@ use Rattle.tk_now.specs.Views.{Watched, opened_announcer, opened_watcher}
 use Rattle.tk_latch.specs.Latch.{LatchId, Learnt, mark_of, opened_reader}
 use Rattle.tk_shared.specs.History.{AreSnapshots}
 
--- a caller: its number, how many of its commands were accepted, how many times it has read the
--- page, the history as far as it has seen it, what it has learnt from the latch, and the readings
--- that it knows of from the notice
+-- a caller: its number, the number of its accepted commands, the number of its reads of the page,
+-- the history as far as it has seen it, the publications of the latch that it knows, and the
+-- readings that it knows of from the notice
 pub record Known : Type 0 where
   pub id : ℕ
   pub accepted : ℕ
@@ -32,7 +32,7 @@ pub record Known : Type 0 where
   pub learnt : Learnt
   pub watched : Watched
 
--- a caller, by its number, its count of accepted commands, and what it knows from the page, the
+-- a caller, by its number, its count of accepted commands, and its knowledge from the page, the
 -- latch and the notice
 abbrev pub known_of : ℕ → ℕ → Sight → Learnt → Watched → Known
 known_of id accepted sight learnt watched = record {
@@ -44,7 +44,7 @@ known_of id accepted sight learnt watched = record {
   watched = watched;
 }
 
--- how many of these entries a caller made
+-- the number of these entries that a caller made
 abbrev pub made_by : ℕ → List Entry → ℕ
 made_by id entries = count_by (λ entry. entry.who == id) entries
 
@@ -52,14 +52,14 @@ made_by id entries = count_by (λ entry. entry.who == id) entries
 abbrev pub entry_of : Known → ℕ → Command → Entry
 entry_of caller reading cmd = record { who = caller.id; reading = reading; cmd = cmd }
 
--- a command changes neither the number of a caller, nor the opening of what it has seen, nor the
--- number of its reads
+-- a command changes neither the number of a caller, nor the opening of the history that it has
+-- seen, nor the number of its reads
 abbrev pub IsSameCaller : Known → Known → Type 0
 IsSameCaller old new =
     (new.id ≡ old.id) × (new.seen.opening ≡ old.seen.opening) × (new.reads ≡ old.reads)
 
--- a caller whose command was accepted under this number: the history that it has seen now is that
--- of before with this one entry more
+-- a caller whose command was accepted with this number: the history that it has seen is the history
+-- before the command with this one entry more
 pub record IsAccepted (old new : Known) (cmd : Command) (answer : ℕ) : Type 0 where
   pub before : Journal
   pub reading : ℕ
@@ -68,25 +68,27 @@ pub record IsAccepted (old new : Known) (cmd : Command) (answer : ℕ) : Type 0 
   pub whole : IsWhole new.seen
   pub counted : new.accepted ≡ old.accepted + 1
   -- MONOTONIC at the reading is the same before and after, and no shorter history, read in its
-  -- life, gives more than this one does at any reading
+  -- life, gives more than this one at any reading
   pub agrees : monotonic before reading ≡ monotonic new.seen reading
   pub rises : NeverFalls new.seen
-  -- the number is how many entries there are, more than it knew of from page or latch
+  -- the number is the number of entries, and greater than the number that it knew of from page or
+  -- latch
   pub number : answer ≡ length new.seen.entries
   pub newer : length old.seen.entries < answer
   pub beyond : mark_of old.learnt.publications < answer
   pub mark : mark_of new.learnt.publications ≡ answer
   pub learnt : IsPrefix old.learnt.publications new.learnt.publications
   pub snapshots : AreSnapshots new.seen new.learnt.publications
-  -- it knows the readings of all commands, in order; those that it knew are the first of them
+  -- it knows the readings of all commands, in order; the readings that it knew are the first of
+  -- them
   pub readings : AreReadings new.seen new.watched.commands
   pub order : AreInOrder new.watched.commands
   pub life : AreInLife new.watched.commands new.watched.log
   pub commands : IsPrefix old.watched.commands new.watched.commands
   pub log : IsPrefix old.watched.log new.watched.log
 
--- why an entry is refused after a whole history: Full where that has more entries than a journal
--- lists or counts, Memory only where nothing else is wrong
+-- why an entry is refused after a whole history: Full only if the history contains at least the
+-- number of entries that a journal lists, Memory only if there is no other reason
 abbrev pub IsRefusalAfter : Journal → Entry → Refusal → Type 0
 IsRefusalAfter history entry Full = listed_most ≤ length history.entries
 IsRefusalAfter history entry Memory = clock_refusal history entry ≡ None

@@ -1,4 +1,4 @@
--- What closing guarantees, once all callers are back.
+-- The guarantees of closing, after all callers are back.
 use Rattle.std.specs.Prelude.{◌≡◌, ◌≢◌, ◌⊎◌, ℕ, ◌≤◌, List, [], ◌∷◌, All, Some, slice_get, sum_by}
 use Rattle.tk_clock.specs.Journal.{Journal, accepted_count}
 use Rattle.tk_clock.specs.Legal.{IsWhole}
@@ -11,7 +11,7 @@ use mathlib.Core.List.{IsPrefix}
 use Rattle.tk_shared.specs.Callers.{Known, made_by}
 use Rattle.tk_shared.specs.History.{IsKeptOf, AreSnapshots}
 
--- how many commands of these callers were accepted together
+-- the number of accepted commands of all these callers
 abbrev pub accepted_by : List Known → ℕ
 accepted_by callers = sum_by (λ caller. caller.accepted) callers
 
@@ -25,16 +25,16 @@ abbrev pub AreDifferent : List Known → Type 0
 AreDifferent [] = Unit {0}
 AreDifferent (caller ∷ callers) = IsApart caller.id callers × AreDifferent callers
 
--- a caller's part in a whole history: what it has seen begins it, each publication that it has
--- learnt of is the snapshot of the first entries of it, and it made at least as many of the
--- entries that it has seen as it counts accepted commands
+-- a caller's part in a whole history: the history that it has seen begins it, all publications that
+-- it has learnt of are snapshots of its first entries, and the caller made at least as many of the
+-- seen entries as it counts accepted commands
 pub record IsPartOf (history : Journal) (caller : Known) : Type 0 where
   pub begins : Begins caller.seen history
   pub learnt : AreSnapshots history caller.learnt.publications
   pub own : caller.accepted ≤ made_by caller.id caller.seen.entries
 
--- what a caller knows from the notice: the readings of the first of these commands, and readings
--- each of which is in its life among all of them
+-- a caller's knowledge from the notice: the readings of the first of these commands, and readings
+-- that are in their lives among all of them
 pub record HasWatched (commands : List Taken) (caller : Known) : Type 0 where
   pub begins : IsPrefix caller.watched.commands commands
   pub life : AreInLife commands caller.watched.log

@@ -4,8 +4,8 @@ use Rattle.tk_clock.specs.Folding.{folded_by}
 use Rattle.tk_clock.specs.Journal.{Journal, prefix}
 use Rattle.tk_clock.specs.Snapshot.{Snapshot, snapshot_of}
 
--- what a timekeeper's journal keeps of a history: the first entries are folded into its opening,
--- and the others are its own
+-- the journal that a timekeeper keeps of a history: the first entries are folded into its opening,
+-- and it lists the others
 pub record IsKeptOf (history kept : Journal) : Type 0 where
   pub within : kept.opening.count ≤ length history.entries
   pub folded : kept ≡ folded_by kept.opening.count history

@@ -1,4 +1,4 @@
--- What is true whenever the lock is free.
+-- The facts that hold whenever the lock is free.
 use Rattle.std.specs.Prelude.{◌≡◌, ℕ, ◌+◌, length, None}
 use Rattle.atomic_table.specs.Seated.{TableId}
 use Rattle.tk_counter.specs.Counter.{mask as greatest_reading}
@@ -11,14 +11,14 @@ use Rattle.tk_now.specs.Moments.{AreInOrder}
 use Rattle.tk_now.specs.Views.{Announcing}
 use Rattle.tk_shared.specs.History.{IsKeptOf, AreSnapshots}
 
--- the value behind the lock, as contracts see it: the history, which is every command that was
--- accepted, and the keeper's journal, into whose opening the first of them may be folded
+-- the value under the lock, as contracts see it: the history of all accepted commands, and the
+-- keeper's journal, into whose opening the first of them may be folded
 pub record Guarded : Type 0 where
   pub history : Journal
   pub journal : Journal
 
--- all that lies under the lock: the journal of the keeper, what was published on the page and on the
--- latch, the greatest reading of the counter, and how many commands the book counts
+-- all values under the lock: the journal of the keeper, the publications on the page and on the
+-- latch, the greatest reading of the counter, and the number of commands that the book counts
 pub record Held : Type 0 where
   pub kept : Journal
   pub shown : History
@@ -30,9 +30,8 @@ abbrev pub held_of : Journal → History → Published → ℕ → ℕ → Held
 held_of kept shown latched mask total =
     record { kept = kept; shown = shown; latched = latched; mask = mask; total = total }
 
--- the history that was published on the page is whole; the keeper's journal is what it keeps of
--- that; on the latch, publication k is the snapshot of its first k entries; and the book counts
--- each entry once
+-- the history that was published on the page is whole; the keeper's journal keeps it; on the latch,
+-- publication k is the snapshot of its first k entries; and the book counts every entry once
 pub record IsHeld (named_page : TableId) (named_latch : LatchId) (held : Held) : Type 0 where
   pub page : held.shown.page ≡ named_page
   pub latch : held.latched.latch ≡ named_latch
@@ -44,8 +43,7 @@ pub record IsHeld (named_page : TableId) (named_latch : LatchId) (held : Held) :
   pub masked : held.mask ≡ greatest_reading held.shown.journal.opening.counter
   pub counted : held.total ≡ length held.shown.journal.entries
 
--- no command is in progress, and the readings that the notice lists of commands are those of the
--- history, in order
+-- no command is in progress, and the commands' readings in the notice are the history's, in order
 pub record IsAtRest (named_notice : TableId) (history : Journal) (announcer : Announcing)
     : Type 0 where
   pub notice : announcer.notice ≡ named_notice

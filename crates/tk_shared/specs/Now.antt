@@ -24,10 +24,10 @@ IsTimeAt base clock reading time = (read_refusal base clock reading ≡ None)
 
 module _ {S : Type 0} (answers : S → ℕ → ℕ → Type 0) (counter : S) (learnt learnt' : Learnt)
     (watched watched' : Watched) where
-  -- this call read a whole publication from the latch. Then, between two looks that found no command
-  -- in progress, it took a reading, whose place is the publication's number. The reading is used
-  -- modulo 2^bits. Each reading that the watcher knows of is in its life among the commands that it
-  -- knows of
+  -- this call read a whole publication from the latch. Then, between two loads of the notice that
+  -- found no command in progress, it took a reading, whose place is the publication's number. The
+  -- reading is used modulo 2^bits. All readings that the watcher knows of are in their lives among
+  -- the commands that it knows of
   pub record IsTaken (snapshot : Snapshot) (reading : ℕ) : Type 0 where
     pub read : IsRead learnt learnt' snapshot
     pub answer : ℕ
@@ -42,8 +42,8 @@ module _ {S : Type 0} (answers : S → ℕ → ℕ → Type 0) (counter : S) (le
       (snapshot : Snapshot) × (reading : ℕ) × IsTaken snapshot reading
       × IsTimeAt snapshot.base clock reading time
 
-  -- why there is no time: the clock's first refusal at such a reading, or what the loads of this
-  -- call found
+  -- why there is no time: the clock's first refusal at such a reading, or the numbers that the
+  -- loads of this call found
   abbrev pub IsNoTimeBy : ClockId → NowFault → Type 0
   IsNoTimeBy clock (Refused refusal) =
       (snapshot : Snapshot) × (reading : ℕ) × IsTaken snapshot reading
@@ -79,12 +79,12 @@ IsResultAt base clock reading result =
     MatchResult result (IsTimeAt base clock reading)
     (λ refusal. read_refusal base clock reading ≡ Some refusal)
 
--- a clock's result now, by the page: between two looks of this call that found no command in
--- progress it took a reading, whose place is the last entry of what the caller has seen now. The
--- result is that of the history so far, at the reading modulo 2^bits
+-- a clock's result now, by the page: between two loads of the notice that found no command in
+-- progress this call took a reading, whose place is the last entry that the caller has seen. The
+-- result is the clock's in the history so far, at the reading modulo 2^bits
 pub record IsSeenBy {S : Type 0} (answers : S → ℕ → ℕ → Type 0) (counter : S) (clock : ClockId)
     (history : Journal) (old new : Watched) (result : Result Timespec ReadError) : Type 0 where
-  -- what the watcher knew before the two looks
+  -- the knowledge of the watcher before the two loads
   pub before : Watched
   pub commands : IsPrefix old.commands before.commands
   pub log : IsPrefix old.log before.log
@@ -94,7 +94,7 @@ pub record IsSeenBy {S : Type 0} (answers : S → ℕ → ℕ → Type 0) (count
   pub order : AreInOrder new.commands
   pub life : AreInLife new.commands new.log
 
--- the caller knows no less of the latch and of the notice
+-- the caller keeps its knowledge of the latch and of the notice
 abbrev pub KnowsMore : Known → Known → Type 0
 KnowsMore old new = IsPrefix old.learnt.publications new.learnt.publications
     × IsPrefix old.watched.commands new.watched.commands

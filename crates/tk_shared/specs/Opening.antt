@@ -13,8 +13,8 @@ use Rattle.tk_latch.specs.Latch.{LatchId, Published, Learnt, most_readers, opene
 use Rattle.tk_shared.specs.declared.fault.OpenError.{OpenError}
 use Rattle.tk_shared.specs.declared.fault.OpenError.TheVariants.{Count, Invalid, Memory}
 
--- what is ready to be opened: the page, the latch, the notice, the ledger's name, the number of callers, the
--- journal without entries, and how many commands it has room for
+-- the prepared parts: the page, the latch, the notice, the ledger's name, the number of callers,
+-- the journal without entries, and the capacity in commands
 pub record Start : Type 0 where
   pub page : TableId
   pub latch : LatchId
@@ -24,7 +24,7 @@ pub record Start : Type 0 where
   pub journal : Journal
   pub spare : ℕ
 
--- a type's names are those of what was prepared; each caller has one part of the ledger
+-- a type's names are the names of the prepared parts; every caller has one part of the ledger
 abbrev pub IsNamed : Start → TableId → LatchId → TableId → ℕ → ℕ → ℕ → Type 0
 IsNamed start page latch notice ledger parts callers =
     (start.page ≡ page) × (start.latch ≡ latch) × (start.notice ≡ notice)
@@ -38,7 +38,7 @@ no_page =
 abbrev pub no_latch : LatchId
 no_latch = record { table = no_page; counter = record { bits = 0; mult = 0; shift = 0 } }
 
--- the most callers of a keeper: each has a reader of the latch
+-- the most callers of a keeper: every caller has a reader of the latch
 abbrev pub most_callers : ℕ
 most_callers = most_readers
 
@@ -50,12 +50,12 @@ opening_fault callers real =
     else if not (is_settable real) then Some Invalid
     else None
 
--- is this the fault? It is Memory only if nothing else is wrong
+-- whether this is the fault: it is Memory only if there is no other fault
 abbrev pub IsOpenFault : ℕ → Timespec → OpenError → Type 0
 IsOpenFault callers real Memory = opening_fault callers real ≡ None
 IsOpenFault callers real error = opening_fault callers real ≡ Some error
 
--- the clocks as they were opened, at some reading that the counter may have
+-- the clocks as they were opened, at some possible reading of the counter
 pub record IsOpened (counter : Counter) (real : Timespec) (journal : Journal) : Type 0 where
   pub reading : ℕ
   pub masked : reading ≤ mask counter

@@ -1,4 +1,4 @@
--- What the readings of a keeper have to do with its counter.
+-- The readings of a keeper and its counter.
 use Rattle.std.specs.Prelude.{◌≡◌, ℕ, ◌%◌, ◌^◌, ◌<◌, List, [], ◌∷◌, ◌++◌}
 use Rattle.tk_counter.specs.Counter.{Counter}
 use Rattle.tk_clock.specs.declared.command.Command.{Command}
@@ -9,7 +9,7 @@ use Rattle.tk_now.specs.declared.rule.Taken.{Taken}
 use Rattle.tk_now.specs.Views.{taken}
 use Rattle.tk_shared.specs.Callers.{Known, IsRefusalAfter, entry_of}
 
--- a reading of a counter with this description: an answer that the counter may give next, modulo
+-- a reading of a counter with this description: a possible next answer of the counter, modulo
 -- 2^bits
 pub record IsReading {C : Type 0} (answers : C → ℕ → Type 0) (counter : C) (described : Counter)
     (reading : ℕ) : Type 0 where

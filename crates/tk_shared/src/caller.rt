@@ -11,7 +11,8 @@ use tk_page::Viewer;
 /// Gives commands to a shared keeper and reads its clocks.
 ///
 /// It belongs to one thread at a time. Contracts see it as its number, the number of its accepted
-/// commands, the number of its reads of the page, and what it has seen.
+/// commands, the number of its reads of the page, and its knowledge of the page, the latch and the
+/// notice.
 #[derive(Drop)]
 pub struct Caller<L: Named> {
     pub(crate) viewer: Viewer,

@@ -1,4 +1,4 @@
-//! Closing a shared keeper, once all callers are back.
+//! Closes a shared keeper after all callers are back.
 ghost use Rattle.std.specs.Prelude.{◌≡◌, ◌+◌, ◌<◌, ◌≤◌, All, MatchResult, None, length, vec_len};
 ghost use mathlib.Core.List.{IsPrefix};
 ghost use Rattle.tk_now.specs.Moments.{AreInLife, AreInTurn};
@@ -17,10 +17,10 @@ use tk_latch::{Latch, LatchWriter};
 use tk_now::{Announcer, Notice};
 use tk_page::{Page, Publisher};
 
-/// Contains what a closed keeper leaves.
+/// Contains the parts of a closed keeper.
 #[derive(Drop)]
 pub struct Closed<C: Counter> {
-    /// The timekeeper, whose journal is that of all accepted commands; the oldest may be folded.
+    /// The timekeeper. Its journal contains all accepted commands; the oldest may be folded.
     pub keeper: Timekeeper,
     /// The counter that the keeper was prepared with.
     pub counter: C,
@@ -30,22 +30,21 @@ pub struct Closed<C: Counter> {
 /// passed.
 #[derive(Drop)]
 pub struct Missing<L: Named, C: Counter> {
-    /// The keeper, as usable as before.
+    /// The keeper, which can be used as before.
     pub keeper: SharedKeeper<L, C>,
     /// The callers that were passed to `close`.
     pub callers: Vec<Caller<L>>,
 }
 
 impl<L: Named, C: Counter> SharedKeeper<L, C> {
-    /// Closes the keeper, to which all its callers are passed back, and returns its timekeeper and
-    /// its counter.
+    /// Closes the keeper, and returns its timekeeper and its counter. It must get all callers back.
     ///
-    /// It may wait for the page, and allocates nothing.
+    /// It may wait for a thread that holds the words of the page.
     ///
     /// # Errors
     ///
-    /// `Missing` if there are fewer callers than the keeper has. It contains the keeper and the
-    /// callers, as usable as before.
+    /// `Missing` if there are fewer callers than the keeper was opened with. It contains the keeper
+    /// and the callers, which can be used as before.
     pub fn close<R: Wait>(self, rt: &R, callers: Vec<Caller<L>>) -> Result<Closed<C>, Missing<L, C>>
         requires different { AreDifferent callers.items }
         ensures { MatchResult result
@@ -92,7 +91,7 @@ impl<L: Named, C: Counter> SharedKeeper<L, C> {
     }
 }
 
-/// Gives each caller all that was published, and joins its part of the ledger to the others.
+/// Gives all callers the knowledge of all publications, and joins their parts of the ledger.
 fn take_all<L: Named, R: Wait>(
     rt: &R,
     page: &Page,
@@ -124,7 +123,8 @@ fn take_all<L: Named, R: Wait>(
     }
 }
 
-/// Gives a caller all that was published, and joins its part of the ledger to the others.
+/// Gives a caller the knowledge of all publications, and joins its part of the ledger to the
+/// others.
 fn take_in<L: Named, R: Wait>(
     rt: &R,
     page: &Page,

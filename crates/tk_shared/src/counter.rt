@@ -1,17 +1,17 @@
 use tk_now::Look;
 
-/// Gives the readings of a keeper, in cycles.
+/// Returns the readings of a keeper, in cycles.
 ///
-/// The keeper reads it once when it is opened and once in each command, under the lock. Bits above
-/// those of the keeper's counter are dropped.
+/// The keeper reads it once when it is opened and once in every command, under the lock. Bits above
+/// the keeper's counter's bits are dropped.
 pub trait Counter: Send + Drop {
     ghost use Rattle.std.specs.Prelude.{ℕ};
     ghost use Rattle.tk_now.specs.Views.{moment_of};
 
-    // The answers that the counter may give next.
+    // The possible next readings of the counter.
     ghost answers: { Self → ℕ → Type 0 };
 
-    // The answers that it may give to a read that follows an announcement at this moment.
+    // The possible readings after an announcement at this moment.
     ghost answers_after: { Self → ℕ → ℕ → Type 0 };
 
     /// Returns the next reading, for an opening.
@@ -24,7 +24,7 @@ pub trait Counter: Send + Drop {
         ensures given { answers_after self.old (moment_of look.now) result };
 }
 
-/// Counts in even steps: each reading is the one before plus a fixed step, modulo 2^64.
+/// Counts in even steps: a reading is the reading before it plus a fixed step, modulo 2^64.
 #[derive(Debug, Drop)]
 pub struct Ticker {
     next: u64,
@@ -34,9 +34,7 @@ pub struct Ticker {
 impl Ticker {
     ghost use Rattle.std.specs.Prelude.{◌≡◌};
 
-    /// Returns a counter whose first reading is `start` and which adds `step` cycles each time.
-    ///
-    /// It never waits and allocates nothing.
+    /// Returns a counter whose first reading is `start` and which adds `step` cycles at every read.
     pub fn new(start: u64, step: u64) -> Ticker
         ensures start { result.next ≡ start }
         ensures step { result.step ≡ step }

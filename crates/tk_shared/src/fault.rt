@@ -1,9 +1,9 @@
 use crate::counter::Counter;
 
-/// Says why a keeper can't be opened: the first variant, in this order, that applies.
+/// Says why a keeper can't be opened: the first variant that applies, in this order.
 #[derive(Clone, Copy, Debug, PartialEq, Eq)]
 pub enum OpenError {
-    /// Fewer callers than 1 or more than 64 were asked for. The counter wasn't read.
+    /// The number of callers is below 1 or above 64. The counter wasn't read.
     Count,
     /// REALTIME may not be set to the requested time. The counter wasn't read.
     Invalid,
@@ -16,6 +16,6 @@ pub enum OpenError {
 pub struct OpenFault<C: Counter> {
     /// The reason.
     pub error: OpenError,
-    /// The counter that `prepare` was given.
+    /// The counter that was passed to `prepare`.
     pub counter: C,
 }

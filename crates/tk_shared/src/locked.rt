@@ -21,17 +21,17 @@ use tk_latch::{Latch, LatchWriter};
 use tk_now::{Announcer, Notice};
 use tk_page::{Page, Publisher};
 
-/// Holds what the lock protects.
+/// Contains the value under the lock.
 ///
 /// Contracts see it as the history of all accepted commands and the keeper's journal.
 #[derive(Drop)]
 pub struct Locked<L: Named, C: Counter> {
     pub(crate) keeper: Timekeeper,
-    /// Publishes each accepted command on the page, which is outside the lock.
+    /// Publishes accepted commands on the page, which is outside the lock.
     pub(crate) publisher: Publisher,
-    /// Publishes each accepted command on the latch, which is outside the lock too.
+    /// Publishes accepted commands on the latch, which is outside the lock too.
     pub(crate) writer: LatchWriter,
-    /// Announces each command in the notice, which is outside the lock too.
+    /// Announces commands in the notice, which is outside the lock too.
     pub(crate) announcer: Announcer,
     pub(crate) counter: C,
     /// The greatest reading of the counter.
@@ -58,9 +58,9 @@ impl<L: Named, C: Counter> Model for Locked<L, C> {
 }
 
 impl<L: Named, C: Counter> Locked<L, C> {
-    /// Does a caller's command at the counter's reading, and publishes it on the page and then on
-    /// the latch. No call between these two waits. The command is announced in the notice from
-    /// before its reading until after both publications.
+    /// Applies a caller's command at the counter's reading, and publishes it on the page and then
+    /// on the latch. No call between these two waits. The command is announced in the notice before
+    /// its reading, and the announcement ends after both publications.
     ///
     /// It reads the counter once, and waits for readers of the page. A refused command publishes
     /// nothing.
@@ -152,8 +152,8 @@ fn accept(
     announcer.accept(notice, reading);
 }
 
-/// Publishes the next snapshot on the latch. The latch has room for as many publications as a
-/// journal counts commands.
+/// Publishes the next snapshot on the latch. The latch can count one publication for every command
+/// that a journal counts.
 fn show_on_latch(latch: &Latch, writer: &mut LatchWriter, snapshot: Snapshot)
     requires latch { writer.old.latch ≡ latch.now }
     requires counter { snapshot.base.counter ≡ latch.now.counter }

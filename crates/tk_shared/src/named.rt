@@ -3,8 +3,8 @@ use std::sync::ledger::Ledger;
 
 /// Names one keeper: its page, its latch, its notice, and the ledger of its accepted commands.
 ///
-/// Each part of the keeper, inside the lock or outside, is compared with these names alone. So the
-/// parts are known to belong together. The trait has no function, and no value of it is made.
+/// All parts of the keeper, under the lock or outside it, are compared only with these names. So
+/// the parts are known to belong together. The trait has no function, and no value of it exists.
 pub trait Named: Ledger {
     ghost use Rattle.std.specs.Prelude.{ℕ};
     ghost use Rattle.atomic_table.specs.Seated.{TableId};
@@ -19,7 +19,7 @@ pub trait Named: Ledger {
     /// The identity of the notice.
     ghost notice: { TableId };
 
-    /// The number of callers, each with one part of the ledger.
+    /// The number of callers. Every caller has one part of the ledger.
     ghost callers: { ℕ };
 }
 

@@ -20,7 +20,7 @@ pub enum NowFault {
 /// Contains the two numbers of commands that differ.
 #[derive(Clone, Copy, Debug, PartialEq, Eq)]
 pub struct Late {
-    /// The number of the publication that the latch gave.
+    /// The number of the publication that was read from the latch.
     pub front: u64,
     /// The number of commands that were accepted before the reading.
     pub place: u64,

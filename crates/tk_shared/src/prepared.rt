@@ -1,4 +1,4 @@
-//! Preparing what a shared keeper needs, before any type names it.
+//! Prepares the parts of a shared keeper, before any type names it.
 ghost use Rattle.std.specs.Prelude.{◌≡◌, ◌≢◌, ◌≤◌, [], length, min, MatchResult, IfOk, None};
 ghost use Rattle.tk_clock.specs.Legal.{IsWhole};
 ghost use Rattle.tk_clock.specs.Limits.{listed_most};
@@ -18,7 +18,7 @@ use tk_latch::{Latch, LatchReader, LatchWriter, READERS_LIMIT};
 use tk_now::{Announcer, Notice};
 use tk_page::{Page, Publisher, Viewer};
 
-/// The greatest number of callers of a keeper, each of which has a reader of the latch.
+/// The greatest number of callers of a keeper. Every caller has a reader of the latch.
 pub const CALLERS_LIMIT: usize = READERS_LIMIT;
 
 /// Contains a keeper whose clocks were just opened, with its page, its latch and its notice.
@@ -36,10 +36,10 @@ pub(crate) struct Parts {
     pub(crate) keeper: Timekeeper,
 }
 
-/// Contains all that `SharedKeeper::open` needs.
+/// Contains the parts for `SharedKeeper::open`.
 ///
-/// Contracts see it as its names, the number of callers, the journal without entries, and the
-/// number of commands that it has room for.
+/// Contracts see it as its names, the number of callers, the journal without entries, and its
+/// capacity in commands.
 #[derive(Drop)]
 pub struct Prepared<C: Counter> {
     pub(crate) parts: Parts,
@@ -81,17 +81,17 @@ impl<C: Counter> Model for Prepared<C> {
         × (p.blank.parts ≡ length p.parts.readers.items) };
 }
 
-/// Prepares a keeper with `callers` callers over `counter`, which it reads once. The clocks open at
-/// that reading, masked, with MONOTONIC 0 and REALTIME `real`.
+/// Prepares a keeper with `callers` callers and this counter, which it reads once. The clocks open
+/// at that reading, masked, with MONOTONIC 0 and REALTIME `real`.
 ///
-/// It reserves capacity for `room` commands, or for the 1,048,576 that a journal lists. It
-/// allocates, and counts among the calls that may wait; no other thread has the page yet.
+/// It reserves capacity for `room` commands, at most for the 1,048,576 that a journal lists. By its
+/// contract it may wait, but no other thread has the page yet.
 ///
 /// # Errors
 ///
-/// An `OpenFault`, which contains the counter, with the first error that applies:
+/// Returns an `OpenFault`, which contains the counter and the first error that applies:
 ///
-/// - `Count` if `callers` is less than 1 or more than 64. The counter is unread.
+/// - `Count` if `callers` is below 1 or above 64. The counter is unread.
 /// - `Invalid` if REALTIME may not be set to `real`. The counter is unread.
 /// - `Memory` if an allocation fails. The counter was read once.
 pub fn prepare<C: Counter, R: Wait>(
@@ -117,7 +117,7 @@ pub fn prepare<C: Counter, R: Wait>(
             counter,
         });
     }
-    // Reading 0 is never above the mask, so this tests `real` alone, before the counter is read.
+    // Reading 0 is never above the mask, so this tests only `real`, before the counter is read.
     if Clock::open(desc, 0, real).is_err() {
         return Err(OpenFault {
             error: OpenError::Invalid,
@@ -143,8 +143,8 @@ pub fn prepare<C: Counter, R: Wait>(
     })
 }
 
-/// Makes a page, a latch and a notice for a keeper whose clocks were just opened, and reserves room
-/// for `room` commands.
+/// Makes a page, a latch and a notice for a keeper whose clocks were just opened, and reserves
+/// capacity for `room` commands.
 fn assemble<R: Wait>(
     alloc: Global,
     rt: &R,

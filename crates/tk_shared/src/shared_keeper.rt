@@ -50,14 +50,14 @@ impl<L: Named, C: Counter> Model for SharedKeeper<L, C> {
 }
 
 impl<L: Named, C: Counter> SharedKeeper<L, C> {
-    /// Opens what was prepared. Returns the keeper and its callers 0, 1, and so on, as many as
-    /// `prepare` was asked for.
+    /// Opens a prepared keeper. Returns it with its callers, numbered from 0. Their number is the
+    /// one that `prepare` got.
     ///
-    /// The type `L` has to name what was prepared. The call allocates and never waits.
+    /// The type `L` must name the prepared parts.
     ///
     /// # Errors
     ///
-    /// An `OpenFault` with `Memory` if an allocation fails. It contains the counter.
+    /// Returns an `OpenFault` with `Memory` if an allocation fails. It contains the counter.
     pub fn open(
         alloc: Global,
         prepared: Prepared<C>,
@@ -121,18 +121,19 @@ impl<L: Named, C: Counter> SharedKeeper<L, C> {
         Ok((shared, made))
     }
 
-    /// Does a caller's command at the counter's reading, enters it in the journal under the
-    /// caller's number and publishes it on page and latch. Returns the number of the entry.
+    /// Applies a caller's command at the counter's reading, adds it to the journal with the
+    /// caller's number, and publishes it on the page and the latch. Returns the number of the
+    /// entry.
     ///
-    /// It does all that under the lock. It waits for the lock, and then it may wait for readers of
-    /// the page. It allocates when no room is left, and reads the counter once. The page has room
-    /// for 2^63 - 2 accepted commands; the next one waits for ever.
+    /// It does all this under the lock. It waits for the lock, and then it may wait for readers of
+    /// the page. It allocates if no capacity is left, and reads the counter once. The page can
+    /// count 2^63 - 2 accepted commands; the next one waits for ever.
     ///
     /// # Errors
     ///
-    /// The `Refusal` of `Timekeeper::apply`: the first test that fails, in the order that `Refusal`
-    /// gives. A refused command changes nothing, except that the caller may have seen more entries
-    /// and the counter was read.
+    /// Returns the `Refusal` of `Timekeeper::apply`: the first test that fails, in the order of
+    /// `Refusal`. A refused command changes nothing, except that the caller may have seen more
+    /// entries and the counter was read.
     pub fn command<R: Wait>(
         &self,
         rt: &R,
@@ -152,10 +153,11 @@ impl<L: Named, C: Counter> SharedKeeper<L, C> {
             .command(rt, &self.page, &self.latch, &self.notice, caller, cmd)
     }
 
-    /// Returns the snapshot of the history so far, at least as far as this caller has seen it.
+    /// Returns the latest snapshot on the page, which is no older than any that this caller has
+    /// seen.
     ///
-    /// It reads the page once, which clause `reads` states. It doesn't take the lock and allocates
-    /// nothing. If its first try fails, it waits for whoever holds the words of the page.
+    /// It reads the page once, as clause `reads` states, and doesn't take the lock. If its first
+    /// try fails, it waits for the thread that holds the words of the page.
     pub fn read<R: Wait>(&self, rt: &R, caller: &mut Caller<L>) -> Snapshot
         ensures reads { caller.new.reads ≡ caller.old.reads + 1 }
         ensures extends { Begins caller.old.seen caller.new.seen }
@@ -169,16 +171,16 @@ impl<L: Named, C: Counter> SharedKeeper<L, C> {
         caller.viewer.read(rt, &self.page)
     }
 
-    /// Returns the latest publication of the latch, whole and no earlier than this caller knows
-    /// of.
+    /// Returns the latest publication of the latch, which is no earlier than any that this caller
+    /// knows of.
     ///
-    /// It waits for nobody and allocates nothing. What the caller has seen through commands and
-    /// `read` stays as it was. The contract ties the result to the sequence numbers that this very
-    /// call loaded.
+    /// It doesn't change the history that the caller has seen through commands and `read`. The
+    /// contract relates the result to the sequence numbers that this call loaded.
     ///
     /// # Errors
     ///
-    /// `Moved` if a publication was begun or made during the call. The caller's mark may then rise.
+    /// `Moved` if a publication was begun or made during the call. In this case the caller's mark
+    /// may rise.
     pub fn fast_read(&self, caller: &mut Caller<L>) -> Result<Snapshot, Moved>
         ensures extends { IsPrefix caller.old.learnt.publications caller.new.learnt.publications }
         ensures answer { MatchResult result
@@ -196,8 +198,7 @@ impl<L: Named, C: Counter> SharedKeeper<L, C> {
     /// Folds the oldest entries of the journal so that at most `keep` are listed, and returns the
     /// number of folded entries.
     ///
-    /// It waits for the lock and allocates nothing. It publishes nothing, and no answer to a reader
-    /// changes.
+    /// It waits for the lock. It publishes nothing, and no reader's answers change.
     ///
     /// No clause states the number: the lock hides the journal, and the call has no caller who could
     /// have seen it. The clauses of `Locked::fold`, which does the work, state it.
@@ -206,7 +207,7 @@ impl<L: Named, C: Counter> SharedKeeper<L, C> {
     }
 }
 
-/// Makes the callers 0, 1, and so on: one for each reader, each with a part of the ledger.
+/// Makes the callers, numbered from 0: one for each reader, with a part of the ledger.
 fn make_callers<L: Named>(
     alloc: Global,
     page: &Page,

@@ -10,14 +10,14 @@ use tk_now::{Look, SharedCounter};
 #[derive(Drop)]
 pub struct SharedReader<'c, S: SharedCounter> {
     counter: &'c S,
-    /// What the opening's read follows, which comes before any announcement.
+    /// The look for the opening's read, which comes before any announcement.
     first: Look,
 }
 
 impl<'c, S: SharedCounter> SharedReader<'c, S> {
     /// Returns a reader of `counter`.
     ///
-    /// It allocates a word, which it frees again. It waits for nobody.
+    /// It allocates a word, and frees it again.
     ///
     /// # Errors
     ///

@@ -1,4 +1,4 @@
-//! The steps of a latch, and what each teaches the seat that takes it.
+//! The steps of a latch, and the knowledge that a seat gains by them.
 use super::View;
 use atomic_table::{Join, Play, Split};
 
@@ -57,7 +57,7 @@ impl Play<(), View> for CopiesWord {
     ghost then = { copied_word };
 }
 
-/// A read begins: the reader loads the sequence, its first look.
+/// A read begins: the reader loads the sequence.
 pub struct Begins;
 
 impl Play<(), View> for Begins {
@@ -75,7 +75,7 @@ impl Play<(), View> for Loads {
     ghost then = { loaded };
 }
 
-/// A read ends: the reader loads the sequence again, its second look.
+/// A read ends: the reader loads the sequence again.
 pub struct Ends;
 
 impl Play<(), View> for Ends {
@@ -93,7 +93,7 @@ impl Play<(), View> for Compares {
     ghost then = { compared };
 }
 
-/// The writer gives what it knows to a new reader.
+/// The writer gives its knowledge to a new reader.
 pub struct Hands;
 
 impl Split<View> for Hands {
@@ -105,7 +105,7 @@ impl Split<View> for Hands {
     ghost right = { λ view. resting view.history [] };
 }
 
-/// The writer takes in a reader's seat, and notes what it had seen.
+/// The writer takes in a reader's seat, and notes its publications.
 pub struct KeepsNote;
 
 impl Join<View> for KeepsNote {

@@ -1,4 +1,4 @@
-//! The steps of a notice, and what each teaches the seat that takes it.
+//! The steps of a notice, and the knowledge that a seat gains by them.
 use super::View;
 use atomic_table::{Join, Play, Split};
 use std::marker::{Brand, PhantomData};
@@ -34,7 +34,7 @@ impl<R: NamesReading> Play<(), View> for Accepts<R> {
     ghost then = { accepted R.reading };
 }
 
-/// The command was refused: the word becomes what it was before the announcement.
+/// The command was refused: the word gets its value from before the announcement.
 pub struct Withdraws;
 
 impl Play<(), View> for Withdraws {
@@ -43,7 +43,7 @@ impl Play<(), View> for Withdraws {
     ghost then = { withdrawn };
 }
 
-/// The first look: a watcher loads the word.
+/// The first load of the word by a watcher.
 pub struct Begins;
 
 impl Play<(), View> for Begins {
@@ -52,8 +52,8 @@ impl Play<(), View> for Begins {
     ghost then = { began };
 }
 
-/// The second look: a watcher loads the word again. If it is the same and even, the reading that
-/// was taken in between is listed.
+/// The second load of the word by a watcher. If it is the same and even, the reading that was taken
+/// in between is listed.
 pub struct Ends<R> {
     reading: PhantomData<R>,
 }
@@ -64,7 +64,7 @@ impl<R: NamesReading> Play<(), View> for Ends<R> {
     ghost then = { ended R.reading };
 }
 
-/// The announcer gives what it knows of the commands to a new watcher.
+/// The announcer gives its knowledge of the commands to a new watcher.
 pub struct Hands;
 
 impl Split<View> for Hands {
@@ -77,7 +77,7 @@ impl Split<View> for Hands {
     ghost right = { λ view. view_of view.commands [] (Resting []) };
 }
 
-/// The announcer takes in a watcher's seat, and notes what it knew.
+/// The announcer takes in a watcher's seat, and notes its knowledge.
 pub struct KeepsNote;
 
 impl Join<View> for KeepsNote {
@@ -88,7 +88,7 @@ impl Join<View> for KeepsNote {
     ghost spent = { spent };
 }
 
-/// The announcer loads the word, and learns what its note has to do with the commands.
+/// The announcer loads the word, and learns the relation of its note to the commands.
 pub struct Compares;
 
 impl Play<(), View> for Compares {

@@ -1,6 +1,6 @@
 use Rattle.tk_race.proofs.racing.race.Given as goal
 
--- the names are those of the prepared page, latch and callers
+-- the names are the names of the prepared page, latch and callers
 abbrev pub ghosts-raced-L-Named : goal.ghosts-raced-L-Named
 ghosts-raced-L-Named g a = record {
   page = a.prepared.page;

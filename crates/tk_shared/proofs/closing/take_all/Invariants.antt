@@ -17,7 +17,7 @@ invariant-loop-caller g l = record {
   within : l.all.parts ≤ g.L.Ledger.parts;
   amount : l.all.amount + accepted_by (into_iter_items l.caller-iterator)
       ≡ l.initial.all.amount + accepted_by l.fn.callers.items;
-  -- where the callers that are left have their parts, all have
+  -- if the remaining callers have their parts, all have
   seen : All (IsPartOf l.initial.publisher.journal) (into_iter_items l.caller-iterator) →
       All (IsPartOf l.initial.publisher.journal) l.fn.callers.items;
   watched : All (HasWatched l.initial.announcer.commands) (into_iter_items l.caller-iterator) →

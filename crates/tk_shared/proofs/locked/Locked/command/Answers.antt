@@ -20,7 +20,7 @@ use Rattle.tk_shared.proofs.Told.{refused, accepted, reason, low_bits}
 use Rattle.tk_shared.proofs.locked.Locked.command.Given.{Over}
 use Rattle.tk_shared.proofs.locked.Locked.command.Goals as goal
 
--- the caller, and what lies under the lock, before a command that was refused
+-- the caller and the values under the lock before a refused command
 abbrev refused_caller : (g : Over) → goal.After-tell g → Known
 refused_caller g c =
     let caller = c.caller.inside in
