@@ -1,6 +1,7 @@
 //! Tests values that contracts don't fix, and threads.
 
 mod gates;
+mod lives;
 mod memory;
 mod replies;
 mod times;
