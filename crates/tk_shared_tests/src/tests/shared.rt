@@ -10,7 +10,6 @@ mod many;
 mod memory;
 mod never_back;
 mod openings;
-mod published;
 mod readers;
 mod readings;
 mod times;
