@@ -1,4 +1,6 @@
 """What a check's status and lines say of the wrong edits that it was tried with."""
+import shutil
+
 from tools import LOGIC, Case
 
 SOURCE = """impl Clock {
@@ -81,6 +83,34 @@ class MustFail(Case):
                                   'echo "fn low::Clock::second: not proved"\nexit 1')
         self.assertEqual((0, 3), (status, len(said)))
         self.assertEqual(2, len(self.calls()))
+
+    def ended_ci(self, script):
+        """Runs `rt ci` by this script in a copy, and returns the status and the last line."""
+        self.stand_in("rt", f'[ "$1" != version ] || exec echo "rattle-kit-99z logic {LOGIC}"\n'
+                            f'echo "$*" >>{self.room}/calls\n{script}')
+        copy = self.room / "proofs"
+        shutil.copytree(self.top, copy)
+        status, said, errors = self.run_tool("tools/must_fail", "--ci", str(copy), top=self.top)
+        self.assertEqual("", errors)
+        self.assertEqual(["ci"], self.calls())
+        (self.room / "calls").unlink()
+        shutil.rmtree(copy)
+        return status, said.splitlines()[-1]
+
+    def test_rt_ci_tries_edits_in_a_copy_and_must_count_them_all(self):
+        self.write("must-fail-together/first.edit", FIRST)
+        self.write("must-fail-together/second.edit", SECOND)
+        ends = ("ls crates/low/must-fail/first.edit crates/low/must-fail/second.edit\n"
+                "echo '{}'\nexit {}")
+        too_few = "must_fail: of 3 crates and wrong edits, rt ci counts too few"
+        for last, ended, wanted in [("3 passed, 0 failed", 0, (0, "3 passed, 0 failed")),
+                                    ("2 passed, 0 failed", 0, (1, too_few)),
+                                    ("2 passed, 1 failed", 1, (1, "2 passed, 1 failed")),
+                                    ("nothing was judged", 2, (2, "nothing was judged")),
+                                    ("nothing was judged", 0, (1, too_few))]:
+            with self.subTest(last):
+                self.assertEqual(wanted, self.ended_ci(ends.format(last, ended)))
+        self.assertFalse((self.top / "crates" / "low" / "must-fail").exists())
 
     def test_an_edit_that_no_longer_applies_is_listed(self):
         self.write("must-fail-together/first.edit", FIRST.replace("1\n", "5\n", 1))
