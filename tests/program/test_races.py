@@ -41,7 +41,7 @@ class Races(Case):
             self.check_race(text, step, names, files)
 
     def test_a_step_of_more_than_32_bits_is_taken_whole(self):
-        # as by `tools/model.py race`; the low half of each refused step would be accepted
+        # as by `tests/model/model.py race`; the low half of each refused step would be accepted
         files = {"ns": NANOSECONDS, "ms": MILLISECONDS}
         for step, name, text in [("500000000000000000", "ns", "entries,1\nactor,0,1,2\n"),
                                  ("68719476737", "ms", "entries,3\nactor,0,3,2\n"),

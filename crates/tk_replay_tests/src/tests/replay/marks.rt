@@ -1,7 +1,7 @@
 //! Tests the work between the two calls of a gate.
 //!
-//! `tools/check_program` runs both tests with `tools/count_between.c` loaded, which counts the
-//! requests for memory between the two marks. Without it neither test can fail by its marks.
+//! `tools/check_program` runs both tests with `tests/harness/count_between.c` loaded, which counts
+//! the requests for memory between the two marks. Without it neither test can fail by its marks.
 
 use super::many::{assert_outcomes, copies, reports_of};
 use super::{REPORT, SCRIPT, assert_same};

@@ -8,7 +8,7 @@
  *                     start a thread, otherwise `memory`. A caller can count N up until a run
  *                     leaves no such file
  *
- * tools/refuse_each.sh and tools/refuse_tests build it. It needs glibc. */
+ * tests/harness/refuse_each.sh and tests/harness/refuse_tests build it. It needs glibc. */
 #define _GNU_SOURCE
 #include <dlfcn.h>
 #include <errno.h>

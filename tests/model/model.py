@@ -3,13 +3,13 @@
 unbounded integers.
 
 It shares no code and no method with the program, which keeps a running state. The examples' outputs
-were made by it and checked manually, and `tools/compare.py` runs random scripts and stamps through
-both.
+were made by it and checked manually, and `tests/model/compare.py` runs random scripts and stamps
+through both.
 
-    tools/model.py < script
-    tools/model.py trace CLOCK SCRIPT STAMPS
-    tools/model.py many WORKERS FILE..
-    tools/model.py race STEP FILE
+    tests/model/model.py < script
+    tests/model/model.py trace CLOCK SCRIPT STAMPS
+    tests/model/model.py many WORKERS FILE..
+    tests/model/model.py race STEP FILE
 
 A race is modelled for one actor only, since its commands have a single possible order.
 """

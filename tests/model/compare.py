@@ -2,7 +2,7 @@
 """Runs random scripts and stamps through the program and through the definitions, and stops at the first output that
 differs.
 
-    tools/compare.py PROGRAM [SCRIPTS [SEED]]
+    tests/model/compare.py PROGRAM [SCRIPTS [SEED]]
 
 Each script is replayed, without and with `--keep`. Another, mostly without a fault, is traced with stamps of its own,
 and races: alone, where the definitions have one answer, and as three actors, whose sums must agree. Each fifth time

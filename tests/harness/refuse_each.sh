@@ -1,7 +1,7 @@
 #!/usr/bin/env bash
 # Refuses each request for memory of the program in turn, and then each of its threads.
 #
-#     tools/refuse_each.sh PROGRAM
+#     tests/harness/refuse_each.sh PROGRAM
 #
 # The runs are reports of four scripts with and without `--keep 1`, short traces and one that several
 # threads convert, races of one, two and three actors, and the reports of two scripts by `many`. With
@@ -18,8 +18,8 @@ cd "$(dirname "$0")" || exit 1
 work=$(mktemp -d)
 trap 'rm -rf "$work"' EXIT
 gcc -shared -fPIC -O1 -o "$work/refuse.so" refuse_malloc.c || exit 1
-cp ../crates/tk_examples/data/01-updates.csv "$work/1.csv"
-cp ../crates/tk_examples/data/12-leap-days.csv "$work/2.csv"
+cp ../../crates/tk_examples/data/01-updates.csv "$work/1.csv"
+cp ../../crates/tk_examples/data/12-leap-days.csv "$work/2.csv"
 cd "$work" || exit 1
 
 # more requests than any run makes: a loop that gets there has gone wrong
@@ -137,7 +137,7 @@ for workers in 1 2; do
     done
 done
 if [ $refused = 0 ] || [ $in_place = 0 ] || [ $threads = 0 ]; then
-    echo "nothing was refused: is tools/refuse_malloc.c loaded?"
+    echo "nothing was refused: is tests/harness/refuse_malloc.c loaded?"
     exit 1
 fi
 echo "refuse_each: $refused requests for memory and $threads for threads refused with nothing written," \

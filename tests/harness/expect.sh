@@ -4,7 +4,7 @@
 # seconds and 800 MB of address space. A script prints a line for each case, and exits with status 1
 # at the first that differs.
 set -u
-cd "$(dirname "$0")/../crates/tkcore" || exit 1
+cd "$(dirname "$0")/../../crates/tkcore" || exit 1
 export program=${TKCORE-$PWD/../../dist/bin/tkcore} row=$PWD/stdin opening='open,32,16777216,24,0,1700000000,0'
 work=$(mktemp -d)
 export work
