@@ -4,8 +4,8 @@
 
     stamps.py now >SCRIPT                     the clocks of this machine, for perf record -k
     stamps.py clock [READING] <META >SCRIPT   the clock of a CTF trace's metadata
-    stamps.py perf SCRIPT <TEXT >STAMPS       TEXT is the output of perf script --ns -F time
-    stamps.py ctf SCRIPT <TEXT >STAMPS        TEXT is the output of babeltrace2 --clock-cycles
+    stamps.py perf SCRIPT <TEXT >STAMPS       TEXT is of perf script --header --ns -F time
+    stamps.py ctf SCRIPT <TEXT >STAMPS        TEXT is of babeltrace2 --clock-cycles
 
 `now` opens the clocks at the present reading of MONOTONIC_RAW, in ns, and steers REALTIME as the
 kernel does at present. `clock` opens them at READING, 0 if it isn't given. `perf` and `ctf` write a
@@ -13,8 +13,9 @@ line for each event, in the order of TEXT. Its front is the number of SCRIPT's c
 reading isn't after the stamp, so SCRIPT must have no command that tkcore refuses, and no reading
 that is below the one before it.
 
-The program ends with status 1 and a line on standard error if it can't read its input, or if a
-stamp is before SCRIPT's opening. docs/TRACERS.md describes all steps.
+The program ends with status 1 and a line on standard error if it can't read its input, if a stamp is
+before SCRIPT's opening, or if perf's header doesn't say that the events were recorded with
+-k CLOCK_MONOTONIC_RAW, the clock that `now` opens. docs/TRACERS.md describes all steps.
 """
 import argparse
 import bisect
@@ -30,7 +31,9 @@ NEUTRAL = {"tick": 10_000, "freq": 0, "tai": 0}
 LONGS = ("maxerror esterror status constant precision tolerance sec usec tick ppsfreq jitter shift "
          "stabil jitcnt calcnt errcnt stbcnt tai").split()
 STAMP = {"perf": re.compile(r"\s*(\d+)\.(\d{9}):\s*"), "ctf": re.compile(r"\[(\d+)\]( .*)?")}
-ADVICE = {"perf": "perf script --ns -F time", "ctf": "babeltrace2 --clock-cycles"}
+ADVICE = {"perf": "perf script --header --ns -F time", "ctf": "babeltrace2 --clock-cycles"}
+RULER = "# ========\n"  # the first and the last line but one of perf's header
+CLOCK = re.compile(r"# clockid: (.+) \(\d+\)\n")  # of perf's header, if -k chose a clock
 
 
 class Fault(Exception):
@@ -106,10 +109,25 @@ def readings_of(script):
     return readings
 
 
-def stamps(kind, readings, text):
-    """Returns the lines of the stamp file."""
+def header_of(text):
+    """Returns the lines of perf's header, with the empty comment that ends it."""
+    if text[:1] != [RULER] or RULER not in text[1:]:
+        raise Fault(f"perf's header is missing: run {ADVICE['perf']}")
+    return text[:text.index(RULER, 1) + 2]
+
+
+def check_clock(header):
+    """Raises a fault unless the header says that the events have stamps of MONOTONIC_RAW."""
+    named = [found[1] for found in map(CLOCK.fullmatch, header) if found]
+    if named[-1:] != ["monotonic_raw"]:
+        clock = f"the clock {named[-1]}" if named else "perf's default clock"
+        raise Fault(f"the events were recorded with {clock} instead of -k CLOCK_MONOTONIC_RAW")
+
+
+def stamps(kind, readings, text, first):
+    """Returns the lines of the stamp file. The text's first event is on line `first`."""
     lines = []
-    for number, line in enumerate(text, 1):
+    for number, line in enumerate(text[first - 1:], first):
         found = STAMP[kind].fullmatch(line.rstrip("\n"))
         if not found:
             raise Fault(f"line {number} isn't one of {ADVICE[kind]}")
@@ -129,7 +147,12 @@ def answer(words):
         return clock(sys.stdin.read(), words.reading)
     with open(words.script, newline="", encoding="utf-8") as script:
         readings = readings_of(script)
-    return stamps(words.task, readings, sys.stdin)
+    text = list(sys.stdin)
+    header = []
+    if words.task == "perf":
+        header = header_of(text)
+        check_clock(header)
+    return stamps(words.task, readings, text, len(header) + 1)
 
 
 def main():
