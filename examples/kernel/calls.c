@@ -83,7 +83,7 @@ void calls_make_in_interrupt(void)
 	struct tkc_snapshot snapshot;
 	u64 reading;
 
-	clocks_look(&trial.clocks, NULL, &snapshot, &reading);
+	clocks_look(&trial.clocks, &snapshot, &reading);
 	if (is_restored(&snapshot) && is_found(&snapshot, reading))
 		trial.snapshots++;
 	else

@@ -18,12 +18,10 @@ static void write_copy(struct clocks *clocks, int which)
 /* Readers use copy 1 while copy 0 is written, and copy 0 after that. */
 static void write_copies(struct clocks *clocks)
 {
-	int first = clocks->swaps_copies ? 1 : 0;
-
 	raw_write_seqcount_latch(&clocks->latch);
-	write_copy(clocks, first);
+	write_copy(clocks, 0);
 	raw_write_seqcount_latch(&clocks->latch);
-	write_copy(clocks, !first);
+	write_copy(clocks, 1);
 }
 
 u32 clocks_open(struct clocks *clocks, u64 reading, const struct tkc_time *time)
@@ -34,7 +32,6 @@ u32 clocks_open(struct clocks *clocks, u64 reading, const struct tkc_time *time)
 	seqcount_raw_spinlock_init(&clocks->seq, &clocks->lock);
 	seqcount_latch_init(&clocks->latch);
 	clocks->front = 0;
-	clocks->writer = -1;
 	code = tkc_clock_open(&clocks->clock, &clocks->counter, reading,
 			      time->sec, time->nsec);
 	if (code)
@@ -44,34 +41,25 @@ u32 clocks_open(struct clocks *clocks, u64 reading, const struct tkc_time *time)
 	return TKC_OK;
 }
 
-/* The caller holds the lock. */
-static void record(struct clocks *clocks, const struct entry *entry)
-{
-	if (clocks->count < clocks->room)
-		clocks->entries[clocks->count++] = *entry;
-}
-
 /* The caller holds the lock and has begun to write the snapshot. */
-static void apply(struct clocks *clocks, struct entry *entry)
+static void apply(struct clocks *clocks, struct command *command)
 {
-	const struct row *row = &entry->row;
-
-	entry->code = tkc_clock_apply(&clocks->clock, row->reading,
-				      row->command, row->number, row->nsec);
-	if (entry->code)
+	command->code = tkc_clock_apply(&clocks->clock, command->reading,
+					command->command, command->number,
+					command->nsec);
+	if (command->code)
 		return;
 	tkc_clock_snapshot(&clocks->snapshot, &clocks->clock);
-	entry->front = ++clocks->front;
-	entry->code = tkc_snapshot_get(&entry->time, &clocks->snapshot,
-				       TKC_CLOCK_MONOTONIC, row->reading);
+	command->front = ++clocks->front;
+	command->code = tkc_snapshot_get(&command->time, &clocks->snapshot,
+					 TKC_CLOCK_MONOTONIC, command->reading);
 }
 
-void clocks_command(struct clocks *clocks, struct entry *entry)
+void clocks_command(struct clocks *clocks, struct command *command)
 {
 	unsigned long flags;
 
 	raw_spin_lock_irqsave(&clocks->lock, flags);
-	WRITE_ONCE(clocks->writer, smp_processor_id());
 	write_seqcount_begin(&clocks->seq);
 	/*
 	 * All processors must see the odd sequence before the counter is read.
@@ -81,45 +69,25 @@ void clocks_command(struct clocks *clocks, struct entry *entry)
 	 * MONOTONIC would go back.
 	 */
 	smp_mb();
-	entry->row.reading = clocks->read_counter();
-	apply(clocks, entry);
+	command->reading = clocks->read_counter();
+	apply(clocks, command);
 	write_seqcount_end(&clocks->seq);
 	write_copies(clocks);
-	WRITE_ONCE(clocks->writer, -1);
-	record(clocks, entry);
+	if (clocks->notify)
+		clocks->notify(command);
 	raw_spin_unlock_irqrestore(&clocks->lock, flags);
 }
 
-void clocks_record_read(struct clocks *clocks, u32 clock)
-{
-	struct entry entry = { .row = { .is_read = true, .clock = clock } };
-	unsigned long flags;
-
-	raw_spin_lock_irqsave(&clocks->lock, flags);
-	entry.row.reading = clocks->read_counter();
-	entry.code = tkc_snapshot_get(&entry.time, &clocks->snapshot, clock,
-				      entry.row.reading);
-	record(clocks, &entry);
-	raw_spin_unlock_irqrestore(&clocks->lock, flags);
-}
-
-void clocks_look(struct clocks *clocks, void (*pause)(void),
-		 struct tkc_snapshot *snapshot, u64 *reading)
+void clocks_look(struct clocks *clocks, struct tkc_snapshot *snapshot,
+		 u64 *reading)
 {
 	unsigned int seq;
 
 	do {
 		seq = read_seqcount_begin(&clocks->seq);
 		*snapshot = clocks->snapshot;
-		if (pause && !clocks->reads_late)
-			pause();
 		*reading = clocks->read_counter();
 	} while (read_seqcount_retry(&clocks->seq, seq));
-	if (!clocks->reads_late)
-		return;
-	if (pause)
-		pause();
-	*reading = clocks->read_counter();
 }
 
 void clocks_look_fast(struct clocks *clocks, struct tkc_snapshot *snapshot,

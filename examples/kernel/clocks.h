@@ -1,7 +1,8 @@
 /* SPDX-License-Identifier: GPL-2.0 */
 /*
  * Clocks for a kernel: commands under a lock, and snapshots for readers in any
- * context, as in kernel/time/timekeeping.c.
+ * context, as in kernel/time/timekeeping.c. clocks.c and this file need only
+ * the kernel's headers and tkcore.h.
  */
 #ifndef CLOCKS_H
 #define CLOCKS_H
@@ -10,58 +11,55 @@
 #include <linux/spinlock.h>
 #include <tkcore.h>
 
-#include "c/script.h"
-
-/* A command or a read, with its result. */
-struct entry {
-	struct row row;
+/* A command, and its result. */
+struct command {
+	u32 command; /* an argument of tkc_clock_apply, as number and nsec are */
+	s64 number;
+	u32 nsec;
+	u64 reading; /* when it was applied */
 	u32 code;
-	u64 front;
-	struct tkc_time time; /* the time read, or MONOTONIC at the command */
+	u64 front; /* the commands accepted so far, if it was accepted */
+	struct tkc_time time; /* MONOTONIC at the reading, if it was accepted */
 };
 
 struct clocks {
-	u64 (*read_counter)(void); /* ordered after and before other loads */
-	raw_spinlock_t lock; /* serializes commands; timekeeper_lock */
+	/*
+	 * The caller sets these before clocks_open(). `notify` is called with
+	 * the lock held after each command, as pvclock_gtod_chain is, and
+	 * `midway` amid the writing of each copy, so that a trial can interrupt
+	 * it. Both may be NULL.
+	 */
 	struct tkc_counter counter;
+	u64 (*read_counter)(void); /* ordered after and before other loads */
+	void (*notify)(const struct command *command);
+	void (*midway)(void);
+
+	raw_spinlock_t lock; /* serializes commands; timekeeper_lock */
 	struct tkc_clock clock;
-	u64 front;
+	u64 front; /* the commands accepted so far */
 	seqcount_raw_spinlock_t seq; /* protects the snapshot; tk_core.seq */
 	struct tkc_snapshot snapshot;
 	seqcount_latch_t latch; /* selects a copy; struct tk_fast */
 	struct tkc_snapshot copies[2];
-	struct entry *entries; /* the first `room` commands and reads */
-	size_t count, room;
-
-	/* For trials only. */
-	void (*midway)(void); /* called amid the writing of each copy, or NULL */
-	int writer; /* the processor that applies a command, or -1 */
-	bool reads_late; /* take readings after the sequence section */
-	bool swaps_copies; /* write the copy that readers use */
 };
 
+/* Opens the clocks with REALTIME at the reading. */
 u32 clocks_open(struct clocks *clocks, u64 reading,
 		const struct tkc_time *time);
 
 /*
- * Applies a command at the counter's reading, and stores reading and result in
- * the entry. It may be called in any context except an NMI.
+ * Applies a command at the counter's reading, and stores the reading and the
+ * result in it. It may be called in any context except an NMI.
  */
-void clocks_command(struct clocks *clocks, struct entry *entry);
-
-/*
- * Reads a clock and adds the read to the entries. It may be called in any
- * context except an NMI.
- */
-void clocks_record_read(struct clocks *clocks, u32 clock);
+void clocks_command(struct clocks *clocks, struct command *command);
 
 /*
  * Stores a snapshot and a reading that was taken while the snapshot was the
  * latest, so MONOTONIC never goes back. It may be called in any context except
- * an NMI. `pause` is called before the reading, unless it is NULL.
+ * an NMI.
  */
-void clocks_look(struct clocks *clocks, void (*pause)(void),
-		 struct tkc_snapshot *snapshot, u64 *reading);
+void clocks_look(struct clocks *clocks, struct tkc_snapshot *snapshot,
+		 u64 *reading);
 
 /*
  * Stores a snapshot and a reading in any context, as ktime_get_mono_fast_ns

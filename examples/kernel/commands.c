@@ -15,16 +15,53 @@ enum {
 static struct hrtimer timer;
 static bool timer_steers;
 
+/* The caller holds the lock of the clocks. */
+static void record(const struct entry *entry)
+{
+	if (trial.count < trial.room)
+		trial.entries[trial.count++] = *entry;
+}
+
+/* Is called with the lock of the clocks held, after each command. */
+void command_record(const struct command *command)
+{
+	struct entry entry = { .row = { .reading = command->reading,
+					.command = command->command,
+					.number = command->number,
+					.nsec = command->nsec },
+			       .code = command->code,
+			       .front = command->front,
+			       .time = command->time };
+
+	WRITE_ONCE(trial.writer, -1);
+	record(&entry);
+}
+
 u32 command_apply(u32 command, s64 number, u32 nsec)
 {
-	struct entry entry = { .row = { .command = command,
-					.number = number,
-					.nsec = nsec } };
+	struct command applied = { .command = command,
+				   .number = number,
+				   .nsec = nsec };
 
-	clocks_command(&trial.clocks, &entry);
-	if (entry.code)
+	clocks_command(&trial.clocks, &applied);
+	if (applied.code)
 		trial.refused++;
-	return entry.code;
+	return applied.code;
+}
+
+/* Reads a clock at the latest snapshot, and records the read. */
+static void read_and_record(u32 clock)
+{
+	struct entry entry = { .row = { .is_read = true, .clock = clock } };
+	struct clocks *clocks = &trial.clocks;
+	unsigned long flags;
+
+	raw_spin_lock_irqsave(&clocks->lock, flags);
+	entry.row.reading = clocks->read_counter();
+	entry.code = tkc_snapshot_get(&entry.time, &clocks->snapshot, clock,
+				      entry.row.reading);
+	record(&entry);
+	raw_spin_unlock_irqrestore(&clocks->lock, flags);
 }
 
 /* The commands that the kernel's own adjtimex() may bring at any time. */
@@ -90,6 +127,6 @@ void steer_in_process(void)
 
 	command_apply(TKC_CMD_FREQ, (s32)get_random_u32() % FASTEST, 0);
 	for (size_t i = 0; i < ARRAY_SIZE(CLOCK_IDS); i++)
-		clocks_record_read(&trial.clocks, CLOCK_IDS[i]);
+		read_and_record(CLOCK_IDS[i]);
 	command_apply(TKC_CMD_STEP, -1, get_random_u32() % NSEC_PER_SEC);
 }

@@ -102,7 +102,7 @@ static bool find_outside(struct found *found)
 
 	preempt_disable();
 	before = kernel_monotonic();
-	clocks_look(&trial.clocks, NULL, &snapshot, &reading);
+	clocks_look(&trial.clocks, &snapshot, &reading);
 	after = kernel_monotonic();
 	preempt_enable();
 	if (tkc_snapshot_get(&time, &snapshot, TKC_CLOCK_MONOTONIC, reading))
@@ -173,23 +173,23 @@ bool compare_steered(unsigned int milliseconds)
 bool compare_set(const struct timespec64 *time)
 {
 	s64 from = kernel_monotonic(), to, kernel_at, later;
-	struct entry entry = { .row = { .command = TKC_CMD_SET_TIME,
-					.number = time->tv_sec,
-					.nsec = time->tv_nsec } };
+	struct command command = { .command = TKC_CMD_SET_TIME,
+				   .number = time->tv_sec,
+				   .nsec = time->tv_nsec };
 	struct times now;
 
 	if (do_settimeofday64(time))
 		return false;
 	to = kernel_monotonic();
-	clocks_command(&trial.clocks, &entry);
-	if (entry.code || !compare(&now))
+	clocks_command(&trial.clocks, &command);
+	if (command.code || !compare(&now))
 		return false;
 	kernel_at = timespec64_to_ns(time) -
 		    ktime_to_ns(ktime_mono_to_any(0, TK_OFFS_REAL)) -
 		    trial.kernel.of[MONOTONIC];
-	later = tkc_time_ns(&entry.time) - kernel_at - now.of[MONOTONIC];
+	later = tkc_time_ns(&command.time) - kernel_at - now.of[MONOTONIC];
 	pr_info("set: SET_TIME %lld ns after do_settimeofday64()\n", later);
 	return from <= kernel_at && kernel_at <= to &&
 	       now.of[REALTIME] - now.of[MONOTONIC] ==
-		       kernel_at - (s64)tkc_time_ns(&entry.time);
+		       kernel_at - (s64)tkc_time_ns(&command.time);
 }

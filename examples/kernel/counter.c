@@ -17,8 +17,10 @@ enum { BITS = 64, SPAN_SEC = 600 };
  */
 static u64 read_tsc(void)
 {
-	u64 reading = rdtsc_ordered();
+	u64 reading;
 
+	reader_pause();
+	reading = rdtsc_ordered();
 	rmb();
 	return reading;
 }
@@ -26,8 +28,10 @@ static u64 read_tsc(void)
 /* ktime_get_raw() for any context, which reads by rdtsc_ordered(). */
 static u64 read_raw(void)
 {
-	u64 reading = ktime_get_raw_fast_ns();
+	u64 reading;
 
+	reader_pause();
+	reading = ktime_get_raw_fast_ns();
 	rmb();
 	return reading;
 }

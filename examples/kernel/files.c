@@ -22,16 +22,16 @@ static int show_script(struct seq_file *file, void *unused)
 {
 	seq_printf(file, "openhz,64,%llu,600,%llu,%lld,%u\n", trial.hz,
 		   trial.opened, trial.time.sec, trial.time.nsec);
-	for (size_t i = 0; i < trial.clocks.count; i++)
-		print_row(file, &trial.clocks.entries[i].row);
+	for (size_t i = 0; i < trial.count; i++)
+		print_row(file, &trial.entries[i].row);
 	return 0;
 }
 
 static int show_report(struct seq_file *file, void *unused)
 {
 	print_opening(file, &trial.clocks.counter);
-	for (size_t i = 0; i < trial.clocks.count; i++)
-		print_answer(file, &trial.clocks.entries[i]);
+	for (size_t i = 0; i < trial.count; i++)
+		print_answer(file, &trial.entries[i]);
 	return 0;
 }
 

@@ -35,15 +35,18 @@ MODULE_PARM_DESC(control,
 
 enum { ROOM = 32768 };
 
-struct trial trial;
+struct trial trial = {
+	.clocks.notify = command_record,
+	.writer = -1,
+};
 
 static bool set_control(void)
 {
 	trial.saves_sse = true;
 	if (!strcmp(control, "late"))
-		trial.clocks.reads_late = true;
+		trial.reads_late = true;
 	else if (!strcmp(control, "copies"))
-		trial.clocks.swaps_copies = true;
+		trial.swaps_copies = true;
 	else if (!strcmp(control, "sse"))
 		trial.saves_sse = false;
 	else
@@ -86,16 +89,16 @@ static int __init trial_init(void)
 
 	if (!set_control())
 		return -EINVAL;
-	trial.clocks.entries = vzalloc(ROOM * sizeof(struct entry));
-	if (!trial.clocks.entries)
+	trial.entries = vzalloc(ROOM * sizeof(struct entry));
+	if (!trial.entries)
 		return -ENOMEM;
-	trial.clocks.room = ROOM;
+	trial.room = ROOM;
 	is_well = run();
 	pr_info("%s\n", is_well ? "all is well" : "not all is well");
 	if (is_well || *control)
 		error = files_create();
 	if (error) {
-		vfree(trial.clocks.entries);
+		vfree(trial.entries);
 		return error;
 	}
 	suspend_register();
@@ -106,7 +109,7 @@ static void __exit trial_exit(void)
 {
 	suspend_unregister();
 	files_remove();
-	vfree(trial.clocks.entries);
+	vfree(trial.entries);
 }
 
 module_init(trial_init);

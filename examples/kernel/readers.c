@@ -51,10 +51,14 @@ static bool is_raw(const struct tkc_snapshot *snapshot, u64 reading)
 						    trial.mult, trial.shift);
 }
 
-/* Gives a writer time to apply a command between a snapshot and a reading. */
-static void pause_a_while(void)
+/*
+ * In a reader's thread, gives a writer time to apply a command between the
+ * snapshot and the reading. The counter calls it before it is read.
+ */
+void reader_pause(void)
 {
-	udelay(get_random_u32() % PAUSE_US);
+	if (in_task() && current == this_cpu_read(reader))
+		udelay(get_random_u32() % PAUSE_US);
 }
 
 static void note_back(struct seen *mine, u64 earlier, u64 value)
@@ -63,6 +67,34 @@ static void note_back(struct seen *mine, u64 earlier, u64 value)
 		return;
 	mine->back++;
 	mine->most_back = max(mine->most_back, earlier - value);
+}
+
+/* clocks_look_fast(), but of the copy that is being written. */
+static void look_at_other_copy(struct tkc_snapshot *snapshot, u64 *reading)
+{
+	struct clocks *clocks = &trial.clocks;
+	unsigned int seq;
+
+	do {
+		seq = raw_read_seqcount_latch(&clocks->latch);
+		*snapshot = clocks->copies[!(seq & 1)];
+		*reading = clocks->read_counter();
+	} while (read_seqcount_latch_retry(&clocks->latch, seq));
+}
+
+/* Takes a snapshot and a reading, with the fault of the trial's control. */
+static void take(enum context context, struct tkc_snapshot *snapshot,
+		 u64 *reading)
+{
+	if (context == NMI && trial.swaps_copies) {
+		look_at_other_copy(snapshot, reading);
+	} else if (context == NMI) {
+		clocks_look_fast(&trial.clocks, snapshot, reading);
+	} else {
+		clocks_look(&trial.clocks, snapshot, reading);
+		if (trial.reads_late)
+			*reading = trial.clocks.read_counter();
+	}
 }
 
 /* Reads once. The caller stays on its processor. */
@@ -76,15 +108,9 @@ static void look(enum context context)
 
 	smp_mb(); /* `latest` is read before the counter */
 	mine->reads++;
-	if (context == NMI) {
-		mine->amid += READ_ONCE(trial.clocks.writer) ==
-			      smp_processor_id();
-		clocks_look_fast(&trial.clocks, &snapshot, &reading);
-	} else {
-		clocks_look(&trial.clocks,
-			    context == PROCESS ? pause_a_while : NULL,
-			    &snapshot, &reading);
-	}
+	if (context == NMI)
+		mine->amid += READ_ONCE(trial.writer) == smp_processor_id();
+	take(context, &snapshot, &reading);
 	mine->wrong += !is_raw(&snapshot, reading);
 	if (tkc_snapshot_get(&time, &snapshot, TKC_CLOCK_MONOTONIC, reading)) {
 		mine->refused++;
@@ -132,6 +158,7 @@ static int read_in_nmi(unsigned int type, struct pt_regs *regs)
 /* Interrupts the writer, which runs on this processor. */
 static void send_nmi(void)
 {
+	WRITE_ONCE(trial.writer, smp_processor_id());
 	apic->send_IPI(smp_processor_id(), NMI_VECTOR);
 }
 
@@ -183,6 +210,7 @@ void readers_stop(void)
 	for_each_online_cpu(cpu) {
 		if (per_cpu(reader, cpu))
 			kthread_stop(per_cpu(reader, cpu));
+		per_cpu(reader, cpu) = NULL;
 		hrtimer_cancel(per_cpu_ptr(&softirq_timer, cpu));
 		hrtimer_cancel(per_cpu_ptr(&hardirq_timer, cpu));
 	}

@@ -3,6 +3,7 @@
 #ifndef TRIAL_H
 #define TRIAL_H
 
+#include "c/script.h"
 #include "clocks.h"
 
 #include <linux/ktime.h>
@@ -17,7 +18,15 @@ struct times {
 	s64 of[CLOCKS];
 };
 
-/* The clocks of the trial, and their opening. */
+/* A command or a read, with its result. */
+struct entry {
+	struct row row;
+	u32 code;
+	u64 front;
+	struct tkc_time time; /* the time read, or MONOTONIC at the command */
+};
+
+/* The clocks of the trial, their opening, and what was done with them. */
 struct trial {
 	struct clocks clocks;
 	u64 hz; /* more than 2^32 - 1 is refused */
@@ -25,7 +34,12 @@ struct trial {
 	u64 opened; /* the reading */
 	struct tkc_time time; /* REALTIME there */
 	struct times kernel; /* the kernel's clocks there */
+	struct entry *entries; /* the first `room` commands and reads */
+	size_t count, room;
+	int writer; /* the processor that is sent an NMI amid a copy, or -1 */
 	bool saves_sse; /* call kernel_fpu_begin() when a call needs it */
+	bool reads_late; /* take readings after the sequence section */
+	bool swaps_copies; /* read the copy that is being written */
 	u64 refused; /* commands */
 	u64 lists, lists_wrong, lists_postponed; /* converted in interrupts */
 	u64 snapshots, snapshots_wrong; /* restored from words in interrupts */
@@ -42,14 +56,16 @@ static inline u64 tkc_time_ns(const struct tkc_time *time)
 bool counter_open(const char *name);
 u64 counter_reading(const struct system_time_snapshot *kernel);
 
-/* commands.c: commands, also from an hrtimer. */
+/* commands.c: commands, also from an hrtimer, and the record of all. */
 u32 command_apply(u32 command, s64 number, u32 nsec);
+void command_record(const struct command *command);
 void command_timer_start(void);
 void command_timer_stop(void);
 void command_timer_steer(bool is_steered);
 void steer_in_process(void);
 
 /* readers.c: readers in each context. */
+void reader_pause(void);
 bool readers_start(bool with_nmi);
 void readers_stop(void);
 bool readers_report(void);

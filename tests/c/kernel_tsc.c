@@ -33,7 +33,6 @@ struct reader {
 	u64 latest; /* MONOTONIC that it has seen */
 	u64 reads, back, below, most; /* below: another thread's time */
 	u64 refused, mixed;
-	u64 amid; /* a command was being applied */
 };
 
 static struct clocks clocks;
@@ -78,7 +77,6 @@ static void look_fast(struct reader *reader)
 	struct tkc_snapshot snapshot;
 	u64 reading;
 
-	reader->amid += READ_ONCE(clocks.writer) >= 0;
 	clocks_look_fast(&clocks, &snapshot, &reading);
 	reader->mixed += !is_whole(&snapshot, reading);
 }
@@ -99,9 +97,8 @@ static void look(struct reader *reader, bool compares)
 	struct tkc_snapshot snapshot;
 	struct tkc_time time;
 
-	reader->amid += READ_ONCE(clocks.writer) >= 0;
 	smp_mb(); /* `latest` is read before the counter */
-	clocks_look(&clocks, NULL, &snapshot, &reading);
+	clocks_look(&clocks, &snapshot, &reading);
 	reader->reads++;
 	reader->mixed += !is_whole(&snapshot, reading);
 	if (tkc_snapshot_get(&time, &snapshot, TKC_CLOCK_MONOTONIC, reading)) {
@@ -139,7 +136,7 @@ static void pause_writer(void)
 /* Changes the frequency and the tick between their limits. */
 static u32 write_all(u64 cycles)
 {
-	static const struct row rows[] = {
+	static const struct command commands[] = {
 		{ .command = TKC_CMD_TICK, .number = 11000 },
 		{ .command = TKC_CMD_TICK, .number = 9000 },
 		{ .command = TKC_CMD_FREQ, .number = FASTEST },
@@ -147,16 +144,16 @@ static u32 write_all(u64 cycles)
 		{ .command = TKC_CMD_TICK, .number = 9000 },
 		{ .command = TKC_CMD_FREQ, .number = -FASTEST },
 	};
-	struct entry entry = { .code = TKC_OK };
+	struct command command = { .code = TKC_OK };
 	u64 start = read_tsc();
 
-	for (size_t i = 0; !entry.code && read_tsc() - start < cycles; i++) {
-		entry.row = rows[i % ARRAY_SIZE(rows)];
-		clocks_command(&clocks, &entry);
+	for (size_t i = 0; !command.code && read_tsc() - start < cycles; i++) {
+		command = commands[i % ARRAY_SIZE(commands)];
+		clocks_command(&clocks, &command);
 		pause_writer();
 	}
 	atomic_store(&is_done, true);
-	return entry.code;
+	return command.code;
 }
 
 static u32 open_clocks(void)

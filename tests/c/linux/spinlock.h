@@ -13,6 +13,7 @@
 
 typedef uint32_t u32;
 typedef uint64_t u64;
+typedef int64_t s64;
 
 #define ARRAY_SIZE(array) (sizeof(array) / sizeof((array)[0]))
 #define READ_ONCE(value) (*(const volatile __typeof__(value) *)&(value))
@@ -60,11 +61,6 @@ static inline u64 rdtsc_ordered(void)
 			 :
 			 : "memory");
 	return (u64)high << 32 | low;
-}
-
-static inline int smp_processor_id(void)
-{
-	return 0;
 }
 
 typedef struct {
