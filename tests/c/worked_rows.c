@@ -178,6 +178,7 @@ int main(void)
 	try_commands();
 	try_reads();
 	try_lists();
+	try_far_lists();
 	try_readings();
 	try_words();
 	puts("worked_rows: each row has its code and its values");

@@ -80,6 +80,7 @@ void try_counters(void);
 void try_commands(void);
 void try_reads(void);
 void try_lists(void);
+void try_far_lists(void);
 void try_readings(void);
 void try_words(void);
 

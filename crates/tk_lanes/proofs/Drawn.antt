@@ -1,40 +1,36 @@
 -- A segment that is drawn from a snapshot has its clock's values.
-use Rattle.std.proofs.Common.{◌≡◌, ℕ, ◌+◌, ◌-◌, ◌*◌, ◌/◌, ◌%◌, ◌^◌, ◌<◌, ◌≤◌, Bool, true, false, bit_and, Ok, refl, sym, ap, ap₂, ◌∙◌, arith}
-use Rattle.std.specs.Prelude.{ℤ, pos, ◌+ℤ◌, int_lt, nat_lt, ◌||◌, if◌then◌else◌, unsigned_abs}
+use Rattle.std.proofs.Common.{◌≡◌, ℕ, ◌+◌, ◌-◌, ◌*◌, ◌/◌, ◌%◌, ◌^◌, ◌<◌, ◌≤◌, true, false, bit_and, Ok, refl, sym, ap, ap₂, ◌∙◌, arith}
+use Rattle.std.specs.Prelude.{ℤ, pos, ◌+ℤ◌, int_lt, nat_lt, if◌then◌else◌, unsigned_abs}
 use Rattle.std.proofs.lemmas.Bool.{le-ltb, lt-ltb}
 use Rattle.std.proofs.lemmas.Nat.{pow_pos, div_below, and_mask}
 use Rattle.std.proofs.lemmas.Int.{ints}
 use Rattle.std.proofs.Math.Nat.{mul-add-div, mod-eq_of_lt, mul-le-mul_right}
-use Rattle.tk_counter.specs.Counter.{Counter, IsCounter, mask, half, second}
+use Rattle.tk_counter.specs.Counter.{Counter, IsCounter, mask, half}
 use Rattle.tk_counter.proofs.Gaps.{word_gap}
 use Rattle.tk_clock.specs.declared.clock_id.ClockId.{ClockId}
-use Rattle.tk_clock.specs.declared.clock_id.ClockId.TheVariants.{Realtime, Monotonic, Boottime, Tai, RealtimeCoarse, MonotonicCoarse, MonotonicRaw}
 use Rattle.tk_clock.specs.Monotonic.{cycles_since}
 use Rattle.tk_clock.specs.State.{ReadBase, base_value}
 use Rattle.tk_clock.specs.Limits.{limit}
 use Rattle.tk_clock.specs.Read.{read_of}
-use Rattle.tk_clock.proofs.Offsets.{cycles_since-self}
 use Rattle.tk_lanes.specs.declared.segment.Segment.{Segment}
 use Rattle.tk_clock.specs.Origin.{is_coarse, units_at_last, running_mult, mult_of, offset_of}
 use Rattle.tk_clock.proofs.Origin.{same_units, counted, value_is}
 use Rattle.tk_lanes.specs.Segment.{segment_cycles, segment_nanos, nanos_after, IsNear}
 
--- a segment with a clock's numbers: seconds at the last reading, the span in cycles, and the
--- nanoseconds to the clock's limit
-pub record IsDrawn (base : ReadBase) (clock : ClockId) (segment : Segment) (sec room : ℕ) : Type 0 where
+-- a segment with a clock's numbers: the nanoseconds that the clock counts up to the last reading,
+-- without its offset, and the nanoseconds to its limit
+pub record IsDrawn (base : ReadBase) (clock : ClockId) (segment : Segment) (counts room : ℕ) : Type 0 where
   pub counter : IsCounter base.counter
   pub last : segment.last ≡ base.last
   pub last_low : base.last < 2 ^ 64
   pub mult : segment.mult ≡ mult_of base clock
   pub shift : segment.shift ≡ base.counter.shift
-  pub units : units_at_last base clock ≡ sec * second base.counter + segment.frac
-  pub start : pos segment.base ≡ pos (sec * 10 ^ 9) +ℤ offset_of base clock
+  pub units : units_at_last base clock ≡ counts * 2 ^ base.counter.shift + segment.frac
+  pub start : pos segment.base ≡ pos counts +ℤ offset_of base clock
   pub masked : segment.mask ≡ mask base.counter
   pub halved : segment.half ≡ half base.counter
-  pub fits : segment.span * segment.mult + segment.frac < 2 ^ 64
   pub in_range : segment.span * segment.mult + segment.frac < room * 2 ^ segment.shift
   pub ends : pos (segment.base + room) ≡ limit clock
-  pub limit_low : segment.base + room < 2 ^ 64
 
 -- the difference of two words
 abbrev gap_word : ℕ → ℕ → ℕ
@@ -60,15 +56,24 @@ whole_gap counter m gap p low =
     ap (bit_and gap) p ∙ and_mask gap counter.bits
     ∙ mod-eq_of_lt (omega (arith, p, low, pow_pos counter.bits))
 
--- the nanoseconds of seconds and further units
-split_amount : (sec units shift : ℕ) →
-    (sec * (10 ^ 9 * 2 ^ shift) + units) / 2 ^ shift ≡ sec * 10 ^ 9 + units / 2 ^ shift
-split_amount sec units shift =
-    let e : sec * (10 ^ 9 * 2 ^ shift) + units ≡ 2 ^ shift * (sec * 10 ^ 9) + units = omega arith in
-    ap (λ n. n / 2 ^ shift) e ∙ mul-add-div (pow_pos shift) (sec * 10 ^ 9) units
+-- a value within the room below a limit
+pub value_below : (units shift room : ℕ) → units < room * 2 ^ shift → units / 2 ^ shift < room
+value_below units shift room low = div_below units (2 ^ shift) room (pow_pos shift) low
 
-module _ (base : ReadBase) (clock : ClockId) (segment : Segment) (sec room : ℕ)
-    (drawn : IsDrawn base clock segment sec room)
+-- the value at the end of the span fits a word
+pub span_value : (segment : Segment) (room : ℕ) →
+    segment.span * segment.mult + segment.frac < room * 2 ^ segment.shift →
+    segment.base + room < 2 ^ 64 → nanos_after segment segment.span < 2 ^ 64
+unfolding nanos_after
+span_value segment room in_range limit_low =
+    omega (
+      arith,
+      value_below (segment.span * segment.mult + segment.frac) segment.shift room in_range,
+      limit_low,
+    )
+
+module _ (base : ReadBase) (clock : ClockId) (segment : Segment) (counts room : ℕ)
+    (drawn : IsDrawn base clock segment counts room)
     (stamp : ℕ) (near : IsNear segment stamp) where
   abbrev cycles : ℕ
   cycles = segment_cycles segment stamp
@@ -90,23 +95,13 @@ module _ (base : ReadBase) (clock : ClockId) (segment : Segment) (sec room : ℕ
   nanos = units / 2 ^ segment.shift
 
   nanos_low : nanos < room
-  nanos_low = div_below units (2 ^ segment.shift) room (pow_pos segment.shift)
-      (omega (arith, grown, drawn.in_range))
+  nanos_low = value_below units segment.shift room (omega (arith, grown, drawn.in_range))
 
   segment_is : segment_nanos segment stamp ≡ nanos + segment.base
   unfolding nanos_after
-  segment_is =
-      let a : (cycles * segment.mult) % 2 ^ 64 ≡ cycles * segment.mult =
-      mod-eq_of_lt (omega (arith, grown, drawn.fits)) in
-      let b : (cycles * segment.mult + segment.frac) % 2 ^ 64 ≡ units =
-      mod-eq_of_lt (omega (arith, grown, drawn.fits)) in
-      let d : (nanos + segment.base) % 2 ^ 64 ≡ nanos + segment.base =
-      mod-eq_of_lt (omega (arith, nanos_low, drawn.limit_low)) in
-      ap (λ n. ((n + segment.frac) % 2 ^ 64 / 2 ^ segment.shift + segment.base) % 2 ^ 64) a
-      ∙ ap (λ n. (n / 2 ^ segment.shift + segment.base) % 2 ^ 64) b
-      ∙ d
+  segment_is = refl
 
-  counted_is : counted base clock stamp ≡ sec * 10 ^ 9 + nanos
+  counted_is : counted base clock stamp ≡ counts + nanos
   counted_is =
       let at = if is_coarse clock then base.last else stamp in
       let same : cycles * segment.mult
@@ -116,16 +111,17 @@ module _ (base : ReadBase) (clock : ClockId) (segment : Segment) (sec room : ℕ
       (running_mult base clock) in
       let e : units_at_last base clock + cycles_since base.counter base.asleep base.last
       at * running_mult base clock
-      ≡ sec * (10 ^ 9 * 2 ^ base.counter.shift) + units =
+      ≡ 2 ^ base.counter.shift * counts + units =
       omega (arith, same, drawn.units) in
-      ap (λ n. n / 2 ^ base.counter.shift) e ∙ split_amount sec units base.counter.shift
-      ∙ ap (λ k. sec * 10 ^ 9 + units / 2 ^ k) (sym drawn.shift)
+      ap (λ n. n / 2 ^ base.counter.shift) e
+      ∙ mul-add-div (pow_pos base.counter.shift) counts units
+      ∙ ap (λ k. counts + units / 2 ^ k) (sym drawn.shift)
 
   value : base_value base clock stamp ≡ pos (nanos + segment.base)
   value =
       value_is base clock stamp
       ∙ ap (λ n. pos n +ℤ offset_of base clock) counted_is
-      ∙ together (sec * 10 ^ 9) nanos segment.base (offset_of base clock) drawn.start
+      ∙ together counts nanos segment.base (offset_of base clock) drawn.start
     where
       together : (a n b : ℕ) (o : ℤ) → pos b ≡ pos a +ℤ o → pos (a + n) +ℤ o ≡ pos (n + b)
       together a n b o e = omega (arith, ints)

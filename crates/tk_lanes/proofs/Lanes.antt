@@ -1,14 +1,14 @@
 -- Eight lanes at a time: the value that is computed in each.
 use Rattle.std.proofs.Common.{◌≡◌, ℕ, ◌+◌, ◌-◌, ◌*◌, ◌/◌, ◌%◌, ◌^◌, ◌<◌, ◌≤◌, Bool, cond, ltb, List, [], ◌∷◌, map, length, bit_and, bit_or, w64, replicate, refl, false, inl, inr, sym, ap, ap₂, ◌∙◌, subst, arith}
-use Rattle.std.proofs.lemmas.Nat.{le_or_l, le_or_r}
+use Rattle.std.proofs.lemmas.Nat.{le_or_l, le_or_r, and_mask, le-div, mod_below, mul-le, pow-add, pow_pos, shr_split}
 use Rattle.std.proofs.lemmas.Simd.{zip2_of_maps, splat_is_map, tops_compared, Each1-weaker}
 use Rattle.std.specs.Simd.Lanes.{zip2, sel_l, fold_l, Each1}
 use Rattle.std.proofs.lemmas.Bool.{le-ltb, lt-ltb, cases_lt}
 use Rattle.std.proofs.lemmas.List.{length-map}
-use Rattle.std.proofs.Math.Nat.{mod-eq_of_lt, add-mul-mod_self_left}
+use Rattle.std.proofs.Math.Nat.{mod-eq_of_lt, add-mul-mod_self_left, mul-add-div, mul-le-mul_right, div-mul-le_self, le-mul_of_pos_right, pow-le-pow_right}
 use lib.Lanes.{top}
 use Rattle.tk_lanes.specs.declared.segment.Segment.{Segment}
-use Rattle.tk_lanes.specs.Segment.{segment_cycles, segment_nanos, nanos_after, IsNear, IsEachNear}
+use Rattle.tk_lanes.specs.Segment.{segment_cycles, segment_nanos, nanos_after, IsNear, IsEachNear, IsFitting}
 
 itself : (v : List ℕ) → v ≡ map (λ x. x) v
 itself [] = refl
@@ -67,12 +67,36 @@ cycles segment v =
 abbrev reaches : Segment → List ℕ → ℕ → List ℕ
 reaches segment v bias = zip2 wrap_add (cycles segment v) (replicate 8 bias)
 
-abbrev nanos : Segment → List ℕ → ℕ → ℕ → List ℕ
-nanos segment counts mult shift =
-    zip2 wrap_add (zip2 shr
-    (zip2 wrap_add (zip2 wrap_mul counts (replicate 8 mult)) (replicate 8 segment.frac))
-    (replicate 8 shift))
+abbrev shl : ℕ → ℕ → ℕ
+shl a b = (a * 2 ^ b) % 18446744073709551616
+
+-- the product of the high halves of the cycles, and of the low halves with the part below a nanosecond
+abbrev highs : List ℕ → ℕ → List ℕ
+highs counts mult = zip2 wrap_mul (zip2 shr counts (replicate 8 32)) (replicate 8 mult)
+
+abbrev lows : Segment → List ℕ → ℕ → List ℕ
+lows segment counts mult =
+    zip2 wrap_add (zip2 wrap_mul (zip2 bit_and counts (replicate 8 4294967295)) (replicate 8 mult))
+    (replicate 8 segment.frac)
+
+abbrev nanos : Segment → List ℕ → ℕ → ℕ → ℕ → List ℕ
+nanos segment counts mult up down =
+    zip2 wrap_add
+    (zip2 wrap_add (zip2 shl (highs counts mult) (replicate 8 up))
+    (zip2 shr (lows segment counts mult) (replicate 8 down)))
     (replicate 8 segment.base)
+
+-- one lane of them
+abbrev high : Segment → ℕ → ℕ
+high segment cycles = wrap_mul (shr cycles 32) segment.mult
+
+abbrev low : Segment → ℕ → ℕ
+low segment cycles = wrap_add (wrap_mul (bit_and cycles 4294967295) segment.mult) segment.frac
+
+lane_nanos : Segment → ℕ → ℕ
+lane_nanos segment cycles =
+    wrap_add (wrap_add (shl (high segment cycles) (32 - segment.shift))
+    (shr (low segment cycles) segment.shift)) segment.base
 
 splat : (v : List ℕ) → length v ≡ 8 → (y : ℕ) → replicate 8 y ≡ map (λ _. y) v
 splat v long y = splat_is_map v 8 y long
@@ -98,21 +122,133 @@ cycles-map segment v long =
     (splat v long 0)
     (gaps-map segment v long)
 
--- each lane holds the segment's value after its number of cycles
-pub nanos-map : (segment : Segment) (counts : List ℕ) → length counts ≡ 8 → (mult shift : ℕ) →
-    mult ≡ segment.mult → shift ≡ segment.shift →
-    nanos segment counts mult shift ≡ map (nanos_after segment) counts
-unfolding nanos_after
-nanos-map segment counts long mult shift p q =
-    ap₂ (nanos segment counts) p q ∙
-    zip2_of_maps wrap_add _ (λ _. segment.base) counts
-    (zip2_of_maps shr _ (λ _. segment.shift) counts
-    (zip2_of_maps wrap_add _ (λ _. segment.frac) counts
-    (zip2_of_maps wrap_mul (λ x. x) (λ _. segment.mult) counts (itself counts)
-    (splat counts long segment.mult))
-    (splat counts long segment.frac))
-    (splat counts long segment.shift))
+lanes-map : (segment : Segment) (counts : List ℕ) → length counts ≡ 8 →
+    nanos segment counts segment.mult (32 - segment.shift) segment.shift
+    ≡ map (lane_nanos segment) counts
+unfolding lane_nanos
+lanes-map segment counts long =
+    let mults = splat counts long segment.mult in
+    let high_half = zip2_of_maps shr (λ x. x) (λ _. 32) counts (itself counts) (splat counts long 32) in
+    let low_half = zip2_of_maps bit_and (λ x. x) (λ _. 4294967295) counts (itself counts)
+    (splat counts long 4294967295) in
+    let highs_are = zip2_of_maps wrap_mul (λ x. shr x 32) (λ _. segment.mult) counts high_half mults in
+    let lows_are = zip2_of_maps wrap_add
+    (λ x. wrap_mul (bit_and x 4294967295) segment.mult) (λ _. segment.frac) counts
+    (zip2_of_maps wrap_mul (λ x. bit_and x 4294967295) (λ _. segment.mult) counts low_half mults)
+    (splat counts long segment.frac) in
+    zip2_of_maps wrap_add
+    (λ x. wrap_add (shl (high segment x) (32 - segment.shift)) (shr (low segment x) segment.shift))
+    (λ _. segment.base) counts
+    (zip2_of_maps wrap_add
+    (λ x. shl (high segment x) (32 - segment.shift)) (λ x. shr (low segment x) segment.shift) counts
+    (zip2_of_maps shl (high segment) (λ _. 32 - segment.shift) counts highs_are
+    (splat counts long (32 - segment.shift)))
+    (zip2_of_maps shr (low segment) (λ _. segment.shift) counts lows_are
+    (splat counts long segment.shift)))
     (splat counts long segment.base)
+
+-- a word that is at most a value below 2^64 is not wrapped
+unwrapped : (n : ℕ) → n < 18446744073709551616 → n % 18446744073709551616 ≡ n
+unwrapped n fits = mod-eq_of_lt fits
+
+-- one lane holds the segment's value
+module _ (segment : Segment) (cycles : ℕ) (shift : segment.shift ≤ 32)
+    (mult : segment.mult < 4294967296) (frac : segment.frac < 2 ^ segment.shift)
+    (value : (cycles * segment.mult + segment.frac) / 2 ^ segment.shift + segment.base
+    < 18446744073709551616) where
+  abbrev top_half : ℕ
+  top_half = cycles / 2 ^ 32
+
+  abbrev bottom_half : ℕ
+  bottom_half = cycles % 2 ^ 32
+
+  abbrev up : ℕ
+  up = 2 ^ (32 - segment.shift)
+
+  abbrev down : ℕ
+  down = 2 ^ segment.shift
+
+  -- the product of the low half, with the part below a nanosecond
+  abbrev rest : ℕ
+  rest = bottom_half * segment.mult + segment.frac
+
+  rest_fits : rest < 18446744073709551616
+  rest_fits =
+      let two : 0 < 2 = omega arith in
+      let few : down ≤ 2 ^ 32 = pow-le-pow_right two shift in
+      let product : bottom_half * segment.mult ≤ 4294967295 * 4294967295 =
+      mul-le bottom_half segment.mult 4294967295 4294967295
+      (omega (arith, mod_below cycles (2 ^ 32) (omega arith))) (omega (arith, mult)) in
+      omega (arith, few, product, frac)
+
+  whole : cycles * segment.mult + segment.frac ≡ down * (top_half * segment.mult * up) + rest
+  whole =
+      let parts : top_half * 2 ^ 32 + bottom_half ≡ cycles = shr_split cycles 32 in
+      let bits : 32 ≡ (32 - segment.shift) + segment.shift = omega (arith, shift) in
+      let scale : 2 ^ 32 ≡ up * down =
+      ap (λ k. 2 ^ k) bits ∙ pow-add 2 (32 - segment.shift) segment.shift in
+      ap (λ n. n * segment.mult + segment.frac) (sym parts)
+      ∙ ap (λ n. (top_half * n + bottom_half) * segment.mult + segment.frac) scale
+      ∙ omega arith
+
+  quotient : (cycles * segment.mult + segment.frac) / down ≡ top_half * segment.mult * up + rest / down
+  quotient =
+      ap (λ n. n / down) whole
+      ∙ mul-add-div (pow_pos segment.shift) (top_half * segment.mult * up) rest
+
+  high_low : top_half * segment.mult ≤ top_half * segment.mult * up
+  high_low = le-mul_of_pos_right (top_half * segment.mult) (pow_pos (32 - segment.shift))
+
+  lane_is : lane_nanos segment cycles
+      ≡ (cycles * segment.mult + segment.frac) / down + segment.base
+  unfolding lane_nanos
+  lane_is =
+      let a : high segment cycles ≡ top_half * segment.mult =
+      unwrapped _ (omega (arith, high_low, quotient, value)) in
+      let b : shl (high segment cycles) (32 - segment.shift) ≡ top_half * segment.mult * up =
+      ap (λ n. shl n (32 - segment.shift)) a ∙ unwrapped _ (omega (arith, quotient, value)) in
+      let c : wrap_mul (bit_and cycles 4294967295) segment.mult ≡ bottom_half * segment.mult =
+      ap (λ n. wrap_mul n segment.mult) (and_mask cycles 32)
+      ∙ unwrapped _ (omega (arith, rest_fits)) in
+      let d : low segment cycles ≡ rest =
+      ap (λ n. wrap_add n segment.frac) c ∙ unwrapped _ rest_fits in
+      let e : wrap_add (shl (high segment cycles) (32 - segment.shift))
+      (shr (low segment cycles) segment.shift)
+      ≡ (cycles * segment.mult + segment.frac) / down =
+      ap₂ wrap_add b (ap (λ n. n / down) d)
+      ∙ unwrapped _ (omega (arith, quotient, value)) ∙ sym quotient in
+      ap (λ n. wrap_add n segment.base) e ∙ unwrapped _ value
+
+-- two functions that agree at each stamp give the same list of lanes
+same_maps : (f g : ℕ → ℕ) (P : ℕ → Type 0) → ((x : ℕ) → P x → f x ≡ g x) → (v : List ℕ) →
+    Each1 P v → map f v ≡ map g v
+same_maps f g P same [] all = refl
+same_maps f g P same (x ∷ xs) all =
+    ap₂ (λ y ys. y ∷ ys) (same x all.0) (same_maps f g P same xs all.1)
+
+-- a greater number has no smaller quotient
+div_grows : (a b k : ℕ) → 0 < k → a ≤ b → a / k ≤ b / k
+div_grows a b k some grown = le-div (a / k) b k some (omega (arith, div-mul-le_self a k, grown))
+
+-- each lane holds the segment's value after its number of cycles
+pub nanos-map : (segment : Segment) → IsFitting segment → segment.mult < 4294967296 →
+    (counts : List ℕ) → length counts ≡ 8 → Each1 (λ gap. gap ≤ segment.span) counts →
+    (mult up down : ℕ) → mult ≡ segment.mult → up ≡ 32 - segment.shift → down ≡ segment.shift →
+    nanos segment counts mult up down ≡ map (nanos_after segment) counts
+unfolding nanos_after
+nanos-map segment fitting few counts long near mult up down p q r =
+    ap (λ m. nanos segment counts m up down) p
+    ∙ ap₂ (nanos segment counts segment.mult) q r
+    ∙ lanes-map segment counts long
+    ∙ same_maps (lane_nanos segment) (nanos_after segment) (λ gap. gap ≤ segment.span)
+    (λ gap within.
+    let product : gap * segment.mult ≤ segment.span * segment.mult =
+    mul-le-mul_right segment.mult within in
+    let grown : (gap * segment.mult + segment.frac) / 2 ^ segment.shift
+    ≤ (segment.span * segment.mult + segment.frac) / 2 ^ segment.shift =
+    div_grows _ _ _ (pow_pos segment.shift) (omega (arith, product)) in
+    lane_is segment gap fitting.shift few fitting.frac
+    (omega (arith, grown, fitting.value))) counts near
 
 -- if a gap is within the span, the stamp is not behind
 near_gap : (segment : Segment) → segment.span ≤ segment.half → (x : ℕ) → gap_of segment x ≤ segment.span →
@@ -121,13 +257,6 @@ unfolding gap_of segment_cycles
 near_gap segment leads x low =
     let ahead : ltb segment.half (gap_of segment x) ≡ false = le-ltb _ _ (omega (arith, low, leads)) in
     rw ahead refl
-
--- two functions that agree at each stamp give the same list of lanes
-same_maps : (f g : ℕ → ℕ) (P : ℕ → Type 0) → ((x : ℕ) → P x → f x ≡ g x) → (v : List ℕ) →
-    Each1 P v → map f v ≡ map g v
-same_maps f g P same [] all = refl
-same_maps f g P same (x ∷ xs) all =
-    ap₂ (λ y ys. y ∷ ys) (same x all.0) (same_maps f g P same xs all.1)
 
 pub cycles-long : (segment : Segment) (v : List ℕ) → length v ≡ 8 → length (cycles segment v) ≡ 8
 cycles-long segment v long = ap length (cycles-map segment v long) ∙ length-map v (segment_cycles segment)
@@ -156,21 +285,26 @@ words-map segment v long =
 pub words-long : (segment : Segment) (v : List ℕ) → length v ≡ 8 → length (words segment v) ≡ 8
 words-long segment v long = ap length (words-map segment v long) ∙ length-map v (word_of segment) ∙ long
 
+-- the cycles of near stamps are within the span
+pub each_near : (segment : Segment) (v : List ℕ) → IsEachNear segment v →
+    Each1 (λ gap. gap ≤ segment.span) (map (segment_cycles segment) v)
+each_near segment [] near = tt
+each_near segment (x ∷ xs) near = (near.0.near, each_near segment xs near.1)
+
 -- a stamp that is no farther ahead of the last reading than `segment.ahead`
-module _ (segment : Segment) (leads : segment.span ≤ segment.half) (near : segment.ahead ≤ segment.span)
-    (read : segment.last + segment.ahead ≤ segment.mask) (masked : segment.mask < 18446744073709551616)
-    (whole : (gap : ℕ) → gap ≤ segment.mask → bit_and gap segment.mask ≡ gap) where
+module _ (segment : Segment) (fitting : IsFitting segment)
+    (masked : segment.mask < 18446744073709551616) where
   word_is : (x : ℕ) → x < 18446744073709551616 → word_of segment x ≤ segment.ahead →
       word_of segment x + segment.last ≡ x
   word_is x fits low =
       elim (cases_lt x segment.last) [
         | inl below ↦
             let e : word_of segment x ≡ x + (18446744073709551616 - segment.last) =
-            mod-eq_of_lt (omega (arith, below, read, masked)) in
-            omega (arith, e, below, low, read, masked)
+            mod-eq_of_lt (omega (arith, below, fitting.read, masked)) in
+            omega (arith, e, below, low, fitting.read, masked)
         | inr above ↦
             let e : x + (18446744073709551616 - segment.last)
-            ≡ (x - segment.last) + 18446744073709551616 * 1 = omega (arith, above, read, masked) in
+            ≡ (x - segment.last) + 18446744073709551616 * 1 = omega (arith, above, fitting.read, masked) in
             let w : word_of segment x ≡ x - segment.last =
             ap (λ n. n % 18446744073709551616) e
             ∙ add-mul-mod_self_left (x - segment.last) 18446744073709551616 1
@@ -186,13 +320,13 @@ module _ (segment : Segment) (leads : segment.span ≤ segment.half) (near : seg
   is_ahead x fits low =
       let at = word_is x fits low in
       let gap : gap_of segment x ≡ word_of segment x =
-      whole (word_of segment x) (omega (arith, low, read)) in
+      fitting.whole (word_of segment x) (omega (arith, low, fitting.read)) in
       let cycles : word_of segment x ≡ segment_cycles segment x =
-      sym gap ∙ near_gap segment leads x (omega (arith, gap, low, near)) in (
+      sym gap ∙ near_gap segment fitting.leads x (omega (arith, gap, low, fitting.near)) in (
         cycles,
         record {
-          near = omega (arith, cycles, low, near);
-          read = omega (arith, at, low, read);
+          near = omega (arith, cycles, low, fitting.near);
+          read = omega (arith, at, low, fitting.read);
         },
       )
 
@@ -218,6 +352,13 @@ module _ (segment : Segment) (leads : segment.span ≤ segment.half) (near : seg
       fold_l bit_or 0 (words segment v) ≤ segment.ahead → IsEachNear segment v
   near_by_words v long fits low =
       Each1-weaker IsAhead (IsNear segment) (λ x p. p.1) v (each_ahead v long fits low)
+
+  pub words-near : (v : List ℕ) → length v ≡ 8 → Each1 (λ x. x < 18446744073709551616) v →
+      fold_l bit_or 0 (words segment v) ≤ segment.ahead →
+      Each1 (λ gap. gap ≤ segment.span) (words segment v)
+  words-near v long fits low =
+      subst (λ l. Each1 (λ gap. gap ≤ segment.span) l) (sym (words-are_cycles v long fits low))
+      (each_near segment v (near_by_words v long fits low))
 
 -- a sum with this bias has no top bit, so the cycles are within the span
 within_span : (cycles span bias : ℕ) → cycles < 9223372036854775808 →
@@ -257,3 +398,9 @@ near_by_reaches segment v bias long halved e read low =
     (λ x p. p) v
     (most_is_or 0 _ 9223372036854775807 ors).1)
     (most_is_or 0 v segment.mask read).1
+
+pub cycles-near : (segment : Segment) (v : List ℕ) → length v ≡ 8 → IsEachNear segment v →
+    Each1 (λ gap. gap ≤ segment.span) (cycles segment v)
+cycles-near segment v long near =
+    subst (λ l. Each1 (λ gap. gap ≤ segment.span) l) (sym (cycles-map segment v long))
+    (each_near segment v near)

@@ -1,4 +1,5 @@
 pub mod Lanes
 pub mod Drawn
+pub mod Spans
 pub mod Filled
 pub mod Reading

@@ -1,8 +1,7 @@
 -- A clock as a straight line over the cycles since the last command.
-use Rattle.std.specs.Prelude.{ℤ, pos, ◌+ℤ◌, ◌*ℤ◌, Bool, true, false, ◌||◌, Ok, ◌≡◌, ◌<◌, ◌≤◌, ℕ, ◌+◌, ◌-◌, ◌*◌, ◌/◌, ◌%◌, ◌^◌, List, bit_and, nat_lt, if◌then◌else◌}
+use Rattle.std.specs.Prelude.{Ok, ◌≡◌, ◌<◌, ◌≤◌, ℕ, ◌+◌, ◌-◌, ◌*◌, ◌/◌, ◌%◌, ◌^◌, List, bit_and, nat_lt, if◌then◌else◌}
 use Rattle.std.specs.Simd.Lanes.{Each1}
 use Rattle.tk_clock.specs.declared.clock_id.ClockId.{ClockId}
-use Rattle.tk_clock.specs.declared.clock_id.ClockId.TheVariants.{Realtime, Monotonic, Boottime, Tai, RealtimeCoarse, MonotonicCoarse, MonotonicRaw}
 use Rattle.tk_clock.specs.State.{ReadBase}
 use Rattle.tk_clock.specs.Read.{read_of}
 use Rattle.tk_lanes.specs.declared.segment.Segment.{Segment}
@@ -17,11 +16,10 @@ segment_cycles segment stamp =
     let gap = bit_and ((stamp + (2 ^ 64 - segment.last)) % 2 ^ 64) segment.mask in
     if nat_lt segment.half gap then 0 else gap
 
--- the segment's value after a number of cycles, in nanoseconds, in 64-bit words
+-- the segment's value after a number of cycles, in nanoseconds
 unfoldable pub nanos_after : Segment → ℕ → ℕ
 nanos_after segment cycles =
-    let units = ((cycles * segment.mult) % 2 ^ 64 + segment.frac) % 2 ^ 64 in
-    (units / 2 ^ segment.shift + segment.base) % 2 ^ 64
+    (cycles * segment.mult + segment.frac) / 2 ^ segment.shift + segment.base
 
 -- the segment's value at a stamp, in nanoseconds
 abbrev pub segment_nanos : Segment → ℕ → ℕ
@@ -35,6 +33,17 @@ pub record IsNear (segment : Segment) (stamp : ℕ) : Type 0 where
 -- all stamps of a list are near
 abbrev pub IsEachNear : Segment → List ℕ → Type 0
 IsEachNear segment stamps = Each1 (IsNear segment) stamps
+
+-- the numbers of a segment fit one another and 64-bit words
+pub record IsFitting (segment : Segment) : Type 0 where
+  pub shift : segment.shift ≤ 32
+  pub frac : segment.frac < 2 ^ segment.shift
+  pub half : segment.half < 2 ^ 63
+  pub leads : segment.span ≤ segment.half
+  pub value : nanos_after segment segment.span < 2 ^ 64
+  pub near : segment.ahead ≤ segment.span
+  pub read : segment.last + segment.ahead ≤ segment.mask
+  pub whole : (gap : ℕ) → gap ≤ segment.mask → bit_and gap segment.mask ≡ gap
 
 -- within its span the segment's value is the clock's value
 abbrev pub IsSegment : ReadBase → ClockId → Segment → Type 0

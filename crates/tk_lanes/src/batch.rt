@@ -37,8 +37,9 @@ pub fn plain_batch(
 /// Writes the same times and returns the same results as `plain_batch`, but converts eight stamps
 /// at a time.
 ///
-/// Eight stamps are converted one after the other if one of them is above the mask, or too far from
-/// the last command for a segment. So are the stamps after the last eight.
+/// Eight stamps are converted one after the other if one of them is above the mask, or so far ahead
+/// that the clock is at its limit or a few seconds before it. So are the stamps after the last
+/// eight.
 ///
 /// # Errors
 ///

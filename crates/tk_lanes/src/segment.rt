@@ -1,12 +1,12 @@
-//! Describes a clock as a straight line over the cycles since the last command, as far as no sum or
-//! product exceeds 64 bits and no value is out of range.
-ghost use Rattle.std.specs.Prelude.{◌≡◌, ℕ, ◌+◌, ◌*◌, ◌^◌, ◌<◌, ◌≤◌, bit_and, IfSome};
-ghost use Rattle.tk_lanes.specs.Segment.{IsSegment};
+//! Describes a clock as a straight line over the cycles since the last command, as far as the clock
+//! stays below its limit.
+ghost use Rattle.std.specs.Prelude.{◌*◌, ◌-◌, ◌^◌, ◌<◌, ◌≤◌, IfSome};
+ghost use Rattle.tk_lanes.specs.Segment.{IsFitting, IsSegment};
 
 mod lanes;
 mod origin;
 
-use origin::{NANOS_PER_SECOND, Origin, limit, offset};
+use origin::{Origin, limit, offset};
 use tk_clock::{ClockId, Snapshot};
 
 /// The number of stamps that are converted at a time.
@@ -23,7 +23,7 @@ pub(crate) struct Segment {
     mult: u32,
     /// The right shift that converts units to ns.
     shift: u32,
-    /// The part below a second at the last command, in `2^-shift` ns.
+    /// The part below a nanosecond at the last command, in `2^-shift` ns.
     frac: u64,
     /// The clock at the last command without that part, in ns.
     base: u64,
@@ -31,7 +31,7 @@ pub(crate) struct Segment {
     mask: u64,
     /// The longest gap that leads forward, in cycles.
     half: u64,
-    /// The longest gap up to which the segment is the clock, in cycles.
+    /// A gap up to which the segment is the clock, in cycles.
     span: u64,
     /// The greatest distance, in cycles, by which a stamp may be ahead of `last` without exceeding
     /// the mask or the span.
@@ -43,22 +43,16 @@ impl Segment {
     /// last command.
     pub(crate) fn of(snapshot: &Snapshot, clock: ClockId) -> Option<Segment>
         ensures drawn { IfSome result (λ segment. IsSegment snapshot.now.base clock segment) }
-        ensures shift { IfSome result (λ segment. segment.shift < 64) }
-        ensures leads { IfSome result (λ segment. segment.span ≤ segment.half) }
-        ensures half { IfSome result (λ segment. segment.half < 2 ^ 63) }
-        ensures near { IfSome result (λ segment. segment.ahead ≤ segment.span) }
-        ensures read { IfSome result (λ segment. segment.last + segment.ahead ≤ segment.mask) }
-        ensures whole { IfSome result
-            (λ segment. (gap : ℕ) → gap ≤ segment.mask → bit_and gap segment.mask ≡ gap) }
+        ensures fitting { IfSome result IsFitting }
     {
         let desc = snapshot.desc();
         let origin = Origin::of(snapshot, clock);
-        let base = u128::from(origin.sec) * NANOS_PER_SECOND + offset(snapshot, clock);
+        let base = origin.nanos + offset(snapshot, clock);
         let end = limit(clock);
         if base >= end {
             return None;
         }
-        let span = span_of((end - base) as u64, origin, desc.shift(), desc.half())?;
+        let span = span_of((end - base) as u64, origin.mult, desc.shift(), desc.half());
         let (last, mask) = (snapshot.last(), desc.mask());
         let left = mask.checked_sub(last)?;
         Some(Segment {
@@ -75,16 +69,17 @@ impl Segment {
     }
 }
 
-/// Returns the longest gap, up to `half`, at which the units fit in 64 bits and the clock gains
-/// less than `room` ns. Returns `None` if there is no such gap.
-fn span_of(room: u64, origin: Origin, shift: u32, half: u64) -> Option<u64>
-    requires { shift ≤ 32 }
-    ensures inside { IfSome result (λ span. span ≤ half) }
-    ensures fits { IfSome result (λ span. span * origin.mult + origin.frac < 2 ^ 64) }
-    ensures in_range { IfSome result (λ span. span * origin.mult + origin.frac < room * 2 ^ shift) }
+/// Returns a gap, up to `half`, over which the clock gains less than `room` ns.
+///
+/// The longest such gap may be longer, by less than `2^(shift + 1)` cycles: a division of 64 bits
+/// gives this one.
+fn span_of(room: u64, mult: u32, shift: u32, half: u64) -> u64
+    requires some { 0 < room }
+    requires shift { shift ≤ 32 }
+    ensures inside { result ≤ half }
+    ensures in_range { result * mult ≤ (room - 1) * 2 ^ shift }
 {
-    let end = (u128::from(room) << shift).min(1 << 64);
-    let most = end.checked_sub(1)? as u64;
-    let left = most.checked_sub(origin.frac)?;
-    Some((left / u64::from(origin.mult.max(1))).min(half))
+    let steps = (room - 1) / u64::from(mult.max(1));
+    let span = u128::from(steps) << shift;
+    span.min(u128::from(half)) as u64
 }

@@ -1,10 +1,10 @@
 //! Converts eight stamps at a time.
-ghost use Rattle.std.specs.Prelude.{◌≡◌, ℕ, ◌+◌, ◌^◌, ◌<◌, ◌≤◌, bit_and, length, MatchBool, map};
-ghost use Rattle.std.specs.Simd.Lanes.{chunk, put_chunk};
+ghost use Rattle.std.specs.Prelude.{◌≡◌, ◌+◌, ◌≤◌, length, MatchBool, map};
+ghost use Rattle.std.specs.Simd.Lanes.{chunk, put_chunk, Each1};
 ghost use Rattle.tk_clock.specs.State.{ReadBase};
 ghost use Rattle.tk_clock.specs.declared.clock_id.ClockId.{ClockId};
 ghost use Rattle.tk_lanes.specs.Batch.{IsFilled};
-ghost use Rattle.tk_lanes.specs.Segment.{lane_count, nanos_after, segment_nanos, IsEachNear, IsSegment};
+ghost use Rattle.tk_lanes.specs.Segment.{lane_count, nanos_after, segment_nanos, IsEachNear, IsFitting, IsSegment};
 
 use super::{LANES, Segment};
 use std::simd::prelude::*;
@@ -17,11 +17,7 @@ impl Segment {
     /// than the caches, a shorter loop lets the processor wait for more cache lines at a time.
     #[inline(always)]
     pub(crate) fn convert_ahead(self, stamps: &[u64], out: &mut [u64], first: usize) -> usize
-        requires shift { self.shift < 64 }
-        requires leads { self.span ≤ self.half }
-        requires near { self.ahead ≤ self.span }
-        requires read { self.last + self.ahead ≤ self.mask }
-        requires whole { (gap : ℕ) → gap ≤ self.mask → bit_and gap self.mask ≡ gap }
+        requires fitting { IsFitting self }
         requires same { length stamps.now ≡ length out.old }
         requires inside { first ≤ length stamps.now }
         ensures order { first ≤ result }
@@ -42,11 +38,7 @@ impl Segment {
     /// One test of the OR of the lanes covers all of them, because no lane is greater than the OR.
     #[inline(always)]
     fn converts_ahead(self, stamps: &[u64], out: &mut [u64], at: usize) -> bool
-        requires shift { self.shift < 64 }
-        requires leads { self.span ≤ self.half }
-        requires near { self.ahead ≤ self.span }
-        requires read { self.last + self.ahead ≤ self.mask }
-        requires whole { (gap : ℕ) → gap ≤ self.mask → bit_and gap self.mask ≡ gap }
+        requires fitting { IsFitting self }
         requires same { length stamps.now ≡ length out.old }
         requires inside { at + lane_count ≤ length stamps.now }
         ensures { let lanes = chunk at lane_count stamps.now in
@@ -66,9 +58,7 @@ impl Segment {
     /// span.
     #[inline(always)]
     pub(crate) fn converts(self, stamps: &[u64], out: &mut [u64], at: usize) -> bool
-        requires shift { self.shift < 64 }
-        requires leads { self.span ≤ self.half }
-        requires half { self.half < 2 ^ 63 }
+        requires fitting { IsFitting self }
         requires same { length stamps.now ≡ length out.old }
         requires inside { at + lane_count ≤ length stamps.now }
         ensures { let lanes = chunk at lane_count stamps.now in
@@ -93,16 +83,26 @@ impl Segment {
     }
 
     /// Writes the clock's time for eight lanes, starting at index `at`. `cycles` contains the
-    /// number of cycles of each lane.
+    /// number of cycles of each lane, none of them beyond the span.
+    ///
+    /// With `cycles = high * 2^32 + low`, the product has two parts, each of 64 bits:
+    ///
+    ///     (cycles * mult + frac) >> shift
+    ///         = (high * mult << (32 - shift)) + ((low * mult + frac) >> shift)
     #[inline(always)]
     fn write(self, cycles: u64x8, out: &mut [u64], at: usize)
-        requires shift { self.shift < 64 }
+        requires fitting { IsFitting self }
+        requires near { Each1 (λ gap. gap ≤ self.span) cycles }
         requires lanes { length cycles ≡ lane_count }
         requires inside { at + lane_count ≤ length out.old }
         ensures { out.new ≡ put_chunk at out.old (map (nanos_after self) cycles) }
     {
-        let units = cycles * u64x8::splat(u64::from(self.mult)) + u64x8::splat(self.frac);
-        let nanos = (units >> u64x8::splat(u64::from(self.shift))) + u64x8::splat(self.base);
+        let mult = u64x8::splat(u64::from(self.mult));
+        let high = (cycles >> u64x8::splat(32)) * mult;
+        let low = (cycles & u64x8::splat(0xffff_ffff)) * mult + u64x8::splat(self.frac);
+        let nanos = (high << u64x8::splat(u64::from(32 - self.shift)))
+            + (low >> u64x8::splat(u64::from(self.shift)))
+            + u64x8::splat(self.base);
         nanos.copy_to_slice(&mut out[at..]);
     }
 }

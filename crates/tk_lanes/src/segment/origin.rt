@@ -13,9 +13,9 @@ pub(super) const NANOS_PER_SECOND: u128 = 1_000_000_000;
 /// after it.
 #[derive(Clone, Copy)]
 pub(super) struct Origin {
-    /// Whole seconds.
-    pub(super) sec: u64,
-    /// The part below a second, in `2^-shift` ns.
+    /// Whole nanoseconds.
+    pub(super) nanos: u128,
+    /// The part below a nanosecond, in `2^-shift` ns.
     pub(super) frac: u64,
     /// The amount that a cycle adds, in `2^-shift` ns: 0 if the clock doesn't advance.
     pub(super) mult: u32,
@@ -24,18 +24,33 @@ pub(super) struct Origin {
 impl Origin {
     /// Returns the origin of a snapshot's clock.
     pub(super) fn of(snapshot: &Snapshot, clock: ClockId) -> Origin
-        ensures units { units_at_last snapshot.now.base clock
-            ≡ result.sec * second snapshot.now.base.counter + result.frac }
+        ensures units { let shift = snapshot.now.base.counter.shift in
+            units_at_last snapshot.now.base clock ≡ result.nanos * 2 ^ shift + result.frac }
+        ensures few { result.nanos < 2 ^ 95 }
+        ensures low { result.frac < 2 ^ snapshot.now.base.counter.shift }
         ensures mult { result.mult ≡ mult_of snapshot.now.base clock }
     {
         let mult = mult(snapshot, clock);
-        if is_raw(clock) {
-            let (sec, frac) = (snapshot.raw_sec(), snapshot.raw_frac());
-            Origin { sec, frac, mult }
-        } else {
-            let (sec, frac) = (snapshot.sec(), snapshot.frac());
-            Origin { sec, frac, mult }
+        let shift = snapshot.desc().shift();
+        let (sec, frac) = amount(snapshot, clock);
+        Origin {
+            nanos: u128::from(sec) * NANOS_PER_SECOND + u128::from(frac >> shift),
+            frac: frac % (1 << shift),
+            mult,
         }
+    }
+}
+
+/// Returns the whole seconds that the clock counts up to the last command, and the part below a
+/// second, in `2^-shift` ns.
+fn amount(snapshot: &Snapshot, clock: ClockId) -> (u64, u64)
+    ensures { units_at_last snapshot.now.base clock
+        ≡ result.0 * second snapshot.now.base.counter + result.1 }
+{
+    if is_raw(clock) {
+        (snapshot.raw_sec(), snapshot.raw_frac())
+    } else {
+        (snapshot.sec(), snapshot.frac())
     }
 }
 

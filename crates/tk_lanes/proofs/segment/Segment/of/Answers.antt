@@ -1,59 +1,79 @@
-use Rattle.std.proofs.Common.{◌≡◌, ◌+◌, ◌-◌, ◌*◌, ◌^◌, ◌<◌, sym, ◌∙◌, ap, subst, arith}
+use Rattle.std.proofs.Common.{◌≡◌, ◌+◌, ◌-◌, ◌*◌, ◌^◌, ◌<◌, ◌≤◌, sym, ◌∙◌, ap, subst, arith, rules}
 use Rattle.std.specs.Prelude.{pos, ◌+ℤ◌}
 use Rattle.tk_counter.specs.Counter.{Counter, IsCounter, mask, half}
 use Rattle.tk_lanes.specs.declared.segment.Segment.{Segment}
-use Rattle.tk_lanes.proofs.Drawn.{IsDrawn, drawn_reads, whole_gap}
+use Rattle.tk_lanes.proofs.Drawn.{IsDrawn, drawn_reads, span_value, whole_gap}
+use Rattle.tk_lanes.proofs.Spans.{gains_less}
 use Rattle.tk_lanes.proofs.segment.Segment.of.Goals as goal
 
-pub returns-clause-drawn : goal.returns-clause-drawn
-returns-clause-drawn c =
+abbrev segment_of : goal.After-min → Segment
+segment_of c = record {
+  last = c.last-last.result;
+  mult = c.of-origin.result.mult;
+  shift = c.shift-2.result;
+  frac = c.of-origin.result.frac;
+  base = c.of-origin.result.nanos + c.offset.result;
+  mask = c.mask-mask.result;
+  half = c.half-2.result;
+  span = c.span_of-span.result;
+  ahead = c.min.result;
+}
+
+-- the part below a nanosecond
+low_frac : (c : goal.After-min) → (segment_of c).frac < 2 ^ (segment_of c).shift
+low_frac c =
+    let same : c.args.snapshot.now.base.counter.shift ≡ c.shift-2.result =
+    sym (c.shift-2.ensures.value ∙ ap (λ (d : Counter). d.shift) c.desc-desc.ensures) in
+    subst (λ k. c.of-origin.result.frac < 2 ^ k) same c.of-origin.ensures.low
+
+drawn : (c : goal.After-min) → IsDrawn c.args.snapshot.now.base c.args.clock (segment_of c)
+    c.of-origin.result.nanos (c.limit-end.result - (segment_of c).base)
+drawn c =
     let base = c.args.snapshot.now.base in
-    let origin = c.of-origin.result in
-    let span = c.in_ok-span.span in
-    let segment : Segment = record {
-      last = c.last-last.result;
-      mult = origin.mult;
-      shift = c.shift-2.result;
-      frac = origin.frac;
-      base = c.from.result * 1000000000 + c.offset.result;
-      mask = c.mask-mask.result;
-      half = c.half-2.result;
-      span = span;
-      ahead = c.min.result;
-    } in
+    let segment = segment_of c in
     let same = c.desc-desc.ensures in
     let room = c.limit-end.result - segment.base in
     let whole : segment.base + room ≡ c.limit-end.result = omega arith in
-    let halved : c.half-2.result ≡ half base.counter = c.half-2.ensures ∙ ap half same in
-    let masked : c.mask-mask.result ≡ mask base.counter = c.mask-mask.ensures.value ∙ ap mask same in
     let shift : c.shift-2.result ≡ base.counter.shift = c.shift-2.ensures.value
     ∙ ap (λ (d : Counter). d.shift) same in
     let first_shift : c.shift.result ≡ c.shift-2.result = c.shift.ensures.value
     ∙ sym c.shift-2.ensures.value in
-    let seconds : c.from.result * 1000000000 ≡ origin.sec * 1000000000 =
-    ap (λ a. a * 1000000000) c.from.ensures in
-    let drawn : IsDrawn base c.args.clock segment origin.sec room = record {
+    record {
       counter = subst IsCounter same c.shift-2.ensures.counter;
       last = c.last-last.ensures;
       last_low = omega (arith, c.last-last.ensures);
       mult = c.of-origin.ensures.mult;
       shift = shift;
       units = c.of-origin.ensures.units;
-      start = ap (λ n. pos (n + c.offset.result)) seconds
-          ∙ ap (λ o. pos (origin.sec * 1000000000) +ℤ o) c.offset.ensures.value;
-      masked = masked;
-      halved = halved;
-      fits = c.in_ok-span.ensures.fits;
-      in_range = subst (λ k. span * segment.mult + segment.frac < room * 2 ^ k) first_shift
-          c.in_ok-span.ensures.in_range;
+      start = ap (λ o. pos c.of-origin.result.nanos +ℤ o) c.offset.ensures.value;
+      masked = c.mask-mask.ensures.value ∙ ap mask same;
+      halved = c.half-2.ensures ∙ ap half same;
+      in_range = gains_less (segment.span * segment.mult) segment.frac room (2 ^ segment.shift)
+          (omega arith) (low_frac c)
+          (subst (λ k. segment.span * segment.mult ≤ (room - 1) * 2 ^ k) first_shift
+          c.span_of-span.ensures.in_range);
       ends = ap pos whole ∙ c.limit-end.ensures.value;
-      limit_low = omega (arith, c.limit-end.ensures.most);
-    } in
-    (λ stamp low near. drawn_reads base c.args.clock segment origin.sec room drawn stamp near)
+    }
 
-pub returns-clause-whole : goal.returns-clause-whole
-returns-clause-whole c =
+pub returns-clause-drawn : goal.returns-clause-drawn
+returns-clause-drawn c =
+    (λ stamp low near. drawn_reads c.args.snapshot.now.base c.args.clock (segment_of c)
+    c.of-origin.result.nanos (c.limit-end.result - (segment_of c).base) (drawn c) stamp near)
+
+pub returns-clause-fitting : goal.returns-clause-fitting
+returns-clause-fitting c =
+    let segment = segment_of c in
     let base = c.args.snapshot.now.base in
-    let same = c.desc-desc.ensures in
-    let masked : c.mask-mask.result ≡ mask base.counter = c.mask-mask.ensures.value ∙ ap mask same in
-    (λ gap low. whole_gap base.counter c.mask-mask.result gap masked low)
+    let room = c.limit-end.result - segment.base in
+    let masked : c.mask-mask.result ≡ mask base.counter =
+    c.mask-mask.ensures.value ∙ ap mask c.desc-desc.ensures in
+    record {
+      shift = omega (arith, c.shift-2.ensures.value, c.shift-2.ensures.counter.shift_high);
+      frac = low_frac c;
+      half = search rules;
+      leads = omega (arith, c.span_of-span.ensures.inside, c.half.ensures, c.half-2.ensures);
+      value = span_value segment room (drawn c).in_range (omega (arith, c.limit-end.ensures.most));
+      near = omega arith;
+      read = omega (arith, c.in_ok-left.ensures);
+      whole = λ gap low. whole_gap base.counter c.mask-mask.result gap masked low;
+    }
