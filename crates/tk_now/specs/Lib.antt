@@ -4,3 +4,4 @@ pub mod Rule
 pub mod Steps
 pub mod Honest
 pub mod Life
+pub mod Ticker

@@ -1,4 +1,4 @@
-ghost use Rattle.std.specs.Prelude.{◌≡◌, ◌%◌, ◌^◌, IfOk, MatchResult};
+ghost use Rattle.std.specs.Prelude.{◌≡◌, ◌+◌, ◌*◌, ◌%◌, ◌^◌, IfOk, MatchResult};
 ghost use Rattle.std.specs.Duration.{as_nanos};
 
 use crate::rule::{View, Words};
@@ -57,42 +57,55 @@ pub trait SharedCounter {
 /// Counts the reads of all threads: a reading is the reading before it plus a fixed step, modulo
 /// 2^64.
 ///
-/// It simulates a counter for tests. No clause states the contents of its word.
+/// It simulates a counter for tests. Clauses state that a reading is the first one plus a whole
+/// number of steps. They don't state which number: that is the number of reads so far, modulo 2^64.
 #[derive(Drop)]
 pub struct SharedTicker {
-    next: AtomicU64,
+    reads: AtomicU64,
+    start: u64,
     step: u64,
 }
 
 impl SharedTicker {
     ghost use Rattle.std.specs.Prelude.{◌≡◌};
+    ghost use Rattle.tk_now.specs.Ticker.{IsTick};
 
     /// Returns a counter whose first reading is `start` and which adds `step` cycles at every read.
     ///
     /// It never waits and allocates nothing.
     pub fn new(start: u64, step: u64) -> SharedTicker
-        ensures { result.step ≡ step }
+        ensures start { result.start ≡ start }
+        ensures step { result.step ≡ step }
     {
-        let next = AtomicU64::new(start);
-        SharedTicker { next, step }
+        let reads = AtomicU64::new(0);
+        SharedTicker { reads, start, step }
     }
 
     /// Returns the reading that the next read returns, and adds nothing. It is taken during the
     /// call, after `look` was made.
     ///
     /// It never waits and allocates nothing.
-    pub fn peek(&self, _look: &Look) -> u64 {
-        self.next.load(Ordering::SeqCst)
+    pub fn peek(&self, _look: &Look) -> u64
+        ensures { IsTick self.now result }
+    {
+        self.reading_after(self.reads.load(Ordering::SeqCst))
+    }
+
+    /// Returns the reading of the read that follows this number of reads.
+    fn reading_after(&self, reads: u64) -> u64
+        ensures { result ≡ (self.now.start + reads * self.now.step) % 2 ^ 64 }
+    {
+        self.start.wrapping_add(reads.wrapping_mul(self.step))
     }
 }
 
 impl SharedCounter for SharedTicker {
-    ghost use Rattle.std.specs.Prelude.{◌<◌, ◌^◌};
+    ghost use Rattle.tk_now.specs.Ticker.{IsTick};
 
-    ghost answers = { λ _ _ answer. answer < 2 ^ 64 };
+    ghost answers = { λ ticker _ answer. IsTick ticker answer };
 
     fn read(&self, _look: &Look) -> u64 {
-        self.next.fetch_add(self.step, Ordering::SeqCst)
+        self.reading_after(self.reads.fetch_add(1, Ordering::SeqCst))
     }
 }
 
