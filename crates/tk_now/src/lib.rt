@@ -5,10 +5,13 @@
 //! | `Notice` | a word: the number of accepted commands, and whether one is in progress |
 //! | `Announcer` | announces commands; a notice has one announcer |
 //! | `Watcher` | reads the counter between two loads of the notice |
-//! | `Timed`, `Busy` | a reading with the number of the command before it, and why there is none |
-//! | `SharedCounter`, `Look` | a counter that many threads read; the notice's load before a read |
+//! | `Timed` | a reading with the number of the command before it |
+//! | `Busy` | why a call returned no reading |
+//! | `SharedCounter` | a counter that many threads read |
+//! | `Look` | the load or store of the notice before a read of the counter |
 //! | `counts_are_in_order`, `answers_are_in_life` | laws about honest counters |
-//! | `SharedTicker`, `HostCounter` | a counter of its own reads; the host's monotonic clock |
+//! | `SharedTicker` | a counter of its own reads, for tests |
+//! | `HostCounter` | the host's monotonic clock |
 //!
 //! No call waits. Only `Notice::open` and `Look::first` allocate. A moment is the number of steps
 //! on the notice so far. Readings are in cycles of the counter.

@@ -1,4 +1,4 @@
--- What a call for the time now was told, in terms of the closed keeper's history.
+-- The result of a call for the time now, in terms of the closed keeper's history.
 use Rattle.std.proofs.Common.{◌≡◌, ℕ, ◌+◌, ◌%◌, ◌^◌, ◌<◌, ◌≤◌, List, length, sym, ap, ◌∙◌, subst, arith, inl, inr}
 use Rattle.std.specs.Prelude.{Some, pos, slice_get}
 use Rattle.std.proofs.lemmas.Option.{same_Some, slice_get_within}
@@ -23,7 +23,7 @@ use Rattle.tk_shared.specs.NeverBack.{HasSeen, HasTaken, IsCallOf, IsNowOf, answ
 use Rattle.tk_shared.proofs.Back.{monotonic_of}
 use Rattle.tk_shared.proofs.Cut.{all_at, first_items}
 
--- what a call was told: this answer and this time
+-- the result of a call: this answer and this time
 pub record Told (history : Journal) (commands : List Taken) (log : List Answer) (old new : Known)
     (answer : Answer) (time : Timespec) : Type 0 where
   pub mine : List Taken
@@ -57,7 +57,7 @@ module _ {S : Type 0} (answers : S → ℕ → ℕ → Type 0) (counter : S) (jo
   listed_at_end =
       all_at (HasListed closed.log) callers call.place call.last closed.listed call.among
 
-  -- what the two looks of a call told
+  -- the result of a call, by its two looks
   looked : (before : Watched) (place answer : ℕ) → IsPrefix old.watched.log before.log →
       (timed : IsTimed answers counter before new.watched place answer) →
       place ≤ length closed.history.entries →

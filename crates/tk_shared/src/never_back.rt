@@ -4,13 +4,13 @@ ghost use Rattle.tk_shared.specs.NeverBack.{NowNeverFalls};
 use tk_now::SharedCounter;
 
 /// Proves that with an honest counter MONOTONIC never falls: a time that `now` or `now_fast`
-/// returned before another call of either took its first look is at most that call's time,
+/// returned before the first look of another call of either is at most that call's time,
 /// whichever callers of one keeper made the two calls.
 ///
 /// The keeper was closed since, and shows the readings of all callers in one list. The counter's
-/// readings have to be those of a true count of cycles (`IsHonest`). While the clocks are awake,
-/// commands have to be accepted so often that at most half the counter's range passes from one to
-/// the next and from the last one to an answer.
+/// readings must be those of a true count of cycles (`IsHonest`). While the clocks are awake, at
+/// most half the counter's range may pass from one accepted command to the next, and from the last
+/// one to an answer.
 ///
 /// It does nothing when it runs.
 pub fn now_never_falls<S: SharedCounter>()
