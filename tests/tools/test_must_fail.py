@@ -117,3 +117,33 @@ class MustFail(Case):
         status, _, errors = self.run_tool("tools/must_fail", "--apply", top=self.top)
         self.assertEqual((1, "crates/low/must-fail-together/first.edit: its old text is in "
                              "src/lib.rt 0 times, and not once\n"), (status, errors))
+
+    def listed(self, *clauses, contract="    ensures value { result ≡ one }"):
+        """Returns the errors of `--apply` for an edit of `first` with these lines `clause:`."""
+        head = "    pub fn first(&self) -> u64 {"
+        self.write("src/lib.rt", SOURCE.replace(head, f"{head[:-2]}\n    {contract}\n    {{"))
+        lines = "".join(f"clause: {it}\n" for it in clauses)
+        self.write("must-fail-together/first.edit", lines + FIRST)
+        status, _, errors = self.run_tool("tools/must_fail", "--apply", top=self.top)
+        self.assertEqual(1 if errors else 0, status)
+        return errors.removeprefix("crates/low/must-fail-together/first.edit: ")
+
+    def test_a_clause_is_looked_up_in_the_contract_of_the_function_that_is_changed(self):
+        self.assertEqual("", self.listed("value"))
+        self.assertEqual("no clause one\n", self.listed("one"))
+        self.assertEqual("", self.listed("one", contract="    ensures { result ≡ one }"))
+        self.assertEqual("no clause two\n", self.listed("two"))
+
+    def test_a_clause_of_another_function_or_type_is_named_with_it(self):
+        self.assertEqual("", self.listed("value of first"))
+        self.assertEqual("no clause value of second\n", self.listed("value of second"))
+        self.write("src/clock.rt", "impl Model for Clock {\n    ghost invariant = { λ c. c };\n}\n")
+        self.assertEqual("", self.listed("invariant of Clock"))
+        self.assertEqual("no clause view of Clock\n", self.listed("view of Clock"))
+
+    def test_each_edit_of_a_crate_names_a_clause_or_none_does(self):
+        self.assertEqual("", self.listed())
+        self.write("must-fail-together/second.edit", SECOND)
+        self.assertEqual("", self.listed())
+        self.assertEqual("crates/low/must-fail-together/second.edit: it names no clause\n",
+                         self.listed("value"))

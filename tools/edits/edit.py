@@ -3,7 +3,7 @@ import dataclasses
 import functools
 import pathlib
 
-from edits import source
+from edits import contract, source
 
 
 @dataclasses.dataclass(frozen=True)
@@ -41,6 +41,23 @@ class Edit:
             elif word == "new":
                 found.append(Pair(file, old, rest.removeprefix(" ")))
         return found
+
+    @functools.cached_property
+    def clauses(self):
+        """The clauses that its lines `clause:` name: those that the wrong code doesn't meet."""
+        lines = self.path.read_text(encoding="utf-8").splitlines()
+        return [it.partition(":")[2].strip() for it in lines if it.startswith("clause:")]
+
+    def unknown_clauses(self):
+        """Returns the named clauses that no contract has.
+
+        `NAME of OWNER` is a clause of this function or type, and a name alone one of a function
+        that the edit changes.
+        """
+        changed = [it.name for it in self.functions if it]
+        return [it for it in self.clauses
+                if not any(contract.is_stated(self.crate, it.partition(" of ")[0], owner)
+                           for owner in ([it.partition(" of ")[2]] if " of " in it else changed))]
 
     def text(self, file, texts):
         return texts[file] if file in texts else (self.crate / file).read_text(encoding="utf-8")
