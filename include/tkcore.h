@@ -188,7 +188,7 @@ enum tkc_code {
 	TKC_BAD_MULT = 34,
 	/* The mult plus 11 percent doesn't fit in 32 bits (clocksource_max_adjustment). */
 	TKC_BAD_ADJUST = 35,
-	/* The frequency is 0 Hz or above 2^32 - 1 Hz, or the span is not 1 to 600 seconds. */
+	/* The rate in Hz or kHz is 0 or above 2^32 - 1, or the span is not 1 to 600 seconds. */
 	TKC_BAD_RATE = 36
 };
 
@@ -299,6 +299,23 @@ enum tkc_code tkc_counter_new(struct tkc_counter *out, uint32_t bits, uint32_t m
 TKC_MUST_CHECK
 enum tkc_code tkc_counter_from_hz(struct tkc_counter *out, uint32_t bits, uint64_t hz,
 				  uint32_t maxsec);
+
+/*
+ * Makes the counter that runs at khz cycles a millisecond, 1 to 2^32 - 1, with readings of 8 to 64
+ * bits, for gaps of up to maxsec seconds, 1 to 600 (clocksource_register_khz in
+ * include/linux/clocksource.h). Call it for a counter above 2^32 - 1 Hz, 4.29 GHz, or if only the
+ * kHz are known, as of tsc_khz. Up to 4294967 kHz it makes the counter that tkc_counter_from_hz
+ * makes at khz * 1000.
+ *
+ * Let z be the number of leading zeros of maxsec * 1000 * khz in 64 bits. The shift is the greatest
+ * of 1 to 32 at which mult = (10^6 * 2^shift + khz / 2) / khz is below 2^32 and below 2^z. Then
+ * mult may be halved as by tkc_counter_from_hz.
+ *
+ * Returns TKC_BAD_BITS, and then TKC_BAD_RATE, if a number is out of its range.
+ */
+TKC_MUST_CHECK
+enum tkc_code tkc_counter_from_khz(struct tkc_counter *out, uint32_t bits, uint64_t khz,
+				   uint32_t maxsec);
 
 /*
  * Stores the numbers of a counter: the bits of a reading, and mult and shift (the fields mask, mult

@@ -1,7 +1,7 @@
-ghost use Rattle.std.specs.Prelude.{◌≡◌, MatchOption, Some, None};
+ghost use Rattle.std.specs.Prelude.{◌≡◌, MatchOption, MatchResult, Some, None};
 ghost use Rattle.tk_counter.specs.Counter.{Counter};
 ghost use Rattle.tk_counter.specs.Description.{first_fault};
-ghost use Rattle.tk_counter.specs.Frequency.{from_frequency, frequency_fault};
+ghost use Rattle.tk_counter.specs.Frequency.{hertz, kilohertz, from_frequency, frequency_fault};
 ghost use Rattle.tk_c.specs.Codes.{number_of, code_of_fault};
 ghost use Rattle.tk_c.specs.declared.code.Code.TheVariants.{Done};
 ghost use Rattle.tk_c.specs.Rate.{requested_rate};
@@ -9,7 +9,7 @@ ghost use Rattle.tk_c.specs.Storage.{counter_storage};
 
 use crate::code::Code;
 use crate::storage::CounterStorage;
-use tk_counter::CounterDesc;
+use tk_counter::{CounterDesc, DescError};
 
 /// Writes the counter with these numbers to `out` (`CounterDesc::new`).
 ///
@@ -30,13 +30,7 @@ pub extern "C" fn tkc_counter_new(out: &mut CounterStorage, bits: u32, mult: u32
         ((result ≡ number_of Done) × (out.new ≡ counter_storage counter))
         (λ fault. (result ≡ number_of (code_of_fault fault)) × (out.new ≡ out.old)) }
 {
-    match CounterDesc::new(bits, mult, shift) {
-        Ok(counter) => {
-            *out = CounterStorage::from(counter);
-            Code::Done.number()
-        }
-        Err(fault) => Code::from(fault).number(),
-    }
+    write(out, CounterDesc::new(bits, mult, shift))
 }
 
 /// Writes the counter that runs at `hz` cycles a second to `out` (`CounterDesc::from_hz`).
@@ -57,22 +51,39 @@ pub extern "C" fn tkc_counter_from_hz(
     maxsec: u32,
 ) -> u32
     ensures { MatchOption (frequency_fault bits (requested_rate hz) maxsec)
-        ((result ≡ number_of Done) × MatchOption (from_frequency bits hz maxsec) ⊥
+        ((result ≡ number_of Done) × MatchOption (from_frequency hertz bits hz maxsec) ⊥
         (λ counter. out.new ≡ counter_storage counter))
         (λ fault. (result ≡ number_of (code_of_fault fault)) × (out.new ≡ out.old)) }
 {
-    let rate = if hz > u64::from(u32::MAX) {
-        0
-    } else {
-        hz as u32
-    };
-    match CounterDesc::from_hz(bits, rate, maxsec) {
-        Ok(counter) => {
-            *out = CounterStorage::from(counter);
-            Code::Done.number()
-        }
-        Err(fault) => Code::from(fault).number(),
-    }
+    write(out, CounterDesc::from_hz(bits, requested_rate(hz), maxsec))
+}
+
+/// Writes the counter that runs at `khz` cycles a millisecond to `out` (`CounterDesc::from_khz`).
+///
+/// Gaps of up to `maxsec` seconds convert within 64 bits.
+///
+/// # Errors
+///
+/// Leaves `out` and returns, in this order:
+///
+/// - `Code::BadBits` unless `bits` is 8 to 64;
+/// - `Code::BadRate` if `khz` is 0 or above 2^32 - 1, or unless `maxsec` is 1 to 600.
+#[unsafe(no_mangle)]
+pub extern "C" fn tkc_counter_from_khz(
+    out: &mut CounterStorage,
+    bits: u32,
+    khz: u64,
+    maxsec: u32,
+) -> u32
+    ensures { MatchOption (frequency_fault bits (requested_rate khz) maxsec)
+        ((result ≡ number_of Done) × MatchOption (from_frequency kilohertz bits khz maxsec) ⊥
+        (λ counter. out.new ≡ counter_storage counter))
+        (λ fault. (result ≡ number_of (code_of_fault fault)) × (out.new ≡ out.old)) }
+{
+    write(
+        out,
+        CounterDesc::from_khz(bits, requested_rate(khz), maxsec),
+    )
 }
 
 /// Writes the numbers of a counter (`CounterDesc::bits`, `mult` and `shift`): the bits of a
@@ -95,4 +106,31 @@ pub extern "C" fn tkc_counter_numbers(
     *bits = counter.bits();
     *mult = counter.mult();
     *shift = counter.shift();
+}
+
+/// Returns a rate as `CounterDesc` takes it, in 32 bits. A rate above 2^32 - 1 becomes 0, which is
+/// refused.
+fn requested_rate(rate: u64) -> u32
+    ensures { result ≡ requested_rate rate }
+{
+    if rate > u64::from(u32::MAX) {
+        0
+    } else {
+        rate as u32
+    }
+}
+
+/// Writes a counter to `out` and returns the code of success, or returns the code of the fault.
+fn write(out: &mut CounterStorage, made: Result<CounterDesc, DescError>) -> u32
+    ensures { MatchResult made
+        (λ counter. (result ≡ number_of Done) × (out.new ≡ counter_storage counter))
+        (λ fault. (result ≡ number_of (code_of_fault fault)) × (out.new ≡ out.old)) }
+{
+    match made {
+        Ok(counter) => {
+            *out = CounterStorage::from(counter);
+            Code::Done.number()
+        }
+        Err(fault) => Code::from(fault).number(),
+    }
 }

@@ -3,7 +3,7 @@
 //!
 //! | Item | Its meaning |
 //! |---|---|
-//! | `tkc_counter_*` | make counters from numbers, and store a counter's numbers |
+//! | `tkc_counter_*` | make counters from numbers or from a rate, and store a counter's numbers |
 //! | `tkc_clock_*` | open the running clocks, apply commands, convert clocks to and from words |
 //! | `tkc_snapshot_*` | read one time or a list of times, find the reading of a time, convert snapshots to and from words |
 //! | `tkc_version` | returns the archive's version |
@@ -29,7 +29,9 @@ mod words;
 pub use clocks::{tkc_clock_apply, tkc_clock_open, tkc_clock_snapshot};
 pub use code::Code;
 pub use counted::CountedClock;
-pub use counters::{tkc_counter_from_hz, tkc_counter_new, tkc_counter_numbers};
+pub use counters::{
+    tkc_counter_from_hz, tkc_counter_from_khz, tkc_counter_new, tkc_counter_numbers,
+};
 pub use reached::tkc_snapshot_reading;
 pub use snapshots::{tkc_snapshot_convert, tkc_snapshot_get};
 pub use storage::{BaseStorage, ClockStorage, CounterStorage, SnapshotStorage, TimeStorage};

@@ -3,7 +3,7 @@ use Rattle.std.proofs.Common.{◌≡◌, ℕ, ◌+◌, ◌*◌, ◌/◌, ◌%◌
 use Rattle.std.specs.Int.Count.{count_leading_zeros}
 use Rattle.tk_counter.specs.Counter.{Counter, max_adjustment, max_cycles, fast_span, second, multiplier, gap, half}
 use Rattle.tk_counter.specs.Description.{first_fault}
-use Rattle.tk_counter.specs.Frequency.{from_frequency, frequency_fault, shifts}
+use Rattle.tk_counter.specs.Frequency.{hertz, kilohertz, from_frequency, frequency_fault, shifts}
 use Rattle.tk_counter.specs.declared.desc_error.DescError.TheVariants.{Bits, Shift, Mult, Adjust, Rate}
 
 -- a counter of one nanosecond a cycle, with readings of 32 bits
@@ -51,13 +51,28 @@ no_fault : first_fault usual ≡ None
 no_fault = refl
 
 -- ---- descriptions from a frequency
-megahertz : from_frequency 32 24000000 600 ≡ Some fast
+megahertz : from_frequency hertz 32 24000000 600 ≡ Some fast
 unfolding shifts count_leading_zeros
 megahertz = refl
 
-one_hertz : from_frequency 32 1 1 ≡ Some (record { bits = 32; mult = 2000000000; shift = 1 })
+one_hertz : from_frequency hertz 32 1 1 ≡ Some (record { bits = 32; mult = 2000000000; shift = 1 })
 unfolding shifts count_leading_zeros
 one_hertz = refl
+
+above_32_bits : from_frequency kilohertz 64 4491000 1
+    ≡ Some (record { bits = 64; mult = 956349877; shift = 32 })
+unfolding shifts count_leading_zeros
+above_32_bits = refl
+
+one_kilohertz : from_frequency kilohertz 32 1 600
+    ≡ Some (record { bits = 32; mult = 2048000000; shift = 11 })
+unfolding shifts count_leading_zeros
+one_kilohertz = refl
+
+greatest_rate : from_frequency kilohertz 64 4294967295 600
+    ≡ Some (record { bits = 64; mult = 3906; shift = 24 })
+unfolding shifts count_leading_zeros
+greatest_rate = refl
 
 no_hertz : frequency_fault 32 0 600 ≡ Some Rate
 no_hertz = refl

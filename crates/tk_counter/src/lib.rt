@@ -8,9 +8,9 @@
 //! | `FREQUENCY_LIMIT` | the greatest frequency that takes effect |
 //! | `USUAL_TICK` | the tick of a clock that no command has set |
 //!
-//! Units: readings and gaps in cycles; amounts of time in `2^-shift` ns; a counter's own rate in
-//! Hz; frequencies that a clock follows in `2^-16` ppm; ticks in microseconds. No call allocates or
-//! waits.
+//! Units: readings and gaps in cycles; amounts of time in `2^-shift` ns; a counter's own rate in Hz
+//! or kHz; frequencies that a clock follows in `2^-16` ppm; ticks in microseconds. No call allocates
+//! or waits.
 #![tactic(auto)]
 
 mod counter;

@@ -23,7 +23,7 @@ scaled_counter counter = if is_none (first_fault counter) then Some counter else
 abbrev pub timed_counter : ℕ → ℕ → ℕ → Option Counter
 timed_counter bits hz maxsec =
     if is_none (frequency.frequency_fault bits hz maxsec)
-    then frequency.from_frequency bits hz maxsec else None
+    then frequency.from_frequency frequency.hertz bits hz maxsec else None
 
 -- the counter of `bits` bits from two more numbers: mult and shift, or its frequency in Hz and the
 -- longest gap in seconds

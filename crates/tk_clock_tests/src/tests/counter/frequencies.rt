@@ -2,11 +2,18 @@ use super::{assert_same, assert_same_at, next_random};
 use std::test::Fail;
 use tk_counter::{CounterDesc, DescError};
 
+/// The scales of the kernel's `clocksource_register_hz` and `clocksource_register_khz`.
+const HERTZ: u32 = 1;
+
+const KILOHERTZ: u32 = 1_000;
+
 /// Computes the mult and the shift as kernel/time/clocksource.c does: `clocks_calc_mult_shift` for
-/// 10^9, and then the halving of `__clocksource_update_freq_scale`.
-fn kernel_scale(hz: u32, maxsec: u32) -> Option<(u64, u32)> {
+/// 10^9 / scale, and then the halving of `__clocksource_update_freq_scale`.
+fn kernel_scale(scale: u32, rate: u32, maxsec: u32) -> Option<(u64, u32)> {
+    let unit = 1_000_000_000u64.checked_div(u64::from(scale))?;
     let mut free = 32u32;
-    let mut left = u64::from(maxsec) * u64::from(hz) >> 32;
+    let span = u64::from(maxsec).saturating_mul(u64::from(scale));
+    let mut left = span.saturating_mul(u64::from(rate)) >> 32;
     for _ in 0..32 {
         if left > 0 {
             left >>= 1;
@@ -14,7 +21,9 @@ fn kernel_scale(hz: u32, maxsec: u32) -> Option<(u64, u32)> {
         }
     }
     for shift in (1..33).rev() {
-        let mult = ((1_000_000_000u64 << shift) + u64::from(hz / 2)).checked_div(u64::from(hz))?;
+        let mult = ((unit << shift).saturating_add(u64::from(rate / 2))).checked_div(u64::from(
+            rate,
+        ))?;
         if mult.checked_shr(free)? == 0 {
             return Some(kernel_halving(mult, shift));
         }
@@ -46,12 +55,41 @@ const FROM_KERNEL: [(u32, u32, u32, u32); 12] = [
     (4_294_967_295, 600, 3_906_250, 24),
 ];
 
+/// A row contains khz, seconds, mult and shift. A copy in Python of the kernel's arithmetic, and
+/// one in C by gcc, made the values.
+const FROM_KERNEL_IN_KHZ: [(u32, u32, u32, u32); 12] = [
+    (1, 1, 2_048_000_000, 11),
+    (1, 600, 2_048_000_000, 11),
+    (3, 1, 2_730_666_667, 13),
+    (24_000, 600, 699_050_667, 24),
+    (1_050_000, 1, 2_045_222_522, 31),
+    (4_294_967, 600, 3_906_250, 24),
+    (4_294_968, 600, 3_906_249, 24),
+    (4_491_000, 1, 956_349_877, 32),
+    (4_491_000, 4, 478_174_938, 31),
+    (4_491_000, 600, 3_735_742, 24),
+    (4_294_967_295, 1, 1_000_000, 32),
+    (4_294_967_295, 600, 3_906, 24),
+];
+
+fn numbers(desc: CounterDesc) -> (u32, u32, u32) {
+    (desc.bits(), desc.mult(), desc.shift())
+}
+
 #[test]
 fn a_frequency_is_scaled_as_in_the_kernel(rt: HostRuntime) -> Result<(), Fail> {
     for (hz, maxsec, mult, shift) in FROM_KERNEL {
-        let desc = CounterDesc::from_hz(32, hz, maxsec)?;
-        let made = (desc.bits(), desc.mult(), desc.shift());
+        let made = numbers(CounterDesc::from_hz(32, hz, maxsec)?);
         assert_same_at(&rt, &hz, &made, &(32, mult, shift));
+    }
+    Ok(())
+}
+
+#[test]
+fn a_rate_in_khz_is_scaled_as_in_the_kernel(rt: HostRuntime) -> Result<(), Fail> {
+    for (khz, maxsec, mult, shift) in FROM_KERNEL_IN_KHZ {
+        let made = numbers(CounterDesc::from_khz(64, khz, maxsec)?);
+        assert_same_at(&rt, &(khz, maxsec), &made, &(64, mult, shift));
     }
     Ok(())
 }
@@ -66,15 +104,21 @@ fn a_frequency_fixes_the_amounts(rt: HostRuntime) -> Result<(), Fail> {
 
 #[test]
 fn the_bits_are_refused_before_the_rate(rt: HostRuntime) {
-    for (bits, hz, maxsec, fault) in [
+    for (bits, rate, maxsec, fault) in [
         (7, 0, 601, Err(DescError::Bits)),
         (65, 24_000_000, 600, Err(DescError::Bits)),
         (32, 0, 600, Err(DescError::Rate)),
         (32, 24_000_000, 0, Err(DescError::Rate)),
         (32, 24_000_000, 601, Err(DescError::Rate)),
     ] {
-        let answer = CounterDesc::from_hz(bits, hz, maxsec);
-        assert_same_at(&rt, &(bits, hz, maxsec), &answer, &fault);
+        let row = (bits, rate, maxsec);
+        assert_same_at(&rt, &row, &CounterDesc::from_hz(bits, rate, maxsec), &fault);
+        assert_same_at(
+            &rt,
+            &row,
+            &CounterDesc::from_khz(bits, rate, maxsec),
+            &fault,
+        );
     }
 }
 
@@ -83,11 +127,30 @@ fn any_frequency_is_scaled_as_by_the_kernels_loops(rt: HostRuntime) -> Result<()
     let mut seed = 88_172_645_463_325_252;
     for _ in 0..4_000 {
         seed = next_random(seed);
-        let hz = (seed >> 32 >> (seed & 31)) as u32 | 1;
+        let rate = (seed >> 32 >> (seed & 31)) as u32 | 1;
         let maxsec = 1 + (seed >> 8 & 511) as u32;
-        let desc = CounterDesc::from_hz(64, hz, maxsec)?;
-        let scale = Some((u64::from(desc.mult()), desc.shift()));
-        assert_same_at(&rt, &(hz, maxsec), &scale, &kernel_scale(hz, maxsec));
+        for (scale, desc) in [
+            (HERTZ, CounterDesc::from_hz(64, rate, maxsec)?),
+            (KILOHERTZ, CounterDesc::from_khz(64, rate, maxsec)?),
+        ] {
+            let made = Some((u64::from(desc.mult()), desc.shift()));
+            let row = (scale, rate, maxsec);
+            assert_same_at(&rt, &row, &made, &kernel_scale(scale, rate, maxsec));
+        }
+    }
+    Ok(())
+}
+
+#[test]
+fn a_rate_makes_the_same_counter_in_hz_and_in_khz(rt: HostRuntime) -> Result<(), Fail> {
+    let mut seed = 1_181_783_497_276_652_981;
+    for _ in 0..4_000 {
+        seed = next_random(seed);
+        let khz = 1 + (seed >> 32 >> (seed & 31)) as u32 % 4_294_967;
+        let maxsec = 1 + (seed >> 8 & 511) as u32;
+        let in_hz = CounterDesc::from_hz(64, khz.saturating_mul(1_000), maxsec)?;
+        let in_khz = CounterDesc::from_khz(64, khz, maxsec)?;
+        assert_same_at(&rt, &(khz, maxsec), &in_khz, &in_hz);
     }
     Ok(())
 }

@@ -5,7 +5,7 @@ use Rattle.tk_counter.proofs.counter.frequency.chosen_shift.Goals as goal
 
 pub loop-shift-init : goal.loop-shift-init
 loop-shift-init c = record {
-  rest = from_top c.args.hz c.args.maxsec;
+  rest = from_top c.args.unit_ns c.args.rate c.args.span;
   above = inl refl;
   least = omega arith;
 }
@@ -13,50 +13,50 @@ loop-shift-init c = record {
 pub loop-shift-preserved : goal.loop-shift-preserved
 loop-shift-preserved c =
     let next : c.loop-shift.shift - 1 ≡ suc (c.loop-shift.shift - 1 - 1) = omega arith in
-    let long : c.mult_limit-limit.result ≤ rounded_mult c.args.hz (c.loop-shift.shift - 1) =
+    let long : c.mult_limit-limit.result ≤ rounded_mult c.args.unit_ns c.args.rate (c.loop-shift.shift - 1) =
     omega arith in
     record {
       rest = c.loop-shift.invariant.rest
-          ∙ passed c.args.hz c.args.maxsec _ _ next (rw c.mult_limit-limit.ensures at long);
+          ∙ passed c.args.unit_ns c.args.rate c.args.span _ _ next (rw c.mult_limit-limit.ensures at long);
       above = inr long;
       least = omega arith;
     }
 
 pub returns-then-rounded_mult-limit-clause-value : goal.returns-then-rounded_mult-limit-clause-value
 returns-then-rounded_mult-limit-clause-value c =
-    let short : rounded_mult c.args.hz (c.loop-shift.shift - 1) < c.mult_limit-limit.result =
+    let short : rounded_mult c.args.unit_ns c.args.rate (c.loop-shift.shift - 1) < c.mult_limit-limit.result =
     omega arith in
     c.loop-shift.invariant.rest
-    ∙ found c.args.hz c.args.maxsec _ (omega arith) (rw c.mult_limit-limit.ensures at short)
+    ∙ found c.args.unit_ns c.args.rate c.args.span _ (omega arith) (rw c.mult_limit-limit.ensures at short)
 
 pub returns-then-rounded_mult-limit-clause-ample : goal.returns-then-rounded_mult-limit-clause-ample
 returns-then-rounded_mult-limit-clause-ample c =
     let next : c.loop-shift.shift ≡ c.loop-shift.shift - 1 + 1 = omega arith in
-    ample c.args.hz c.args.maxsec _ _ next c.requires.runs c.ranges.hz.fits c.requires.lasts
+    ample c.args.unit_ns c.args.rate c.args.span _ _ next c.requires.long_unit c.requires.runs c.ranges.rate.fits c.requires.lasts
     c.requires.short (rw c.mult_limit-limit.ensures at c.loop-shift.invariant.above)
 
 pub returns-clause-value : goal.returns-clause-value
 returns-clause-value c =
     let last : c.loop-shift.shift - 1 ≡ 1 = omega arith in
-    let short = last_fits c.args.hz c.args.maxsec c.requires.runs c.ranges.hz.fits c.requires.lasts
+    let short = last_fits c.args.unit_ns c.args.rate c.args.span c.requires.short_unit c.requires.runs c.ranges.rate.fits c.requires.lasts
     c.requires.short in
-    rw last at c.loop-shift.invariant.rest ∙ found c.args.hz c.args.maxsec 1 (omega arith) short
+    rw last at c.loop-shift.invariant.rest ∙ found c.args.unit_ns c.args.rate c.args.span 1 (omega arith) short
 
 pub returns-clause-ample : goal.returns-clause-ample
 returns-clause-ample c =
     let next : c.loop-shift.shift ≡ 1 + 1 = omega arith in
-    ample c.args.hz c.args.maxsec 1 _ next c.requires.runs c.ranges.hz.fits c.requires.lasts
+    ample c.args.unit_ns c.args.rate c.args.span 1 _ next c.requires.long_unit c.requires.runs c.ranges.rate.fits c.requires.lasts
     c.requires.short (rw c.mult_limit-limit.ensures at c.loop-shift.invariant.above)
 
 pub returns-then-rounded_mult-limit-clause-converts : goal.returns-then-rounded_mult-limit-clause-converts
 returns-then-rounded_mult-limit-clause-converts c =
-    let short : rounded_mult c.args.hz (c.loop-shift.shift - 1) < c.mult_limit-limit.result =
+    let short : rounded_mult c.args.unit_ns c.args.rate (c.loop-shift.shift - 1) < c.mult_limit-limit.result =
     omega arith in
-    converts c.args.hz c.args.maxsec _ c.ranges.hz.fits c.requires.short
+    converts c.args.rate c.args.span _ c.ranges.rate.fits c.requires.short
     (rw c.mult_limit-limit.ensures at short)
 
 pub returns-clause-converts : goal.returns-clause-converts
 returns-clause-converts c =
-    let short = last_fits c.args.hz c.args.maxsec c.requires.runs c.ranges.hz.fits c.requires.lasts
+    let short = last_fits c.args.unit_ns c.args.rate c.args.span c.requires.short_unit c.requires.runs c.ranges.rate.fits c.requires.lasts
     c.requires.short in
-    converts c.args.hz c.args.maxsec _ c.ranges.hz.fits c.requires.short short
+    converts c.args.rate c.args.span _ c.ranges.rate.fits c.requires.short short
