@@ -5,7 +5,7 @@ use Rattle.std.proofs.lemmas.Simd.{zip2_of_maps, splat_is_map, tops_compared, Ea
 use Rattle.std.specs.Simd.Lanes.{zip2, sel_l, fold_l, Each1}
 use Rattle.std.proofs.lemmas.Bool.{le-ltb, lt-ltb, cases_lt}
 use Rattle.std.proofs.lemmas.List.{length-map}
-use Rattle.std.proofs.Math.Nat.{mod-eq_of_lt, add-mul-mod_self_left, mul-add-div, mul-le-mul_right, div-mul-le_self, le-mul_of_pos_right, pow-le-pow_right}
+use Rattle.std.proofs.Math.Nat.{mod-eq_of_lt, add-mul-mod_self_left, mul-add-div, mul-le-mul_right, div-mul-le_self, pow-le-pow_right}
 use lib.Lanes.{top}
 use Rattle.tk_lanes.specs.declared.segment.Segment.{Segment}
 use Rattle.tk_lanes.specs.Segment.{segment_cycles, segment_nanos, nanos_after, IsNear, IsEachNear, IsFitting}
@@ -67,36 +67,36 @@ cycles segment v =
 abbrev reaches : Segment → List ℕ → ℕ → List ℕ
 reaches segment v bias = zip2 wrap_add (cycles segment v) (replicate 8 bias)
 
-abbrev shl : ℕ → ℕ → ℕ
-shl a b = (a * 2 ^ b) % 18446744073709551616
+-- the units that 2^32 cycles add, in nanoseconds
+abbrev step_of : Segment → ℕ
+step_of segment = (segment.mult * 2 ^ (32 - segment.shift)) % 18446744073709551616
 
--- the product of the high halves of the cycles, and of the low halves with the part below a nanosecond
+-- the nanoseconds of the high halves of the cycles; and of the low halves, with the part below a nanosecond
 abbrev highs : List ℕ → ℕ → List ℕ
-highs counts mult = zip2 wrap_mul (zip2 shr counts (replicate 8 32)) (replicate 8 mult)
+highs counts step = zip2 wrap_mul (zip2 shr counts (replicate 8 32)) (replicate 8 step)
 
-abbrev lows : Segment → List ℕ → ℕ → List ℕ
-lows segment counts mult =
-    zip2 wrap_add (zip2 wrap_mul (zip2 bit_and counts (replicate 8 4294967295)) (replicate 8 mult))
-    (replicate 8 segment.frac)
+abbrev lows : Segment → List ℕ → ℕ → ℕ → List ℕ
+lows segment counts mult shift =
+    zip2 shr
+    (zip2 wrap_add (zip2 wrap_mul (zip2 bit_and counts (replicate 8 4294967295)) (replicate 8 mult))
+    (replicate 8 segment.frac))
+    (replicate 8 shift)
 
 abbrev nanos : Segment → List ℕ → ℕ → ℕ → ℕ → List ℕ
-nanos segment counts mult up down =
-    zip2 wrap_add
-    (zip2 wrap_add (zip2 shl (highs counts mult) (replicate 8 up))
-    (zip2 shr (lows segment counts mult) (replicate 8 down)))
+nanos segment counts step mult shift =
+    zip2 wrap_add (zip2 wrap_add (highs counts step) (lows segment counts mult shift))
     (replicate 8 segment.base)
 
 -- one lane of them
 abbrev high : Segment → ℕ → ℕ
-high segment cycles = wrap_mul (shr cycles 32) segment.mult
+high segment cycles = wrap_mul (shr cycles 32) (step_of segment)
 
 abbrev low : Segment → ℕ → ℕ
 low segment cycles = wrap_add (wrap_mul (bit_and cycles 4294967295) segment.mult) segment.frac
 
 lane_nanos : Segment → ℕ → ℕ
 lane_nanos segment cycles =
-    wrap_add (wrap_add (shl (high segment cycles) (32 - segment.shift))
-    (shr (low segment cycles) segment.shift)) segment.base
+    wrap_add (wrap_add (high segment cycles) (shr (low segment cycles) segment.shift)) segment.base
 
 splat : (v : List ℕ) → length v ≡ 8 → (y : ℕ) → replicate 8 y ≡ map (λ _. y) v
 splat v long y = splat_is_map v 8 y long
@@ -123,26 +123,25 @@ cycles-map segment v long =
     (gaps-map segment v long)
 
 lanes-map : (segment : Segment) (counts : List ℕ) → length counts ≡ 8 →
-    nanos segment counts segment.mult (32 - segment.shift) segment.shift
-    ≡ map (lane_nanos segment) counts
+    nanos segment counts (step_of segment) segment.mult segment.shift ≡ map (lane_nanos segment) counts
 unfolding lane_nanos
 lanes-map segment counts long =
-    let mults = splat counts long segment.mult in
     let high_half = zip2_of_maps shr (λ x. x) (λ _. 32) counts (itself counts) (splat counts long 32) in
-    let low_half = zip2_of_maps bit_and (λ x. x) (λ _. 4294967295) counts (itself counts)
+    let low_half =
+    zip2_of_maps bit_and (λ x. x) (λ _. 4294967295) counts (itself counts)
     (splat counts long 4294967295) in
-    let highs_are = zip2_of_maps wrap_mul (λ x. shr x 32) (λ _. segment.mult) counts high_half mults in
-    let lows_are = zip2_of_maps wrap_add
-    (λ x. wrap_mul (bit_and x 4294967295) segment.mult) (λ _. segment.frac) counts
-    (zip2_of_maps wrap_mul (λ x. bit_and x 4294967295) (λ _. segment.mult) counts low_half mults)
+    let highs_are =
+    zip2_of_maps wrap_mul (λ x. shr x 32) (λ _. step_of segment) counts high_half
+    (splat counts long (step_of segment)) in
+    let lows_are =
+    zip2_of_maps wrap_add (λ x. wrap_mul (bit_and x 4294967295) segment.mult) (λ _. segment.frac)
+    counts
+    (zip2_of_maps wrap_mul (λ x. bit_and x 4294967295) (λ _. segment.mult) counts low_half
+    (splat counts long segment.mult))
     (splat counts long segment.frac) in
-    zip2_of_maps wrap_add
-    (λ x. wrap_add (shl (high segment x) (32 - segment.shift)) (shr (low segment x) segment.shift))
+    zip2_of_maps wrap_add (λ x. wrap_add (high segment x) (shr (low segment x) segment.shift))
     (λ _. segment.base) counts
-    (zip2_of_maps wrap_add
-    (λ x. shl (high segment x) (32 - segment.shift)) (λ x. shr (low segment x) segment.shift) counts
-    (zip2_of_maps shl (high segment) (λ _. 32 - segment.shift) counts highs_are
-    (splat counts long (32 - segment.shift)))
+    (zip2_of_maps wrap_add (high segment) (λ x. shr (low segment x) segment.shift) counts highs_are
     (zip2_of_maps shr (low segment) (λ _. segment.shift) counts lows_are
     (splat counts long segment.shift)))
     (splat counts long segment.base)
@@ -196,28 +195,37 @@ module _ (segment : Segment) (cycles : ℕ) (shift : segment.shift ≤ 32)
       ap (λ n. n / down) whole
       ∙ mul-add-div (pow_pos segment.shift) (top_half * segment.mult * up) rest
 
-  high_low : top_half * segment.mult ≤ top_half * segment.mult * up
-  high_low = le-mul_of_pos_right (top_half * segment.mult) (pow_pos (32 - segment.shift))
+  -- the shift of the multiplier loses no bit
+  step_is : step_of segment ≡ segment.mult * up
+  step_is =
+      let two : 0 < 2 = omega arith in
+      let less : 32 - segment.shift ≤ 32 = omega arith in
+      let few : up ≤ 2 ^ 32 = pow-le-pow_right two less in
+      let product : segment.mult * up ≤ 4294967295 * 4294967296 =
+      mul-le segment.mult up 4294967295 4294967296 (omega (arith, mult)) (omega (arith, few)) in
+      unwrapped _ (omega (arith, product))
 
   lane_is : lane_nanos segment cycles
       ≡ (cycles * segment.mult + segment.frac) / down + segment.base
   unfolding lane_nanos
   lane_is =
-      let a : high segment cycles ≡ top_half * segment.mult =
-      unwrapped _ (omega (arith, high_low, quotient, value)) in
-      let b : shl (high segment cycles) (32 - segment.shift) ≡ top_half * segment.mult * up =
-      ap (λ n. shl n (32 - segment.shift)) a ∙ unwrapped _ (omega (arith, quotient, value)) in
+      let a : high segment cycles ≡ top_half * segment.mult * up =
+      ap (wrap_mul top_half) step_is
+      ∙ ap (λ n. n % 18446744073709551616) (turned top_half segment.mult up)
+      ∙ unwrapped _ (omega (arith, quotient, value)) in
       let c : wrap_mul (bit_and cycles 4294967295) segment.mult ≡ bottom_half * segment.mult =
       ap (λ n. wrap_mul n segment.mult) (and_mask cycles 32)
       ∙ unwrapped _ (omega (arith, rest_fits)) in
       let d : low segment cycles ≡ rest =
       ap (λ n. wrap_add n segment.frac) c ∙ unwrapped _ rest_fits in
-      let e : wrap_add (shl (high segment cycles) (32 - segment.shift))
-      (shr (low segment cycles) segment.shift)
+      let e : wrap_add (high segment cycles) (shr (low segment cycles) segment.shift)
       ≡ (cycles * segment.mult + segment.frac) / down =
-      ap₂ wrap_add b (ap (λ n. n / down) d)
+      ap₂ wrap_add a (ap (λ n. n / down) d)
       ∙ unwrapped _ (omega (arith, quotient, value)) ∙ sym quotient in
       ap (λ n. wrap_add n segment.base) e ∙ unwrapped _ value
+    where
+      turned : (a b c : ℕ) → a * (b * c) ≡ a * b * c
+      turned a b c = omega arith
 
 -- two functions that agree at each stamp give the same list of lanes
 same_maps : (f g : ℕ → ℕ) (P : ℕ → Type 0) → ((x : ℕ) → P x → f x ≡ g x) → (v : List ℕ) →
@@ -233,12 +241,12 @@ div_grows a b k some grown = le-div (a / k) b k some (omega (arith, div-mul-le_s
 -- each lane holds the segment's value after its number of cycles
 pub nanos-map : (segment : Segment) → IsFitting segment → segment.mult < 4294967296 →
     (counts : List ℕ) → length counts ≡ 8 → Each1 (λ gap. gap ≤ segment.span) counts →
-    (mult up down : ℕ) → mult ≡ segment.mult → up ≡ 32 - segment.shift → down ≡ segment.shift →
-    nanos segment counts mult up down ≡ map (nanos_after segment) counts
+    (step mult shift : ℕ) → step ≡ step_of segment → mult ≡ segment.mult → shift ≡ segment.shift →
+    nanos segment counts step mult shift ≡ map (nanos_after segment) counts
 unfolding nanos_after
-nanos-map segment fitting few counts long near mult up down p q r =
-    ap (λ m. nanos segment counts m up down) p
-    ∙ ap₂ (nanos segment counts segment.mult) q r
+nanos-map segment fitting few counts long near step mult shift p q r =
+    ap (λ n. nanos segment counts n mult shift) p
+    ∙ ap₂ (nanos segment counts (step_of segment)) q r
     ∙ lanes-map segment counts long
     ∙ same_maps (lane_nanos segment) (nanos_after segment) (λ gap. gap ≤ segment.span)
     (λ gap within.

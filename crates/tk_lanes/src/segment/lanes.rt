@@ -85,10 +85,12 @@ impl Segment {
     /// Writes the clock's time for eight lanes, starting at index `at`. `cycles` contains the
     /// number of cycles of each lane, none of them beyond the span.
     ///
-    /// With `cycles = high * 2^32 + low`, the product has two parts, each of 64 bits:
+    /// With `cycles = high * 2^32 + low`, the product has two parts, each of 64 bits. A shift to the
+    /// left by `32 - shift` is part of the first factor, because the rattle backend shifts lanes by
+    /// a variable one after the other:
     ///
     ///     (cycles * mult + frac) >> shift
-    ///         = (high * mult << (32 - shift)) + ((low * mult + frac) >> shift)
+    ///         = high * (mult << (32 - shift)) + ((low * mult + frac) >> shift)
     #[inline(always)]
     fn write(self, cycles: u64x8, out: &mut [u64], at: usize)
         requires fitting { IsFitting self }
@@ -97,12 +99,11 @@ impl Segment {
         requires inside { at + lane_count ≤ length out.old }
         ensures { out.new ≡ put_chunk at out.old (map (nanos_after self) cycles) }
     {
-        let mult = u64x8::splat(u64::from(self.mult));
-        let high = (cycles >> u64x8::splat(32)) * mult;
-        let low = (cycles & u64x8::splat(0xffff_ffff)) * mult + u64x8::splat(self.frac);
-        let nanos = (high << u64x8::splat(u64::from(32 - self.shift)))
-            + (low >> u64x8::splat(u64::from(self.shift)))
-            + u64x8::splat(self.base);
+        let mult = u64::from(self.mult);
+        let high = (cycles >> u64x8::splat(32)) * u64x8::splat(mult << (32 - self.shift));
+        let low = (cycles & u64x8::splat(0xffff_ffff)) * u64x8::splat(mult);
+        let rest = (low + u64x8::splat(self.frac)) >> u64x8::splat(u64::from(self.shift));
+        let nanos = high + rest + u64x8::splat(self.base);
         nanos.copy_to_slice(&mut out[at..]);
     }
 }
