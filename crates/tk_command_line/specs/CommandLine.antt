@@ -83,11 +83,6 @@ task_if (kind ∷ kinds) found = None
 unfoldable pub asked_by : List Text → Option Task
 asked_by words = task_if (fault_of program_words words) (subcommand_of program_words words)
 
--- arguments are refused if one of them isn't UTF-8
-abbrev pub asked_of : Option (List Text) → Option Task
-asked_of None = None
-asked_of (Some words) = asked_by words
-
 -- the result is the request of the arguments, or `Refused` if there is none; `Memory` may replace
 -- either
 abbrev pub Asks : Option Task → Result Request WordsError → Type 0

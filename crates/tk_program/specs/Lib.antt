@@ -1,3 +1,4 @@
+pub mod Arguments
 pub mod Ending
 pub mod Running
 pub mod ManyText

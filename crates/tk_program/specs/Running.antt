@@ -1,6 +1,7 @@
 -- The effect of the program, by its arguments.
-use Rattle.std.specs.Prelude.{◌≡◌, ◌⊎◌, ℕ, List, Option, Some, None, Bool, Result, map}
+use Rattle.std.specs.Prelude.{◌≡◌, ◌⊎◌, ℕ, List, Option, Some, None, Bool, Result, Ok, Err, map}
 use Rattle.std.specs.Borrow.{Bor}
+use Rattle.std.specs.declared.io.ErrorKind.{ErrorKind}
 use Rattle.clap.specs.Words.{Text}
 use Rattle.tk_clock.specs.declared.clock_id.ClockId.{ClockId}
 use Rattle.tk_report.specs.declared.fault.Fault.{Fault}
@@ -12,9 +13,10 @@ use Rattle.tk_report.specs.Report.{IsReportBy}
 use Rattle.tk_report.specs.Trace.{EitherFailed, IsTraceDone}
 use Rattle.tk_program.specs.declared.ending.Ending.{Ending}
 use Rattle.tk_program.specs.declared.ending.Ending.TheVariants as endings
-use Rattle.tk_command_line.specs.CommandLine.{asked_of}
+use Rattle.tk_command_line.specs.CommandLine.{asked_by}
 use Rattle.tk_command_line.specs.Request.{Task, Replay, Trace, Many, Race}
-use Rattle.tk_program.specs.Ending.{ending_of}
+use Rattle.tk_command_line.specs.WordsError.{unread_of}
+use Rattle.tk_program.specs.Ending.{ending_at, ending_of}
 use Rattle.tk_program.specs.Many.{EndsMany}
 use Rattle.tk_program.specs.Race.{EndsRace}
 
@@ -89,6 +91,12 @@ module _ {R W D F : Type 0} (remaining : R → Option (List ℕ)) (read_gives : 
 
   -- the arguments ended in this way: as their request does, or an allocation failed before it was
   -- known
-  abbrev pub IsRun : Option (List Text) → Ending → Type 0
+  abbrev pub IsRun : List Text → Ending → Type 0
   IsRun words ending =
-      ((ending ≡ endings.Fault faults.Memory) × IsUntouched) ⊎ Ends (asked_of words) ending
+      ((ending ≡ endings.Fault faults.Memory) × IsUntouched) ⊎ Ends (asked_by words) ending
+
+  -- the process's arguments ended in this way; those that can't be read, by the kind of the error,
+  -- touch nothing
+  abbrev pub IsRunBy : Result (List Text) ErrorKind → Ending → Type 0
+  IsRunBy (Ok words) ending = IsRun words ending
+  IsRunBy (Err kind) ending = (ending ≡ ending_at (unread_of kind)) × IsUntouched

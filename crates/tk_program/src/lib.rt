@@ -5,6 +5,7 @@
 //! |---|---|
 //! | `run_and_tell` | runs the program with the process's arguments, and returns the exit code |
 //! | `run` | runs given arguments, from any reader and any folder to any writer |
+//! | `Arguments` | reads the process's arguments: the host's, or a test's |
 //! | `Folder` | opens files by their names: the host's, or a test's |
 //! | `many_text` | joins the reports of many scripts into one text |
 //! | `race_text` | makes the lines of a race |
@@ -15,6 +16,7 @@
 //! Each subcommand has a variant of `Request`. docs/TKCORE.md describes the program.
 #![tactic(auto)]
 
+mod arguments;
 mod ending;
 mod files;
 mod folder;
@@ -27,6 +29,7 @@ mod running;
 mod scripts;
 mod tracing;
 
+pub use arguments::Arguments;
 pub use ending::Ending;
 pub use folder::Folder;
 pub use openings::same_opening;

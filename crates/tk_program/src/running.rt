@@ -1,21 +1,21 @@
-ghost use Rattle.std.specs.Prelude.{◌≡◌, ℕ, List, Option, Some, map, string_bytes};
+ghost use Rattle.std.specs.Prelude.{◌≡◌, ℕ, List, Result, Some, map, string_bytes};
 ghost use Rattle.std.specs.Process.{exit_status};
+ghost use Rattle.std.specs.declared.io.ErrorKind.{ErrorKind};
 ghost use Rattle.tk_command_line.specs.Request.{IsAllowed, task_of};
 ghost use Rattle.tk_program.specs.Ending.{status_of};
-ghost use Rattle.tk_program.specs.Running.{Ends, IsRun};
+ghost use Rattle.tk_program.specs.Running.{Ends, IsRun, IsRunBy};
 ghost use Rattle.tk_program.specs.declared.ending.Ending.{Ending};
 
+use crate::arguments::{Arguments, words_of};
 use crate::ending::Ending;
 use crate::folder::Folder;
 use crate::{many, racing, tracing};
 use std::alloc::Global;
-use std::env;
 use std::io::Write;
 use std::process::ExitCode;
-use std::rt::Env;
 use std::sync::Wait;
 use std::thread::Threads;
-use tk_command_line::{Request, WordsError, asked};
+use tk_command_line::{Request, asked};
 use tk_report::{Sink, Source, replay_with};
 
 /// Runs the program with these arguments, and returns how it ended. The first argument is the
@@ -37,7 +37,7 @@ pub fn run<E: Threads + Wait + Sync, D: Folder, R: Source, W: Sink>(
         W.Write.contents W.Sink.write_gives W.Sink.flush_gives
         D.Folder.open_gives D.File.Read.remaining D.File.Source.read_gives
         folder.now reader.old reader.new writer.old writer.new
-        (Some (map string_bytes words.now)) result }
+        (map string_bytes words.now) result }
 {
     match asked(alloc, words) {
         Ok(request) => answer(alloc, rt, &request, folder, reader, writer),
@@ -77,18 +77,19 @@ fn answer<E: Threads + Wait + Sync, D: Folder, R: Source, W: Sink>(
     }
 }
 
-/// Runs the program with the process's arguments, as `run` does. Writes the ending's line of error
-/// to `errors`, and returns the exit code.
+/// Runs the program with all arguments of the process, as `run` does. Writes the ending's line of
+/// error to `errors`, and returns the exit code.
 ///
 /// A line that can't be written is left out, and doesn't change the exit code.
 pub fn run_and_tell<E, R, W, T>(rt: &E, reader: &mut R, writer: &mut W, errors: &mut T) -> ExitCode
 where
-    E: Env + AllocGlobal + Folder + Threads + Wait + Sync,
+    E: AllocGlobal + Arguments + Folder + Threads + Wait + Sync,
     R: Source,
     W: Sink,
     T: Write,
-    ensures { (words : Option (List (List ℕ))) × (ending : Ending)
-        × IsRun R.Read.remaining R.Source.read_gives
+    ensures { (words : Result (List (List ℕ)) ErrorKind) × (ending : Ending)
+        × E.Arguments.args_give rt.now words
+        × IsRunBy R.Read.remaining R.Source.read_gives
         W.Write.contents W.Sink.write_gives W.Sink.flush_gives
         E.Folder.open_gives E.File.Read.remaining E.File.Source.read_gives
         rt.now reader.old reader.new writer.old writer.new words ending
@@ -110,10 +111,4 @@ fn exit_code<T: Write>(ending: Ending, errors: &mut T) -> ExitCode
 {
     let _ = ending.tell(errors);
     ExitCode::from(ending.status())
-}
-
-/// Returns the process's arguments.
-fn words_of(rt: &(impl Env + AllocGlobal)) -> Result<Vec<String>, WordsError> {
-    let words: Vec<String> = env::args(rt)?.collect(rt.alloc())?;
-    Ok(words)
 }
