@@ -81,6 +81,13 @@ class Library:
         self.call("tkc_counter_from_hz", byref(counter), U32(bits), U64(hz), U32(maxsec))
         return counter
 
+    def counter_from_khz(self, bits, khz, maxsec):
+        """Returns the counter that runs at khz cycles a millisecond, for gaps of up to maxsec
+        seconds."""
+        counter = self.counter_value()
+        self.call("tkc_counter_from_khz", byref(counter), U32(bits), U64(khz), U32(maxsec))
+        return counter
+
     def numbers(self, counter):
         """Returns the bits, the mult and the shift of a counter."""
         numbers = [U32(), U32(), U32()]

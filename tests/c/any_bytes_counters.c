@@ -18,13 +18,15 @@ static uint32_t try_new(struct tkc_counter *counter)
 	return code;
 }
 
-static uint32_t try_from_hz(struct tkc_counter *counter)
+static uint32_t try_from_rate(struct tkc_counter *counter)
 {
 	struct tkc_counter before;
 	struct tkc_counter *out = fill(rooms.counter, &before, sizeof(before));
 	uint32_t bits = one_in(4) ? (uint32_t)some() : (uint32_t)below(70);
 	uint32_t maxsec = one_in(4) ? (uint32_t)some() : (uint32_t)below(603);
-	uint32_t code = saw(tkc_counter_from_hz(out, bits, some() >> some() % 64, maxsec));
+	uint64_t rate = some() >> some() % 64;
+	uint32_t code = saw(one_in(2) ? tkc_counter_from_hz(out, bits, rate, maxsec) :
+					tkc_counter_from_khz(out, bits, rate, maxsec));
 
 	check(code == TKC_OK || code == TKC_BAD_BITS || code == TKC_BAD_RATE);
 	check(!code || !memcmp(out, &before, sizeof(before)));
@@ -51,7 +53,7 @@ void some_counter(struct tkc_counter *counter)
 {
 	uint32_t bits = 8 + (uint32_t)below(57);
 
-	if (one_in(2) ? try_new(counter) : try_from_hz(counter))
+	if (one_in(2) ? try_new(counter) : try_from_rate(counter))
 		check(!tkc_counter_from_hz(counter, bits, 24000000, 600));
 	try_numbers(counter);
 }

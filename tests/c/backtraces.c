@@ -39,6 +39,7 @@ enum {
 STEPPED(tkc_version)
 STEPPED(tkc_counter_new)
 STEPPED(tkc_counter_from_hz)
+STEPPED(tkc_counter_from_khz)
 STEPPED(tkc_counter_numbers)
 STEPPED(tkc_clock_open)
 STEPPED(tkc_clock_apply)

@@ -34,6 +34,7 @@ def main(folder):
     counter, clock = ffi.new("struct tkc_counter *"), ffi.new("struct tkc_clock *")
     snapshot, time = ffi.new("struct tkc_snapshot *"), ffi.new("struct tkc_time *")
     assert calls.tkc_counter_from_hz(counter, 32, 1_000_000, 600) == calls.TKC_OK
+    assert calls.tkc_counter_from_khz(counter, 32, 1_000, 600) == calls.TKC_OK
     assert calls.tkc_clock_open(clock, counter, 0, 1_700_000_000, 0) == calls.TKC_OK
     assert calls.tkc_clock_apply(clock, 1_000_000, calls.TKC_CMD_UPDATE, 0, 0) == calls.TKC_OK
     assert calls.tkc_clock_apply(clock, 0, calls.TKC_CMD_UPDATE, 0, 0) == calls.TKC_BEHIND

@@ -27,29 +27,51 @@ static void check(bool holds, const char *condition, int line)
 	exit(EXIT_FAILURE);
 }
 
-/* Makes a counter and the model of its clocks. Returns whether the numbers describe a counter. */
-static bool make_counter(struct tkc_counter *counter, struct model *model)
+/* The numbers of a counter. */
+struct numbers {
+	uint32_t bits, mult, shift;
+};
+
+/* Makes a counter from its numbers. Returns the code. */
+static uint32_t make_from_numbers(struct tkc_counter *counter, struct numbers *numbers)
 {
-	uint32_t bits = (uint32_t)(below(9) ? 8 + below(57) : some());
-	uint32_t mult = (uint32_t)(any() >> below(64)), shift = (uint32_t)below(34);
-	uint32_t code, maxsec = (uint32_t)below(602);
-	uint64_t hz = any() >> below(64);
+	uint32_t code;
+
+	numbers->mult = (uint32_t)(any() >> below(64));
+	numbers->shift = (uint32_t)below(34);
+	code = model_counter(numbers->bits, numbers->mult, numbers->shift);
+	CHECK(tkc_counter_new(counter, numbers->bits, numbers->mult, numbers->shift) == code);
+	return code;
+}
+
+/* Makes a counter from its rate, and stores the numbers that the model gives it. Returns the
+ * code. */
+static uint32_t make_from_rate(struct tkc_counter *counter, struct numbers *numbers)
+{
+	uint32_t maxsec = (uint32_t)below(602), bits = numbers->bits;
+	uint64_t rate = any() >> below(64), scale = below(2) ? 1000 : 1;
+	uint32_t code = model_rate(bits, rate, maxsec);
+
+	if (scale == 1)
+		CHECK(tkc_counter_from_hz(counter, bits, rate, maxsec) == code);
+	else
+		CHECK(tkc_counter_from_khz(counter, bits, rate, maxsec) == code);
+	if (!code)
+		model_scale(scale, rate, maxsec, &numbers->mult, &numbers->shift);
+	return code;
+}
+
+/* Makes a counter, and stores its numbers. Returns whether they describe a counter. */
+static bool make_counter(struct tkc_counter *counter, struct numbers *numbers, bool has_rate)
+{
 	uint32_t found[3];
 
-	if (below(2)) {
-		code = model_counter(bits, mult, shift);
-		CHECK(tkc_counter_new(counter, bits, mult, shift) == code);
-	} else {
-		code = model_rate(bits, hz, maxsec);
-		CHECK(tkc_counter_from_hz(counter, bits, hz, maxsec) == code);
-		if (!code)
-			model_scale(hz, maxsec, &mult, &shift);
-	}
-	if (code)
+	numbers->bits = (uint32_t)(below(9) ? 8 + below(57) : some());
+	if (has_rate ? make_from_rate(counter, numbers) : make_from_numbers(counter, numbers))
 		return false;
 	tkc_counter_numbers(&found[0], &found[1], &found[2], counter);
-	CHECK(found[0] == bits && found[1] == mult && found[2] == shift);
-	model_open(model, bits, mult, shift);
+	CHECK(found[0] == numbers->bits && found[1] == numbers->mult &&
+	      found[2] == numbers->shift);
 	return true;
 }
 
@@ -189,6 +211,7 @@ static void try_words(const struct tkc_counter *counter, const struct tkc_clock 
 static void round_of_calls(void)
 {
 	struct tkc_counter counter;
+	struct numbers numbers;
 	struct tkc_clock clock;
 	struct model model;
 	int64_t sec = (int64_t)(below(8) ? below(8277292036) : some());
@@ -196,8 +219,11 @@ static void round_of_calls(void)
 	uint64_t reading = some();
 	bool is_valid;
 
-	if (!make_counter(&counter, &model))
+	for (int i = 0; i < 100; i++)
+		make_counter(&counter, &numbers, true);
+	if (!make_counter(&counter, &numbers, below(2)))
 		return;
+	model_open(&model, numbers.bits, numbers.mult, numbers.shift);
 	reading = below(8) ? reading & model.mask : reading;
 	is_valid = reading <= model.mask && sec >= 0 && sec < 8277292036 && nsec < 1000000000;
 	CHECK(tkc_clock_open(&clock, &counter, reading, sec, nsec) ==

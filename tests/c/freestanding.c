@@ -36,6 +36,9 @@ static void open(struct tkc_clock *clock, struct tkc_counter *counter)
 
 	check(tkc_version() == TKC_VERSION);
 	check(tkc_counter_from_hz(counter, 32, 1000000000, 4) == TKC_OK);
+	check(tkc_counter_from_khz(counter, 64, 4491000, 1) == TKC_OK);
+	tkc_counter_numbers(&bits, &mult, &shift, counter);
+	check(bits == 64 && mult == 956349877 && shift == 32);
 	check(tkc_counter_new(counter, 32, 1 << 24, 24) == TKC_OK);
 	tkc_counter_numbers(&bits, &mult, &shift, counter);
 	check(bits == 32 && mult == 1 << 24 && shift == 24);

@@ -28,21 +28,21 @@ uint32_t model_counter(uint32_t bits, uint32_t mult, uint32_t shift)
 	return (mult + (uint64_t)mult * 11 / 100) >> 32 ? TKC_BAD_ADJUST : TKC_OK;
 }
 
-uint32_t model_rate(uint32_t bits, uint64_t hz, uint32_t maxsec)
+uint32_t model_rate(uint32_t bits, uint64_t rate, uint32_t maxsec)
 {
 	if (bits < 8 || bits > 64)
 		return TKC_BAD_BITS;
-	return !hz || hz >> 32 || !maxsec || maxsec > 600 ? TKC_BAD_RATE : TKC_OK;
+	return !rate || rate >> 32 || !maxsec || maxsec > 600 ? TKC_BAD_RATE : TKC_OK;
 }
 
-void model_scale(uint64_t hz, uint32_t maxsec, uint32_t *mult, uint32_t *shift)
+void model_scale(uint64_t scale, uint64_t rate, uint32_t maxsec, uint32_t *mult, uint32_t *shift)
 {
 	u128 exact = 0, limit = (u128)1 << 32;
 
-	while (limit > 1 && maxsec * hz > (UINT64_MAX / (uint64_t)limit))
+	while (limit > 1 && maxsec * scale * rate > (UINT64_MAX / (uint64_t)limit))
 		limit /= 2;
 	for (*shift = 32; *shift; --*shift) {
-		exact = (((u128)1000000000 << *shift) + hz / 2) / hz;
+		exact = (((u128)(1000000000 / scale) << *shift) + rate / 2) / rate;
 		if (exact < limit)
 			break;
 	}

@@ -25,12 +25,13 @@ struct model {
 	bool asleep;
 };
 
-/* Return the codes of tkc_counter_new and of tkc_counter_from_hz. */
+/* Return the codes of tkc_counter_new, and of tkc_counter_from_hz and tkc_counter_from_khz. */
 uint32_t model_counter(uint32_t bits, uint32_t mult, uint32_t shift);
-uint32_t model_rate(uint32_t bits, uint64_t hz, uint32_t maxsec);
+uint32_t model_rate(uint32_t bits, uint64_t rate, uint32_t maxsec);
 
-/* Stores the mult and the shift of a counter that model_rate accepts. */
-void model_scale(uint64_t hz, uint32_t maxsec, uint32_t *mult, uint32_t *shift);
+/* Stores the mult and the shift of a counter that model_rate accepts. The scale of a rate in Hz is
+ * 1, and of a rate in kHz 1000. */
+void model_scale(uint64_t scale, uint64_t rate, uint32_t maxsec, uint32_t *mult, uint32_t *shift);
 
 /* Makes awake clocks of a counter that model_counter accepts, at the reading 0 and the time 0. */
 void model_open(struct model *model, uint32_t bits, uint32_t mult, uint32_t shift);

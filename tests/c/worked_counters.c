@@ -1,14 +1,15 @@
 /* SPDX-License-Identifier: MIT OR Apache-2.0 */
-/* Makes counters from numbers and from frequencies. */
+/* Makes counters from numbers and from rates. */
 #include "worked_rows.h"
 
 struct description {
 	uint32_t bits, mult, shift, code;
 };
 
+/* A rate in Hz or kHz, as its table says. */
 struct rate {
 	uint32_t bits;
-	uint64_t hz;
+	uint64_t rate;
 	uint32_t maxsec, code, mult, shift;
 };
 
@@ -36,12 +37,22 @@ static void try_numbers(const struct description *row)
 	check_made(&out, row->code, row->bits, row->mult, row->shift);
 }
 
-static void try_rate(const struct rate *row)
+static void try_hz(const struct rate *row)
 {
 	struct tkc_counter out;
 
 	make_old(&out);
-	check(tkc_counter_from_hz(&out, row->bits, row->hz, row->maxsec) ==
+	check(tkc_counter_from_hz(&out, row->bits, row->rate, row->maxsec) ==
+	      row->code);
+	check_made(&out, row->code, row->bits, row->mult, row->shift);
+}
+
+static void try_khz(const struct rate *row)
+{
+	struct tkc_counter out;
+
+	make_old(&out);
+	check(tkc_counter_from_khz(&out, row->bits, row->rate, row->maxsec) ==
 	      row->code);
 	check_made(&out, row->code, row->bits, row->mult, row->shift);
 }
@@ -59,7 +70,7 @@ static const struct description descriptions[] = {
 };
 
 /* The numbers are those of the kernel's clocks_calc_mult_shift. */
-static const struct rate rates[] = {
+static const struct rate rates_hz[] = {
 	{ 32, 24000000, 600, TKC_OK, 699050667, 24 },
 	{ 56, 24000000, 600, TKC_OK, 699050667, 24 },
 	{ 64, 4294967295, 1, TKC_OK, 1000000000, 32 },
@@ -73,8 +84,28 @@ static const struct rate rates[] = {
 	{ 32, 4318967296, 600, TKC_BAD_RATE, 0, 0 },
 };
 
+/* The numbers are those of a copy of clocks_calc_mult_shift and
+ * __clocksource_update_freq_scale, with the scale 1000. */
+static const struct rate rates_khz[] = {
+	{ 32, 1, 1, TKC_OK, 2048000000, 11 },
+	{ 64, 24000, 600, TKC_OK, 699050667, 24 },
+	{ 64, 4491000, 1, TKC_OK, 956349877, 32 },
+	{ 64, 4491000, 600, TKC_OK, 3735742, 24 },
+	{ 8, 4294967295, 1, TKC_OK, 1000000, 32 },
+	{ 64, 4294967295, 600, TKC_OK, 3906, 24 },
+	{ 7, 0, 0, TKC_BAD_BITS, 0, 0 },
+	{ 65, 4318967296, 600, TKC_BAD_BITS, 0, 0 },
+	{ 32, 0, 600, TKC_BAD_RATE, 0, 0 },
+	{ 64, 4491000, 0, TKC_BAD_RATE, 0, 0 },
+	{ 64, 4491000, 601, TKC_BAD_RATE, 0, 0 },
+	{ 64, 4294967296, 1, TKC_BAD_RATE, 0, 0 },
+	/* 2^32 above 4491000 kHz */
+	{ 64, 4299458296, 1, TKC_BAD_RATE, 0, 0 },
+};
+
 void try_counters(void)
 {
 	try_each(descriptions, try_numbers);
-	try_each(rates, try_rate);
+	try_each(rates_hz, try_hz);
+	try_each(rates_khz, try_khz);
 }

@@ -17,7 +17,7 @@ static enum tkc_code open_clock(void)
 {
 	struct timespec64 now;
 	struct tkc_counter counter;
-	enum tkc_code code = tkc_counter_from_hz(&counter, 64, (u64)tsc_khz * 1000, 600);
+	enum tkc_code code = tkc_counter_from_khz(&counter, 64, tsc_khz, 600);
 
 	if (code != TKC_OK)
 		return code;
