@@ -1,6 +1,7 @@
 //! Tests values that were worked out manually, outside the contracts, and compares one call with
 //! the other.
 
+mod far;
 mod random;
 mod refusals;
 mod values;
