@@ -58,7 +58,7 @@ recounts slots id me is s r _ at _ =
     let answers = noted_log me.0.role in
     let known = known_of s r id me.0 (Noting noted answers) at is in
     let mine = me.0.commands in
-    let v = view_of mine me.0.log (Noting mine r.log) in (
+    let v = view_of mine r.log (Noting mine r.log) in (
       v,
       keeps,
       tt,
@@ -68,7 +68,7 @@ recounts slots id me is s r _ at _ =
         known.2,
         subst (IsPrefix mine) known.1 (prefix_self mine),
         prefix_self r.log,
-        known.5,
+        prefix_self r.log,
       ),
       (
         refl,
@@ -78,6 +78,8 @@ recounts slots id me is s r _ at _ =
         known.4,
         subst (AreInOrder) (sym known.1) r.ordered,
         subst (λ (l : List Taken). AreInLife l r.log) (sym known.1) r.alive,
+        known.5,
+        r.turn,
       ),
     )
 

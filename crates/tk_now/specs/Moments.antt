@@ -84,12 +84,15 @@ pub record IsBusy (old new : Watched) (first last : ℕ) : Type 0 where
   pub busy : first ≡ last → first % 2 ≡ 1
 
 -- a watcher got all knowledge: it knows the announcer's commands, of which it knew the first, and
--- the answers of all watchers, of which it knew the first. Its loads are counted anew
+-- the answers of all watchers, of which it knew the first. The announcer knows the same answers
+-- now. Its loads are counted anew
 pub record IsTold (announcer : Announcing) (old new : Watched) : Type 0 where
   pub notice : new.notice ≡ old.notice
   pub commands : new.commands ≡ announcer.commands
   pub begins : IsPrefix old.commands announcer.commands
   pub log : IsPrefix old.log new.log
+  pub all : new.log ≡ announcer.log
   pub found : new.found ≡ []
   pub order : AreInOrder announcer.commands
   pub life : AreInLife announcer.commands new.log
+  pub turn : AreInTurn new.log

@@ -90,7 +90,8 @@ compared move old found new = (new.0.commands ≡ old.0.commands) × IsIdle new.
 -- the same, and the note contains all commands and all answers afterwards
 abbrev pub recounted : Move → Seated → ℕ → Seated → Type 0
 recounted move old found new =
-    (new.0.commands ≡ old.0.commands) × (new.0.log ≡ old.0.log) × IsNoting new.0
+    (new.0.commands ≡ old.0.commands) × (new.0.log ≡ noted_log new.0.role) × IsNoting new.0
     × IsPrefix (noted_commands old.0.role) old.0.commands
     × IsPrefix (noted_log old.0.role) (noted_log new.0.role) × AreInOrder old.0.commands
-    × AreInLife old.0.commands (noted_log new.0.role)
+    × AreInLife old.0.commands (noted_log new.0.role) × IsPrefix old.0.log new.0.log
+    × AreInTurn (noted_log new.0.role)

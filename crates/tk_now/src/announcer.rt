@@ -103,15 +103,17 @@ impl Announcer {
         accept_reading::<Brand, A>(notice, &mut self.look, 2 * self.number, reading);
     }
 
-    /// Gives a watcher the readings of all accepted commands and of all watchers.
+    /// Gives a watcher the readings of all accepted commands and of all watchers. The announcer
+    /// learns the watchers' readings too.
     ///
     /// It waits for nobody and allocates nothing.
     pub fn tell<A: Allocator>(&mut self, notice: &Notice<A>, watcher: &mut Watcher)
         requires notice { self.old.notice ≡ notice.now }
         requires watcher { watcher.old.notice ≡ notice.now }
         requires idle { self.old.since ≡ None }
-        ensures same { self.new ≡ self.old }
-        ensures told { IsTold self.old watcher.old watcher.new }
+        ensures same { self.new ≡ record self.old { log = self.new.log } }
+        ensures log { IsPrefix self.old.log self.new.log }
+        ensures told { IsTold self.new watcher.old watcher.new }
     {
         let shared = &notice.words.shared;
         let seat = &mut self.look.seat;

@@ -69,7 +69,7 @@ done old new cmd number stated same =
           prefix_trans old.seen.entries before new.seen.entries stated.extends.1
               (entry ∷ [], sym last),
         );
-        learnt = stated.learnt;
+        learnt = stated.known.learnt;
         counted = stated.counted;
         looked = λ none. (let still = same.2 in omega (arith, still));
       };

@@ -8,6 +8,7 @@ use Rattle.tk_clock.specs.declared.command.Entry.{Entry}
 use Rattle.tk_clock.specs.Journal.{Journal, followed_by, at_place}
 use Rattle.tk_clock.proofs.Append.{at_place-within, at_place-last}
 use Rattle.tk_now.specs.declared.rule.Taken.{Taken}
+use Rattle.tk_now.specs.declared.rule.Answer.{Answer}
 use Rattle.tk_now.specs.Life.{AreReadings}
 use Rattle.tk_now.specs.Moments.{AreInOrder, IsAcceptedAt}
 use Rattle.tk_now.specs.Views.{Announcing, opened_announcer, taken}
@@ -95,4 +96,17 @@ refused_at_rest notice history before announced now rest same commands is =
       idle = refl;
       readings = subst (AreReadings history) (sym commands) rest.readings;
       order = subst AreInOrder (sym commands) rest.order;
+    })
+
+-- the announcer learnt more answers
+pub told_at_rest : (notice : TableId) (history : Journal) (before now : Announcing)
+    (log : List Answer) → now ≡ record before { log = log } → IsAtRest notice history before →
+    IsAtRest notice history now
+told_at_rest notice history before now log is rest =
+    subst (IsAtRest notice history) (sym is)
+    (record {
+      notice = rest.notice;
+      idle = rest.idle;
+      readings = rest.readings;
+      order = rest.order;
     })

@@ -13,9 +13,9 @@ use Rattle.tk_now.specs.Life.{AreReadings}
 use Rattle.tk_now.specs.Moments.{AreInLife, AreInOrder}
 use Rattle.tk_now.proofs.Lists.{get_first, there}
 use Rattle.tk_shared.specs.Callers.{Known}
-use Rattle.tk_shared.specs.NeverBack.{IsHonest, IsOverBefore, NowNeverFalls}
+use Rattle.tk_shared.specs.NeverBack.{IsHonest, IsOverBefore, NowNeverFalls, OpenNowNeverFalls}
 use Rattle.tk_shared.proofs.Back.{never_back}
-use Rattle.tk_shared.proofs.Calls.{Told, told_of}
+use Rattle.tk_shared.proofs.Calls.{Told, closed_within, informed_within, known_within, told_of}
 use Rattle.tk_shared.proofs.Cut.{cut, fewer_first, honest_cut, pos_le, readings_cut, some_first}
 
 -- two answers in their lives
@@ -101,9 +101,28 @@ module _ (history : Journal) (commands : List Taken) (log : List Answer) (old ne
 
 pub times_in_order : {S : Type 0} (answers : S → ℕ → ℕ → Type 0) → NowNeverFalls answers
 times_in_order answers journal callers closed counter counter' old new old' new' time time' first second call call' is is' over honest =
-    let a = told_of answers counter journal callers closed old new time call first is in
-    let b = told_of answers counter' journal callers closed old' new' time' call' second is' in
-    in_order closed.history closed.commands closed.log old new old' new' first second time time' a b
-    closed.alive closed.readings closed.order honest
-    (over_before closed.history closed.commands closed.log old new old' new' first second time time'
-    a b closed.alive over)
+    let history = closed.history in
+    let commands = closed.commands in
+    let a = told_of answers counter history commands closed.log old new time
+    (closed_within journal callers closed old new call) first is in
+    let b = told_of answers counter' history commands closed.log old' new' time'
+    (closed_within journal callers closed old' new' call') second is' in
+    in_order history commands closed.log old new old' new' first second time time' a b closed.alive
+    closed.readings closed.order honest
+    (over_before history commands closed.log old new old' new' first second time time' a b
+    closed.alive over)
+
+pub open_in_order : {S : Type 0} (answers : S → ℕ → ℕ → Type 0) → OpenNowNeverFalls answers
+open_in_order answers last informed counter counter' old new old' new' time time' first second known known' is is' over honest =
+    let history = last.seen in
+    let commands = last.watched.commands in
+    let log = last.watched.log in
+    let all = informed_within last informed in
+    let a = told_of answers counter history commands log old new time
+    (known_within history commands log new last known all) first is in
+    let b = told_of answers counter' history commands log old' new' time'
+    (known_within history commands log new' last known' all) second is' in
+    in_order history commands log old new old' new' first second time time' a b informed.life
+    informed.readings informed.order honest
+    (over_before history commands log old new old' new' first second time time' a b informed.life
+    over)

@@ -1,5 +1,5 @@
--- The result of a call for the time now, in terms of the closed keeper's history.
-use Rattle.std.proofs.Common.{◌≡◌, ℕ, ◌+◌, ◌%◌, ◌^◌, ◌<◌, ◌≤◌, List, length, sym, ap, ◌∙◌, subst, arith, inl, inr}
+-- The result of a call for the time now, in terms of a whole history.
+use Rattle.std.proofs.Common.{◌≡◌, ℕ, ◌+◌, ◌%◌, ◌^◌, ◌<◌, ◌≤◌, List, length, refl, sym, ap, ◌∙◌, subst, arith, inl, inr}
 use Rattle.std.specs.Prelude.{Some, pos, slice_get}
 use Rattle.std.proofs.lemmas.Option.{same_Some, slice_get_within}
 use mathlib.Core.List.{IsPrefix}
@@ -17,11 +17,14 @@ use Rattle.tk_now.specs.declared.rule.Answer.{Answer}
 use Rattle.tk_now.specs.Moments.{IsTimed}
 use Rattle.tk_now.specs.Views.{Watched, taken}
 use Rattle.tk_now.proofs.Lists.{get_first}
-use Rattle.tk_shared.specs.Callers.{Known}
+use Rattle.tk_page.specs.History.{Begins}
+use Rattle.tk_shared.specs.Callers.{Known, IsInformed, IsKnownBy}
 use Rattle.tk_shared.specs.Closing.{HasListed, HasWatched, IsClosed, IsPartOf}
+use Rattle.tk_shared.specs.History.{AreSnapshots}
 use Rattle.tk_shared.specs.NeverBack.{HasSeen, HasTaken, IsCallOf, IsNowOf, answer_seen, answer_taken}
 use Rattle.tk_shared.proofs.Back.{monotonic_of}
 use Rattle.tk_shared.proofs.Cut.{all_at, first_items}
+use Rattle.tk_shared.proofs.Snapshots.{snapshots_prefix}
 
 -- the result of a call: this answer and this time
 pub record Told (history : Journal) (commands : List Taken) (log : List Answer) (old new : Known)
@@ -40,47 +43,81 @@ pub record Told (history : Journal) (commands : List Taken) (log : List Answer) 
       (t.from ≤ t.to) × (t.to ≤ answer.taken.from)
   pub value : nanoseconds time ≡ pos (monotonic_of history answer)
 
-module _ {S : Type 0} (answers : S → ℕ → ℕ → Type 0) (counter : S) (journal : Journal)
-    (callers : List Known) (closed : IsClosed journal callers) (old new : Known)
-    (time : Timespec) (call : IsCallOf callers old new) where
+-- what a caller knows, as part of a history, its commands and the answers of all callers
+pub record IsWithin (history : Journal) (all : List Taken) (listed : List Answer) (caller : Known)
+    : Type 0 where
+  pub begins : Begins caller.seen history
+  pub learnt : AreSnapshots history caller.learnt.publications
+  pub commands : IsPrefix caller.watched.commands all
+  pub log : IsPrefix caller.watched.log listed
+
+-- a caller whose knowledge another one has
+pub known_within : (history : Journal) (commands : List Taken) (log : List Answer)
+    (one other : Known) → IsKnownBy one other → IsWithin history commands log other →
+    IsWithin history commands log one
+known_within history commands log one other known is = record {
+  begins = (is.begins.0 ∙ known.seen.0, prefix_trans _ _ _ known.seen.1 is.begins.1);
+  learnt = snapshots_prefix history one.learnt.publications other.learnt.publications is.learnt
+      known.learnt;
+  commands = prefix_trans _ _ _ known.commands is.commands;
+  log = prefix_trans _ _ _ known.log is.log;
+}
+
+-- a caller that was told everything
+pub informed_within : (caller : Known) → IsInformed caller →
+    IsWithin caller.seen caller.watched.commands caller.watched.log caller
+informed_within caller is = record {
+  begins = (refl, prefix_self caller.seen.entries);
+  learnt = is.snapshots;
+  commands = prefix_self caller.watched.commands;
+  log = prefix_self caller.watched.log;
+}
+
+-- a call by one of the callers of a closed keeper
+pub closed_within : (journal : Journal) (callers : List Known) (closed : IsClosed journal callers)
+    (old new : Known) → IsCallOf callers old new →
+    IsWithin closed.history closed.commands closed.log new
+closed_within journal callers closed old new call =
+    let last = call.last in
+    let part = all_at (IsPartOf closed.history) callers call.place last closed.parts call.among in
+    let watched = all_at (HasWatched closed.commands) callers call.place last closed.watched
+    call.among in
+    known_within closed.history closed.commands closed.log new last call.known
+    (record {
+      begins = part.begins;
+      learnt = part.learnt;
+      commands = watched.begins;
+      log = all_at (HasListed closed.log) callers call.place last closed.listed call.among;
+    })
+
+module _ {S : Type 0} (answers : S → ℕ → ℕ → Type 0) (counter : S) (history : Journal)
+    (commands : List Taken) (log : List Answer) (old new : Known) (time : Timespec)
+    (is_within : IsWithin history commands log new) where
   abbrev pub IsTold : Answer → Type 0
-  IsTold answer = Told closed.history closed.commands closed.log old new answer time
-
-  known_at_end : HasWatched closed.commands call.last
-  known_at_end = all_at (HasWatched closed.commands) callers call.place call.last closed.watched
-      call.among
-
-  part_at_end : IsPartOf closed.history call.last
-  part_at_end = all_at (IsPartOf closed.history) callers call.place call.last closed.parts call.among
-
-  listed_at_end : IsPrefix call.last.watched.log closed.log
-  listed_at_end =
-      all_at (HasListed closed.log) callers call.place call.last closed.listed call.among
+  IsTold answer = Told history commands log old new answer time
 
   -- the result of a call, by its two looks
   looked : (before : Watched) (place answer : ℕ) → IsPrefix old.watched.log before.log →
       (timed : IsTimed answers counter before new.watched place answer) →
-      place ≤ length closed.history.entries →
+      place ≤ length history.entries →
       nanoseconds time
-      ≡ pos (monotonic (prefix place closed.history)
-      (answer % 2 ^ closed.history.opening.counter.bits)) →
+      ≡ pos (monotonic (prefix place history) (answer % 2 ^ history.opening.counter.bits)) →
       IsTold (record { place = place; taken = taken timed.from timed.to answer })
-  looked before place answer log timed within value =
+  looked before place answer known timed low value =
       let one : Answer = record { place = place; taken = taken timed.from timed.to answer } in
       let here : slice_get new.watched.log (length timed.between) ≡ Some one =
       subst (λ (l : List Answer). slice_get l (length timed.between) ≡ Some one) (sym timed.listed)
       (slice_get-push timed.between one) in
-      let at_end = prefix_trans _ _ _ call.log listed_at_end in
       record {
         mine = new.watched.commands;
         position = length timed.between;
-        within = within;
-        known = prefix_trans _ _ _ call.commands known_at_end.begins;
+        within = low;
+        known = is_within.commands;
         long = sym timed.latest;
         own = here;
-        listed = get_first new.watched.log closed.log at_end (length timed.between) one here;
+        listed = get_first new.watched.log log is_within.log (length timed.between) one here;
         above = λ i a at. (timed.above i a
-            (get_first old.watched.log timed.begun (prefix_trans _ _ _ log timed.known) i a at)).1;
+            (get_first old.watched.log timed.begun (prefix_trans _ _ _ known timed.known) i a at)).1;
         span = timed.span;
         after = timed.after;
         value = value;
@@ -90,15 +127,13 @@ module _ {S : Type 0} (answers : S → ℕ → ℕ → Type 0) (counter : S) (jo
       IsTold (answer_seen answers counter old new time is)
   told_now is =
       let n = length new.seen.entries in
-      let begins = prefix_trans _ _ _ call.seen.1 part_at_end.begins.1 in
-      let opening : closed.history.opening ≡ new.seen.opening =
-      part_at_end.begins.0 ∙ call.seen.0 in
-      let same : new.seen ≡ prefix n closed.history = λ i. record {
-        opening = sym opening i;
-        entries = sym (first_items new.seen.entries closed.history.entries begins) i;
+      let begins = is_within.begins.1 in
+      let same : new.seen ≡ prefix n history = λ i. record {
+        opening = sym is_within.begins.0 i;
+        entries = sym (first_items new.seen.entries history.entries begins) i;
       } in
       looked is.before n is.answer is.log is.timed
-      (prefix_length new.seen.entries closed.history.entries begins)
+      (prefix_length new.seen.entries history.entries begins)
       (is.read.1
       ∙ ap (λ (j : Journal). pos (monotonic j (is.answer % 2 ^ j.opening.counter.bits))) same)
 
@@ -106,16 +141,14 @@ module _ {S : Type 0} (answers : S → ℕ → ℕ → Type 0) (counter : S) (jo
       IsTold (answer_taken answers counter old new time is)
   told_fast is =
       let n = is.0.front in
-      let read = is.2.read in
-      let at_end = get_first new.learnt.publications call.last.learnt.publications call.learnt n is.0
-      read.whole in
-      let low = slice_get_within call.last.learnt.publications n is.0 at_end in
-      let most = part_at_end.learnt.within in
-      let same : is.0 ≡ snapshot_of (prefix n closed.history) =
-      same_Some _ _ (sym at_end ∙ part_at_end.learnt.each n low) in
+      let at = is.2.read.whole in
+      let low = slice_get_within new.learnt.publications n is.0 at in
+      let most = is_within.learnt.within in
+      let same : is.0 ≡ snapshot_of (prefix n history) =
+      same_Some _ _ (sym at ∙ is_within.learnt.each n low) in
       let base = ap (λ (s : Snapshot). s.base) same in
       let value : nanoseconds time ≡ base_value is.0.base Monotonic is.1 = is.3.1 in
-      let reading : is.1 ≡ is.2.answer % 2 ^ closed.history.opening.counter.bits =
+      let reading : is.1 ≡ is.2.answer % 2 ^ history.opening.counter.bits =
       is.2.masked ∙ ap (λ (b : ReadBase). is.2.answer % 2 ^ b.counter.bits) base in
       looked old.watched n is.2.answer (prefix_self old.watched.log) is.2.timed
       (omega (arith, low, most))

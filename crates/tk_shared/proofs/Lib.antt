@@ -3,6 +3,7 @@ pub mod Snapshots
 pub mod Refused
 pub mod Held
 pub mod Announced
+pub mod Informed
 pub mod Told
 pub mod Counts
 pub mod Ends

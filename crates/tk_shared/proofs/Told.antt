@@ -1,5 +1,5 @@
 -- The knowledge that a command gives its caller.
-use Rattle.std.proofs.Common.{◌≡◌, ℕ, ◌+◌, ◌%◌, ◌^◌, List, [], ◌∷◌, length, refl, ◌∙◌, ap, arith, bit_and, subst, sym}
+use Rattle.std.proofs.Common.{◌≡◌, ℕ, ◌+◌, ◌%◌, ◌^◌, [], ◌∷◌, length, refl, ◌∙◌, ap, arith, bit_and, subst, sym}
 use Rattle.std.specs.Prelude.{None}
 use Rattle.std.proofs.lemmas.List.{length_push}
 use Rattle.std.proofs.lemmas.Nat.{and_le_r, and_mask}
@@ -14,12 +14,11 @@ use Rattle.tk_clock.proofs.Monotone.{agrees, never_falls}
 use Rattle.tk_page.specs.History.{Begins}
 use Rattle.tk_latch.specs.Latch.{LatchId, told_reader}
 use Rattle.tk_shared.specs.Callers.{Known, IsAccepted, IsRefused, IsRefusalAfter, entry_of}
-use Rattle.tk_now.specs.declared.rule.Taken.{Taken}
-use Rattle.tk_now.specs.Life.{AreReadings}
-use Rattle.tk_now.specs.Moments.{AreInLife, AreInOrder, IsTold}
+use Rattle.tk_now.specs.Moments.{IsTold}
 use Rattle.tk_now.specs.Views.{Announcing, Watched}
 use Rattle.tk_shared.specs.Locked.{Held, IsAtRest, IsHeld}
 use Rattle.tk_shared.proofs.Held.{with_entry, held_accepted}
+use Rattle.tk_shared.proofs.Informed.{informed_by}
 use Rattle.tk_shared.proofs.Kept.{kept_count, kept_monotonic}
 use Rattle.tk_clock.proofs.Lists.{prefix_trans, prefix_length}
 use Rattle.tk_shared.proofs.Refused.{refused_after}
@@ -89,7 +88,6 @@ module _ (page : TableId) (latch : LatchId) (held : Held) (is : IsHeld page latc
         reading = reading;
         extends = begins;
         last = refl;
-        whole = now.whole;
         counted = refl;
         agrees = sym (kept_monotonic history held.kept is.whole is.kept reading)
             ∙ agrees held.kept entry none
@@ -101,11 +99,12 @@ module _ (page : TableId) (latch : LatchId) (held : Held) (is : IsHeld page latc
         beyond = omega (arith, many, longer, fewer, latest);
         mark = let all = length_push held.latched.publications next in
             omega (arith, all, latest, many, longer);
-        learnt = prefix_trans _ _ _ learnt (next ∷ [], refl);
-        snapshots = now.snapshots;
-        readings = subst (AreReadings (followed_by history entry)) (sym known.commands) rest.readings;
-        order = subst AreInOrder (sym known.commands) known.order;
-        life = subst (λ (l : List Taken). AreInLife l watched.log) (sym known.commands) known.life;
-        commands = subst (IsPrefix old.watched.commands) (sym known.commands) known.begins;
-        log = known.log;
+        informed = informed_by page latch (with_entry held entry) now notice announcer rest
+            old.watched watched known (told watched);
+        known = record {
+          seen = (begins.0, prefix_trans _ _ _ begins.1 (entry ∷ [], refl));
+          learnt = prefix_trans _ _ _ learnt (next ∷ [], refl);
+          commands = subst (IsPrefix old.watched.commands) (sym known.commands) known.begins;
+          log = known.log;
+        };
       }

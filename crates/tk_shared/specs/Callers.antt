@@ -16,7 +16,7 @@ use Rattle.tk_clock.specs.Snapshot.{snapshot_of}
 use Rattle.tk_page.specs.History.{Begins, Sight}
 use Rattle.atomic_table.specs.Seated.{TableId}
 use Rattle.tk_now.specs.Life.{AreReadings}
-use Rattle.tk_now.specs.Moments.{AreInLife, AreInOrder}
+use Rattle.tk_now.specs.Moments.{AreInLife, AreInOrder, AreInTurn}
 use Rattle.tk_now.specs.Views.{Watched, opened_announcer, opened_watcher}
 use Rattle.tk_latch.specs.Latch.{LatchId, Learnt, mark_of, opened_reader}
 use Rattle.tk_shared.specs.History.{AreSnapshots}
@@ -58,14 +58,32 @@ abbrev pub IsSameCaller : Known → Known → Type 0
 IsSameCaller old new =
     (new.id ≡ old.id) × (new.seen.opening ≡ old.seen.opening) × (new.reads ≡ old.reads)
 
+-- all that one caller knows, the other knows too
+pub record IsKnownBy (one other : Known) : Type 0 where
+  pub seen : Begins one.seen other.seen
+  pub learnt : IsPrefix one.learnt.publications other.learnt.publications
+  pub commands : IsPrefix one.watched.commands other.watched.commands
+  pub log : IsPrefix one.watched.log other.watched.log
+
+-- a caller that was told everything under the lock: it has seen a whole history, and knows all of
+-- its snapshots and the readings of all of its commands, in order. All callers' readings so far are
+-- in their lives among those commands, each over before the next one
+pub record IsInformed (caller : Known) : Type 0 where
+  pub whole : IsWhole caller.seen
+  pub mark : mark_of caller.learnt.publications ≡ length caller.seen.entries
+  pub snapshots : AreSnapshots caller.seen caller.learnt.publications
+  pub readings : AreReadings caller.seen caller.watched.commands
+  pub order : AreInOrder caller.watched.commands
+  pub life : AreInLife caller.watched.commands caller.watched.log
+  pub turn : AreInTurn caller.watched.log
+
 -- a caller whose command was accepted with this number: the history that it has seen is the history
--- before the command with this one entry more
+-- before the command with this one entry more. It was told everything
 pub record IsAccepted (old new : Known) (cmd : Command) (answer : ℕ) : Type 0 where
   pub before : Journal
   pub reading : ℕ
   pub extends : Begins old.seen before
   pub last : new.seen ≡ followed_by before (entry_of old reading cmd)
-  pub whole : IsWhole new.seen
   pub counted : new.accepted ≡ old.accepted + 1
   -- MONOTONIC at the reading is the same before and after, and no shorter history, read in its
   -- life, gives more than this one at any reading
@@ -77,15 +95,8 @@ pub record IsAccepted (old new : Known) (cmd : Command) (answer : ℕ) : Type 0 
   pub newer : length old.seen.entries < answer
   pub beyond : mark_of old.learnt.publications < answer
   pub mark : mark_of new.learnt.publications ≡ answer
-  pub learnt : IsPrefix old.learnt.publications new.learnt.publications
-  pub snapshots : AreSnapshots new.seen new.learnt.publications
-  -- it knows the readings of all commands, in order; the readings that it knew are the first of
-  -- them
-  pub readings : AreReadings new.seen new.watched.commands
-  pub order : AreInOrder new.watched.commands
-  pub life : AreInLife new.watched.commands new.watched.log
-  pub commands : IsPrefix old.watched.commands new.watched.commands
-  pub log : IsPrefix old.watched.log new.watched.log
+  pub informed : IsInformed new
+  pub known : IsKnownBy old new
 
 -- why an entry is refused after a whole history: Full only if the history contains at least the
 -- number of entries that a journal lists, Memory only if there is no other reason

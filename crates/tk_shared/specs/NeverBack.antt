@@ -6,13 +6,12 @@ use Rattle.tk_clock.specs.declared.clock_id.ClockId.TheVariants.{Monotonic}
 use Rattle.tk_clock.specs.declared.timespec.Timespec.{Timespec}
 use Rattle.tk_clock.specs.Journal.{Journal, is_asleep_at}
 use Rattle.tk_clock.specs.Time.{nanoseconds}
-use Rattle.tk_page.specs.History.{Begins}
 use Rattle.tk_now.specs.declared.rule.Taken.{Taken}
 use Rattle.tk_now.specs.declared.rule.Answer.{Answer}
 use Rattle.tk_now.specs.Honest.{IsTrueCount, masked}
 use Rattle.tk_now.specs.Life.{AreNear}
 use Rattle.tk_now.specs.Views.{taken}
-use Rattle.tk_shared.specs.Callers.{Known}
+use Rattle.tk_shared.specs.Callers.{Known, IsInformed, IsKnownBy}
 use Rattle.tk_shared.specs.Closing.{IsClosed}
 use Rattle.tk_shared.specs.Now.{IsNow, IsSeenBy}
 
@@ -46,10 +45,7 @@ pub record IsCallOf (callers : List Known) (old new : Known) : Type 0 where
   pub last : Known
   pub place : ℕ
   pub among : slice_get callers place ≡ Some last
-  pub seen : Begins new.seen last.seen
-  pub learnt : IsPrefix new.learnt.publications last.learnt.publications
-  pub commands : IsPrefix new.watched.commands last.watched.commands
-  pub log : IsPrefix new.watched.log last.watched.log
+  pub known : IsKnownBy new last
 
 -- a call of `now` returned this time of MONOTONIC
 abbrev pub HasSeen : {S : Type 0} → (S → ℕ → ℕ → Type 0) → S → Known → Known → Timespec → Type 0
@@ -87,8 +83,8 @@ IsNowOf answers counter old new time answer =
 
 -- the first call was over before the second one looked first: its second look was no later than the
 -- second call's first one. That is so if the second caller knew then what the first one knew after
--- its call, as a caller does of its own calls, and if a command was accepted between the two
--- answers. For other calls no clause gives the order of the moments
+-- its call, as a caller does of its own calls and of another caller's by `follow`, and if a command
+-- was accepted between the two answers. For other calls no clause gives the order of the moments
 abbrev pub IsOverBefore : Known → Known → Answer → Answer → Type 0
 IsOverBefore new old' first second = (first.taken.to ≤ second.taken.from)
     ⊎ IsPrefix new.watched.log old'.watched.log ⊎ (first.place < second.place)
@@ -102,3 +98,13 @@ NowNeverFalls {S} answers = (journal : Journal) (callers : List Known)
     IsCallOf callers old' new' → IsNowOf answers counter old new time first →
     IsNowOf answers counter' old' new' time' second → IsOverBefore new old' first second →
     IsHonest closed.history closed.commands first second → nanoseconds time ≤ℤ nanoseconds time'
+
+-- two calls by callers of one keeper, which may be open: a caller that was told everything knows all
+-- that the two knew after their calls. The first call was over before the second looked first, and
+-- the counter was honest. Then the first time is at most the second
+abbrev pub OpenNowNeverFalls : {S : Type 0} → (S → ℕ → ℕ → Type 0) → Type 0
+OpenNowNeverFalls {S} answers = (last : Known) → IsInformed last → (counter counter' : S)
+    (old new old' new' : Known) (time time' : Timespec) (first second : Answer) →
+    IsKnownBy new last → IsKnownBy new' last → IsNowOf answers counter old new time first →
+    IsNowOf answers counter' old' new' time' second → IsOverBefore new old' first second →
+    IsHonest last.seen last.watched.commands first second → nanoseconds time ≤ℤ nanoseconds time'

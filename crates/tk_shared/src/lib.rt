@@ -15,9 +15,9 @@
 //! | `Named` | names the parts of one keeper by a type, to show that they belong together |
 //! | `Locked` | the value under the lock, whose invariant all proofs use |
 //!
-//! `command` and `fold` wait for the lock. `command`, `read`, `now` and `close` may wait for
-//! threads that hold the words of the page, as does `prepare` by its contract; `now` also waits for
-//! commands. No other call waits. Only `prepare`, `open` and `SharedReader::new` allocate, and
+//! `command`, `follow` and `fold` wait for the lock. `command`, `follow`, `read`, `now` and `close`
+//! may wait for threads that hold the words of the page, as does `prepare` by its contract; `now`
+//! also waits for commands. No other call waits. Only `prepare`, `open` and `SharedReader::new` allocate, and
 //! `command` when the prepared capacity is used up. Units are the same as in `tk_clock`. A front is
 //! the number of accepted commands that a caller has seen on the page. A mark is the number of the
 //! latest publication that it knows of on the latch.
@@ -27,6 +27,7 @@ mod caller;
 mod closing;
 mod counter;
 mod fault;
+mod following;
 mod locked;
 mod named;
 mod never_back;

@@ -1,8 +1,9 @@
 -- The callers of a keeper that was just opened.
-use Rattle.std.proofs.Common.{◌≡◌, ℕ, zero, suc, List, [], ◌∷◌, ◌++◌, length, Some, slice_get, sym, ap, ⊎_elim}
+use Rattle.std.proofs.Common.{◌≡◌, ℕ, zero, suc, List, [], ◌∷◌, ◌++◌, length, Some, slice_get, sym, ap, ◌∙◌, ⊎_elim}
+use Rattle.tk_clock.specs.Journal.{Journal}
 use Rattle.tk_clock.proofs.Append.{slice_get-push}
 use Rattle.tk_now.proofs.Lists.{get_first, get_push}
-use Rattle.tk_shared.specs.Callers.{Known, newcomer, newcomers}
+use Rattle.tk_shared.specs.Callers.{Known, IsKnownBy, newcomer, newcomers}
 use Rattle.tk_shared.specs.Opening.{Start}
 
 module _ (start : Start) where
@@ -19,10 +20,21 @@ module _ (start : Start) where
       (get_push (all n) (one_of n) i k at)
 
   -- the last but one has seen the clocks as they were opened
-  pub seen_before : (n : ℕ) (rest : List Known) (one two : Known) →
+  seen_before : (n : ℕ) (rest : List Known) (one two : Known) →
       newcomers start.latch start.notice start.journal n ≡ (rest ++ one ∷ []) ++ two ∷ [] →
       one.seen ≡ start.journal
   seen_before n rest one two is =
       let first = get_first (rest ++ one ∷ []) (all n) (two ∷ [], sym is) (length rest) one
       (slice_get-push rest one) in
       seen_at n (length rest) one first
+
+  -- a caller sees the clocks as they were opened, if the last but one did so, gave a command, and was
+  -- followed
+  pub opened_as : (n : ℕ) (rest : List Known) (one two first commanded other follower later : Known) →
+      newcomers start.latch start.notice start.journal n ≡ (rest ++ one ∷ []) ++ two ∷ [] →
+      first.seen.opening ≡ one.seen.opening → IsKnownBy first commanded → IsKnownBy commanded other →
+      follower.seen ≡ other.seen → later.seen.opening ≡ follower.seen.opening →
+      later.seen.opening ≡ start.journal.opening
+  opened_as n rest one two first commanded other follower later is asked gave told same after =
+      after ∙ ap (λ (j : Journal). j.opening) same ∙ told.seen.0 ∙ gave.seen.0 ∙ asked
+      ∙ ap (λ (j : Journal). j.opening) (seen_before n rest one two is)

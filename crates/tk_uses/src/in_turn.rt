@@ -1,10 +1,10 @@
-//! Two threads ask for MONOTONIC, with a command between them: the later answer isn't smaller.
-ghost use Rattle.std.specs.Prelude.{◌≡◌, ◌≤ℤ◌, IfOk, IfSome, length, None};
+//! Two threads ask for MONOTONIC, with a command between them: the later answer isn't smaller. The
+//! keeper stays open.
+ghost use Rattle.std.specs.Prelude.{◌≡◌, ◌≤ℤ◌, IfOk, IfSome};
 ghost use Rattle.tk_clock.specs.Time.{nanoseconds};
-ghost use Rattle.tk_now.specs.Life.{AreReadings};
+ghost use Rattle.tk_shared.specs.NeverBack.{HasSeen};
 ghost use Rattle.tk_shared.specs.Opening.{IsNamed};
-ghost use Rattle.tk_shared.specs.Readings.{EndsAtReading};
-ghost use Rattle.tk_uses.specs.InTurn.{HasAsked, IsTrusted};
+ghost use Rattle.tk_uses.specs.InTurn.{HasCommanded, HaveAsked, HaveRisen, IsTrusted};
 
 use crate::stop::Stop;
 use std::alloc::Global;
@@ -33,12 +33,11 @@ impl<const READING: u64> SharedCounter for Stopped<READING> {
     }
 }
 
-/// A caller, the time that it got, and the number of commands before that.
+/// A caller, and the time that it got.
 #[derive(Drop)]
 struct Asked<L: Named> {
     caller: Caller<L>,
     time: Timespec,
-    front: u64,
 }
 
 /// Opens clocks on a counter that stands still, for two callers, and prints what they got.
@@ -80,7 +79,7 @@ fn rises<R: Threads + Wait + Sync>(
 
 /// Opens what was prepared, and returns MONOTONIC before a command and after it, of two threads.
 /// The first one's call is over before the second thread starts. `None` means that the keeper has
-/// other callers too, or that another command came between.
+/// other callers too, and one of them gave a command.
 fn in_turn<L: Named + Send + Sync, C: Counter, S: SharedCounter + Sync, R: Threads + Wait + Sync>(
     rt: &R,
     alloc: Global,
@@ -89,99 +88,64 @@ fn in_turn<L: Named + Send + Sync, C: Counter, S: SharedCounter + Sync, R: Threa
 ) -> Result<Option<(Timespec, Timespec)>, Stop>
     requires named { IsNamed prepared L.page L.latch L.notice L.name L.parts L.callers }
     requires trusted { IsTrusted C.answers_after S.answers counter.now prepared.journal.opening }
-    ensures { IfOk result (λ times. IfSome times (λ t. nanoseconds t.0 ≤ℤ nanoseconds t.1)) }
+    ensures { IfOk result (λ times. IfSome times (λ t.
+        HaveRisen S.answers counter.now prepared.journal.opening t.0 t.1)) }
 {
     let (keeper, mut callers) = match SharedKeeper::<L, C>::open(alloc, prepared) {
         Ok(opened) => opened,
         Err(fault) => return Err(Stop::Open(fault.error)),
     };
-    let (Some(two), Some(one)) = (callers.pop(), callers.pop()) else {
+    let (Some(mut two), Some(one)) = (callers.pop(), callers.pop()) else {
         return Err(Stop::Open(OpenError::Count));
     };
     let lent = &keeper;
-    let (first, ()) = thread::join(rt, move || asks_first(rt, lent, one, counter), || {});
-    let first = first?;
-    let (later, ()) = thread::join(rt, move || asks_later(rt, lent, two, counter), || {});
+    let (first, ()) = thread::join(rt, move || ask(rt, lent, one, counter), || {});
+    let mut first = first?;
+    keeper.command(rt, &mut first.caller, Command::Update)?;
+    keeper.follow(rt, &mut two, &mut first.caller);
+    let (later, ()) = thread::join(rt, move || ask(rt, lent, two, counter), || {});
     let later = later?;
-    compared(rt, alloc, keeper, counter, first, later)
+    Ok(compared(rt, &keeper, counter, first, later))
 }
 
-/// Asks for MONOTONIC, and then gives a command.
-fn asks_first<L: Named, C: Counter, S: SharedCounter, R: Wait>(
+/// Asks for MONOTONIC.
+fn ask<L: Named, C: Counter, S: SharedCounter, R: Wait>(
     rt: &R,
     keeper: &SharedKeeper<L, C>,
     caller: Caller<L>,
     counter: &S,
 ) -> Result<Asked<L>, Stop>
     ensures asked { IfOk result (λ asked.
-        HasAsked S.answers counter.now asked.caller asked.time asked.front) }
-    ensures reading { IfOk result (λ asked.
-        EndsAtReading C.answers_after asked.caller.seen asked.caller.watched.commands) }
-    ensures readings { IfOk result (λ asked.
-        AreReadings asked.caller.seen asked.caller.watched.commands) }
+        HasSeen S.answers counter.now caller asked.caller asked.time) }
     ensures opening { IfOk result (λ asked. asked.caller.seen.opening ≡ caller.seen.opening) }
 {
     let mut caller = caller;
     let time = keeper.now(rt, &mut caller, counter, ClockId::Monotonic)?;
-    let front = caller.front();
-    keeper.command(rt, &mut caller, Command::Update)?;
-    Ok(Asked {
-        caller,
-        time,
-        front,
-    })
+    Ok(Asked { caller, time })
 }
 
-/// Asks for MONOTONIC.
-fn asks_later<L: Named, C: Counter, S: SharedCounter, R: Wait>(
-    rt: &R,
-    keeper: &SharedKeeper<L, C>,
-    caller: Caller<L>,
-    counter: &S,
-) -> Result<Asked<L>, Stop>
-    ensures { IfOk result (λ asked.
-        HasAsked S.answers counter.now asked.caller asked.time asked.front) }
-{
-    let mut caller = caller;
-    let time = keeper.now(rt, &mut caller, counter, ClockId::Monotonic)?;
-    let front = caller.front();
-    Ok(Asked {
-        caller,
-        time,
-        front,
-    })
-}
-
-/// Closes the keeper, and returns both times if the command between them was the only one.
+/// Lets the second caller follow the first one, and returns both times if only one command was
+/// accepted.
 fn compared<L: Named, C: Counter, S: SharedCounter, R: Wait>(
     rt: &R,
-    alloc: Global,
-    keeper: SharedKeeper<L, C>,
+    keeper: &SharedKeeper<L, C>,
     counter: &S,
     first: Asked<L>,
     later: Asked<L>,
-) -> Result<Option<(Timespec, Timespec)>, Stop>
-    requires first { HasAsked S.answers counter.now first.caller first.time first.front }
-    requires later { HasAsked S.answers counter.now later.caller later.time later.front }
-    requires reading { EndsAtReading C.answers_after first.caller.seen first.caller.watched.commands }
-    requires readings { AreReadings first.caller.seen first.caller.watched.commands }
-    requires trusted { IsTrusted C.answers_after S.answers counter.now first.caller.seen.opening }
-    ensures { IfOk result (λ times. IfSome times (λ t. nanoseconds t.0 ≤ℤ nanoseconds t.1)) }
+) -> Option<(Timespec, Timespec)>
+    requires asked { HaveAsked S.answers counter.now first.caller later.caller first.time later.time }
+    requires commanded { HasCommanded C.answers_after first.caller }
+    requires trusted { IsTrusted C.answers_after S.answers counter.now later.caller.seen.opening }
+    ensures times { IfSome result (λ t. t ≡ (first.time, later.time)) }
+    ensures risen { IfSome result (λ t.
+        HaveRisen S.answers counter.now later.caller.seen.opening t.0 t.1) }
 {
     let _ = counter;
-    let (before, after) = (first.front, later.front);
-    if before >= after || first.caller.id() == later.caller.id() {
-        return Ok(None);
-    }
-    let mut callers = Vec::with_capacity(alloc, 2)?;
-    callers.push_reserved(first.caller);
-    callers.push_reserved(later.caller);
-    let Ok(closed) = keeper.close(rt, callers) else {
-        return Ok(None);
-    };
-    if closed.keeper.len() != 1 {
-        return Ok(None);
+    let (mut one, mut two) = (first.caller, later.caller);
+    keeper.follow(rt, &mut two, &mut one);
+    if two.front() != 1 {
+        return None;
     }
     now_never_falls::<S>();
-    Ok(Some((first.time, later.time)))
+    Some((first.time, later.time))
 }

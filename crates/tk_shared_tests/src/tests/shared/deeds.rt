@@ -22,6 +22,7 @@ pub(super) enum Alone {
 #[derive(Clone, Copy)]
 pub(super) enum Both {
     Fold,
+    Follow,
     Read,
     ReadFast,
 }
@@ -72,6 +73,7 @@ fn two_callers<L: Named, R: Wait + Abort>(
     let (keeper, mut one, mut two) = open_two::<L, Ticker>(alloc, prepared)?;
     match deed {
         Both::Fold => folding::folds(rt, alloc, keeper, one, two),
+        Both::Follow => turns::follows(rt, &keeper, &mut one, &mut two),
         Both::Read => turns::reads(rt, alloc, keeper, one, two),
         Both::ReadFast => turns::fast_reads(rt, &keeper, &mut one, &mut two),
     }

@@ -143,3 +143,31 @@ pub(super) fn fast_reads<L: Named, R: Wait + Abort>(
     assert_same(rt, &(known, marks), &((1, 0, 1), (1, 2)));
     Ok(())
 }
+
+#[test]
+fn a_caller_that_follows_knows_what_another_one_did(rt: HostRuntime) -> Result<(), Fail> {
+    deeds::both_do(&rt, rt.alloc(), deeds::Both::Follow)
+}
+
+pub(super) fn follows<L: Named, R: Wait + Abort>(
+    rt: &R,
+    keeper: &SharedKeeper<L, Ticker>,
+    one: &mut Caller<L>,
+    two: &mut Caller<L>,
+) -> Result<(), Fail> {
+    let first = commanded(rt, keeper, one, SET);
+    let before = (two.front(), two.mark());
+    keeper.follow(rt, two, one);
+    let after = (two.front(), two.mark(), two.accepted());
+    let other = (one.front(), one.mark(), one.accepted());
+    assert_same(
+        rt,
+        &(first, before, after, other),
+        &(Ok(1), (0, 0), (1, 1, 0), (1, 1, 1)),
+    );
+    // only commands read the counter
+    let second = commanded(rt, keeper, two, Command::Update);
+    let last = read_by(rt, keeper, one).last();
+    assert_same(rt, &(second, last), &(Ok(2), 2_000));
+    Ok(())
+}

@@ -7,12 +7,12 @@ use Rattle.tk_page.specs.History.{History, Sight}
 use Rattle.tk_latch.specs.Latch.{Learnt, Published, told_reader}
 use Rattle.tk_shared.specs.Callers.{Known, known_of, entry_of, made_by, IsAccepted, IsRefused}
 use Rattle.tk_now.specs.declared.rule.Taken.{Taken}
-use Rattle.tk_now.specs.Moments.{IsAcceptedAt}
+use Rattle.tk_now.specs.Moments.{AreInOrder, IsAcceptedAt}
 use Rattle.tk_now.specs.Views.{Announcing, moment_of, taken}
 use Rattle.tk_shared.specs.Locked.{Guarded, Held, held_of, IsAtRest, IsHeld}
 use Rattle.tk_shared.specs.Readings.{EndsAtReading, IsRefusedAtReading}
 use Rattle.tk_keeper.specs.Keeper.{Keeper}
-use Rattle.tk_shared.proofs.Announced.{accepted_at_rest, refused_at_rest}
+use Rattle.tk_shared.proofs.Announced.{accepted_at_rest, refused_at_rest, told_at_rest}
 use Rattle.tk_shared.proofs.Counts.{own_more}
 use Rattle.tk_shared.proofs.Held.{with_entry, held_accepted}
 use Rattle.tk_shared.proofs.Kept.{kept_snapshot}
@@ -74,15 +74,18 @@ latched g c =
 
 at_rest : (g : Over) (c : goal.After-caller-1 g) →
     IsAtRest g.L.Named.notice (followed_by c.self.inside.publisher.journal (entry_by g c))
-    c.accept.new.announcer
+    c.tell-4.new.self
 at_rest g c =
     let entry = entry_by g c in
-    accepted_at_rest g.L.Named.notice c.self.inside.publisher.journal c.self.inside.announcer
+    let told = c.tell-4.ensures.same in
+    told_at_rest g.L.Named.notice (followed_by c.self.inside.publisher.journal entry)
+    c.accept.new.announcer c.tell-4.new.self c.tell-4.new.self.log told
+    (accepted_at_rest g.L.Named.notice c.self.inside.publisher.journal c.self.inside.announcer
     c.accept.new.announcer entry c.announce.new.self.since entry.reading c.self.invariant.3
     (c.accept.ensures.notice ∙ c.announce.ensures.same.0) c.accept.ensures.idle refl
     (subst (λ (l : List Taken). IsAcceptedAt c.announce.new.self.since l entry.reading
     c.accept.new.announcer.commands) c.announce.ensures.same.1 c.accept.ensures.accepted)
-    c.tell-4.ensures.told.order
+    (subst AreInOrder (ap (λ (a : Announcing). a.commands) told) c.tell-4.ensures.told.order))
 
 pub returns-in-Err-clause-answer : goal.returns-in-Err-clause-answer
 returns-in-Err-clause-answer g c =
@@ -175,9 +178,8 @@ invariant_of-self-2 g c =
           (now_held g c),
       c.self.invariant.1,
       c.self.invariant.2,
-      subst (λ (t : Journal × Announcing). IsAtRest g.L.Named.notice t.0 t.1)
-          (λ i. (ap (λ (h : History). h.journal) (sym published) i, sym c.tell-4.ensures.same i))
-          (at_rest g c),
+      subst (λ (j : Journal). IsAtRest g.L.Named.notice j c.tell-4.new.self)
+          (ap (λ (h : History). h.journal) (sym published)) (at_rest g c),
     )
 
 pub invariant_of-caller-2 : goal.invariant_of-caller-2
@@ -201,7 +203,7 @@ returns-clause-answer g c =
     let answer = c.in-Ok.ensures.answer in
     let stated = accepted g.L.Named.page g.L.Named.latch (held_by g c) c.self.invariant.0 old
     c.read_after.result c.args.cmd c.publish_for.ensures.begins c.in-Ok.number c.tell-2.ensures.extends
-    answer.0 (answer.2 ∙ ap accepted_count answer.1) g.L.Named.notice c.accept.new.announcer
+    answer.0 (answer.2 ∙ ap accepted_count answer.1) g.L.Named.notice c.tell-4.new.self
     c.tell-4.new.watcher (at_rest g c) c.tell-4.ensures.told in
     let seen = ap (λ (s : Sight). s.journal) c.publish_for.ensures.viewer in
     let reads = ap (λ (s : Sight). s.reads) c.publish_for.ensures.viewer in
@@ -244,7 +246,8 @@ returns-clause-reading g c =
       older = c.announce.new.self.commands;
       to = at.1;
       span = subst (λ (n : ℕ). n < at.1) same at.3;
-      listed = c.tell-4.ensures.told.commands ∙ (at.4
+      listed = c.tell-4.ensures.told.commands
+          ∙ (ap (λ (a : Announcing). a.commands) c.tell-4.ensures.same ∙ at.4
           ∙ ap (λ (n : ℕ). c.announce.new.self.commands ++ taken n at.1 (entry_by g c).reading ∷ [])
           same);
     } in

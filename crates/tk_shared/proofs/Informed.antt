@@ -1,0 +1,55 @@
+-- A caller that was told everything under the lock.
+use Rattle.std.proofs.Common.{◌≡◌, List, sym, ap, ◌∙◌, subst, arith}
+use Rattle.atomic_table.specs.Seated.{TableId}
+use mathlib.Core.List.{IsPrefix}
+use Rattle.tk_clock.specs.Journal.{Journal}
+use Rattle.tk_clock.proofs.Lists.{prefix_self, prefix_trans}
+use Rattle.tk_latch.specs.Latch.{LatchId, Learnt, told_reader}
+use Rattle.tk_now.specs.declared.rule.Taken.{Taken}
+use Rattle.tk_now.specs.Life.{AreReadings}
+use Rattle.tk_now.specs.Moments.{AreInLife, AreInOrder, IsTold}
+use Rattle.tk_now.specs.Views.{Announcing, Watched}
+use Rattle.tk_shared.specs.Callers.{Known, IsInformed, IsKnownBy}
+use Rattle.tk_shared.specs.Locked.{Held, IsAtRest, IsHeld}
+
+-- what page, latch and announcer tell a caller while the lock is held
+pub informed_by : (page : TableId) (latch : LatchId) (held : Held) → IsHeld page latch held →
+    (notice : TableId) (announcer : Announcing) → IsAtRest notice held.shown.journal announcer →
+    (old watched : Watched) → IsTold announcer old watched → (caller : Known) →
+    IsInformed (record caller {
+      seen = held.shown.journal;
+      learnt = told_reader held.latched;
+      watched = watched;
+    })
+informed_by page latch held is notice announcer rest old watched told caller = record {
+  whole = is.whole;
+  mark = let latest = is.latest in omega (arith, latest);
+  snapshots = is.snapshots;
+  readings = subst (AreReadings held.shown.journal) (sym told.commands) rest.readings;
+  order = subst AreInOrder (sym told.commands) told.order;
+  life = subst (λ (l : List Taken). AreInLife l watched.log) (sym told.commands) told.life;
+  turn = told.turn;
+}
+
+pub known_by_trans : (one two three : Known) → IsKnownBy one two → IsKnownBy two three →
+    IsKnownBy one three
+known_by_trans one two three p q = record {
+  seen = (q.seen.0 ∙ p.seen.0, prefix_trans _ _ _ p.seen.1 q.seen.1);
+  learnt = prefix_trans _ _ _ p.learnt q.learnt;
+  commands = prefix_trans _ _ _ p.commands q.commands;
+  log = prefix_trans _ _ _ p.log q.log;
+}
+
+-- one caller that knows as much as another one, and maybe more answers
+pub knows_as_much : (one other : Known) → other.seen ≡ one.seen → other.learnt ≡ one.learnt →
+    other.watched.commands ≡ one.watched.commands → IsPrefix one.watched.log other.watched.log →
+    IsKnownBy one other
+knows_as_much one other seen learnt commands log = record {
+  seen = (ap (λ (j : Journal). j.opening) seen, as_prefix (ap (λ (j : Journal). j.entries) (sym seen)));
+  learnt = as_prefix (ap (λ (l : Learnt). l.publications) (sym learnt));
+  commands = as_prefix (sym commands);
+  log = log;
+}
+  where
+    as_prefix : {X : Type 0} {xs ys : List X} → xs ≡ ys → IsPrefix xs ys
+    as_prefix {X} {xs} same = subst (IsPrefix xs) same (prefix_self xs)
