@@ -128,6 +128,7 @@ int main(int argc, char **argv)
 		{ "c_convert_4096", "ns/stamp", convert_all, NEAR, (uint64_t)HZ * 20, 40 },
 		{ "c_convert_4096_untested", "ns/stamp", convert_untested, NEAR,
 		  (uint64_t)HZ * 20, 40 },
+		{ "c_convert_12h", "ns/stamp", convert_all, NEAR, HOURS, 40 },
 		{ "c_convert_10000000", "ns/stamp", convert_all, FAR, (uint64_t)HZ * 20, 5 },
 		{ "c_convert_10000000_untested", "ns/stamp", convert_untested, FAR,
 		  (uint64_t)HZ * 20, 5 },
