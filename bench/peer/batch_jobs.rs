@@ -3,7 +3,7 @@
 
 use crate::bench::{Bench, Job, Unit};
 use crate::digest::of_numbers;
-use crate::inputs::stamps;
+use crate::inputs::{far_stamps, stamps};
 use crate::line::{Fault, Line};
 use std::hint::black_box;
 
@@ -58,24 +58,33 @@ pub fn run(bench: &Bench) {
     if !bench.wants_any("batch_") {
         return;
     }
-    for (count, times, turns) in [(4_096, 50, 200), (10_000_000, 1, 5)] {
-        let mut job = Batch {
-            form: Form::Tested,
-            line: Line::opened(),
-            times,
-            stamps: stamps(count),
-            out: vec![0; count],
-        };
-        let unit = Unit::Each(count as u64 * u64::from(times), "stamp");
-        for (name, form) in [
+    for count in [4_096, 10_000_000] {
+        let names = [
             (format!("batch_lanes_{count}"), Form::Tested),
             (format!("batch_lanes_{count}_untested"), Form::Untested),
             (format!("batch_lanes_{count}_memcpy"), Form::Copied),
             (format!("batch_plain_{count}"), Form::Tested),
-        ] {
-            job.form = form;
-            job.out.fill(0);
-            bench.run(&name, unit, turns, &mut job);
-        }
+        ];
+        run_forms(bench, stamps(count), &names);
+    }
+    let names = [("batch_lanes_12h".to_string(), Form::Tested)];
+    run_forms(bench, far_stamps(4_096), &names);
+}
+
+fn run_forms(bench: &Bench, stamps: Vec<u64>, names: &[(String, Form)]) {
+    let count = stamps.len();
+    let (times, turns) = if count > 4_096 { (1, 5) } else { (50, 200) };
+    let mut job = Batch {
+        form: Form::Tested,
+        line: Line::opened(),
+        times,
+        stamps,
+        out: vec![0; count],
+    };
+    let unit = Unit::Each(count as u64 * u64::from(times), "stamp");
+    for (name, form) in names {
+        job.form = *form;
+        job.out.fill(0);
+        bench.run(name, unit, turns, &mut job);
     }
 }

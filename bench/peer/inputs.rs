@@ -9,12 +9,21 @@ const FACTOR: u64 = 6364136223846793005;
 
 /// Pseudo-random stamps within the 275 seconds after the opening.
 pub fn stamps(count: usize) -> Vec<u64> {
+    stamps_within(count, 26, 1 << 38)
+}
+
+/// Pseudo-random stamps within the 12 hours after the opening.
+pub fn far_stamps(count: usize) -> Vec<u64> {
+    stamps_within(count, 18, 43_200_000_000_000)
+}
+
+fn stamps_within(count: usize, bits: u32, span: u64) -> Vec<u64> {
     let mut state = 88172645463325252u64;
     let next = |_| {
         state = state
             .wrapping_mul(FACTOR)
             .wrapping_add(1442695040888963407);
-        OPENING + (state >> 26)
+        OPENING + (state >> bits) % span
     };
     (0..count).map(next).collect()
 }

@@ -3,7 +3,7 @@
 
 use crate::bench::{Bench, Job, Unit};
 use crate::digest::of_numbers;
-use crate::inputs::stamps;
+use crate::inputs::{far_stamps, stamps};
 use crate::line::{Fault, Line};
 use std::hint::black_box;
 use std::thread;
@@ -116,24 +116,35 @@ pub fn run(bench: &Bench) {
         return;
     }
     for (count, turns) in [(100_000, 50), (1_000_000, 20), (10_000_000, 5)] {
-        let mut job = Trace {
-            form: Form::New,
-            lines: [Line::opened(), Line::opened()],
-            threads: thread::available_parallelism().map_or(1, |threads| threads.get()),
-            fronts: vec![1; count],
-            stamps: stamps(count),
-            made: Vec::new(),
-            out: vec![0; count],
-        };
-        for (name, form) in [
+        let names = [
             (format!("trace_new_{count}"), Form::New),
             (format!("trace_into_{count}"), Form::Into),
             (format!("pieces_new_{count}"), Form::SharedNew),
             (format!("pieces_into_{count}"), Form::SharedInto),
-        ] {
-            job.form = form;
-            job.out.fill(0);
-            bench.run(&name, Unit::Each(count as u64, "stamp"), turns, &mut job);
-        }
+        ];
+        run_forms(bench, stamps(count), turns, &names);
+    }
+    let names = [
+        ("trace_new_12h".to_string(), Form::New),
+        ("trace_into_12h".to_string(), Form::Into),
+    ];
+    run_forms(bench, far_stamps(100_000), 50, &names);
+}
+
+fn run_forms(bench: &Bench, stamps: Vec<u64>, turns: u32, names: &[(String, Form)]) {
+    let count = stamps.len();
+    let mut job = Trace {
+        form: Form::New,
+        lines: [Line::opened(), Line::opened()],
+        threads: thread::available_parallelism().map_or(1, |threads| threads.get()),
+        fronts: vec![1; count],
+        stamps,
+        made: Vec::new(),
+        out: vec![0; count],
+    };
+    for (name, form) in names {
+        job.form = *form;
+        job.out.fill(0);
+        bench.run(name, Unit::Each(count as u64, "stamp"), turns, &mut job);
     }
 }

@@ -1,8 +1,9 @@
-//! Times lists of stamps by one snapshot, in the cache and beyond it.
+//! Times lists of stamps by one snapshot, in the cache and beyond it, near the last command and far
+//! from it.
 
 use crate::bench::{Bench, Job, Unit};
 use crate::digest::of_numbers;
-use crate::inputs::{OPENING, repeated, stamps};
+use crate::inputs::{OPENING, far_stamps, repeated, stamps};
 use anyhow::{Context, Result, ensure};
 use std::thread::Threads;
 use std::time::Clock as Hours;
@@ -46,38 +47,42 @@ impl Job for Batch {
     }
 }
 
-/// Times lists of 4,096 stamps, fifty times in a turn, and of ten million.
+/// Times lists of 4,096 stamps, fifty times in a turn, and of ten million. One list of 4,096 stamps
+/// goes up to 12 hours.
 pub(crate) fn run_batches(rt: &(impl Threads + Hours + Sync), bench: &Bench<'_>) -> Result<()> {
     if !bench.wants_any("batch_") {
         return Ok(());
     }
     let snapshot = updated(bench.unknown()).context("no clocks")?;
+    let alloc = bench.alloc();
     let names = [
         ("batch_lanes_4096", Form::Lanes),
         ("batch_lanes_4096_untested", Form::Lanes),
         ("batch_lanes_4096_memcpy", Form::Lanes),
         ("batch_plain_4096", Form::Plain),
     ];
-    run_forms(rt, bench, snapshot, 4_096, 50, names)?;
+    run_forms(rt, bench, snapshot, stamps(alloc, 4_096)?, 50, &names)?;
+    let names = [("batch_lanes_12h", Form::Lanes)];
+    run_forms(rt, bench, snapshot, far_stamps(alloc, 4_096)?, 50, &names)?;
     let names = [
         ("batch_lanes_10000000", Form::Lanes),
         ("batch_lanes_10000000_untested", Form::Lanes),
         ("batch_lanes_10000000_memcpy", Form::Lanes),
         ("batch_plain_10000000", Form::Plain),
     ];
-    run_forms(rt, bench, snapshot, 10_000_000, 1, names)
+    run_forms(rt, bench, snapshot, stamps(alloc, 10_000_000)?, 1, &names)
 }
 
-/// Times the jobs of these names, with a list of `count` stamps, converted `times` times in a turn.
+/// Times the jobs of these names, with a list of stamps that is converted `times` times in a turn.
 fn run_forms(
     rt: &(impl Threads + Hours + Sync),
     bench: &Bench<'_>,
     snapshot: Snapshot,
-    count: usize,
+    stamps: Vec<u64>,
     times: u32,
-    names: [(&str, Form); 4],
+    names: &[(&str, Form)],
 ) -> Result<()> {
-    let stamps = stamps(bench.alloc(), count)?;
+    let count = stamps.len();
     let out = repeated(bench.alloc(), count, 0)?;
     let mut job = Batch {
         form: Form::Lanes,
@@ -88,7 +93,7 @@ fn run_forms(
     };
     let turns = if times > 1 { 200 } else { 5 };
     let unit = Unit::Each((count as u64).wrapping_mul(u64::from(times)), "stamp");
-    for (name, form) in names {
+    for &(name, form) in names {
         job.form = form;
         job.out.fill(0);
         bench.run(rt, name, unit, turns, &mut job)?;

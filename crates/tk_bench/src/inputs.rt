@@ -1,5 +1,7 @@
 //! Makes the inputs of jobs: lists of stamps, scripts and stamp files.
 
+ghost use Rattle.std.specs.Prelude.{◌<◌};
+
 use anyhow::Result;
 use std::alloc::{AllocError, Global};
 
@@ -19,11 +21,25 @@ pub(crate) fn repeated(alloc: Global, count: usize, number: u64) -> Result<Vec<u
 
 /// Returns unordered stamps in the 275 seconds after the opening, at a nanosecond a cycle.
 pub(crate) fn stamps(alloc: Global, count: usize) -> Result<Vec<u64>, AllocError> {
+    stamps_within(alloc, count, 26, 1 << 38)
+}
+
+/// Returns unordered stamps in the 12 hours after the opening, at a nanosecond a cycle.
+pub(crate) fn far_stamps(alloc: Global, count: usize) -> Result<Vec<u64>, AllocError> {
+    stamps_within(alloc, count, 18, 43_200_000_000_000)
+}
+
+/// Returns unordered stamps less than `span` cycles after the opening: each is the remainder of a
+/// number without its lowest `bits` bits.
+fn stamps_within(alloc: Global, count: usize, bits: u32, span: u64) -> Result<Vec<u64>, AllocError>
+    requires kept { bits < 64 }
+    requires some { 0 < span }
+{
     let mut stamps = repeated(alloc, count, 0)?;
     let mut state = 88172645463325252u64;
     for stamp in stamps.iter_mut() {
         state = state.wrapping_mul(FACTOR).wrapping_add(1442695040888963407);
-        *stamp = OPENING + (state >> 26);
+        *stamp = OPENING.wrapping_add((state >> bits) % span);
     }
     Ok(stamps)
 }

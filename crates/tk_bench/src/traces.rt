@@ -3,7 +3,7 @@
 
 use crate::bench::{Bench, Job, Unit};
 use crate::digest::of_numbers;
-use crate::inputs::{OPENING, repeated, stamps};
+use crate::inputs::{OPENING, far_stamps, repeated, stamps};
 use anyhow::{Context, Result, ensure};
 use std::alloc::Global;
 use std::thread::Threads;
@@ -67,53 +67,61 @@ impl Job for Trace {
     }
 }
 
-/// Times all forms at 100,000, a million and ten million stamps.
+/// Times all forms at 100,000, a million and ten million stamps, and the forms of one thread at
+/// 100,000 stamps that go up to 12 hours.
 pub(crate) fn run_traces(rt: &(impl Threads + Hours + Sync), bench: &Bench<'_>) -> Result<()> {
     if !bench.wants_any("trace_") && !bench.wants_any("pieces_") {
         return Ok(());
     }
+    let alloc = bench.alloc();
     let names = [
         ("trace_new_100000", Form::Trace),
         ("trace_into_100000", Form::TraceInto),
         ("pieces_new_100000", Form::TraceAll),
         ("pieces_into_100000", Form::TraceAllInto),
     ];
-    run_forms(rt, bench, 100_000, 50, names)?;
+    run_forms(rt, bench, stamps(alloc, 100_000)?, 50, &names)?;
+    let names = [
+        ("trace_new_12h", Form::Trace),
+        ("trace_into_12h", Form::TraceInto),
+    ];
+    run_forms(rt, bench, far_stamps(alloc, 100_000)?, 50, &names)?;
     let names = [
         ("trace_new_1000000", Form::Trace),
         ("trace_into_1000000", Form::TraceInto),
         ("pieces_new_1000000", Form::TraceAll),
         ("pieces_into_1000000", Form::TraceAllInto),
     ];
-    run_forms(rt, bench, 1_000_000, 20, names)?;
+    run_forms(rt, bench, stamps(alloc, 1_000_000)?, 20, &names)?;
     let names = [
         ("trace_new_10000000", Form::Trace),
         ("trace_into_10000000", Form::TraceInto),
         ("pieces_new_10000000", Form::TraceAll),
         ("pieces_into_10000000", Form::TraceAllInto),
     ];
-    run_forms(rt, bench, 10_000_000, 5, names)
+    run_forms(rt, bench, stamps(alloc, 10_000_000)?, 5, &names)
 }
 
-/// Times the jobs of these names, with `count` stamps.
+/// Times the jobs of these names, with a list of stamps.
 fn run_forms(
     rt: &(impl Threads + Hours + Sync),
     bench: &Bench<'_>,
-    count: usize,
+    stamps: Vec<u64>,
     turns: u32,
-    names: [(&str, Form); 4],
+    names: &[(&str, Form)],
 ) -> Result<()> {
     let alloc = bench.alloc();
+    let count = stamps.len();
     let mut job = Trace {
         form: Form::Trace,
         alloc,
         keeper: opened(alloc, bench.unknown()).context("no keeper")?,
         fronts: repeated(alloc, count, 1)?,
-        stamps: stamps(alloc, count)?,
+        stamps,
         made: Vec::new(alloc),
         out: repeated(alloc, count, 0)?,
     };
-    for (name, form) in names {
+    for &(name, form) in names {
         job.form = form;
         job.out.fill(0);
         bench.run(rt, name, Unit::Each(count as u64, "stamp"), turns, &mut job)?;
