@@ -42,17 +42,15 @@ void get_words_each(struct list *list)
 void update_each(struct list *list)
 {
 	struct plain_clock running = clock;
-	uint64_t reading = OPENED_AT;
+	uint64_t reading = OPENED_AT, after[PLAIN_WORDS];
 
 	for (size_t i = 0; i < list->count; i++)
 		need(plain_update(&running, reading += HZ / 1000000));
-	list->out[0] = running.front;
-	list->out[1] = running.last;
-	list->out[2] = running.mult;
-	list->out[3] = running.frac;
-	list->out[4] = running.sec;
-	list->out[5] = running.raw_frac;
-	list->out[6] = running.raw_sec;
+	plain_words(after, &running);
+	for (size_t i = 0; i < 5; i++)
+		list->out[i] = after[i];
+	list->out[5] = after[8];
+	list->out[6] = after[9];
 }
 
 void convert_all(struct list *list)

@@ -62,6 +62,20 @@ enum plain_code plain_update(struct plain_clock *clock, uint64_t reading)
 	return PLAIN_OK;
 }
 
+void plain_words(uint64_t words[PLAIN_WORDS], const struct plain_clock *clock)
+{
+	words[0] = clock->front;
+	words[1] = clock->last;
+	words[2] = clock->mult;
+	words[3] = clock->frac;
+	words[4] = clock->sec;
+	words[5] = clock->real_offset;
+	words[6] = clock->boot_offset;
+	words[7] = clock->tai;
+	words[8] = clock->raw_frac;
+	words[9] = clock->raw_sec;
+}
+
 size_t plain_convert(uint64_t *out, const struct plain_clock *clock, const uint64_t *stamps,
 		     size_t count)
 {

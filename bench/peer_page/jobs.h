@@ -1,12 +1,13 @@
 /* SPDX-License-Identifier: MIT OR Apache-2.0 */
 /* Jobs of crates/tk_bench_threads in C, and the declarations that they share. */
 #pragma once
+#include "../c/plain.h"
 #include <pthread.h>
 #include <stdatomic.h>
 #include <stdbool.h>
 #include <stdint.h>
 
-enum { WORDS = 10, READS = 10000000, PUBLICATIONS = 1000000, UPDATES = 10000000 };
+enum { WORDS = PLAIN_WORDS, READS = 10000000, PUBLICATIONS = 1000000, UPDATES = 10000000 };
 
 /* The result of a turn: its time, the number of repetitions, and a number that is computed from the
    results. */
@@ -15,25 +16,13 @@ struct turn {
     uint64_t count, check;
 };
 
-/* The part of the clocks that updates need, with a counter of 32 bits at 1 ns per cycle. */
-struct amount {
-    uint64_t sec, frac;
-};
+/* Opens clocks with a counter of 32 bits at 1 ns per cycle. It is not inlined, so that the compiler
+   cannot know their numbers. */
+struct plain_clock opened_clock(void);
 
-struct clock {
-    uint32_t mult, raw_mult, shift, tai;
-    uint64_t mask, second, last, real_offset, boot_offset, front;
-    struct amount monotonic, raw;
-};
-
-/* Opens the clocks. It is not inlined, so that the compiler cannot know their numbers. */
-struct clock clock_opened(void);
-
-/* Updates the clocks one step after the last update, and stores their words. Returns false if the
-   update is refused. */
-bool clock_update(struct clock *clock, uint64_t words[WORDS]);
-
-void clock_words(const struct clock *clock, uint64_t words[WORDS]);
+/* Updates clocks one step after the last update, and stores their words. Aborts if the update is
+   refused. */
+void update_clock(struct plain_clock *clock, uint64_t words[WORDS]);
 
 /* All ten words in one number, which is the same for every update. Neighbouring words get different
    operations, so that they aren't loaded two at once. */

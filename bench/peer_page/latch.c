@@ -7,7 +7,7 @@
 struct latch {
     _Atomic uint64_t sequence;
     _Atomic uint64_t copies[2][WORDS];
-    struct clock clock;
+    struct plain_clock clock;
 };
 
 static bool try_read(struct latch *latch, uint64_t words[WORDS]) {
@@ -34,8 +34,8 @@ static struct latch *opened(void) {
     uint64_t words[WORDS];
     if (!latch)
         abort();
-    latch->clock = clock_opened();
-    clock_words(&latch->clock, words);
+    latch->clock = opened_clock();
+    plain_words(words, &latch->clock);
     for (int i = 0; i < WORDS; i++)
         latch->copies[0][i] = latch->copies[1][i] = words[i];
     return latch;
@@ -44,8 +44,7 @@ static struct latch *opened(void) {
 static void update(void *of) {
     struct latch *latch = of;
     uint64_t words[WORDS];
-    if (!clock_update(&latch->clock, words))
-        abort();
+    update_clock(&latch->clock, words);
     publish(latch, words);
 }
 

@@ -1,6 +1,6 @@
 //! A latch of ten words, as the kernel's `seqcount_latch_t`: a sequence and two copies. Readers
 //! read the copy that is not being written.
-use crate::clock::{weight, Clock, Desk, Words};
+use crate::desk::{weight, Desk, Words};
 use crate::turns::{Effort, Turn};
 use std::array;
 use std::hint::black_box;
@@ -66,8 +66,8 @@ impl Latch {
 
 /// A latch over clocks that were just opened.
 fn opened() -> (Box<Latch>, Desk) {
-    let words = Clock::opened().words(0);
-    (black_box(Box::new(Latch::new(words))), Desk::opened())
+    let desk = Desk::opened();
+    (black_box(Box::new(Latch::new(desk.words()))), desk)
 }
 
 fn update(latch: &Latch, desk: &mut Desk) {

@@ -8,7 +8,7 @@
 struct page {
     _Atomic uint64_t version;
     _Atomic uint64_t words[WORDS];
-    struct clock clock;
+    struct plain_clock clock;
 };
 
 static void publish(struct page *page, const uint64_t words[WORDS]) {
@@ -35,8 +35,8 @@ static struct page *opened(void) {
     uint64_t words[WORDS];
     if (!page)
         abort();
-    page->clock = clock_opened();
-    clock_words(&page->clock, words);
+    page->clock = opened_clock();
+    plain_words(words, &page->clock);
     publish(page, words);
     return page;
 }
@@ -44,8 +44,7 @@ static struct page *opened(void) {
 static void update(void *of) {
     struct page *page = of;
     uint64_t words[WORDS];
-    if (!clock_update(&page->clock, words))
-        abort();
+    update_clock(&page->clock, words);
     publish(page, words);
 }
 

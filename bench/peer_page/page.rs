@@ -1,7 +1,7 @@
 //! A page of ten words in the way of crossbeam-utils' `AtomicCell<[u64; 10]>`, with its own
 //! version: 1 during a write, a volatile copy of the words as a block, and the writer's lock for a
 //! reader that meets a writer.
-use crate::clock::{weight, Clock, Desk, Words};
+use crate::desk::{weight, Desk, Words};
 use crate::turns::{Effort, Turn};
 use std::cell::UnsafeCell;
 use std::hint::{black_box, spin_loop};
@@ -60,7 +60,6 @@ impl Page {
     }
 
     /// The words, and what `read` gives while they stand.
-    #[allow(dead_code)]
     pub fn load_with(&self, mut read: impl FnMut() -> u64) -> (Words, u64) {
         loop {
             let before = self.version.load(Ordering::Acquire);
@@ -86,8 +85,8 @@ impl Page {
 
 /// A page over clocks that were just opened.
 fn opened() -> (Box<Page>, Desk) {
-    let words = Clock::opened().words(0);
-    (black_box(Box::new(Page::new(words))), Desk::opened())
+    let desk = Desk::opened();
+    (black_box(Box::new(Page::new(desk.words()))), desk)
 }
 
 fn update(page: &Page, desk: &mut Desk) {

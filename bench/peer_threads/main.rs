@@ -1,9 +1,14 @@
 //! Jobs of `crates/tk_bench_threads` as hand-written Rust with std alone: commands of a shared
-//! keeper, reads while commands are given, the time now, and a race. The clocks, the page and the
-//! latch are those of `peer_page`. `many` is not here: its peer is the same job with one worker.
+//! keeper, reads while commands are given, the time now, and a race. The clocks and the journal are
+//! those of `peer`, the page and the latch those of `peer_page`. `many` is not here: its peer is the
+//! same job with one worker.
 #![allow(dead_code)]
-#[path = "../peer_page/clock.rs"]
-mod clock;
+#[path = "../peer/clocks.rs"]
+mod clocks;
+#[path = "../peer_page/desk.rs"]
+mod desk;
+#[path = "../peer/keeper.rs"]
+mod keeper;
 #[path = "../peer_page/latch.rs"]
 mod latch;
 mod now;

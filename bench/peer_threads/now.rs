@@ -1,6 +1,7 @@
 //! The time now as hand-written Rust: a reading and a conversion under a lock; the same within a
 //! retried read of a page; and the host's own monotonic clock.
-use crate::clock::{Clock, Desc, Words};
+use crate::clocks::Desc;
+use crate::desk::{Desk, Words};
 use crate::page::Page;
 use crate::turns::{Effort, Turn};
 use std::hint::black_box;
@@ -61,9 +62,9 @@ fn summed(effort: Effort, mut call: impl FnMut() -> (u64, u64)) -> Turn {
 
 /// Times calls that take a lock, read the counter and convert.
 pub fn by_lock(effort: Effort) -> Turn {
-    let clock = Clock::opened();
-    let (desc, counter) = (clock.desc, Ticker::opened());
-    let locked = black_box(Box::new(Mutex::new(clock.words(0))));
+    let desk = Desk::opened();
+    let (desc, counter) = (desk.desc(), Ticker::opened());
+    let locked = black_box(Box::new(Mutex::new(desk.words())));
     summed(effort, || {
         let words = locked.lock().unwrap();
         monotonic(&words, &desc, counter.read())
@@ -73,9 +74,9 @@ pub fn by_lock(effort: Effort) -> Turn {
 /// Times calls that read the counter within a read of a page, which is tried again if a writer came
 /// between.
 pub fn by_cell(effort: Effort) -> Turn {
-    let clock = Clock::opened();
-    let (desc, counter) = (clock.desc, Ticker::opened());
-    let page = black_box(Box::new(Page::new(clock.words(0))));
+    let desk = Desk::opened();
+    let (desc, counter) = (desk.desc(), Ticker::opened());
+    let page = black_box(Box::new(Page::new(desk.words())));
     summed(effort, || {
         let (words, reading) = page.load_with(|| counter.read());
         monotonic(&words, &desc, reading)

@@ -1,6 +1,6 @@
 //! A race: actors in separate threads on one shared keeper, and the replies of each.
-use crate::clock::{weighed, Command, Refusal};
-use crate::shared::{Caller, Locked, SharedKeeper};
+use crate::clocks::{Command, Refusal};
+use crate::shared::{weighed, Caller, Locked, SharedKeeper};
 use crate::turns::{Effort, Turn};
 use std::hint::black_box;
 use std::thread;

@@ -1,6 +1,7 @@
-//! A shared keeper: a lock of std, a journal in a vector with a copy of the clocks at every 256th
-//! entry, a page and a latch.
-use crate::clock::{weighed, weight, Clock, Command, Refusal, Words, STEP};
+//! A shared keeper: a lock of std around clocks with their journal, a page and a latch.
+use crate::clocks::{Command, Refusal};
+use crate::desk::{nanosecond_counter, weight, Words, OPENED_TIME, STEP};
+use crate::keeper::Keeper;
 use crate::latch::Latch;
 use crate::page::Page;
 use crate::turns::{Effort, Turn};
@@ -12,22 +13,14 @@ use std::time::Instant;
 
 const COMMANDS: u64 = 300_000;
 
-/// The greatest number of entries that a journal lists, and of commands that it counts.
-const LISTED_LIMIT: usize = 1_048_576;
-const COUNTED_LIMIT: u64 = (1 << 63) - 1;
-
-/// The number of entries between two copies of the clocks.
-const KEPT_EVERY: u64 = 256;
-
 /// The number of reads between two checks whether the other threads have ended.
 const READS_BETWEEN: u64 = 64;
 
-#[derive(Clone, Copy)]
-#[allow(dead_code)]
-struct Entry {
-    who: u32,
-    reading: u64,
-    cmd: Command,
+/// The words in one number, each with its own weight.
+pub fn weighed(words: &Words) -> u64 {
+    words
+        .iter()
+        .fold(0u64, |sum, word| sum.wrapping_mul(31).wrapping_add(*word))
 }
 
 struct Ticker {
@@ -43,34 +36,23 @@ impl Ticker {
 }
 
 pub struct Locked {
-    clock: Clock,
-    entries: Vec<Entry>,
-    kept: Vec<Clock>,
+    keeper: Keeper,
     counter: Ticker,
 }
 
 impl Locked {
     fn apply(&mut self, who: u32, cmd: Command) -> Result<u64, Refusal> {
-        let reading = self.counter.read() & self.clock.desc.mask();
-        if self.entries.len() >= LISTED_LIMIT || self.entries.len() as u64 >= COUNTED_LIMIT {
-            return Err(Refusal::Full);
-        }
-        self.clock.apply(reading, cmd)?;
-        self.entries.push(Entry { who, reading, cmd });
-        let number = self.entries.len() as u64;
-        if number % KEPT_EVERY == 0 {
-            self.kept.push(self.clock);
-        }
-        Ok(number)
+        let reading = self.counter.read() & self.keeper.base().desc.mask();
+        self.keeper.apply(who, reading, cmd)
     }
 
     /// The number of accepted commands.
     pub fn count(&self) -> u64 {
-        self.entries.len() as u64
+        self.keeper.len() as u64
     }
 
     pub fn words(&self) -> Words {
-        self.clock.words(self.count())
+        self.keeper.base().words(self.count())
     }
 }
 
@@ -89,19 +71,16 @@ pub struct SharedKeeper {
 
 impl SharedKeeper {
     pub fn opened(callers: u32, room: usize) -> (SharedKeeper, Vec<Caller>) {
-        let clock = Clock::opened();
-        let words = clock.words(0);
         let mut counter = Ticker { next: 0 };
-        counter.read();
+        let reading = counter.read();
+        let mut keeper = Keeper::open(nanosecond_counter(), reading, OPENED_TIME).expect("clocks");
+        keeper.reserve(room);
+        let locked = black_box(Locked { keeper, counter });
+        let words = locked.words();
         let keeper = SharedKeeper {
             page: Page::new(words),
             latch: Latch::new(words),
-            locked: Mutex::new(Locked {
-                clock,
-                entries: Vec::with_capacity(room),
-                kept: Vec::with_capacity(room / KEPT_EVERY as usize + 1),
-                counter,
-            }),
+            locked: Mutex::new(locked),
         };
         let caller = |id| Caller {
             id,
@@ -115,7 +94,7 @@ impl SharedKeeper {
     pub fn command(&self, caller: &mut Caller, cmd: Command) -> Result<u64, Refusal> {
         let mut locked = self.locked.lock().unwrap();
         let number = locked.apply(caller.id, cmd)?;
-        let words = locked.clock.words(number);
+        let words = locked.keeper.base().words(number);
         self.page.store(words);
         self.latch.publish(&words);
         caller.accepted += 1;
