@@ -46,5 +46,6 @@ class Page:
 
 def pages():
     """Every page of the repository."""
-    names = ["*.md", "docs/*.md", "bench/*.md", "crates/*/README.md", "crates/*/CALLING.md"]
+    names = ["*.md", "docs/*.md", "bench/*.md", "crates/*/README.md", "crates/*/CALLING.md",
+             "bindings/*/README.md"]
     return [Page(path) for name in names for path in sorted(ROOT.glob(name))]

@@ -3,8 +3,7 @@
 """Prints REALTIME, in ns, two seconds after the clocks of a counter of 1 MHz were opened."""
 import tkcore
 
-library = tkcore.Library("dist")
-counter = library.counter_from_hz(bits=32, hz=1_000_000, maxsec=600)
-clock = library.open(counter, reading=0, sec=1_700_000_000)
-clock.apply(1_000_000, "UPDATE")
-print(clock.snapshot().get("REALTIME", 2_000_000))
+counter = tkcore.Counter.from_hz(bits=32, hz=1_000_000)
+clock = tkcore.Clock(counter, reading=0, realtime=1_700_000_000 * tkcore.NANOS)
+clock.update(1_000_000)
+print(clock.snapshot().get(2_000_000, tkcore.ClockId.REALTIME))

@@ -1,0 +1,107 @@
+# SPDX-License-Identifier: MIT OR Apache-2.0
+"""The description of a counter."""
+from __future__ import annotations
+
+from ctypes import byref, c_uint32
+from typing import Any
+
+from ._library import CALLS, U32, U64, CounterValue, fit
+from .errors import BY_CODE, BadBits, BadMult, BadRate, BadShift
+
+_BITS, _SHIFTS, _MULTS = (8, 64), (0, 32), (256, 3_869_339_906)
+_RATES, _SPANS = (1, 2**32 - 1), (1, 600)
+
+
+class Counter:
+    """A cycle counter: a reading has `bits` bits, and a cycle lasts mult / 2^shift ns.
+
+    `bits` is 8 to 64, `shift` 0 to 32, and `mult` 256 to 3869339906.
+
+    Raises BadBits, BadShift, BadMult or BadAdjust, tested in this order, with the number that is
+    out of its range.
+    """
+
+    __slots__ = ("_value", "bits", "mult", "shift")
+
+    bits: int
+    mult: int
+    shift: int
+
+    def __init__(self, bits: int, mult: int, shift: int) -> None:
+        value = CounterValue()
+        bits = fit(bits, U32, BadBits, "bits", _BITS)
+        shift = fit(shift, U32, BadShift, "shift", _SHIFTS)
+        mult = fit(mult, U32, BadMult, "mult", _MULTS)
+        code = CALLS.tkc_counter_new(byref(value), bits, mult, shift)
+        if code:
+            what = {32: ("bits", bits, _BITS), 33: ("shift", shift, _SHIFTS)}
+            raise BY_CODE[code](*what.get(code, ("mult", mult, _MULTS)))
+        self._set(value)
+
+    def _set(self, value: CounterValue) -> None:
+        numbers = [c_uint32(), c_uint32(), c_uint32()]
+        CALLS.tkc_counter_numbers(*map(byref, numbers), byref(value))
+        self._value = value
+        self.bits, self.mult, self.shift = (number.value for number in numbers)
+
+    @classmethod
+    def _of_value(cls, value: CounterValue) -> Counter:
+        counter = cls.__new__(cls)
+        counter._set(value)
+        return counter
+
+    @classmethod
+    def _from_rate(cls, call: Any, bits: int, rate: int, maxsec: int, what: str) -> Counter:
+        value = CounterValue()
+        bits = fit(bits, U32, BadBits, "bits", _BITS)
+        rate = fit(rate, U64, BadRate, what, _RATES)
+        maxsec = fit(maxsec, U32, BadRate, "maxsec", _SPANS)
+        code = call(byref(value), bits, rate, maxsec)
+        if code == BadBits.code:
+            raise BadBits("bits", bits, _BITS)
+        if code:
+            fit(rate, _RATES, BadRate, what)
+            raise BY_CODE[code]("maxsec", maxsec, _SPANS)
+        return cls._of_value(value)
+
+    @classmethod
+    def from_hz(cls, bits: int, hz: int, maxsec: int = 600) -> Counter:
+        """Returns the counter that runs at `hz` cycles a second, 1 to 2^32 - 1, with readings of 8
+        to 64 bits, for gaps of up to `maxsec` seconds, 1 to 600.
+
+        A smaller `maxsec` gives a finer mult (docs/C.md, "Choosing maxsec").
+
+        Raises BadBits, and then BadRate, with the number that is out of its range.
+        """
+        return cls._from_rate(CALLS.tkc_counter_from_hz, bits, hz, maxsec, "hz")
+
+    @classmethod
+    def from_khz(cls, bits: int, khz: int, maxsec: int = 600) -> Counter:
+        """Returns the counter that runs at `khz` cycles a millisecond, 1 to 2^32 - 1, as `from_hz`
+        does. Call it for a counter above 4.29 GHz, or if only the kHz are known.
+
+        Raises BadBits, and then BadRate, with the number that is out of its range.
+        """
+        return cls._from_rate(CALLS.tkc_counter_from_khz, bits, khz, maxsec, "khz")
+
+    @property
+    def max_reading(self) -> int:
+        """The greatest reading, 2^bits - 1 cycles."""
+        return 2**self.bits - 1
+
+    def __eq__(self, other: object) -> bool:
+        if not isinstance(other, Counter):
+            return NotImplemented
+        return self._numbers() == other._numbers()
+
+    def __hash__(self) -> int:
+        return hash(self._numbers())
+
+    def __repr__(self) -> str:
+        return f"Counter(bits={self.bits}, mult={self.mult}, shift={self.shift})"
+
+    def __reduce__(self) -> Any:
+        return Counter, self._numbers()
+
+    def _numbers(self) -> tuple:
+        return self.bits, self.mult, self.shift

@@ -1,0 +1,98 @@
+# SPDX-License-Identifier: MIT OR Apache-2.0
+"""Pages and latches where their answers are known. bindings/tests runs them between processes."""
+import mmap
+import multiprocessing
+import unittest
+
+import tkcore
+from support import opened
+from tkcore import ClockId
+
+CYCLES = 12_345
+
+
+class Reads(unittest.TestCase):
+    def setUp(self):
+        self.clock = opened()
+        self.page = tkcore.Page.create(self.clock)
+        self.latch = tkcore.Latch.create(self.clock.snapshot())
+
+    def command(self):
+        self.page.begin()
+        self.clock.set_tai_offset(CYCLES, 37)
+        self.page.publish(self.clock)
+        self.latch.publish(self.clock.snapshot())
+
+    def test_the_latest_snapshot_and_the_reading(self):
+        for _ in range(3):
+            snapshot = self.clock.snapshot()
+            for shared in (self.page, self.latch):
+                self.assertEqual(shared.read(), snapshot)
+                self.assertEqual(shared.look(lambda: CYCLES), (snapshot, CYCLES))
+                self.assertEqual(shared.now(ClockId.TAI, lambda: CYCLES),
+                                 snapshot.get(CYCLES, ClockId.TAI))
+            self.command()
+
+    def test_a_writer_inside(self):
+        self.page.begin()
+        with self.assertRaises(tkcore.Busy):
+            self.page.read(timeout=0)
+        with self.assertRaises(tkcore.Busy):
+            self.page.now(ClockId.TAI, lambda: CYCLES, timeout=0.01)
+        self.assertEqual(self.page.clock().words(), self.clock.words())
+        self.page.publish(self.clock)
+        self.assertEqual(self.page.read(timeout=0), self.clock.snapshot())
+
+    def test_a_new_writer(self):
+        self.command()
+        self.page.begin()
+        found = self.page.clock()
+        self.assertEqual(found.words(), self.clock.words())
+        found.update(2 * CYCLES)
+        self.page.recover(found)
+        self.latch.recover(found)
+        self.assertEqual((self.page.read(), self.latch.read()), (found.snapshot(),) * 2)
+        self.page.publish(found.snapshot())
+        with self.assertRaises(tkcore.BadWords):
+            self.page.clock()
+
+    def test_a_page_of_a_snapshot(self):
+        page = tkcore.Page.create(self.clock.snapshot())
+        self.assertEqual(page.read(), self.clock.snapshot())
+
+    def test_the_counter_is_read_again_if_a_writer_comes_between(self):
+        left = [3]
+
+        def read_counter():
+            if left[0]:
+                left[0] -= 1
+                self.command()
+            return CYCLES
+
+        snapshot, _ = self.page.look(read_counter)
+        self.assertEqual((left, snapshot), ([0], self.clock.snapshot()))
+
+    def test_two_handles_on_one_memory(self):
+        memory = mmap.mmap(-1, 512)
+        writer = tkcore.Page.create(self.clock, memory)
+        reader = tkcore.Page.attach(memoryview(memory).toreadonly())
+        self.assertEqual((reader.counter, reader.read()), (self.clock.counter, writer.read()))
+        for call in (reader.begin, lambda: reader.publish(self.clock)):
+            with self.assertRaisesRegex(tkcore.BadBuffer, "read-only"):
+                call()
+
+    def test_a_child_process_reads(self):
+        here, there = multiprocessing.Pipe()
+
+        def read():
+            there.send(self.page.read())
+
+        child = multiprocessing.get_context("fork").Process(target=read)
+        self.command()
+        child.start()
+        self.assertEqual(here.recv(), self.clock.snapshot())
+        child.join()
+
+
+if __name__ == "__main__":
+    unittest.main()

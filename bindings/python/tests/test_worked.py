@@ -1,0 +1,170 @@
+# SPDX-License-Identifier: MIT OR Apache-2.0
+"""The calls whose codes and results were computed manually: the tables of tests/c/worked_*.c."""
+import pickle
+import unittest
+from array import array
+
+import tkcore
+from support import clock_id, command, commanded, nanosecond_counter, opened, opened_wide, raises, rows
+from tkcore import NANOS
+
+OPENED = rows("worked_commands.c", "OPENED")
+COMMANDED = rows("worked_rows.c", "COMMANDED")
+
+
+def nanos(sec, nsec):
+    return sec * NANOS + nsec
+
+
+class Counters(unittest.TestCase):
+    def test_numbers(self):
+        for bits, mult, shift, code in rows("worked_counters.c", "descriptions"):
+            made = raises(self, code, lambda: tkcore.Counter(bits, mult, shift))
+            if code == "OK":
+                self.assertEqual((made.bits, made.mult, made.shift), (bits, mult, shift))
+
+    def test_rates(self):
+        makers = {"rates_hz": tkcore.Counter.from_hz, "rates_khz": tkcore.Counter.from_khz}
+        for table, make in makers.items():
+            for bits, rate, maxsec, code, mult, shift in rows("worked_counters.c", table):
+                made = raises(self, code, lambda: make(bits, rate, maxsec))
+                if code == "OK":
+                    self.assertEqual(made, tkcore.Counter(bits, mult, shift))
+
+
+class Commands(unittest.TestCase):
+    def try_all(self, clock, table):
+        for reading, word, number, nsec, code in rows("worked_commands.c", table):
+            before = clock.words()
+            raises(self, code, lambda: clock.apply(reading, command(word), number, nsec))
+            if code != "OK":
+                self.assertEqual(clock.words(), before)
+
+    def test_openings(self):
+        for reading, sec, nsec, code in rows("worked_commands.c", "openings"):
+            if nsec == NANOS:
+                continue  # the package splits nanoseconds itself
+            made = raises(self, code,
+                          lambda: tkcore.Clock(nanosecond_counter(), reading, nanos(sec, nsec)))
+            if code == "OK":
+                self.assertEqual(made.words(), OPENED)
+
+    def test_one_of_each(self):
+        self.assertEqual(commanded().words(), COMMANDED)
+
+    def test_one_of_each_by_its_method(self):
+        clock = opened()
+        clock.update(1000)
+        clock.set_time(2000, 1_800_000_000 * NANOS + 5)
+        clock.step(3000, -NANOS + 1)
+        clock.set_frequency(4000, 0)
+        clock.set_tick(5000, 10_000)
+        clock.set_tai_offset(6000, 37)
+        clock.suspend(7000)
+        clock.resume(9000, 2 * NANOS + 3)
+        self.assertEqual(clock.words(), COMMANDED)
+
+    def test_refused(self):
+        self.try_all(opened(), "refused_commands")
+
+    def test_last(self):
+        self.try_all(opened_wide(), "last_commands")
+
+    def test_counted(self):
+        words, frequency, tick = opened().words()
+        clock = tkcore.Clock.from_words(nanosecond_counter(), (2**63 - 2, *words[1:]), frequency, tick)
+        self.try_all(clock, "counted_commands")
+        self.assertEqual(clock.words()[0][0], 2**63 - 1)
+
+
+class Reads(unittest.TestCase):
+    def test_reads(self):
+        snapshot = commanded().snapshot()
+        for word, sec, nsec in rows("worked_reads.c", "reads"):
+            self.assertEqual(snapshot.get(9100, clock_id(word)), nanos(sec, nsec))
+
+    def test_refused(self):
+        for is_wide, word, reading, code in rows("worked_reads.c", "refused_reads"):
+            snapshot = (opened_wide() if is_wide else commanded()).snapshot()
+            raises(self, code, lambda: snapshot.get(reading, clock_id(word)))
+
+    def test_lists(self):
+        for is_wide, word, room, count, stamps, code, done, out in rows("worked_lists.c", "lists"):
+            snapshot = (opened_wide() if is_wide else commanded()).snapshot()
+            given = array("Q", (stamps + (0,) * 5)[:count])
+            times = array("Q", [7] * 5)
+            found = raises(self, code, lambda: snapshot.convert(given, clock_id(word),
+                                                                memoryview(times)[:room]))
+            self.assertEqual(list(times), [7 if time == "OLD" else time for time in out])
+            if code in ("INVALID", "RANGE"):
+                self.assertEqual((found.done, found.value), (done, given[done]))
+
+    def test_far_lists(self):
+        for mult, shift in rows("worked_far_lists.c", "rates"):
+            clock = tkcore.Clock(tkcore.Counter(64, mult, shift), 1000, 0)
+            clock.update(1_234_567)
+            words = clock.words()[0]
+
+            def monotonic(cycles):
+                return words[4] * NANOS + (cycles * words[2] + words[3] >> shift)
+
+            near = [2**power + step for power in range(60) for step in (-1, 0, 1)]
+            near += [(2**64 - 1) // mult + step for step in range(-20, 20)]
+            cycles = [it for it in near if monotonic(it) < 946_080_000 * NANOS]
+            stamps = array("Q", [1_234_567 + it for it in cycles])
+            self.assertEqual(list(clock.snapshot().convert(stamps, tkcore.ClockId.MONOTONIC)),
+                             [monotonic(it) for it in cycles])
+
+
+class Readings(unittest.TestCase):
+    def test_of_reads(self):
+        snapshot = commanded().snapshot()
+        for word, reading, first in rows("worked_readings.c", "read_times"):
+            time = snapshot.get(reading, clock_id(word))
+            self.assertEqual(snapshot.reading_at(time, clock_id(word)), first)
+            self.assertEqual(snapshot.get(first, clock_id(word)), time)
+
+    def test_reached(self):
+        snapshot = commanded().snapshot()
+        for word, sec, nsec, first in rows("worked_readings.c", "reached_times"):
+            self.assertEqual(snapshot.reading_at(nanos(sec, nsec), clock_id(word)), first)
+
+    def test_missed(self):
+        asleep = commanded()
+        asleep.suspend(10_000)
+        clocks = {"COMMANDED_CLOCKS": commanded(), "WIDE_CLOCKS": opened_wide(), "ASLEEP_CLOCKS": asleep}
+        for of, word, sec, nsec, code in rows("worked_readings.c", "missed_times"):
+            raises(self, code,
+                   lambda: clocks[of].snapshot().reading_at(nanos(sec, nsec), clock_id(word)))
+
+
+class Words(unittest.TestCase):
+    def test_they_give_the_values_back(self):
+        counter, clock = nanosecond_counter(), commanded()
+        self.assertEqual(tkcore.Snapshot.from_words(counter, COMMANDED[0]), clock.snapshot())
+        self.assertEqual(tkcore.Clock.from_words(counter, *COMMANDED).words(), COMMANDED)
+
+    def test_pickles_give_the_values_back(self):
+        for value in (nanosecond_counter(), commanded().snapshot()):
+            self.assertEqual(pickle.loads(pickle.dumps(value)), value)
+        self.assertEqual(pickle.loads(pickle.dumps(commanded())).words(), COMMANDED)
+
+    def test_wrong(self):
+        for place, word in rows("worked_words.c", "wrong_words"):
+            words = [0, 0, 16_777_216, 0, 0, 0, 0, 0, 0, 0]
+            words[place] = word
+            for make in (lambda: tkcore.Snapshot.from_words(nanosecond_counter(), words),
+                         lambda: tkcore.Clock.from_words(nanosecond_counter(), words, 0, 10_000)):
+                raises(self, "BAD_WORDS", make)
+
+    def test_running(self):
+        for mult, frequency, tick, raw_frac, code in rows("worked_words.c", "running"):
+            words = (5, 0, mult, 0, 0, 0, 0, 0, raw_frac, 0)
+            made = raises(self, code, lambda: tkcore.Clock.from_words(nanosecond_counter(), words,
+                                                                      frequency, tick))
+            if code == "OK":
+                self.assertEqual(made.words(), (words, frequency, tick))
+
+
+if __name__ == "__main__":
+    unittest.main()

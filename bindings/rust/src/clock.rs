@@ -1,0 +1,107 @@
+// SPDX-License-Identifier: MIT OR Apache-2.0
+
+use core::fmt;
+
+use crate::{sys, Command, Counter, Refusal, Snapshot, Timespec, WORDS};
+
+/// The numbers that represent running clocks, for files and other processes.
+#[derive(Clone, Copy, Debug, PartialEq, Eq, Hash)]
+pub struct ClockWords {
+    /// The words of the clocks' snapshot.
+    pub words: [u64; WORDS],
+    /// The frequency as it was set, in 2^-16 ppm.
+    pub frequency: i64,
+    /// The tick, in us.
+    pub tick: i64,
+}
+
+/// The running clocks of a counter.
+///
+/// Apply a command, usually `Update`, at least once in each half of the counter's range. A command
+/// needs `&mut`, so two threads can't change one `Clock` without a lock:
+///
+/// ```compile_fail,E0499
+/// # use tkcore::{Clock, Command, Counter, Timespec};
+/// # let counter = Counter::from_hz(32, 1_000_000, 600).unwrap();
+/// let mut clock = Clock::open(&counter, 0, Timespec::default()).unwrap();
+/// std::thread::scope(|threads| {
+///     threads.spawn(|| clock.apply(1, Command::Update));
+///     threads.spawn(|| clock.apply(1, Command::Update));
+/// });
+/// ```
+#[derive(Clone)]
+pub struct Clock {
+    pub(crate) value: sys::ClockValue,
+    pub(crate) counter: Counter,
+}
+
+impl Clock {
+    /// Opens clocks at a reading, where REALTIME and TAI are `start`, 0 s to below 8,277,292,036 s,
+    /// and MONOTONIC, MONOTONIC_RAW and BOOTTIME are 0.
+    ///
+    /// # Errors
+    ///
+    /// `Invalid` if the reading or `start` is out of its range.
+    pub fn open(counter: &Counter, reading: u64, start: Timespec) -> Result<Clock, Refusal> {
+        let value = sys::clock_open(&counter.value, reading, start).map_err(Refusal::of_code)?;
+        Ok(Clock { value, counter: *counter })
+    }
+
+    /// Makes the clocks of a counter that the result of [`words`](Clock::words) represents.
+    ///
+    /// # Errors
+    ///
+    /// `BadWords` if no running clocks have these numbers.
+    pub fn from_words(counter: &Counter, words: &ClockWords) -> Result<Clock, Refusal> {
+        let value = sys::clock_from_words(&counter.value, words).map_err(Refusal::of_code)?;
+        Ok(Clock { value, counter: *counter })
+    }
+
+    /// Returns the numbers that represent the clocks.
+    #[must_use]
+    pub fn words(&self) -> ClockWords {
+        sys::clock_words(&self.value)
+    }
+
+    /// Returns the counter of the clocks.
+    #[must_use]
+    pub fn counter(&self) -> &Counter {
+        &self.counter
+    }
+
+    /// Applies a command at a reading.
+    ///
+    /// # Errors
+    ///
+    /// In this order: `Full`; `Asleep` or `Awake`; `Invalid` for the reading and the arguments;
+    /// `Behind`; `Range`; `Invalid` for a time that REALTIME may not be set to. A refused command
+    /// changes nothing.
+    #[inline]
+    pub fn apply(&mut self, reading: u64, command: Command) -> Result<(), Refusal> {
+        sys::clock_apply(&mut self.value, reading, command.arguments()).map_err(Refusal::of_code)
+    }
+
+    /// Returns a snapshot of the clocks, for reads.
+    #[inline]
+    #[must_use]
+    pub fn snapshot(&self) -> Snapshot {
+        Snapshot { value: sys::clock_snapshot(&self.value), counter: self.counter }
+    }
+}
+
+impl PartialEq for Clock {
+    fn eq(&self, other: &Clock) -> bool {
+        self.counter == other.counter && self.words() == other.words()
+    }
+}
+
+impl Eq for Clock {}
+
+impl fmt::Debug for Clock {
+    fn fmt(&self, out: &mut fmt::Formatter<'_>) -> fmt::Result {
+        out.debug_struct("Clock")
+            .field("counter", &self.counter)
+            .field("words", &self.words())
+            .finish()
+    }
+}

@@ -1,0 +1,168 @@
+// SPDX-License-Identifier: MIT OR Apache-2.0
+
+use core::sync::atomic::Ordering::Release;
+use core::sync::atomic::{fence, AtomicU64};
+
+use crate::shared::{size_in_words, Shared};
+use crate::{Clock, ClockId, Counter, Refusal, Snapshot, Timespec, WORDS};
+
+/// The layout of `struct tkc_latch`: "tkclatc" and a number.
+const LAYOUT: u64 = 0x746b_636c_6174_6301;
+
+/// The number of 64-bit words of a latch.
+pub const LATCH_WORDS: usize = size_in_words(WORDS);
+
+/// A latch: two copies of a snapshot, one of which is always whole (`struct tkc_latch` of
+/// tkcore_page.h).
+///
+/// A reader never waits for a writer that it interrupted, so a signal handler may read it. MONOTONIC
+/// may go back by the change of the rate times the time since the writer's reading.
+///
+/// The copy to read is `sequence & 1`. The steps are those of the header:
+///
+/// 1. A writer makes the sequence odd: readers take copy 1.
+/// 2. It writes copy 0.
+/// 3. It makes the sequence even: readers take copy 0.
+/// 4. It writes copy 1.
+/// 5. A reader loads the sequence.
+/// 6. It loads the words of the copy that the sequence selects, and reads the counter.
+/// 7. It loads the sequence again, and starts again if it has changed.
+///
+/// ```
+/// use core::sync::atomic::AtomicU64;
+/// use tkcore::{Clock, ClockId, Counter, Latch, Refusal, Timespec, LATCH_WORDS};
+///
+/// let memory = [const { AtomicU64::new(0) }; LATCH_WORDS];
+/// let counter = Counter::from_hz(64, 1_000_000_000, 600)?;
+/// let clock = Clock::open(&counter, 0, Timespec::default())?;
+/// let mut latch = Latch::create(&memory, &clock.snapshot())?;
+/// latch.publish(&clock.snapshot())?;
+/// assert_eq!(latch.now(ClockId::Monotonic, || 7)?, Timespec { sec: 0, nsec: 7 });
+/// # Ok::<(), Refusal>(())
+/// ```
+pub struct Latch<'a> {
+    shared: Shared<'a, WORDS>,
+    counter: Counter,
+}
+
+impl<'a> Latch<'a> {
+    /// Makes a latch with its first snapshot in the first [`LATCH_WORDS`] words of this memory.
+    ///
+    /// # Errors
+    ///
+    /// `BadMemory` if there are fewer words.
+    pub fn create(memory: &'a [AtomicU64], first: &Snapshot) -> Result<Latch<'a>, Refusal> {
+        let shared = Shared::over(memory)?;
+        let (counter, words) = (first.counter, first.words());
+        shared.init(LAYOUT, &counter, || {
+            shared.store(0, &words);
+            shared.store(1, &words);
+        });
+        Ok(Latch { shared, counter })
+    }
+
+    /// Returns the latch that this memory contains.
+    ///
+    /// # Errors
+    ///
+    /// Those of [`Page::attach`](crate::Page::attach), for a latch.
+    pub fn attach(memory: &'a [AtomicU64]) -> Result<Latch<'a>, Refusal> {
+        let shared = Shared::over(memory)?;
+        let counter = shared.attach(LAYOUT)?;
+        Ok(Latch { shared, counter })
+    }
+
+    /// Returns the latch's counter.
+    #[must_use]
+    pub fn counter(&self) -> &Counter {
+        &self.counter
+    }
+
+    /// Publishes a snapshot: steps 1 to 4. The caller's lock must exclude other writers.
+    ///
+    /// # Errors
+    ///
+    /// `OtherCounter` if it is of another counter than the latch.
+    #[inline]
+    pub fn publish(&mut self, snapshot: &Snapshot) -> Result<(), Refusal> {
+        if snapshot.counter != self.counter {
+            return Err(Refusal::OtherCounter);
+        }
+        // (the sequence is odd at first only in `recover`)
+        let sequence = self.shared.sequence().wrapping_add(1) | 1;
+        let words = snapshot.words();
+        for copy in 0..2 {
+            self.shared.set_sequence(sequence.wrapping_add(copy), Release);
+            fence(Release);
+            self.shared.store(copy, &words);
+        }
+        Ok(())
+    }
+
+    /// Makes the latch whole and publishes a new writer's clocks, wherever the former writer died.
+    ///
+    /// # Errors
+    ///
+    /// `OtherCounter` if they are of another counter than the latch.
+    pub fn recover(&mut self, clock: &Clock) -> Result<(), Refusal> {
+        if clock.counter != self.counter {
+            return Err(Refusal::OtherCounter);
+        }
+        let whole = self.shared.sequence() & 1;
+        let words: [u64; WORDS] = self.shared.load(whole);
+        // A reader that still reads the other copy must be able to see the present sequence before
+        // that copy changes.
+        fence(Release);
+        self.shared.store(whole ^ 1, &words);
+        self.publish(&clock.snapshot())
+    }
+
+    /// Does the reader's steps once: 5, 6 and 7.
+    #[inline]
+    fn try_once(&self, read_counter: &mut impl FnMut() -> u64) -> Option<([u64; WORDS], u64)> {
+        let sequence = self.shared.sequence();
+        let words = self.shared.load(sequence);
+        let reading = read_counter();
+        (!self.shared.is_moved(sequence)).then_some((words, reading))
+    }
+
+    /// Returns the latest whole snapshot.
+    ///
+    /// # Errors
+    ///
+    /// `BadWords` if something else than a writer wrote the latch.
+    #[inline]
+    pub fn read(&self) -> Result<Snapshot, Refusal> {
+        self.look(|| 0).map(|(snapshot, _)| snapshot)
+    }
+
+    /// Returns the latest whole snapshot, and the counter's reading while it is the latest, as
+    /// [`Page::look`](crate::Page::look) does.
+    ///
+    /// # Errors
+    ///
+    /// `BadWords` if something else than a writer wrote the latch.
+    #[inline]
+    pub fn look(&self, mut read_counter: impl FnMut() -> u64) -> Result<(Snapshot, u64), Refusal> {
+        loop {
+            if let Some((words, reading)) = self.try_once(&mut read_counter) {
+                return Ok((Snapshot::from_words(&self.counter, &words)?, reading));
+            }
+        }
+    }
+
+    /// Reads a clock now, from the latest whole snapshot.
+    ///
+    /// # Errors
+    ///
+    /// Those of `look` and then those of [`Snapshot::get`].
+    #[inline]
+    pub fn now(
+        &self,
+        clock: ClockId,
+        read_counter: impl FnMut() -> u64,
+    ) -> Result<Timespec, Refusal> {
+        let (snapshot, reading) = self.look(read_counter)?;
+        snapshot.get(clock, reading)
+    }
+}

@@ -1,0 +1,140 @@
+// SPDX-License-Identifier: MIT OR Apache-2.0
+
+use core::fmt;
+
+use crate::{sys, Counter, Refusal, Timespec, Unconverted};
+
+/// The number of 64-bit words that represent a snapshot.
+pub const WORDS: usize = 10;
+
+/// Names a clock, with the number of clock_gettime(2).
+#[derive(Clone, Copy, Debug, PartialEq, Eq, Hash)]
+pub enum ClockId {
+    /// The time since 1970, which can be set and stepped.
+    Realtime = 0,
+    /// The time since the opening, without the suspensions. No command moves it back.
+    Monotonic = 1,
+    /// MONOTONIC at the counter's own rate, which no frequency and no tick changes.
+    MonotonicRaw = 4,
+    /// REALTIME at the last accepted command.
+    RealtimeCoarse = 5,
+    /// MONOTONIC at the last accepted command.
+    MonotonicCoarse = 6,
+    /// MONOTONIC plus all suspensions.
+    Boottime = 7,
+    /// REALTIME plus the TAI offset.
+    Tai = 11,
+}
+
+/// The clocks as one command left them, for readers.
+///
+/// At a reading after the next accepted command it may give a later time than the next snapshot
+/// gives.
+#[derive(Clone, Copy)]
+pub struct Snapshot {
+    pub(crate) value: sys::SnapshotValue,
+    pub(crate) counter: Counter,
+}
+
+impl Snapshot {
+    /// Makes the snapshot of a counter that words represent (`tkc_snapshot_words` lists them).
+    ///
+    /// # Errors
+    ///
+    /// `BadWords` if they represent none.
+    #[inline]
+    pub fn from_words(counter: &Counter, words: &[u64; WORDS]) -> Result<Snapshot, Refusal> {
+        let value = sys::snapshot_from_words(&counter.value, words).map_err(Refusal::of_code)?;
+        Ok(Snapshot { value, counter: *counter })
+    }
+
+    /// Returns the words that represent the snapshot: for files, and other processes.
+    #[must_use]
+    pub fn words(&self) -> [u64; WORDS] {
+        sys::snapshot_words(&self.value)
+    }
+
+    /// Returns the counter whose readings the snapshot converts.
+    #[must_use]
+    pub fn counter(&self) -> &Counter {
+        &self.counter
+    }
+
+    /// Returns a clock's time at a reading. At a reading behind the last command, and while the
+    /// clocks are asleep, it is the clock's time at the last command.
+    ///
+    /// # Errors
+    ///
+    /// `Invalid` if the reading is above 2^bits - 1, and then `Range` if the clock is at or past its
+    /// limit.
+    #[inline]
+    pub fn get(&self, clock: ClockId, reading: u64) -> Result<Timespec, Refusal> {
+        sys::snapshot_get(&self.value, clock as u32, reading).map_err(Refusal::of_code)
+    }
+
+    /// Returns the first reading at which a clock has reached a time, of the last command's reading
+    /// and the (2^bits - 1) / 2 readings after it.
+    ///
+    /// # Errors
+    ///
+    /// `NotReached` if it reaches the time at none of them.
+    #[inline]
+    pub fn reading_at(&self, clock: ClockId, time: Timespec) -> Result<u64, Refusal> {
+        sys::snapshot_reading(&self.value, clock as u32, time).map_err(Refusal::of_code)
+    }
+
+    /// Converts each stamp into a clock's time, in ns, and stores the times in the first elements of
+    /// `times`. The other elements stay as they were.
+    ///
+    /// ```
+    /// # use tkcore::{Clock, ClockId, Counter, Refusal, Timespec, Unconverted};
+    /// let counter = Counter::from_hz(32, 1_000_000, 600).unwrap();
+    /// let clock = Clock::open(&counter, 0, Timespec { sec: 7, nsec: 0 }).unwrap();
+    /// let mut times = [0; 2];
+    /// clock.snapshot().convert(ClockId::Realtime, &mut times, &[0, 1_000_000])?;
+    /// assert_eq!(times, [7_000_000_000, 8_000_000_000]);
+    /// let ended = clock.snapshot().convert(ClockId::Realtime, &mut times, &[5, 1 << 32]);
+    /// assert_eq!(ended.unwrap_err().refusal, Refusal::Invalid);
+    /// # Ok::<(), Unconverted>(())
+    /// ```
+    ///
+    /// # Errors
+    ///
+    /// `BadRoom` if there are fewer times than stamps: nothing is written. Otherwise `Invalid` or
+    /// `Range` at the first stamp for which [`get`](Snapshot::get) fails.
+    #[inline]
+    pub fn convert(
+        &self,
+        clock: ClockId,
+        times: &mut [u64],
+        stamps: &[u64],
+    ) -> Result<(), Unconverted> {
+        sys::snapshot_convert(&self.value, clock as u32, times, stamps)
+            .map_err(|(code, done)| self.unconverted(code, done, stamps))
+    }
+
+    #[cold]
+    fn unconverted(&self, code: u32, done: usize, stamps: &[u64]) -> Unconverted {
+        let refusal = Refusal::of_code(code);
+        let is_at_a_stamp = refusal != Refusal::BadRoom;
+        let stamp = stamps.get(done).copied().filter(|_| is_at_a_stamp).unwrap_or(0);
+        Unconverted { refusal, done, stamp, max_reading: self.counter.max_reading() }
+    }
+}
+
+impl PartialEq for Snapshot {
+    fn eq(&self, other: &Snapshot) -> bool {
+        self.counter == other.counter && self.words() == other.words()
+    }
+}
+
+impl Eq for Snapshot {}
+
+impl fmt::Debug for Snapshot {
+    fn fmt(&self, out: &mut fmt::Formatter<'_>) -> fmt::Result {
+        out.debug_struct("Snapshot")
+            .field("counter", &self.counter)
+            .field("words", &self.words())
+            .finish()
+    }
+}

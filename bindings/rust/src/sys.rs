@@ -1,0 +1,287 @@
+// SPDX-License-Identifier: MIT OR Apache-2.0
+//! The calls of tkcore.h, and memory that other processes may write: all of this crate's `unsafe`.
+//!
+//! The library requires that a value which is passed to a call was made by a call, that pointers
+//! are aligned and valid, and that memory it writes doesn't overlap other arguments. The values here
+//! are made only by calls, and the pointers come from references.
+
+use core::mem::MaybeUninit;
+use core::slice;
+use core::sync::atomic::AtomicU64;
+
+use crate::{ClockWords, Refusal, Timespec, WORDS};
+
+/// The version of the header that these declarations follow, as `TKC_VERSION`.
+pub(crate) const DECLARED_VERSION: u32 = 0x0000_0200; // 0.2.0
+
+/// `struct tkc_counter`
+#[repr(C)]
+#[derive(Clone, Copy)]
+pub(crate) struct CounterValue([u32; 3]);
+
+/// `struct tkc_clock`
+#[repr(C)]
+#[derive(Clone, Copy)]
+pub(crate) struct ClockValue([u64; 13]);
+
+/// `struct tkc_snapshot`
+#[repr(C)]
+#[derive(Clone, Copy)]
+pub(crate) struct SnapshotValue([u64; 11]);
+
+// (a Timespec has the layout of `struct tkc_time`, whose last field is its padding)
+const _: () = assert!(size_of::<Timespec>() == 16 && align_of::<Timespec>() == 8);
+
+extern "C" {
+    fn tkc_version() -> u32;
+    fn tkc_counter_new(out: *mut CounterValue, bits: u32, mult: u32, shift: u32) -> u32;
+    fn tkc_counter_from_hz(out: *mut CounterValue, bits: u32, hz: u64, maxsec: u32) -> u32;
+    fn tkc_counter_from_khz(out: *mut CounterValue, bits: u32, khz: u64, maxsec: u32) -> u32;
+    fn tkc_counter_numbers(
+        bits: *mut u32,
+        mult: *mut u32,
+        shift: *mut u32,
+        counter: *const CounterValue,
+    );
+    fn tkc_clock_open(
+        out: *mut ClockValue,
+        counter: *const CounterValue,
+        reading: u64,
+        sec: i64,
+        nsec: u32,
+    ) -> u32;
+    fn tkc_clock_apply(
+        clock: *mut ClockValue,
+        reading: u64,
+        command: u32,
+        number: i64,
+        nsec: u32,
+    ) -> u32;
+    fn tkc_clock_snapshot(out: *mut SnapshotValue, clock: *const ClockValue);
+    fn tkc_snapshot_get(
+        out: *mut Timespec,
+        snapshot: *const SnapshotValue,
+        clock: u32,
+        reading: u64,
+    ) -> u32;
+    fn tkc_snapshot_reading(
+        out: *mut u64,
+        snapshot: *const SnapshotValue,
+        clock: u32,
+        sec: i64,
+        nsec: u32,
+    ) -> u32;
+    fn tkc_snapshot_convert(
+        out: *mut u64,
+        room: usize,
+        done: *mut usize,
+        snapshot: *const SnapshotValue,
+        clock: u32,
+        stamps: *const u64,
+        count: usize,
+    ) -> u32;
+    fn tkc_snapshot_words(words: *mut u64, snapshot: *const SnapshotValue);
+    fn tkc_snapshot_from_words(
+        out: *mut SnapshotValue,
+        counter: *const CounterValue,
+        words: *const u64,
+    ) -> u32;
+    fn tkc_clock_words(
+        words: *mut u64,
+        frequency: *mut i64,
+        tick: *mut i64,
+        clock: *const ClockValue,
+    );
+    fn tkc_clock_from_words(
+        out: *mut ClockValue,
+        counter: *const CounterValue,
+        words: *const u64,
+        frequency: i64,
+        tick: i64,
+    ) -> u32;
+}
+
+/// Calls a function that writes a value if it returns 0. Returns the value, or the code.
+#[inline]
+fn made<T>(call: impl FnOnce(*mut T) -> u32) -> Result<T, u32> {
+    let mut out = MaybeUninit::uninit();
+    match call(out.as_mut_ptr()) {
+        // SAFETY: the library has written the whole value.
+        0 => Ok(unsafe { out.assume_init() }),
+        code => Err(code),
+    }
+}
+
+/// Returns the version of the linked library: `major << 16 | minor << 8 | patch`.
+#[inline]
+#[must_use]
+pub fn version() -> u32 {
+    // SAFETY: the call has no argument.
+    unsafe { tkc_version() }
+}
+
+#[inline]
+pub(crate) fn counter_new(bits: u32, mult: u32, shift: u32) -> Result<CounterValue, u32> {
+    // SAFETY: `out` is valid for a write.
+    made(|out| unsafe { tkc_counter_new(out, bits, mult, shift) })
+}
+
+#[inline]
+pub(crate) fn counter_from_hz(bits: u32, hz: u64, maxsec: u32) -> Result<CounterValue, u32> {
+    // SAFETY: `out` is valid for a write.
+    made(|out| unsafe { tkc_counter_from_hz(out, bits, hz, maxsec) })
+}
+
+#[inline]
+pub(crate) fn counter_from_khz(bits: u32, khz: u64, maxsec: u32) -> Result<CounterValue, u32> {
+    // SAFETY: `out` is valid for a write.
+    made(|out| unsafe { tkc_counter_from_khz(out, bits, khz, maxsec) })
+}
+
+/// Returns the bits, the mult and the shift.
+#[inline]
+pub(crate) fn counter_numbers(counter: &CounterValue) -> [u32; 3] {
+    let (mut bits, mut mult, mut shift) = (0, 0, 0);
+    // SAFETY: all four are references.
+    unsafe { tkc_counter_numbers(&mut bits, &mut mult, &mut shift, counter) };
+    [bits, mult, shift]
+}
+
+#[inline]
+pub(crate) fn clock_open(
+    counter: &CounterValue,
+    reading: u64,
+    start: Timespec,
+) -> Result<ClockValue, u32> {
+    // SAFETY: `out` is valid for a write, and the counter is a value.
+    made(|out| unsafe { tkc_clock_open(out, counter, reading, start.sec, start.nsec) })
+}
+
+#[inline]
+pub(crate) fn clock_apply(
+    clock: &mut ClockValue,
+    reading: u64,
+    (command, number, nsec): (u32, i64, u32),
+) -> Result<(), u32> {
+    // SAFETY: the clock is a value, and nobody else has it.
+    match unsafe { tkc_clock_apply(clock, reading, command, number, nsec) } {
+        0 => Ok(()),
+        code => Err(code),
+    }
+}
+
+#[inline]
+pub(crate) fn clock_snapshot(clock: &ClockValue) -> SnapshotValue {
+    let mut out = MaybeUninit::uninit();
+    // SAFETY: `out` is valid for a write, the clock is a value, and the call writes all of `out`.
+    unsafe {
+        tkc_clock_snapshot(out.as_mut_ptr(), clock);
+        out.assume_init()
+    }
+}
+
+#[inline]
+pub(crate) fn snapshot_get(
+    snapshot: &SnapshotValue,
+    clock: u32,
+    reading: u64,
+) -> Result<Timespec, u32> {
+    // SAFETY: `out` is valid for a write of a `struct tkc_time`, and the snapshot is a value.
+    made(|out| unsafe { tkc_snapshot_get(out, snapshot, clock, reading) })
+}
+
+#[inline]
+pub(crate) fn snapshot_reading(
+    snapshot: &SnapshotValue,
+    clock: u32,
+    time: Timespec,
+) -> Result<u64, u32> {
+    // SAFETY: `out` is valid for a write, and the snapshot is a value.
+    made(|out| unsafe { tkc_snapshot_reading(out, snapshot, clock, time.sec, time.nsec) })
+}
+
+/// Converts the stamps. On failure returns the code, and how many stamps were converted.
+#[inline]
+pub(crate) fn snapshot_convert(
+    snapshot: &SnapshotValue,
+    clock: u32,
+    times: &mut [u64],
+    stamps: &[u64],
+) -> Result<(), (u32, usize)> {
+    let mut done = 0;
+    // SAFETY: the slices are valid for their lengths and don't overlap, and the snapshot is a value.
+    let code = unsafe {
+        tkc_snapshot_convert(
+            times.as_mut_ptr(),
+            times.len(),
+            &mut done,
+            snapshot,
+            clock,
+            stamps.as_ptr(),
+            stamps.len(),
+        )
+    };
+    match code {
+        0 => Ok(()),
+        code => Err((code, done)),
+    }
+}
+
+#[inline]
+pub(crate) fn snapshot_words(snapshot: &SnapshotValue) -> [u64; WORDS] {
+    let mut words = [0; WORDS];
+    // SAFETY: the call writes ten words, and the snapshot is a value.
+    unsafe { tkc_snapshot_words(words.as_mut_ptr(), snapshot) };
+    words
+}
+
+#[inline]
+pub(crate) fn snapshot_from_words(
+    counter: &CounterValue,
+    words: &[u64; WORDS],
+) -> Result<SnapshotValue, u32> {
+    // SAFETY: `out` is valid for a write, the counter is a value, and there are ten words.
+    made(|out| unsafe { tkc_snapshot_from_words(out, counter, words.as_ptr()) })
+}
+
+#[inline]
+pub(crate) fn clock_words(clock: &ClockValue) -> ClockWords {
+    let mut found = ClockWords { words: [0; WORDS], frequency: 0, tick: 0 };
+    let ClockWords { words, frequency, tick } = &mut found;
+    // SAFETY: the call writes ten words and two numbers, and the clock is a value.
+    unsafe { tkc_clock_words(words.as_mut_ptr(), frequency, tick, clock) };
+    found
+}
+
+#[inline]
+pub(crate) fn clock_from_words(
+    counter: &CounterValue,
+    given: &ClockWords,
+) -> Result<ClockValue, u32> {
+    let words = given.words.as_ptr();
+    // SAFETY: `out` is valid for a write, the counter is a value, and there are ten words.
+    made(|out| unsafe { tkc_clock_from_words(out, counter, words, given.frequency, given.tick) })
+}
+
+/// Returns memory as words for a page or a latch, if it is aligned to 8 bytes.
+///
+/// Other processes may write the memory at any time, because all accesses of this crate are atomic.
+/// A reader's memory may be read-only.
+///
+/// # Errors
+///
+/// `BadMemory` if the address is NULL or isn't aligned.
+///
+/// # Safety
+///
+/// The memory must be valid for reads of `size` bytes as long as the result is used, and for writes
+/// too if a page or a latch is created or published there. No code of this process may access it
+/// otherwise than atomically in that time.
+pub unsafe fn shared_words<'a>(memory: *const u8, size: usize) -> Result<&'a [AtomicU64], Refusal> {
+    let words = memory.cast::<AtomicU64>();
+    if words.is_null() || !words.is_aligned() {
+        return Err(Refusal::BadMemory);
+    }
+    // SAFETY: the caller says that the memory is valid and shared only atomically.
+    Ok(unsafe { slice::from_raw_parts(words, size / 8) })
+}

@@ -1,0 +1,172 @@
+/* SPDX-License-Identifier: MIT OR Apache-2.0 */
+/*
+ * Writes or reads a page and a latch in a file that processes share. peer.py and
+ * rust/examples/peer.rs do the same, so that each language reads what another one writes.
+ *
+ *     peer write FILE COMMANDS     makes the page and the latch, and applies the commands
+ *     peer read FILE               prints "ready", and reads until the writer has ended
+ *
+ * The file contains the page at 0, the latch at 256, the counter at 512, and at 520 the word 1 once
+ * the writer has ended. The counter has 1 ns a cycle, and moves by 10^6 cycles four times for each
+ * command. Command n sets the TAI offset to n mod 100001 s if n is odd, and otherwise the frequency
+ * to n * 997 mod 32768000, negative if n is a multiple of 4. So a reader can compute the words of
+ * each snapshot. MONOTONIC of the page must never go back. The writer pauses after each 256 commands,
+ * so that the reader runs on a busy machine too.
+ */
+#include <fcntl.h>
+#include <inttypes.h>
+#include <stdio.h>
+#include <stdlib.h>
+#include <string.h>
+#include <sys/mman.h>
+#include <tkcore_page.h>
+#include <unistd.h>
+
+enum { SIZE = 4096, STEP = 1000000, MULT = 8388608, PAUSE = 256 };
+
+struct shared {
+	struct tkc_page page;
+	char room[256 - sizeof(struct tkc_page)];
+	struct tkc_latch latch;
+	char more[256 - sizeof(struct tkc_latch)];
+	tkc_word cycles, ended;
+};
+
+static void need(int holds, const char *what)
+{
+	if (holds)
+		return;
+	fprintf(stderr, "peer.c: %s\n", what);
+	exit(EXIT_FAILURE);
+}
+
+static struct shared *mapped(const char *name, int is_written)
+{
+	int file = open(name, is_written ? O_RDWR : O_RDONLY);
+	void *memory = mmap(NULL, SIZE, is_written ? PROT_READ | PROT_WRITE : PROT_READ, MAP_SHARED,
+			    file, 0);
+
+	need(file >= 0 && memory != MAP_FAILED, "the file can't be mapped");
+	return memory;
+}
+
+static int64_t frequency_at(uint64_t n)
+{
+	int64_t frequency = (int64_t)(n * 997 % 32768000);
+
+	return n % 4 ? frequency : -frequency;
+}
+
+static uint64_t moved(struct shared *shared)
+{
+	uint64_t cycles = atomic_load_explicit(&shared->cycles, memory_order_relaxed) + STEP;
+
+	atomic_store_explicit(&shared->cycles, cycles, memory_order_release);
+	return cycles;
+}
+
+static void command(struct shared *shared, struct tkc_clock *clock, uint64_t n)
+{
+	struct tkc_snapshot snapshot;
+	enum tkc_code code;
+	int i;
+
+	for (i = 0; i < 3; i++)
+		moved(shared);
+	tkc_page_begin(&shared->page);
+	if (n % 2)
+		code = tkc_clock_set_tai_offset(clock, moved(shared), (int64_t)(n % 100001));
+	else
+		code = tkc_clock_set_frequency(clock, moved(shared), frequency_at(n));
+	tkc_page_publish_clock(&shared->page, clock);
+	tkc_clock_snapshot(&snapshot, clock);
+	tkc_latch_publish(&shared->latch, &snapshot);
+	need(!code, "a command was refused");
+}
+
+static void write_all(struct shared *shared, uint64_t commands)
+{
+	struct tkc_counter counter;
+	struct tkc_clock clock;
+	struct tkc_snapshot snapshot;
+	uint64_t n;
+
+	need(!tkc_counter_from_hz(&counter, 64, 1000000000, 600) &&
+	     !tkc_clock_open(&clock, &counter, 0, 1700000000, 0), "no clocks");
+	tkc_clock_snapshot(&snapshot, &clock);
+	tkc_latch_init(&shared->latch, &counter, &snapshot);
+	tkc_page_init_clock(&shared->page, &counter, &clock);
+	for (n = 1; n <= commands; n++) {
+		command(shared, &clock, n);
+		if (n % PAUSE == 0)
+			usleep(100);
+	}
+	atomic_store_explicit(&shared->ended, 1, memory_order_release);
+}
+
+static uint64_t read_counter(void *context)
+{
+	const struct shared *shared = context;
+
+	return atomic_load_explicit(&shared->cycles, memory_order_acquire);
+}
+
+/* Checks that a snapshot is as one command left it. Returns its front. */
+static uint64_t check_whole(const struct tkc_snapshot *snapshot)
+{
+	uint64_t words[TKC_WORDS], front, tai, frequency;
+
+	tkc_snapshot_words(words, snapshot);
+	front = words[0];
+	tai = front % 2 || !front ? front : front - 1;
+	frequency = front % 2 ? front - 1 : front;
+	need(words[1] == front * 4 * STEP, "a snapshot has another reading");
+	need(words[7] == tai % 100001 * 2, "a snapshot has another TAI offset");
+	need(words[2] == (uint64_t)(MULT * (65536000000 + frequency_at(frequency)) / 65536000000),
+	     "a snapshot has another multiplier");
+	return front;
+}
+
+static void read_all(struct shared *shared)
+{
+	uint64_t reads = 0, fronts = 0, last = 0, ended, reading, front;
+	struct tkc_time before = { 0, 0, 0 }, now;
+	struct tkc_snapshot snapshot;
+
+	do {
+		ended = atomic_load_explicit(&shared->ended, memory_order_acquire);
+		need(!tkc_page_look(&shared->page, read_counter, shared, &snapshot, &reading),
+		     "the page can't be read");
+		need(!tkc_snapshot_get(&now, &snapshot, TKC_CLOCK_MONOTONIC, reading), "no time");
+		need(now.sec > before.sec || (now.sec == before.sec && now.nsec >= before.nsec),
+		     "MONOTONIC went back");
+		before = now;
+		front = check_whole(&snapshot);
+		fronts += front != last;
+		need(front >= last, "the front went back");
+		last = front;
+		need(!tkc_latch_read(&shared->latch, &snapshot), "the latch can't be read");
+		check_whole(&snapshot);
+		reads++;
+	} while (!ended);
+	printf("%" PRIu64 " reads, %" PRIu64 " fronts\n", reads, fronts);
+	need(fronts > 2, "too few fronts were seen");
+}
+
+int main(int argc, char **argv)
+{
+	struct shared *shared;
+
+	need(argc > 2, "peer write FILE COMMANDS, or peer read FILE");
+	shared = mapped(argv[2], argc > 3);
+	if (!strcmp(argv[1], "write")) {
+		write_all(shared, strtoull(argv[3], NULL, 10));
+		return EXIT_SUCCESS;
+	}
+	puts("ready");
+	fflush(stdout);
+	while (tkc_page_attach(&shared->page) || tkc_latch_attach(&shared->latch))
+		;
+	read_all(shared);
+	return EXIT_SUCCESS;
+}

@@ -1,0 +1,92 @@
+#!/usr/bin/env python3
+# SPDX-License-Identifier: MIT OR Apache-2.0
+"""Writes or reads a page and a latch in a file that processes share, as peer.c describes.
+
+    peer.py write FILE COMMANDS
+    peer.py read FILE
+"""
+import mmap
+import sys
+import time
+
+import tkcore
+
+SIZE, STEP, MULT, PAUSE = 4096, 1_000_000, 8_388_608, 256
+
+
+def mapped(name, is_written):
+    with open(name, "r+b" if is_written else "rb") as file:
+        access = mmap.ACCESS_WRITE if is_written else mmap.ACCESS_READ
+        memory = memoryview(mmap.mmap(file.fileno(), SIZE, access=access))
+    return memory[:256], memory[256:512], memory[512:528].cast("Q")
+
+
+def frequency_at(n):
+    frequency = n * 997 % 32_768_000
+    return frequency if n % 4 else -frequency
+
+
+def write(name, commands):
+    page_memory, latch_memory, words = mapped(name, True)
+    clock = tkcore.Clock(tkcore.Counter.from_hz(64, 10**9), 0, 1_700_000_000 * tkcore.NANOS)
+    latch = tkcore.Latch.create(clock.snapshot(), latch_memory)
+    page = tkcore.Page.create(clock, page_memory)
+    for n in range(1, commands + 1):
+        for _ in range(3):
+            words[0] += STEP
+        page.begin()
+        words[0] += STEP
+        if n % 2:
+            clock.set_tai_offset(words[0], n % 100_001)
+        else:
+            clock.set_frequency(words[0], frequency_at(n))
+        page.publish(clock)
+        latch.publish(clock.snapshot())
+        if n % PAUSE == 0:
+            time.sleep(1e-4)
+    words[1] = 1
+
+
+def check_whole(snapshot):
+    """Checks that a snapshot is as one command left it. Returns its front."""
+    words = snapshot.words()
+    front = words[0]
+    tai, frequency = (front, front - 1) if front % 2 else (max(front - 1, 0), front)
+    assert words[1] == front * 4 * STEP, "a snapshot has another reading"
+    assert words[7] == tai % 100_001 * 2, "a snapshot has another TAI offset"
+    assert words[2] == MULT * (65_536_000_000 + frequency_at(frequency)) // 65_536_000_000, (
+        "a snapshot has another multiplier")
+    return front
+
+
+def attached(make, memory):
+    while True:
+        try:
+            return make(memory)
+        except tkcore.BadLayout:
+            pass
+
+
+def read(name):
+    page_memory, latch_memory, words = mapped(name, False)
+    print("ready", flush=True)
+    page, latch = attached(tkcore.Page.attach, page_memory), attached(tkcore.Latch.attach, latch_memory)
+    reads, fronts, last, before, ended = 0, 0, 0, 0, 0
+    while not ended:
+        ended = words[1]
+        snapshot, reading = page.look(lambda: words[0])
+        now = snapshot.get(reading, tkcore.ClockId.MONOTONIC)
+        assert now >= before, "MONOTONIC went back"
+        front = check_whole(snapshot)
+        assert front >= last, "the front went back"
+        check_whole(latch.read())
+        reads, fronts, last, before = reads + 1, fronts + (front != last), front, now
+    print(f"{reads} reads, {fronts} fronts")
+    assert fronts > 2, "too few fronts were seen"
+
+
+if __name__ == "__main__":
+    if sys.argv[1] == "write":
+        write(sys.argv[2], int(sys.argv[3]))
+    else:
+        read(sys.argv[2])
