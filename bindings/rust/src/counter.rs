@@ -3,7 +3,7 @@
 use core::fmt;
 use core::hash::{Hash, Hasher};
 
-use crate::{sys, Refusal};
+use crate::{sys, ClockId, Refusal, Timespec, WORDS};
 
 /// A cycle counter: a reading has `bits` bits, and a cycle lasts `mult / 2^shift` ns.
 #[derive(Clone, Copy)]
@@ -51,6 +51,17 @@ impl Counter {
         }
         let value = make().map_err(Refusal::of_code)?;
         Ok(Counter { value, numbers: sys::counter_numbers(&value) })
+    }
+
+    /// Returns a clock's time at a reading by the snapshot of these words.
+    #[inline]
+    pub(crate) fn get_by_words(
+        &self,
+        words: &[u64; WORDS],
+        clock: ClockId,
+        reading: u64,
+    ) -> Result<Timespec, Refusal> {
+        sys::get_by_words(&self.value, words, clock as u32, reading).map_err(Refusal::of_code)
     }
 
     /// Returns the number of bits of a reading.

@@ -109,7 +109,8 @@ impl<'a> Latch<'a> {
             return Err(Refusal::OtherCounter);
         }
         let whole = self.shared.sequence() & 1;
-        let words: [u64; WORDS] = self.shared.load(whole);
+        let mut words = [0; WORDS];
+        self.shared.load(whole, &mut words);
         // A reader that still reads the other copy must be able to see the present sequence before
         // that copy changes.
         fence(Release);
@@ -117,13 +118,17 @@ impl<'a> Latch<'a> {
         self.publish(&clock.snapshot())
     }
 
-    /// Does the reader's steps once: 5, 6 and 7.
+    /// Does the reader's steps once: 5, 6 and 7. Returns the reading if the words are whole.
     #[inline]
-    fn try_once(&self, read_counter: &mut impl FnMut() -> u64) -> Option<([u64; WORDS], u64)> {
+    fn try_once(
+        &self,
+        read_counter: &mut impl FnMut() -> u64,
+        words: &mut [u64; WORDS],
+    ) -> Option<u64> {
         let sequence = self.shared.sequence();
-        let words = self.shared.load(sequence);
+        self.shared.load(sequence, words);
         let reading = read_counter();
-        (!self.shared.is_moved(sequence)).then_some((words, reading))
+        (!self.shared.is_moved(sequence)).then_some(reading)
     }
 
     /// Returns the latest whole snapshot.
@@ -144,8 +149,9 @@ impl<'a> Latch<'a> {
     /// `BadWords` if something else than a writer wrote the latch.
     #[inline]
     pub fn look(&self, mut read_counter: impl FnMut() -> u64) -> Result<(Snapshot, u64), Refusal> {
+        let mut words = [0; WORDS];
         loop {
-            if let Some((words, reading)) = self.try_once(&mut read_counter) {
+            if let Some(reading) = self.try_once(&mut read_counter, &mut words) {
                 return Ok((Snapshot::from_words(&self.counter, &words)?, reading));
             }
         }
@@ -160,9 +166,13 @@ impl<'a> Latch<'a> {
     pub fn now(
         &self,
         clock: ClockId,
-        read_counter: impl FnMut() -> u64,
+        mut read_counter: impl FnMut() -> u64,
     ) -> Result<Timespec, Refusal> {
-        let (snapshot, reading) = self.look(read_counter)?;
-        snapshot.get(clock, reading)
+        let mut words = [0; WORDS];
+        loop {
+            if let Some(reading) = self.try_once(&mut read_counter, &mut words) {
+                return self.counter.get_by_words(&words, clock, reading);
+            }
+        }
     }
 }

@@ -168,7 +168,8 @@ impl<'a> Page<'a> {
     /// published, or something else than a writer wrote the page.
     pub fn clock(&self) -> Result<Clock, Refusal> {
         let sequence = self.shared.sequence();
-        let copy: [u64; COPY] = self.shared.load(sequence / 2);
+        let mut copy = [0; COPY];
+        self.shared.load(sequence / 2, &mut copy);
         if self.shared.is_moved(sequence) {
             return Err(Refusal::Busy);
         }
@@ -188,17 +189,21 @@ impl<'a> Page<'a> {
         self.publish(clock)
     }
 
-    /// Does the reader's steps once: 5, 6 and 7.
+    /// Does the reader's steps once: 5, 6 and 7. Returns the reading if the words are whole.
     #[inline]
-    fn try_once(&self, read_counter: &mut impl FnMut() -> u64) -> Option<([u64; WORDS], u64)> {
+    fn try_once(
+        &self,
+        read_counter: &mut impl FnMut() -> u64,
+        words: &mut [u64; WORDS],
+    ) -> Option<u64> {
         let sequence = self.shared.sequence();
         if sequence % 2 == 1 {
             spin_loop();
             return None;
         }
-        let words = self.shared.load(sequence / 2);
+        self.shared.load(sequence / 2, words);
         let reading = read_counter();
-        (!self.shared.is_moved(sequence)).then_some((words, reading))
+        (!self.shared.is_moved(sequence)).then_some(reading)
     }
 
     /// Returns the latest snapshot. At a reading that is taken after this call, it may give a later
@@ -222,8 +227,9 @@ impl<'a> Page<'a> {
     /// `BadWords` if something else than a writer wrote the page.
     #[inline]
     pub fn look(&self, mut read_counter: impl FnMut() -> u64) -> Result<(Snapshot, u64), Refusal> {
+        let mut words = [0; WORDS];
         loop {
-            if let Some((words, reading)) = self.try_once(&mut read_counter) {
+            if let Some(reading) = self.try_once(&mut read_counter, &mut words) {
                 return Ok((Snapshot::from_words(&self.counter, &words)?, reading));
             }
         }
@@ -238,10 +244,14 @@ impl<'a> Page<'a> {
     pub fn now(
         &self,
         clock: ClockId,
-        read_counter: impl FnMut() -> u64,
+        mut read_counter: impl FnMut() -> u64,
     ) -> Result<Timespec, Refusal> {
-        let (snapshot, reading) = self.look(read_counter)?;
-        snapshot.get(clock, reading)
+        let mut words = [0; WORDS];
+        loop {
+            if let Some(reading) = self.try_once(&mut read_counter, &mut words) {
+                return self.counter.get_by_words(&words, clock, reading);
+            }
+        }
     }
 
     /// Reads a clock now, in at most `tries` tries, and so doesn't wait.
@@ -256,9 +266,10 @@ impl<'a> Page<'a> {
         clock: ClockId,
         mut read_counter: impl FnMut() -> u64,
     ) -> Result<Timespec, Refusal> {
+        let mut words = [0; WORDS];
         for _ in 0..tries {
-            if let Some((words, reading)) = self.try_once(&mut read_counter) {
-                return Snapshot::from_words(&self.counter, &words)?.get(clock, reading);
+            if let Some(reading) = self.try_once(&mut read_counter, &mut words) {
+                return self.counter.get_by_words(&words, clock, reading);
             }
         }
         Err(Refusal::Busy)

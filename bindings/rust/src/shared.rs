@@ -82,14 +82,13 @@ impl<'a, const N: usize> Shared<'a, N> {
         self.sequence.load(Relaxed) != sequence
     }
 
-    /// Loads the first words of the copy `copy % 2`.
+    /// Loads the first words of the copy `copy % 2`. (The words aren't returned, because moving them
+    /// at once after they were stored one by one would stall the processor.)
     #[inline]
-    pub(crate) fn load<const M: usize>(&self, copy: u64) -> [u64; M] {
-        let mut words = [0; M];
+    pub(crate) fn load<const M: usize>(&self, copy: u64, words: &mut [u64; M]) {
         for (word, shared) in words.iter_mut().zip(self.copies[(copy & 1) as usize]) {
             *word = shared.load(Relaxed);
         }
-        words
     }
 
     /// Stores the copy `copy % 2`.

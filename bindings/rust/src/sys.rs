@@ -244,6 +244,23 @@ pub(crate) fn snapshot_from_words(
     made(|out| unsafe { tkc_snapshot_from_words(out, counter, words.as_ptr()) })
 }
 
+/// Reads a clock by the snapshot that words represent, without moving the snapshot.
+#[inline]
+pub(crate) fn get_by_words(
+    counter: &CounterValue,
+    words: &[u64; WORDS],
+    clock: u32,
+    reading: u64,
+) -> Result<Timespec, u32> {
+    let mut snapshot = MaybeUninit::uninit();
+    // SAFETY: `snapshot` is valid for a write, the counter is a value, and there are ten words.
+    match unsafe { tkc_snapshot_from_words(snapshot.as_mut_ptr(), counter, words.as_ptr()) } {
+        // SAFETY: the library has written the whole snapshot.
+        0 => snapshot_get(unsafe { snapshot.assume_init_ref() }, clock, reading),
+        code => Err(code),
+    }
+}
+
 #[inline]
 pub(crate) fn clock_words(clock: &ClockValue) -> ClockWords {
     let mut found = ClockWords { words: [0; WORDS], frequency: 0, tick: 0 };
