@@ -15,6 +15,7 @@ from .counter import Counter
 from .errors import (Asleep, Awake, BadAdjust, BadBits, BadBuffer, BadClock, BadCommand, BadLayout,
                      BadMult, BadRate, BadRoom, BadShift, BadWords, Behind, Busy, Error, Full,
                      Invalid, NotReached, OtherCounter, OtherVersion, Range, Refused)
+from .journal import Journal
 from .page import Latch, Page
 from .snapshot import ClockId, Snapshot
 
@@ -23,6 +24,6 @@ __version__ = VERSION
 __all__ = [
     "Asleep", "Awake", "BadAdjust", "BadBits", "BadBuffer", "BadClock", "BadCommand", "BadLayout",
     "BadMult", "BadRate", "BadRoom", "BadShift", "BadWords", "Behind", "Busy", "Clock", "ClockId",
-    "Command", "Counter", "Error", "Full", "Invalid", "Latch", "NANOS", "NotReached",
+    "Command", "Counter", "Error", "Full", "Invalid", "Journal", "Latch", "NANOS", "NotReached",
     "OtherCounter", "OtherVersion", "Page", "Range", "Refused", "Snapshot",
 ]
