@@ -3,15 +3,17 @@
  * Writes or reads a page and a latch in a file that processes share. peer.py and
  * rust/examples/peer.rs do the same, so that each language reads what another one writes.
  *
- *     peer write FILE COMMANDS     makes the page and the latch, and applies the commands
- *     peer read FILE               prints "ready", and reads until the writer has ended
+ *     peer write FILE COMMANDS     makes the page and the latch, and applies the commands, and more
+ *                                  until there is FILE.seen
+ *     peer read FILE               prints "ready", and reads until the writer has ended; makes
+ *                                  FILE.seen once it has seen 100 fronts
  *
  * The file contains the page at 0, the latch at 256, the counter at 512, and at 520 the word 1 once
  * the writer has ended. The counter has 1 ns a cycle, and moves by 10^6 cycles four times for each
  * command. Command n sets the TAI offset to n mod 100001 s if n is odd, and otherwise the frequency
  * to n * 997 mod 32768000, negative if n is a multiple of 4. So a reader can compute the words of
  * each snapshot. MONOTONIC of the page must never go back. The writer pauses after each 256 commands,
- * so that the reader runs on a busy machine too.
+ * so that the reader runs on a busy machine too, and ends in any case after 100 times COMMANDS.
  */
 #include <fcntl.h>
 #include <inttypes.h>
@@ -22,7 +24,10 @@
 #include <tkcore_page.h>
 #include <unistd.h>
 
-enum { SIZE = 4096, STEP = 1000000, MULT = 8388608, PAUSE = 256 };
+enum { SIZE = 4096, STEP = 1000000, MULT = 8388608, PAUSE = 256, SEEN = 100, MOST = 100 };
+
+/* The name of the file by which a reader tells the writer that it has seen enough. */
+static char seen[4096];
 
 struct shared {
 	struct tkc_page page;
@@ -96,7 +101,7 @@ static void write_all(struct shared *shared, uint64_t commands)
 	tkc_clock_snapshot(&snapshot, &clock);
 	tkc_latch_init(&shared->latch, &counter, &snapshot);
 	tkc_page_init_clock(&shared->page, &counter, &clock);
-	for (n = 1; n <= commands; n++) {
+	for (n = 1; n <= commands || (n <= commands * MOST && access(seen, F_OK)); n++) {
 		command(shared, &clock, n);
 		if (n % PAUSE == 0)
 			usleep(100);
@@ -143,6 +148,8 @@ static void read_all(struct shared *shared)
 		before = now;
 		front = check_whole(&snapshot);
 		fronts += front != last;
+		if (fronts == SEEN && front != last)
+			close(open(seen, O_CREAT | O_WRONLY, 0600));
 		need(front >= last, "the front went back");
 		last = front;
 		need(!tkc_latch_read(&shared->latch, &snapshot), "the latch can't be read");
@@ -150,7 +157,7 @@ static void read_all(struct shared *shared)
 		reads++;
 	} while (!ended);
 	printf("%" PRIu64 " reads, %" PRIu64 " fronts\n", reads, fronts);
-	need(fronts > 2, "too few fronts were seen");
+	need(fronts >= SEEN, "too few fronts were seen");
 }
 
 int main(int argc, char **argv)
@@ -159,6 +166,7 @@ int main(int argc, char **argv)
 
 	need(argc > 2, "peer write FILE COMMANDS, or peer read FILE");
 	shared = mapped(argv[2], argc > 3);
+	snprintf(seen, sizeof(seen), "%s.seen", argv[2]);
 	if (!strcmp(argv[1], "write")) {
 		write_all(shared, strtoull(argv[3], NULL, 10));
 		return EXIT_SUCCESS;

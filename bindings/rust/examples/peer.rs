@@ -10,6 +10,7 @@ use std::error::Error;
 use std::ffi::c_void;
 use std::fs::File;
 use std::os::fd::AsRawFd;
+use std::path::Path;
 use std::sync::atomic::AtomicU64;
 use std::sync::atomic::Ordering::{Acquire, Relaxed, Release};
 use std::thread;
@@ -23,6 +24,8 @@ const SIZE: usize = 4096;
 const STEP: u64 = 1_000_000;
 const MULT: i64 = 8_388_608;
 const PAUSE: u64 = 256;
+const SEEN: u64 = 100;
+const MOST: u64 = 100;
 
 /// The places of the latch, of the counter and of the end, in words.
 const LATCH: usize = 32;
@@ -69,12 +72,15 @@ fn moved(memory: &[AtomicU64]) -> u64 {
     cycles
 }
 
-fn write(memory: &[AtomicU64], commands: u64) -> Result<(), Refusal> {
+fn write(memory: &[AtomicU64], commands: u64, seen: &Path) -> Result<(), Refusal> {
     let counter = Counter::from_hz(64, 1_000_000_000, 600)?;
     let mut clock = Clock::open(&counter, 0, Timespec { sec: 1_700_000_000, nsec: 0 })?;
     let mut latch = Latch::create(&memory[LATCH..], &clock.snapshot())?;
     let mut page = Page::create(memory, &clock)?;
-    for n in 1..=commands {
+    for n in 1..=commands * MOST {
+        if n > commands && seen.exists() {
+            break;
+        }
         for _ in 0..3 {
             moved(memory);
         }
@@ -119,7 +125,7 @@ fn attached<T>(attach: impl Fn() -> Result<T, Refusal>) -> Result<T, Refusal> {
     }
 }
 
-fn read(memory: &[AtomicU64]) -> Result<(), Refusal> {
+fn read(memory: &[AtomicU64], seen: &Path) -> Result<(), Box<dyn Error>> {
     println!("ready");
     let page = attached(|| Page::attach(memory))?;
     let latch = attached(|| Latch::attach(&memory[LATCH..]))?;
@@ -134,21 +140,26 @@ fn read(memory: &[AtomicU64]) -> Result<(), Refusal> {
         check_whole(&latch.read()?);
         reads += 1;
         fronts += u64::from(front != last);
+        if fronts == SEEN && front != last {
+            File::create(seen)?;
+        }
         (last, before) = (front, now);
         if ended == 1 {
             break;
         }
     }
     println!("{reads} reads, {fronts} fronts");
-    assert!(fronts > 2, "too few fronts were seen");
+    assert!(fronts >= SEEN, "too few fronts were seen");
     Ok(())
 }
 
 fn main() -> Result<(), Box<dyn Error>> {
     let words: Vec<String> = env::args().skip(1).collect();
     match words.iter().map(String::as_str).collect::<Vec<_>>()[..] {
-        ["write", file, commands] => write(mapped(file, true)?, commands.parse()?)?,
-        ["read", file] => read(mapped(file, false)?)?,
+        ["write", file, commands] => {
+            write(mapped(file, true)?, commands.parse()?, Path::new(&format!("{file}.seen")))?;
+        }
+        ["read", file] => read(mapped(file, false)?, Path::new(&format!("{file}.seen")))?,
         _ => return Err("peer write FILE COMMANDS, or peer read FILE".into()),
     }
     Ok(())
