@@ -1,0 +1,271 @@
+/* SPDX-License-Identifier: MIT OR Apache-2.0 */
+/*
+ * The calls of tkcore.h by the model of tests/c. A package that is linked with it instead of the
+ * library runs over C code that a sanitizer instruments, so that a wrong pointer or length is found.
+ */
+#include "model.h"
+
+#include <string.h>
+
+/* The contents of the header's values. */
+struct clock_of {
+	uint64_t words[TKC_WORDS];
+	int64_t frequency, tick;
+	uint32_t mult;
+	uint8_t bits, shift;
+};
+
+struct snapshot_of {
+	uint64_t words[TKC_WORDS];
+	uint32_t mult;
+	uint8_t bits, shift;
+};
+
+_Static_assert(sizeof(struct clock_of) == sizeof(struct tkc_clock), "a clock");
+_Static_assert(sizeof(struct snapshot_of) == sizeof(struct tkc_snapshot), "a snapshot");
+
+uint32_t tkc_version(void)
+{
+	return TKC_VERSION;
+}
+
+enum tkc_code tkc_counter_new(struct tkc_counter *out, uint32_t bits, uint32_t mult, uint32_t shift)
+{
+	uint32_t code = model_counter(bits, mult, shift);
+
+	if (!code)
+		*out = (struct tkc_counter){ { bits, mult, shift } };
+	return code;
+}
+
+static enum tkc_code of_rate(struct tkc_counter *out, uint32_t bits, uint64_t scale, uint64_t rate,
+			     uint32_t maxsec)
+{
+	uint32_t mult, shift, code = model_rate(bits, rate, maxsec);
+
+	if (code)
+		return code;
+	model_scale(scale, rate, maxsec, &mult, &shift);
+	return tkc_counter_new(out, bits, mult, shift);
+}
+
+enum tkc_code tkc_counter_from_hz(struct tkc_counter *out, uint32_t bits, uint64_t hz,
+				  uint32_t maxsec)
+{
+	return of_rate(out, bits, 1, hz, maxsec);
+}
+
+enum tkc_code tkc_counter_from_khz(struct tkc_counter *out, uint32_t bits, uint64_t khz,
+				   uint32_t maxsec)
+{
+	return of_rate(out, bits, 1000, khz, maxsec);
+}
+
+void tkc_counter_numbers(uint32_t *bits, uint32_t *mult, uint32_t *shift,
+			 const struct tkc_counter *counter)
+{
+	*bits = counter->tkc_private[0];
+	*mult = counter->tkc_private[1];
+	*shift = counter->tkc_private[2];
+}
+
+static struct model open_model(const struct tkc_counter *counter)
+{
+	struct model model;
+
+	model_open(&model, counter->tkc_private[0], counter->tkc_private[1],
+		   counter->tkc_private[2]);
+	return model;
+}
+
+/* Stores a model of a counter of these bits as clocks. */
+static void put(struct tkc_clock *out, const struct model *model, uint32_t bits)
+{
+	struct clock_of clock;
+
+	memset(&clock, 0, sizeof(clock));
+	model_words(model, clock.words);
+	clock.frequency = model->frequency;
+	clock.tick = model->tick;
+	clock.mult = model->mult;
+	clock.bits = (uint8_t)bits;
+	clock.shift = (uint8_t)model->shift;
+	memcpy(out, &clock, sizeof(clock));
+}
+
+enum tkc_code tkc_clock_open(struct tkc_clock *out, const struct tkc_counter *counter,
+			     uint64_t reading, int64_t sec, uint32_t nsec)
+{
+	struct model model = open_model(counter);
+
+	if (reading > model.mask || sec < 0 || sec > 8277292035 || nsec > 999999999)
+		return TKC_INVALID;
+	model.last = reading;
+	model.real = sec * NANOS + nsec;
+	put(out, &model, counter->tkc_private[0]);
+	return TKC_OK;
+}
+
+enum tkc_code tkc_clock_apply(struct tkc_clock *clock, uint64_t reading, uint32_t command,
+			      int64_t number, uint32_t nsec)
+{
+	struct clock_of of;
+	struct model model;
+	uint32_t code;
+
+	memcpy(&of, clock, sizeof(of));
+	model_open(&model, of.bits, of.mult, of.shift);
+	model_from_words(&model, of.words);
+	model.frequency = of.frequency;
+	model.tick = of.tick;
+	code = model_apply(&model, reading, command, number, nsec);
+	if (!code)
+		put(clock, &model, of.bits);
+	return code;
+}
+
+void tkc_clock_snapshot(struct tkc_snapshot *out, const struct tkc_clock *clock)
+{
+	struct snapshot_of snapshot;
+	struct clock_of of;
+
+	memcpy(&of, clock, sizeof(of));
+	memset(&snapshot, 0, sizeof(snapshot));
+	memcpy(snapshot.words, of.words, sizeof(of.words));
+	snapshot.mult = of.mult;
+	snapshot.bits = of.bits;
+	snapshot.shift = of.shift;
+	memcpy(out, &snapshot, sizeof(snapshot));
+}
+
+/* Reads a clock, or stores its time at a reading that it returns a refusal for too. The multiplier
+ * of a snapshot is that of its words, which may be of no frequency and tick. So the model is moved
+ * as its words say, and then read at its own last reading. */
+static uint32_t get(const struct tkc_snapshot *snapshot, uint32_t clock, uint64_t reading, i128 *time)
+{
+	bool is_coarse = clock == TKC_CLOCK_REALTIME_COARSE || clock == TKC_CLOCK_MONOTONIC_COARSE;
+	struct snapshot_of of;
+	struct model model;
+	uint64_t gap;
+
+	memcpy(&of, snapshot, sizeof(of));
+	model_open(&model, of.bits, of.mult, of.shift);
+	model_from_words(&model, of.words);
+	gap = (reading - model.last) & model.mask;
+	if (reading <= model.mask && !is_coarse && !model.asleep && gap <= model.mask / 2) {
+		model.mono += (u128)gap * of.words[2];
+		model.raw += (u128)gap * of.mult;
+	}
+	model.last = reading;
+	return model_get(&model, clock, reading, time);
+}
+
+enum tkc_code tkc_snapshot_get(struct tkc_time *out, const struct tkc_snapshot *snapshot,
+			       uint32_t clock, uint64_t reading)
+{
+	i128 time;
+	uint32_t code = get(snapshot, clock, reading, &time);
+
+	if (!code)
+		*out = (struct tkc_time){ (int64_t)(time / NANOS), (uint32_t)(time % NANOS), 0 };
+	return code;
+}
+
+enum tkc_code tkc_snapshot_reading(uint64_t *out, const struct tkc_snapshot *snapshot,
+				   uint32_t clock, int64_t sec, uint32_t nsec)
+{
+	i128 wanted = sec * NANOS + nsec, time;
+	uint64_t least = 0, most, mask, last;
+	struct snapshot_of of;
+
+	memcpy(&of, snapshot, sizeof(of));
+	mask = UINT64_MAX >> (64 - of.bits);
+	last = of.words[1];
+	most = mask / 2;
+	if (get(snapshot, clock, last, &time) == TKC_BAD_CLOCK)
+		return TKC_BAD_CLOCK;
+	get(snapshot, clock, (last + most) & mask, &time);
+	if (time < wanted)
+		return TKC_NOT_REACHED;
+	while (least < most) {
+		uint64_t middle = least + (most - least) / 2;
+
+		get(snapshot, clock, (last + middle) & mask, &time);
+		if (time >= wanted)
+			most = middle;
+		else
+			least = middle + 1;
+	}
+	if (get(snapshot, clock, (last + least) & mask, &time))
+		return TKC_NOT_REACHED;
+	*out = (last + least) & mask;
+	return TKC_OK;
+}
+
+enum tkc_code tkc_snapshot_convert(uint64_t *out, size_t room, size_t *done,
+				   const struct tkc_snapshot *snapshot, uint32_t clock,
+				   const uint64_t *stamps, size_t count)
+{
+	uint32_t code;
+	i128 time;
+
+	if (get(snapshot, clock, 0, &time) == TKC_BAD_CLOCK)
+		return TKC_BAD_CLOCK;
+	if (room < count)
+		return TKC_BAD_ROOM;
+	for (*done = 0; *done < count; ++*done) {
+		code = get(snapshot, clock, stamps[*done], &time);
+		if (code)
+			return code;
+		out[*done] = (uint64_t)time;
+	}
+	return TKC_OK;
+}
+
+void tkc_snapshot_words(uint64_t words[TKC_WORDS], const struct tkc_snapshot *snapshot)
+{
+	memcpy(words, snapshot, TKC_WORDS * sizeof(*words));
+}
+
+enum tkc_code tkc_snapshot_from_words(struct tkc_snapshot *out, const struct tkc_counter *counter,
+				      const uint64_t words[TKC_WORDS])
+{
+	struct model model = open_model(counter);
+	struct snapshot_of snapshot;
+
+	if (!model_from_words(&model, words))
+		return TKC_BAD_WORDS;
+	memset(&snapshot, 0, sizeof(snapshot));
+	memcpy(snapshot.words, words, sizeof(snapshot.words));
+	snapshot.mult = model.mult;
+	snapshot.bits = (uint8_t)counter->tkc_private[0];
+	snapshot.shift = (uint8_t)model.shift;
+	memcpy(out, &snapshot, sizeof(snapshot));
+	return TKC_OK;
+}
+
+void tkc_clock_words(uint64_t words[TKC_WORDS], int64_t *frequency, int64_t *tick,
+		     const struct tkc_clock *clock)
+{
+	struct clock_of of;
+
+	memcpy(&of, clock, sizeof(of));
+	memcpy(words, of.words, sizeof(of.words));
+	*frequency = of.frequency;
+	*tick = of.tick;
+}
+
+enum tkc_code tkc_clock_from_words(struct tkc_clock *out, const struct tkc_counter *counter,
+				   const uint64_t words[TKC_WORDS], int64_t frequency, int64_t tick)
+{
+	struct model model = open_model(counter);
+
+	if (!model_from_words(&model, words))
+		return TKC_BAD_WORDS;
+	model.frequency = frequency;
+	model.tick = tick;
+	if (!model_is_running(&model, words))
+		return TKC_BAD_WORDS;
+	put(out, &model, counter->tkc_private[0]);
+	return TKC_OK;
+}
