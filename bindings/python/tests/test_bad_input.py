@@ -1,8 +1,10 @@
 # SPDX-License-Identifier: MIT OR Apache-2.0
 """Bad buffers, numbers out of range, other versions, and random arguments: each gives an exception of
 this package with the value and its range, and no crash."""
+import copy
 import mmap
 import os
+import pickle
 import shutil
 import subprocess
 import sys
@@ -94,6 +96,12 @@ class Buffers(unittest.TestCase):
         room = numpy.zeros(4, "datetime64[ns]")
         self.snapshot.convert_datetime64(stamps, ClockId.REALTIME, room)
         self.assertEqual(room.tolist(), dates.tolist())
+        self.assertEqual(list(self.convert(numpy.uint64(9100))), [7100])
+        self.assertEqual(self.convert(numpy.array(9100, numpy.uint64)).tolist(), 7100)
+        for bad in (numpy.uint64(2**32), numpy.array(2**32, numpy.uint64)):
+            with self.assertRaises(tkcore.Invalid):
+                self.convert(bad)
+        self.assertEqual(self.convert(numpy.empty((0, 3), numpy.uint64)).shape, (0, 3))
         frozen = numpy.zeros(4, numpy.uint64)
         frozen.flags.writeable = False
         grid = numpy.array([[1, 2], [3, 4]], numpy.uint64)
@@ -256,6 +264,29 @@ class Pages(unittest.TestCase):
         for call in (page.read, page.begin, page.clock):
             with self.assertRaises(ValueError):
                 call()
+
+    def test_a_page_that_is_closed_amid_a_read(self):
+        page = tkcore.Page.create(opened())
+        left = [2]
+
+        def read_counter():
+            page.close()
+            left[0] -= 1
+            if left[0]:
+                raise KeyError  # (the mapping is still there for the code in C)
+            return 5
+
+        with self.assertRaises(KeyError):
+            page.look(read_counter)
+        page = tkcore.Page.create(opened())
+        snapshot, _ = page.look(lambda: page.close() or 5)
+        self.assertEqual(snapshot, opened().snapshot())
+
+    def test_no_copy(self):
+        page = tkcore.Page.create(opened())
+        for call in (copy.copy, copy.deepcopy, pickle.dumps):
+            with self.assertRaises(TypeError):
+                call(page)
 
     def test_a_counter_that_raises(self):
         page = tkcore.Page.create(opened())

@@ -116,6 +116,21 @@ class Reads(unittest.TestCase):
                              [monotonic(it) for it in cycles])
 
 
+    def test_the_limit_at_each_place_of_a_list(self):
+        limit = 946_080_000 * NANOS
+        for mult, shift in rows("worked_far_lists.c", "rates"):
+            clock = tkcore.Clock(tkcore.Counter(64, mult, shift), 0, 0)
+            past = -(-(limit << shift) // mult)  # the first reading whose time is at the limit
+            for place in range(24):
+                stamps = array("Q", [past + ((it - place) << 23) for it in range(24)])
+                times = array("Q", [7] * 24)
+                with self.assertRaises(tkcore.Range) as raised:
+                    clock.snapshot().convert(stamps, tkcore.ClockId.MONOTONIC, times)
+                self.assertEqual(raised.exception.done, place)
+                self.assertEqual(list(times), [it * mult >> shift for it in stamps[:place]]
+                                 + [7] * (24 - place))
+
+
 class Readings(unittest.TestCase):
     def test_of_reads(self):
         snapshot = commanded().snapshot()

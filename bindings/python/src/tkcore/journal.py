@@ -12,7 +12,7 @@ from ._buffers import numbers
 from ._library import NANOS
 from .clock import Clock
 from .counter import Counter
-from .errors import Invalid
+from .errors import BadBuffer, Invalid
 from .snapshot import Snapshot
 
 # The method of each record of a command, and how its fields after the reading make the argument.
@@ -105,6 +105,8 @@ class Journal:
         """
         with numbers(stamps, "stamps", False) as source, numbers(out, "out", True) as target:
             given, times = source.view, target.view
+            if given.ndim != 1 or times.ndim != 1:
+                raise BadBuffer("the number of dimensions", max(given.ndim, times.ndim), (1, 1))
             _check_sorted(stamps, given)
             if len(given):
                 self.snapshot_at(given[0])

@@ -52,7 +52,7 @@ class _Shared:
         """Returns the page or the latch that the buffer contains. A reader's memory may be read-only.
 
         The buffer is at least SIZE bytes, aligned to 8 bytes: an mmap, or the `buf` of a
-        SharedMemory. It can't be closed before `close`.
+        SharedMemory. It can't be closed before `close`. No process may shorten a mapped file.
 
         Raises BadBuffer; BadLayout if the buffer contains none of this layout; and BadBits to
         BadAdjust if its counter is none.
@@ -102,8 +102,7 @@ class _Shared:
                 failed.append(error)
                 return 0
 
-        found = self._look(ReadCounter(read), timeout, failed)
-        return found
+        return self._look(ReadCounter(read), timeout, failed)
 
     def now(self, clock: int, read_counter: Callable[[], int],
             timeout: Optional[float] = None) -> int:
@@ -115,17 +114,22 @@ class _Shared:
               failed: Optional[List[BaseException]] = None) -> Tuple[Snapshot, int]:
         value, reading = SnapshotValue(), c_uint64()
         end = None if timeout is None else _time.monotonic() + timeout
-        while True:
-            code = self._calls[1](self._there(), _TRIES, reader, byref(value), byref(reading))
-            if failed:
-                raise failed[0]
-            if code != Busy.code:
-                break
-            if end is not None and _time.monotonic() >= end:
-                raise Busy("a writer was inside at each try")
-            _time.sleep(0)
+        at = self._there()
+        with memoryview(self._memory.view):  # the memory stays, also if `close` is called meanwhile
+            while True:
+                code = self._calls[1](at, _TRIES, reader, byref(value), byref(reading))
+                if failed:
+                    raise failed[0]
+                if code != Busy.code:
+                    break
+                if end is not None and _time.monotonic() >= end:
+                    raise Busy("a writer was inside at each try")
+                _time.sleep(0)
         raise_code(code, "something else than a writer wrote this memory")
         return Snapshot._of_value(value, self.counter), reading.value
+
+    def __reduce__(self) -> Any:
+        raise TypeError(f"a {type(self).__name__.lower()} is neither copied nor pickled: attach to it")
 
     def _there(self) -> int:
         if not self._at:
