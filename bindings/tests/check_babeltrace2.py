@@ -1,8 +1,8 @@
 #!/usr/bin/env python3
 # SPDX-License-Identifier: MIT OR Apache-2.0
-"""Writes the stored trace of perf as CTF, and compares the times that babeltrace2 prints for it by the
-plugin of examples/babeltrace2 with those of the definitions, across a step, a frequency, a tick and a
-setting of the clocks.
+"""Writes the stored trace of perf as CTF, and compares the times that babeltrace2 prints for it by
+the plugin of examples/babeltrace2 with those of the definitions, across a step, a frequency, a tick
+and a setting of the clocks.
 
 It needs babeltrace2 and bt2 (Debian's babeltrace2 and python3-bt2).
 """

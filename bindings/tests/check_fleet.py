@@ -1,7 +1,7 @@
 #!/usr/bin/env python3
 # SPDX-License-Identifier: MIT OR Apache-2.0
-"""Makes a small fleet, and its table in one process and by Dask's workers, one of which is killed amid
-the work. Both tables must be the same, and a sample of the times those of the definitions.
+"""Makes a small fleet, and its table in one process and by Dask's workers, one of which is killed
+amid the work. Both tables must be the same, and a sample of the times those of the definitions.
 
 It needs numpy and distributed (Debian's python3-distributed).
 """

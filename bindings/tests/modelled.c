@@ -1,7 +1,8 @@
 /* SPDX-License-Identifier: MIT OR Apache-2.0 */
 /*
  * The calls of tkcore.h by the model of tests/c. A package that is linked with it instead of the
- * library runs over C code that a sanitizer instruments, so that a wrong pointer or length is found.
+ * library runs over C code that a sanitizer instruments, so that a wrong pointer or length is
+ * found.
  */
 #include "model.h"
 
@@ -141,7 +142,8 @@ void tkc_clock_snapshot(struct tkc_snapshot *out, const struct tkc_clock *clock)
 /* Reads a clock, or stores its time at a reading that it returns a refusal for too. The multiplier
  * of a snapshot is that of its words, which may be of no frequency and tick. So the model is moved
  * as its words say, and then read at its own last reading. */
-static uint32_t get(const struct tkc_snapshot *snapshot, uint32_t clock, uint64_t reading, i128 *time)
+static uint32_t get(const struct tkc_snapshot *snapshot, uint32_t clock, uint64_t reading,
+		    i128 *time)
 {
 	bool is_coarse = clock == TKC_CLOCK_REALTIME_COARSE || clock == TKC_CLOCK_MONOTONIC_COARSE;
 	struct snapshot_of of;

@@ -12,8 +12,9 @@
  * the writer has ended. The counter has 1 ns a cycle, and moves by 10^6 cycles four times for each
  * command. Command n sets the TAI offset to n mod 100001 s if n is odd, and otherwise the frequency
  * to n * 997 mod 32768000, negative if n is a multiple of 4. So a reader can compute the words of
- * each snapshot. MONOTONIC of the page must never go back. The writer pauses after each 256 commands,
- * so that the reader runs on a busy machine too, and ends in any case after 100 times COMMANDS.
+ * each snapshot. MONOTONIC of the page must never go back. The writer pauses after each 256
+ * commands, so that the reader runs on a busy machine too, and ends in any case after 100 times
+ * COMMANDS.
  */
 #include <fcntl.h>
 #include <inttypes.h>

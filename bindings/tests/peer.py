@@ -73,7 +73,8 @@ def attached(make, memory):
 def read(name):
     page_memory, latch_memory, words = mapped(name, False)
     print("ready", flush=True)
-    page, latch = attached(tkcore.Page.attach, page_memory), attached(tkcore.Latch.attach, latch_memory)
+    page = attached(tkcore.Page.attach, page_memory)
+    latch = attached(tkcore.Latch.attach, latch_memory)
     reads, fronts, last, before, ended = 0, 0, 0, 0, 0
     while not ended:
         ended = words[1]

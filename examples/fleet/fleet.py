@@ -4,15 +4,15 @@
 
     fleet.py [--workers N | --scheduler ADDRESS] FOLDER TABLE
 
-FOLDER contains the files of make.py. TABLE becomes a folder with the files 00000.npy, 00001.npy, ..:
-rows of TAI in ns, the number of the machine, and the event. All rows of a file are before those of
-the next one. N is the number of processes on this machine, 2 if it isn't given; 0 converts in this
-process without Dask. With ADDRESS, the workers of that scheduler must see both folders.
+FOLDER contains the files of make.py. TABLE becomes a folder with the files 00000.npy, 00001.npy,
+..: rows of TAI in ns, the number of the machine, and the event. All rows of a file are before those
+of the next one. N is the number of processes on this machine, 2 if it isn't given; 0 converts in
+this process without Dask. With ADDRESS, the workers of that scheduler must see both folders.
 
-One machine's stamps are one task, and one file of the table is another. A task writes its file under
-another name first, and returns only a few numbers. So Dask can repeat the tasks of a worker that
-died, and nothing is lost. The program prints the greatest disagreement between machines that saw the
-same event: by the clocks as they were opened, and by the journals.
+One machine's stamps are one task, and one file of the table is another. A task writes its file
+under another name first, and returns only a few numbers. So Dask can repeat the tasks of a worker
+that died, and nothing is lost. The program prints the greatest disagreement between machines that
+saw the same event: by the clocks as they were opened, and by the journals.
 """
 import argparse
 import os
@@ -108,7 +108,9 @@ def map_by(client, show=None):
 
 
 def run_by_dask(words):
-    from distributed import Client, LocalCluster, progress  # pylint: disable=import-outside-toplevel
+    # (`--workers 0` needs no Dask)
+    # pylint: disable-next=import-outside-toplevel
+    from distributed import Client, LocalCluster, progress
     cluster = words.scheduler or LocalCluster(n_workers=words.workers, threads_per_worker=1,
                                               dashboard_address=None)
     with Client(cluster) as client:

@@ -6,8 +6,8 @@
 
 For each machine, FOLDER contains three files:
 
-- NAME.csv       the script of its clocks: a counter of 24 MHz, the steps and the frequencies that it
-                 got from a reference every 64 s, and a leap second
+- NAME.csv       the script of its clocks: a counter of 24 MHz, the steps and the frequencies that
+                 it got from a reference every 64 s, and a leap second
 - NAME.stamps.npy
                  its counter's readings at STAMPS events of an hour, ascending, as uint64
 - NAME.events.npy
@@ -30,7 +30,8 @@ SEEN_BY_ALL = 100
 
 
 class Machine:
-    """An oscillator, and the records of its clocks. Times are in ns since STARTED, without leaps."""
+    """An oscillator, and the records of its clocks. Times are in ns since STARTED, without
+    leaps."""
 
     def __init__(self, rng):
         self.rate = HZ / NANOS * (1 + rng.uniform(-50e-6, 50e-6))
@@ -68,7 +69,8 @@ class Machine:
 
 
 def times_of(rng, stamps):
-    """Returns the times of a machine's events, and the number of each event that all machines saw."""
+    """Returns the times of a machine's events, and the number of each event that all machines
+    saw."""
     shared = numpy.linspace(POLL, HOUR, SEEN_BY_ALL, endpoint=False)
     own = rng.uniform(0, HOUR, max(stamps - SEEN_BY_ALL, 0))
     times = numpy.concatenate([shared, own])

@@ -1,5 +1,6 @@
 # SPDX-License-Identifier: MIT OR Apache-2.0
-"""What the tests of the package share: the tables of tests/c, and the clocks that they begin with."""
+"""What the tests of the package share: the tables of tests/c, and the clocks that they begin
+with."""
 import ast
 import os
 import random
@@ -29,8 +30,9 @@ def rows(file, table):
     body = re.search(rf"\b{table}(?:\[\])? = (\{{.*?\n\t*\}});", text, re.S).group(1)
     body = re.sub(r"\.\w+ = ", "", body).replace("{", "(").replace("}", ",)")
     body = re.sub(r",(\s*,)+", ",", body)
-    named = re.sub(r"\b(?:TKC_)?([A-Za-z_]\w*)", lambda word: repr(NAMES.get(word[1], word[1])), body)
-    return ast.literal_eval(re.sub(r"(\d+) \* (\d+)", lambda it: str(int(it[1]) * int(it[2])), named))
+    body = re.sub(r"\b(?:TKC_)?([A-Za-z_]\w*)", lambda it: repr(NAMES.get(it[1], it[1])), body)
+    body = re.sub(r"(\d+) \* (\d+)", lambda it: str(int(it[1]) * int(it[2])), body)
+    return ast.literal_eval(body)
 
 
 def exception(code):

@@ -1,10 +1,7 @@
 # SPDX-License-Identifier: MIT OR Apache-2.0
-"""Bad buffers, numbers out of range, other versions, and random arguments: each gives an exception of
-this package with the value and its range, and no crash."""
-import copy
-import mmap
+"""Bad buffers, numbers out of range, other versions, and random arguments: each gives an exception
+of this package with the value and its range, and no crash."""
 import os
-import pickle
 import shutil
 import subprocess
 import sys
@@ -16,7 +13,7 @@ from array import array
 from pathlib import Path
 
 import tkcore
-from support import CALLS, commanded, nanosecond_counter, opened, seeded
+from support import CALLS, commanded, opened, seeded
 from tkcore import ClockId
 
 try:
@@ -59,7 +56,8 @@ class Buffers(unittest.TestCase):
                     self.convert(STAMPS, stamps)
 
     def test_no_read_only_memory_is_written(self):
-        for out in (memoryview(STAMPS.tobytes()).cast("Q"), memoryview(array("Q", [1, 2, 3])).toreadonly()):
+        for out in (memoryview(STAMPS.tobytes()).cast("Q"),
+                    memoryview(array("Q", [1, 2, 3])).toreadonly()):
             with self.assertRaisesRegex(tkcore.BadBuffer, "read-only"):
                 self.convert(STAMPS, out)
 
@@ -173,7 +171,8 @@ class Numbers(unittest.TestCase):
                 clock.update(other)
 
     def test_random_arguments(self):
-        rng, edges = seeded(), [-1, 0, 1, 7, 2**31, 2**32, 2**63 - 1, 2**63, 2**64 - 1, 2**64, 10**30]
+        rng = seeded()
+        edges = [-1, 0, 1, 7, 2**31, 2**32, 2**63 - 1, 2**63, 2**64 - 1, 2**64, 10**30]
 
         def some():
             return rng.choice([rng.choice(edges), rng.randrange(20), rng.randrange(2**32),
@@ -202,100 +201,6 @@ class Numbers(unittest.TestCase):
                 refused += 1
         self.assertLess(refused, CALLS)
         print(f"\n{CALLS} random calls: {refused} were refused, all by an exception of the package")
-
-
-class Pages(unittest.TestCase):
-    def test_memory(self):
-        clock = opened()
-        for make in (lambda memory: tkcore.Page.create(clock, memory), tkcore.Page.attach,
-                     lambda memory: tkcore.Latch.create(clock.snapshot(), memory), tkcore.Latch.attach):
-            for memory in (bytearray(100), b"", 5, memoryview(bytearray(512))[::2]):
-                with self.assertRaises(tkcore.BadBuffer):
-                    make(memory)
-            with self.assertRaises(tkcore.BadBuffer):
-                make(memoryview(mmap.mmap(-1, 512))[4:])
-        with self.assertRaises(tkcore.BadBuffer):
-            tkcore.Page.create(clock, bytes(512))
-
-    def test_another_layout(self):
-        memory = mmap.mmap(-1, 512)
-        with self.assertRaises(tkcore.BadLayout):
-            tkcore.Page.attach(memory)
-        tkcore.Page.create(opened(), memory).close()
-        with self.assertRaises(tkcore.BadLayout):
-            tkcore.Latch.attach(memory)
-        memory[0] += 1  # the number of the layout
-        with self.assertRaises(tkcore.BadLayout):
-            tkcore.Page.attach(memory)
-
-    def test_words_of_no_writer(self):
-        memory = mmap.mmap(-1, 512)
-        page = tkcore.Page.create(opened(), memory)
-        memory[16:16 + 80] = b"\xff" * 80
-        with self.assertRaises(tkcore.BadWords):
-            page.read()
-        memory[208:212] = bytes(4)  # the bits of the counter
-        with self.assertRaises(tkcore.BadBits):
-            tkcore.Page.attach(memory)
-
-    def test_random_memory(self):
-        rng = seeded()
-        memory = mmap.mmap(-1, tkcore.Page.SIZE)
-        page = tkcore.Page.create(opened(), memory)
-        for _ in range(CALLS // 10):
-            start = rng.randrange(16, tkcore.Page.SIZE)
-            memory[start] = rng.randrange(256)
-            for call in (page.read, page.clock, lambda: tkcore.Page.attach(memory)):
-                try:
-                    call()
-                except tkcore.Error:
-                    pass
-
-    def test_clocks_of_another_counter(self):
-        page = tkcore.Page.create(opened())
-        other = tkcore.Clock(tkcore.Counter(33, 16_777_216, 24), 0, 0)
-        for call in (page.publish, page.recover):
-            with self.assertRaises(tkcore.OtherCounter):
-                call(other)
-
-    def test_a_closed_page(self):
-        with tkcore.Page.create(opened()) as page:
-            pass
-        for call in (page.read, page.begin, page.clock):
-            with self.assertRaises(ValueError):
-                call()
-
-    def test_a_page_that_is_closed_amid_a_read(self):
-        page = tkcore.Page.create(opened())
-        left = [2]
-
-        def read_counter():
-            page.close()
-            left[0] -= 1
-            if left[0]:
-                raise KeyError  # (the mapping is still there for the code in C)
-            return 5
-
-        with self.assertRaises(KeyError):
-            page.look(read_counter)
-        page = tkcore.Page.create(opened())
-        snapshot, _ = page.look(lambda: page.close() or 5)
-        self.assertEqual(snapshot, opened().snapshot())
-
-    def test_no_copy(self):
-        page = tkcore.Page.create(opened())
-        for call in (copy.copy, copy.deepcopy, pickle.dumps):
-            with self.assertRaises(TypeError):
-                call(page)
-
-    def test_a_counter_that_raises(self):
-        page = tkcore.Page.create(opened())
-        with self.assertRaises(ZeroDivisionError):
-            page.look(lambda: 1 // 0)
-        for reading, error in ((-1, tkcore.Error), (2**64, tkcore.Error), (2**32, tkcore.Invalid),
-                               ("5", TypeError)):
-            with self.assertRaises(error):
-                page.now(ClockId.TAI, lambda: reading)
 
 
 class Versions(unittest.TestCase):

@@ -23,12 +23,14 @@ class Scripts(unittest.TestCase):
             wanted = sorted(map(int, model.trace(clock, script, items)))
             times = journal.convert(stamps, ClockId[clock.upper()], array("Q", stamps))
             self.assertEqual(sorted(times), wanted)
-            self.assertEqual([journal.get(it, ClockId[clock.upper()]) for it in stamps], list(times))
+            reads = [journal.get(stamp, ClockId[clock.upper()]) for stamp in stamps]
+            self.assertEqual(reads, list(times))
 
     def test_a_stamp_at_a_command_comes_after_it(self):
         journal = Journal.from_script(SCRIPT)
         self.assertEqual(list(journal.readings), [100, 200, 300, 400, 500])
-        for reading, front in ((100, 0), (199, 0), (200, 1), (299, 1), (300, 2), (499, 3), (500, 4)):
+        for reading, front in ((100, 0), (199, 0), (200, 1), (299, 1), (300, 2), (499, 3),
+                               (500, 4)):
             self.assertEqual(journal.snapshot_at(reading).words()[0], front)
 
     def test_what_is_no_script(self):

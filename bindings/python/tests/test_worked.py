@@ -5,7 +5,8 @@ import unittest
 from array import array
 
 import tkcore
-from support import clock_id, command, commanded, nanosecond_counter, opened, opened_wide, raises, rows
+from support import (clock_id, command, commanded, nanosecond_counter, opened, opened_wide, raises,
+                     rows)
 from tkcore import NANOS
 
 OPENED = rows("worked_commands.c", "OPENED")
@@ -72,7 +73,8 @@ class Commands(unittest.TestCase):
 
     def test_counted(self):
         words, frequency, tick = opened().words()
-        clock = tkcore.Clock.from_words(nanosecond_counter(), (2**63 - 2, *words[1:]), frequency, tick)
+        words = (2**63 - 2, *words[1:])
+        clock = tkcore.Clock.from_words(nanosecond_counter(), words, frequency, tick)
         self.try_all(clock, "counted_commands")
         self.assertEqual(clock.words()[0][0], 2**63 - 1)
 
@@ -147,7 +149,8 @@ class Readings(unittest.TestCase):
     def test_missed(self):
         asleep = commanded()
         asleep.suspend(10_000)
-        clocks = {"COMMANDED_CLOCKS": commanded(), "WIDE_CLOCKS": opened_wide(), "ASLEEP_CLOCKS": asleep}
+        clocks = {"COMMANDED_CLOCKS": commanded(), "WIDE_CLOCKS": opened_wide(),
+                  "ASLEEP_CLOCKS": asleep}
         for of, word, sec, nsec, code in rows("worked_readings.c", "missed_times"):
             raises(self, code,
                    lambda: clocks[of].snapshot().reading_at(nanos(sec, nsec), clock_id(word)))

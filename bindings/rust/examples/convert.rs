@@ -1,8 +1,8 @@
 // SPDX-License-Identifier: MIT OR Apache-2.0
 //! Converts a million stamps of a tracer into REALTIME, as examples/c/convert.c does.
 //!
-//! The clocks were steered and stepped before. One call converts all stamps, and a second call stops
-//! at a stamp that the counter can't show.
+//! The clocks were steered and stepped before. One call converts all stamps, and a second call
+//! stops at a stamp that the counter can't show.
 
 use tkcore::{Clock, ClockId, Command, Counter, Timespec};
 

@@ -32,6 +32,10 @@ const LATCH: usize = 32;
 const CYCLES: usize = 64;
 const ENDED: usize = 65;
 
+const PROT_READ: i32 = 1;
+const PROT_WRITE: i32 = 2;
+const MAP_SHARED: i32 = 1;
+
 extern "C" {
     fn mmap(
         at: *mut c_void,
@@ -46,10 +50,11 @@ extern "C" {
 /// Maps the file, for reads or also for writes.
 fn mapped(name: &str, is_written: bool) -> Result<&'static [AtomicU64], Box<dyn Error>> {
     let file = File::options().read(true).write(is_written).open(name)?;
-    let access = if is_written { 3 } else { 1 }; // PROT_READ | PROT_WRITE, PROT_READ
-                                                 // SAFETY: the file is open, and the mapping (MAP_SHARED) is never removed.
-    let memory =
-        unsafe { mmap(std::ptr::null_mut(), SIZE, access, 1, file.as_raw_fd(), 0) }.cast::<u8>();
+    let access = if is_written { PROT_READ | PROT_WRITE } else { PROT_READ };
+    let file = file.as_raw_fd();
+    // SAFETY: the file is open, and the mapping is never removed.
+    let memory = unsafe { mmap(std::ptr::null_mut(), SIZE, access, MAP_SHARED, file, 0) };
+    let memory = memory.cast::<u8>();
     if memory as usize == usize::MAX {
         return Err("the file can't be mapped".into());
     }

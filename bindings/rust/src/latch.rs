@@ -15,8 +15,8 @@ pub const LATCH_WORDS: usize = size_in_words(WORDS);
 /// A latch: two copies of a snapshot, one of which is always whole (`struct tkc_latch` of
 /// tkcore_page.h).
 ///
-/// A reader never waits for a writer that it interrupted, so a signal handler may read it. MONOTONIC
-/// may go back by the change of the rate times the time since the writer's reading.
+/// A reader never waits for a writer that it interrupted, so a signal handler may read it.
+/// MONOTONIC may go back by the change of the rate times the time since the writer's reading.
 ///
 /// The copy to read is `sequence & 1`. The steps are those of the header:
 ///

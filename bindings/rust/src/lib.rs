@@ -1,10 +1,10 @@
 // SPDX-License-Identifier: MIT OR Apache-2.0
 //! The timekeeping core of the Linux kernel: clocks from the readings of a counter.
 //!
-//! A [`Counter`] describes a cycle counter, a [`Clock`] runs its clocks, and a [`Snapshot`] converts
-//! readings into times. A [`Page`] and a [`Latch`] publish snapshots to readers without a lock, in
-//! threads and in other processes. The clocks are those of the C library, which is proved; this
-//! crate is not.
+//! A [`Counter`] describes a cycle counter, a [`Clock`] runs its clocks, and a [`Snapshot`]
+//! converts readings into times. A [`Page`] and a [`Latch`] publish snapshots to readers without a
+//! lock, in threads and in other processes. The clocks are those of the C library, which is proved;
+//! this crate is not.
 //!
 //! ```
 //! use tkcore::{Clock, ClockId, Command, Counter, Refusal, Timespec};

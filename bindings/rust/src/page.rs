@@ -59,7 +59,8 @@ fn with_rate(words: &[u64; WORDS], frequency: i64, tick: i64) -> [u64; COPY] {
     copy
 }
 
-/// A page, which publishes snapshots to readers without a lock (`struct tkc_page` of tkcore_page.h).
+/// A page, which publishes snapshots to readers without a lock (`struct tkc_page` of
+/// tkcore_page.h).
 ///
 /// MONOTONIC never goes back for any reader, if the clocks get a command at least once in each half
 /// of the counter's range, and the writer reads the counter after [`begin`](Page::begin). A reader
@@ -100,8 +101,8 @@ pub struct Page<'a> {
 }
 
 impl<'a> Page<'a> {
-    /// Makes a page with its first clocks or its first snapshot in the first [`PAGE_WORDS`] words of
-    /// this memory. Its layout is 0 until all else is stored.
+    /// Makes a page with its first clocks or its first snapshot in the first [`PAGE_WORDS`] words
+    /// of this memory. Its layout is 0 until all else is stored.
     ///
     /// # Errors
     ///
@@ -113,13 +114,13 @@ impl<'a> Page<'a> {
         Ok(Page { shared, counter })
     }
 
-    /// Returns the page that this memory contains. See [`shared_words`](crate::shared_words) for the
-    /// memory of another process.
+    /// Returns the page that this memory contains. See [`shared_words`](crate::shared_words) for
+    /// the memory of another process.
     ///
     /// # Errors
     ///
-    /// `BadMemory` if there are fewer words than [`PAGE_WORDS`]; `BadLayout` if they contain no page
-    /// of this layout; `BadBits` to `BadAdjust` if its counter is none.
+    /// `BadMemory` if there are fewer words than [`PAGE_WORDS`]; `BadLayout` if they contain no
+    /// page of this layout; `BadBits` to `BadAdjust` if its counter is none.
     pub fn attach(memory: &'a [AtomicU64]) -> Result<Page<'a>, Refusal> {
         let shared = Shared::over(memory)?;
         let counter = shared.attach(LAYOUT)?;

@@ -1,7 +1,7 @@
 // SPDX-License-Identifier: MIT OR Apache-2.0
 //! The words that a page and a latch have in common: the layout, the sequence, two copies of words,
-//! and the numbers of the counter. Loads are relaxed, followed by a fence where tkcore_page.h has an
-//! acquire load, because read-only memory may be loaded only so.
+//! and the numbers of the counter. Loads are relaxed, followed by a fence where tkcore_page.h has
+//! an acquire load, because read-only memory may be loaded only so.
 
 use core::sync::atomic::Ordering::{Acquire, Relaxed, Release};
 use core::sync::atomic::{fence, AtomicU64, Ordering};
@@ -82,8 +82,8 @@ impl<'a, const N: usize> Shared<'a, N> {
         self.sequence.load(Relaxed) != sequence
     }
 
-    /// Loads the first words of the copy `copy % 2`. (The words aren't returned, because moving them
-    /// at once after they were stored one by one would stall the processor.)
+    /// Loads the first words of the copy `copy % 2`. (The words aren't returned, because moving
+    /// them at once after they were stored one by one would stall the processor.)
     #[inline]
     pub(crate) fn load<const M: usize>(&self, copy: u64, words: &mut [u64; M]) {
         for (word, shared) in words.iter_mut().zip(self.copies[(copy & 1) as usize]) {

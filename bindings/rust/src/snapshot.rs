@@ -65,8 +65,8 @@ impl Snapshot {
     ///
     /// # Errors
     ///
-    /// `Invalid` if the reading is above 2^bits - 1, and then `Range` if the clock is at or past its
-    /// limit.
+    /// `Invalid` if the reading is above 2^bits - 1, and then `Range` if the clock is at or past
+    /// its limit.
     #[inline]
     pub fn get(&self, clock: ClockId, reading: u64) -> Result<Timespec, Refusal> {
         sys::snapshot_get(&self.value, clock as u32, reading).map_err(Refusal::of_code)
@@ -83,8 +83,8 @@ impl Snapshot {
         sys::snapshot_reading(&self.value, clock as u32, time).map_err(Refusal::of_code)
     }
 
-    /// Converts each stamp into a clock's time, in ns, and stores the times in the first elements of
-    /// `times`. The other elements stay as they were.
+    /// Converts each stamp into a clock's time, in ns, and stores the times in the first elements
+    /// of `times`. The other elements stay as they were.
     ///
     /// ```
     /// # use tkcore::{Clock, ClockId, Counter, Refusal, Timespec, Unconverted};

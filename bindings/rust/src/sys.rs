@@ -2,8 +2,8 @@
 //! The calls of tkcore.h, and memory that other processes may write: all of this crate's `unsafe`.
 //!
 //! The library requires that a value which is passed to a call was made by a call, that pointers
-//! are aligned and valid, and that memory it writes doesn't overlap other arguments. The values here
-//! are made only by calls, and the pointers come from references.
+//! are aligned and valid, and that memory it writes doesn't overlap other arguments. The values
+//! here are made only by calls, and the pointers come from references.
 
 use core::mem::MaybeUninit;
 use core::slice;
@@ -120,26 +120,22 @@ pub fn version() -> u32 {
     unsafe { tkc_version() }
 }
 
-#[inline]
 pub(crate) fn counter_new(bits: u32, mult: u32, shift: u32) -> Result<CounterValue, u32> {
     // SAFETY: `out` is valid for a write.
     made(|out| unsafe { tkc_counter_new(out, bits, mult, shift) })
 }
 
-#[inline]
 pub(crate) fn counter_from_hz(bits: u32, hz: u64, maxsec: u32) -> Result<CounterValue, u32> {
     // SAFETY: `out` is valid for a write.
     made(|out| unsafe { tkc_counter_from_hz(out, bits, hz, maxsec) })
 }
 
-#[inline]
 pub(crate) fn counter_from_khz(bits: u32, khz: u64, maxsec: u32) -> Result<CounterValue, u32> {
     // SAFETY: `out` is valid for a write.
     made(|out| unsafe { tkc_counter_from_khz(out, bits, khz, maxsec) })
 }
 
 /// Returns the bits, the mult and the shift.
-#[inline]
 pub(crate) fn counter_numbers(counter: &CounterValue) -> [u32; 3] {
     let (mut bits, mut mult, mut shift) = (0, 0, 0);
     // SAFETY: all four are references.
@@ -147,7 +143,6 @@ pub(crate) fn counter_numbers(counter: &CounterValue) -> [u32; 3] {
     [bits, mult, shift]
 }
 
-#[inline]
 pub(crate) fn clock_open(
     counter: &CounterValue,
     reading: u64,
@@ -209,7 +204,8 @@ pub(crate) fn snapshot_convert(
     stamps: &[u64],
 ) -> Result<(), (u32, usize)> {
     let mut done = 0;
-    // SAFETY: the slices are valid for their lengths and don't overlap, and the snapshot is a value.
+    // SAFETY: the slices are valid for their lengths and don't overlap, and the snapshot is a
+    // value.
     let code = unsafe {
         tkc_snapshot_convert(
             times.as_mut_ptr(),
@@ -227,7 +223,6 @@ pub(crate) fn snapshot_convert(
     }
 }
 
-#[inline]
 pub(crate) fn snapshot_words(snapshot: &SnapshotValue) -> [u64; WORDS] {
     let mut words = [0; WORDS];
     // SAFETY: the call writes ten words, and the snapshot is a value.
@@ -261,7 +256,6 @@ pub(crate) fn get_by_words(
     }
 }
 
-#[inline]
 pub(crate) fn clock_words(clock: &ClockValue) -> ClockWords {
     let mut found = ClockWords { words: [0; WORDS], frequency: 0, tick: 0 };
     let ClockWords { words, frequency, tick } = &mut found;
@@ -270,7 +264,6 @@ pub(crate) fn clock_words(clock: &ClockValue) -> ClockWords {
     found
 }
 
-#[inline]
 pub(crate) fn clock_from_words(
     counter: &CounterValue,
     given: &ClockWords,

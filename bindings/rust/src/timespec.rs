@@ -2,7 +2,8 @@
 
 /// A time or an amount of time: `sec * 10^9 + nsec` nanoseconds.
 ///
-/// As in the kernel's `struct timespec64`, `sec` may be negative, and `nsec` counts upwards from it.
+/// As in the kernel's `struct timespec64`, `sec` may be negative, and `nsec` counts upwards from
+/// it.
 #[repr(C)]
 #[derive(Clone, Copy, Debug, Default, PartialEq, Eq, PartialOrd, Ord, Hash)]
 pub struct Timespec {

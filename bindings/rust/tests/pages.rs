@@ -1,6 +1,6 @@
 // SPDX-License-Identifier: MIT OR Apache-2.0
-//! Pages and latches where their answers are known, and in threads. bindings/tests runs them between
-//! processes.
+//! Pages and latches where their answers are known, and in threads. bindings/tests runs them
+//! between processes.
 
 mod support;
 

@@ -21,7 +21,8 @@ class _PyBuffer(ctypes.Structure):
 
 
 _get = ctypes.pythonapi.PyObject_GetBuffer
-_get.argtypes, _get.restype = [ctypes.py_object, ctypes.POINTER(_PyBuffer), ctypes.c_int], ctypes.c_int
+_get.restype = ctypes.c_int
+_get.argtypes = [ctypes.py_object, ctypes.POINTER(_PyBuffer), ctypes.c_int]
 _release = ctypes.pythonapi.PyBuffer_Release
 _release.argtypes, _release.restype = [ctypes.POINTER(_PyBuffer)], None
 
@@ -73,7 +74,8 @@ class Memory:
 
 
 def numbers(exporter: Any, name: str, is_written: bool) -> Memory:
-    """Returns the memory of a buffer of unsigned numbers of 64 bits in this machine's byte order."""
+    """Returns the memory of a buffer of unsigned numbers of 64 bits in this machine's byte
+    order."""
     memory = Memory(exporter, name, is_written)
     layout = memory.view.format or "B"
     if memory.view.itemsize == 8 and layout[-1] in "QL" and layout[:-1] in ("", "@", "=", "<"):

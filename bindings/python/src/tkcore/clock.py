@@ -6,7 +6,8 @@ import enum
 from ctypes import byref, c_int64
 from typing import Any, Iterable, NoReturn, Tuple
 
-from ._library import (CALLS, I64, NANOS, U32, U64, ClockValue, SnapshotValue, Words, fit, raise_code)
+from ._library import (CALLS, I64, NANOS, U32, U64, ClockValue, SnapshotValue, Words, fit,
+                       raise_code)
 from .counter import Counter
 from .errors import BY_CODE, BadCommand, BadWords, Behind, Full, Invalid
 from .snapshot import Snapshot, words_of
@@ -100,8 +101,9 @@ class Clock:
         Raises, in this order: BadCommand, Full, Asleep or Awake, Invalid for a number that is out
         of its range, Behind, Range, and Invalid for a time that REALTIME may not be set to.
         """
+        readings = (0, self.counter.max_reading)
         code = CALLS.tkc_clock_apply(
-            byref(self._value), fit(reading, U64, Invalid, "reading", (0, self.counter.max_reading)),
+            byref(self._value), fit(reading, U64, Invalid, "reading", readings),
             fit(command, U32, BadCommand, "command", (0, 7)),
             fit(number, I64, Invalid, "number"), fit(nsec, U32, Invalid, "nsec", _NSECS))
         if code:

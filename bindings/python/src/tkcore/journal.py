@@ -110,7 +110,8 @@ class Journal:
             _check_sorted(stamps, given)
             if len(given):
                 self.snapshot_at(given[0])
-            bounds = [0, *(bisect_left(given, reading) for reading in self.readings[1:]), len(given)]
+            later = (bisect_left(given, reading) for reading in self.readings[1:])
+            bounds = [0, *later, len(given)]
             for snapshot, start, end in zip(self.snapshots, bounds, bounds[1:]):
                 if start < end:
                     snapshot.convert(given[start:end], clock, times[start:end])

@@ -49,7 +49,8 @@ class _Shared:
 
     @classmethod
     def attach(cls: Type[_Self], buffer: Any) -> _Self:
-        """Returns the page or the latch that the buffer contains. A reader's memory may be read-only.
+        """Returns the page or the latch that the buffer contains. A reader's memory may be
+        read-only.
 
         The buffer is at least SIZE bytes, aligned to 8 bytes: an mmap, or the `buf` of a
         SharedMemory. It can't be closed before `close`. No process may shorten a mapped file.
@@ -129,7 +130,8 @@ class _Shared:
         return Snapshot._of_value(value, self.counter), reading.value
 
     def __reduce__(self) -> Any:
-        raise TypeError(f"a {type(self).__name__.lower()} is neither copied nor pickled: attach to it")
+        name = type(self).__name__.lower()
+        raise TypeError(f"a {name} is neither copied nor pickled: attach to it")
 
     def _there(self) -> int:
         if not self._at:
@@ -149,8 +151,8 @@ class _Shared:
 
 
 class Page(_Shared):
-    """A page. MONOTONIC never goes back for any reader, if the clocks get a command at least once in
-    each half of the counter's range. A reader waits while a writer is inside.
+    """A page. MONOTONIC never goes back for any reader, if the clocks get a command at least once
+    in each half of the counter's range. A reader waits while a writer is inside.
 
     A writer reads the counter after `begin`:
 
@@ -197,8 +199,8 @@ class Page(_Shared):
     def clock(self) -> Clock:
         """Rebuilds the clocks of the last publication, for a new writer after the former one died.
 
-        Raises BadLayout; Busy if a writer published during the call; and BadWords if only a snapshot
-        was published.
+        Raises BadLayout; Busy if a writer published during the call; and BadWords if only a
+        snapshot was published.
         """
         value = ClockValue()
         raise_code(CALLS.tkcp_page_clock(self._there(), byref(value)),

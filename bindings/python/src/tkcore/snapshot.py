@@ -133,7 +133,8 @@ class Snapshot:
                 code = CALLS.tkc_snapshot_convert(target.address, target.size // 8, byref(done),
                                                   byref(self._value), clock, source.address, count)
                 if code == BadRoom.code:
-                    raise BadRoom("the number of elements of out", target.size // 8, (count, U64[1]))
+                    raise BadRoom("the number of elements of out", target.size // 8,
+                                  (count, U64[1]))
                 if code:
                     stamp = source.view.cast("B").cast("Q")[done.value] if count else None
                     raise self._refused(code, clock, stamp, "stamp", done.value)

@@ -1,0 +1,109 @@
+# SPDX-License-Identifier: MIT OR Apache-2.0
+"""Memory that is no page or no latch, and pages that are closed or written by no writer."""
+import copy
+import mmap
+import pickle
+import unittest
+
+import tkcore
+from support import CALLS, opened, seeded
+from tkcore import ClockId
+
+
+class Pages(unittest.TestCase):
+    def test_memory(self):
+        clock = opened()
+        for make in (tkcore.Page.attach, lambda memory: tkcore.Page.create(clock, memory),
+                     tkcore.Latch.attach,
+                     lambda memory: tkcore.Latch.create(clock.snapshot(), memory)):
+            for memory in (bytearray(100), b"", 5, memoryview(bytearray(512))[::2]):
+                with self.assertRaises(tkcore.BadBuffer):
+                    make(memory)
+            with self.assertRaises(tkcore.BadBuffer):
+                make(memoryview(mmap.mmap(-1, 512))[4:])
+        with self.assertRaises(tkcore.BadBuffer):
+            tkcore.Page.create(clock, bytes(512))
+
+    def test_another_layout(self):
+        memory = mmap.mmap(-1, 512)
+        with self.assertRaises(tkcore.BadLayout):
+            tkcore.Page.attach(memory)
+        tkcore.Page.create(opened(), memory).close()
+        with self.assertRaises(tkcore.BadLayout):
+            tkcore.Latch.attach(memory)
+        memory[0] += 1  # the number of the layout
+        with self.assertRaises(tkcore.BadLayout):
+            tkcore.Page.attach(memory)
+
+    def test_words_of_no_writer(self):
+        memory = mmap.mmap(-1, 512)
+        page = tkcore.Page.create(opened(), memory)
+        memory[16:16 + 80] = b"\xff" * 80
+        with self.assertRaises(tkcore.BadWords):
+            page.read()
+        memory[208:212] = bytes(4)  # the bits of the counter
+        with self.assertRaises(tkcore.BadBits):
+            tkcore.Page.attach(memory)
+
+    def test_random_memory(self):
+        rng = seeded()
+        memory = mmap.mmap(-1, tkcore.Page.SIZE)
+        page = tkcore.Page.create(opened(), memory)
+        for _ in range(CALLS // 10):
+            start = rng.randrange(16, tkcore.Page.SIZE)
+            memory[start] = rng.randrange(256)
+            for call in (page.read, page.clock, lambda: tkcore.Page.attach(memory)):
+                try:
+                    call()
+                except tkcore.Error:
+                    pass
+
+    def test_clocks_of_another_counter(self):
+        page = tkcore.Page.create(opened())
+        other = tkcore.Clock(tkcore.Counter(33, 16_777_216, 24), 0, 0)
+        for call in (page.publish, page.recover):
+            with self.assertRaises(tkcore.OtherCounter):
+                call(other)
+
+    def test_a_closed_page(self):
+        with tkcore.Page.create(opened()) as page:
+            pass
+        for call in (page.read, page.begin, page.clock):
+            with self.assertRaises(ValueError):
+                call()
+
+    def test_a_page_that_is_closed_amid_a_read(self):
+        page = tkcore.Page.create(opened())
+        left = [2]
+
+        def read_counter():
+            page.close()
+            left[0] -= 1
+            if left[0]:
+                raise KeyError  # (the mapping is still there for the code in C)
+            return 5
+
+        with self.assertRaises(KeyError):
+            page.look(read_counter)
+        page = tkcore.Page.create(opened())
+        snapshot, _ = page.look(lambda: page.close() or 5)
+        self.assertEqual(snapshot, opened().snapshot())
+
+    def test_no_copy(self):
+        page = tkcore.Page.create(opened())
+        for call in (copy.copy, copy.deepcopy, pickle.dumps):
+            with self.assertRaises(TypeError):
+                call(page)
+
+    def test_a_counter_that_raises(self):
+        page = tkcore.Page.create(opened())
+        with self.assertRaises(ZeroDivisionError):
+            page.look(lambda: 1 // 0)
+        for reading, error in ((-1, tkcore.Error), (2**64, tkcore.Error), (2**32, tkcore.Invalid),
+                               ("5", TypeError)):
+            with self.assertRaises(error):
+                page.now(ClockId.TAI, lambda: reading)
+
+
+if __name__ == "__main__":
+    unittest.main()
