@@ -51,9 +51,22 @@ def convert(folder, table, number, name):
     before = journal.snapshots[0].convert(stamps[seen], ClockId.REALTIME)
     rows = numpy.empty(len(stamps), ROW)
     rows["tai"], rows["machine"], rows["event"] = tai, number, events
-    rows = rows[numpy.argsort(tai, kind="stable")]
+    if (tai[1:] < tai[:-1]).any():  # a step moved TAI back
+        rows = rows[numpy.argsort(tai, kind="stable")]
     save(Path(table, f"{name}.run.npy"), rows)
     return int(rows["tai"][0]), int(rows["tai"][-1]), len(rows), before, tai[seen]
+
+
+def first_at(run, tai):
+    """Returns the place of the first row that isn't before a time. It reads only a few rows."""
+    low, high = 0, len(run)
+    while low < high:
+        middle = (low + high) // 2
+        if int(run[middle]["tai"]) < tai:
+            low = middle + 1
+        else:
+            high = middle
+    return low
 
 
 def merge(table, names, number, start, end):
@@ -62,10 +75,10 @@ def merge(table, names, number, start, end):
     parts = []
     for name in names:
         run = numpy.load(Path(table, f"{name}.run.npy"), mmap_mode="r")
-        low, high = numpy.searchsorted(run["tai"], numpy.array([start, end], numpy.uint64))
-        parts.append(run[low:high])
+        parts.append(run[first_at(run, start):first_at(run, end)])
     rows = numpy.concatenate(parts)
-    save(Path(table, f"{number:05}.npy"), rows[numpy.argsort(rows["tai"], kind="stable")])
+    order = numpy.argsort(numpy.ascontiguousarray(rows["tai"]), kind="stable")
+    save(Path(table, f"{number:05}.npy"), rows[order])
     return len(rows)
 
 
