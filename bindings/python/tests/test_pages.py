@@ -18,9 +18,8 @@ class Reads(unittest.TestCase):
         self.latch = tkcore.Latch.create(self.clock.snapshot())
 
     def command(self):
-        self.page.begin()
-        self.clock.set_tai_offset(CYCLES, 37)
-        self.page.publish(self.clock)
+        with self.page.writing(self.clock):
+            self.clock.set_tai_offset(CYCLES, 37)
         self.latch.publish(self.clock.snapshot())
 
     def test_the_latest_snapshot_and_the_reading(self):
@@ -41,6 +40,17 @@ class Reads(unittest.TestCase):
             self.page.now(ClockId.TAI, lambda: CYCLES, timeout=0.01)
         self.assertEqual(self.page.clock().words(), self.clock.words())
         self.page.publish(self.clock)
+        self.assertEqual(self.page.read(timeout=0), self.clock.snapshot())
+
+    def test_a_refused_command_lets_readers_in(self):
+        with self.assertRaises(tkcore.Invalid):
+            with self.page.writing(self.clock):
+                self.clock.update(-1)
+        self.assertEqual(self.page.read(timeout=0), self.clock.snapshot())
+        other = tkcore.Clock(tkcore.Counter(33, 16_777_216, 24), 0, 0)
+        with self.assertRaises(tkcore.OtherCounter):
+            with self.page.writing(other):
+                pass
         self.assertEqual(self.page.read(timeout=0), self.clock.snapshot())
 
     def test_a_new_writer(self):

@@ -7,8 +7,9 @@ from __future__ import annotations
 
 import mmap
 import time as _time
+from contextlib import contextmanager
 from ctypes import byref, c_uint64
-from typing import Any, Callable, List, Optional, Tuple, Type, TypeVar, Union
+from typing import Any, Callable, Iterator, List, Optional, Tuple, Type, TypeVar, Union
 
 from ._buffers import Memory
 from ._library import (CALLS, LATCH_SIZE, PAGE_SIZE, U64, ClockValue, CounterValue, ReadCounter,
@@ -154,13 +155,10 @@ class Page(_Shared):
     """A page. MONOTONIC never goes back for any reader, if the clocks get a command at least once
     in each half of the counter's range. A reader waits while a writer is inside.
 
-    A writer reads the counter after `begin`:
+    A writer reads the counter after `begin`, which `writing` calls:
 
-        page.begin()
-        try:
+        with page.writing(clock):
             clock.update(read_counter())
-        finally:
-            page.publish(clock)
 
     Only one writer at a time may be between `begin` and `publish`.
     """
@@ -195,6 +193,17 @@ class Page(_Shared):
         """
         call = CALLS.tkcp_page_publish_clock if isinstance(what, Clock) else CALLS.tkcp_page_publish
         call(self._written(what), byref(what._value))
+
+    @contextmanager
+    def writing(self, clock: Clock) -> Iterator[None]:
+        """Calls `begin`, and publishes the clocks at the end, also after an exception. It raises
+        what `publish` does."""
+        self._written(clock)
+        self.begin()
+        try:
+            yield
+        finally:
+            self.publish(clock)
 
     def clock(self) -> Clock:
         """Rebuilds the clocks of the last publication, for a new writer after the former one died.
