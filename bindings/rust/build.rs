@@ -19,7 +19,12 @@ fn main() -> Result<(), Box<dyn Error>> {
         return Ok(());
     }
     let (include, lib) = match env::var_os("TKCORE_DIR") {
-        Some(folder) => (Path::new(&folder).join("include"), Path::new(&folder).join("lib")),
+        Some(folder) => {
+            let folder = fs::canonicalize(&folder).map_err(|error| {
+                format!("TKCORE_DIR, {}: {error}", Path::new(&folder).display())
+            })?;
+            (folder.join("include"), folder.join("lib"))
+        }
         None => (by_pkg_config("includedir")?, by_pkg_config("libdir")?),
     };
     require_version(&include)?;
