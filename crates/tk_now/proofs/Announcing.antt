@@ -1,4 +1,4 @@
--- The steps of the announcer keep the rule, as do a new watcher and a new notice.
+-- The steps of the writer keep the rule, as do a new reader and a new notice.
 use Rattle.std.proofs.Common.{◌≡◌, ℕ, zero, suc, ◌+◌, ◌*◌, ◌≤◌, List, [], ◌∷◌, ◌++◌, length, Some, None, IsSome, true, false, true≢false, slice_get, get_or, set, refl, sym, ap, ◌∙◌, subst, arith, length-append, length-set, get_or-set_same}
 use Rattle.std.proofs.lemmas.Option.{same_Some}
 use mathlib.Core.List.{IsPrefix}
@@ -9,7 +9,7 @@ use Rattle.tk_clock.proofs.Lists.{prefix_self}
 use Rattle.tk_now.specs.declared.rule.Taken.{Taken}
 use Rattle.tk_now.specs.declared.rule.View.{View}
 use Rattle.tk_now.specs.declared.rule.Role.{Role}
-use Rattle.tk_now.specs.declared.rule.Role.TheVariants.{Spent, Resting, Watching, Idle, Announced, Noting}
+use Rattle.tk_now.specs.declared.rule.Role.TheVariants.{Spent, Resting, Timing, Idle, Announced, Noting}
 use Rattle.tk_now.specs.Moments.{AreBefore, AreAnswered}
 use Rattle.tk_now.specs.Rule.{started, limit, Stands, Knows, Kept}
 use Rattle.tk_now.specs.Steps.{Seated, announced, accepted, withdrawn}
@@ -20,13 +20,13 @@ use Rattle.tk_now.proofs.Keeping.{Words, word, kept_with, parted, known_of, limi
 none_given : false ≡ true → ⊥
 none_given e = true≢false (sym e)
 
--- an announcer's role
+-- a writer's role
 pub announced_of : (role : Role) → role ≡ announcing (since_by role) → IsSome (since_by role) →
     role ≡ Announced (from_by role)
 announced_of Spent e is = absurd (none_given is)
 announced_of (Noting noted answers) e is = absurd (none_given is)
 announced_of (Resting found) e is = absurd (none_given is)
-announced_of (Watching found first from) e is = absurd (none_given is)
+announced_of (Timing found first from) e is = absurd (none_given is)
 announced_of Idle e is = absurd (none_given is)
 announced_of (Announced from) e is = refl
 
@@ -34,7 +34,7 @@ pub idle_of : (role : Role) → role ≡ announcing (since_by role) → since_by
     role ≡ Idle
 idle_of role e is = e ∙ ap announcing is
 
--- the rule at the announcer's role
+-- the rule at the writer's role
 stands_at : (s : Words) (r : Kept s) (role : Role) → r.role ≡ role →
     Stands (word s) r.moment r.commands role
 stands_at s r role is = subst (Stands (word s) r.moment r.commands) is r.stands
@@ -48,10 +48,10 @@ answered_at : (s : Words) (r : Kept s) (role : Role) → r.role ≡ role →
 answered_at s r role is =
     subst (λ w. AreAnswered (length r.commands) (limit w r.moment) r.log) is r.answered
 
--- the announcer stores a word and takes up this role, with no new command
-stores : (s : Words) (r : Kept s) (id n : ℕ) (me : View) (role : Role) → id ≡ r.announcer →
+-- the writer stores a word and takes up this role, with no new command
+stores : (s : Words) (r : Kept s) (id n : ℕ) (me : View) (role : Role) → id ≡ r.writer →
     limit role (r.moment + 1) ≡ r.moment + 1 → Stands n (r.moment + 1) r.commands role →
-    Knows (r.moment + 1) r.commands r.log role r.announcer id me.commands me.log role →
+    Knows (r.moment + 1) r.commands r.log role r.writer id me.commands me.log role →
     Kept (stepped s 0 n id [] (view_of me.commands me.log role) keeps)
 stores s r id n me role own last stands mine =
     let wide = r.wide in
@@ -129,7 +129,7 @@ withdraws slots id me even is up s r _ at _ =
       (refl, refl, refl),
     )
 
--- the announcer's seat gives a watcher's
+-- the writer's seat gives a reader's
 pub hands : (id : ℕ) (view : View) → IsIdle view →
     Splits Kept id view view (view_of view.commands [] (Resting []))
 hands id view is s r at =
@@ -150,7 +150,7 @@ starts reading = record {
   commands = taken 0 0 reading ∷ [];
   log = [];
   role = Idle;
-  announcer = 0;
+  writer = 0;
   wide = refl;
   stands = refl;
   before = λ place t at. let e = (only_opening reading place t at).1 in

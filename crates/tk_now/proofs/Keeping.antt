@@ -11,7 +11,7 @@ use Rattle.tk_now.specs.declared.rule.Taken.{Taken}
 use Rattle.tk_now.specs.declared.rule.Answer.{Answer}
 use Rattle.tk_now.specs.declared.rule.View.{View}
 use Rattle.tk_now.specs.declared.rule.Role.{Role}
-use Rattle.tk_now.specs.declared.rule.Role.TheVariants.{Spent, Resting, Watching, Idle, Announced, Noting}
+use Rattle.tk_now.specs.declared.rule.Role.TheVariants.{Spent, Resting, Timing, Idle, Announced, Noting}
 use Rattle.tk_now.specs.Moments.{AreBefore, AreAnswered, AreInOrder, AreInLife, AreInTurn, AreLater}
 use Rattle.tk_now.specs.Rule.{limit, Stands, Counts, Knows, Kept}
 use Rattle.tk_now.proofs.Lists.{later_more, none_later}
@@ -24,11 +24,11 @@ word s = get_or s.words 0 0
 
 -- the knowledge of the other seats stays true
 others_know : (m m' : ℕ) (commands commands' : List Taken) (log log' : List Answer)
-    (role role' : Role) (announcer seat : ℕ) → m ≤ m' → IsPrefix commands commands' →
-    IsPrefix log log' → AreLater m (length log) log' → (seat ≡ announcer → (commands ≡ commands') × (role ≡ role')) →
+    (role role' : Role) (writer seat : ℕ) → m ≤ m' → IsPrefix commands commands' →
+    IsPrefix log log' → AreLater m (length log) log' → (seat ≡ writer → (commands ≡ commands') × (role ≡ role')) →
     (mine : List Taken) (told : List Answer) (own : Role) →
-    Knows m commands log role announcer seat mine told own →
-    Knows m' commands' log' role' announcer seat mine told own
+    Knows m commands log role writer seat mine told own →
+    Knows m' commands' log' role' writer seat mine told own
 others_know m m' cs cs' lg lg' role role' by seat le p q fresh same mine told Spent k = tt
 others_know m m' cs cs' lg lg' role role' by seat le p q fresh same mine told (Noting noted answers) k = (
   k.0,
@@ -40,7 +40,7 @@ others_know m m' cs cs' lg lg' role role' by seat le p q fresh same mine told (N
 )
 others_know m m' cs cs' lg lg' role role' by seat le p q fresh same mine told (Resting found) k =
     (prefix_trans mine cs cs' k.0 p, prefix_trans told lg lg' k.1 q)
-others_know m m' cs cs' lg lg' role role' by seat le p q fresh same mine told (Watching found first from) k =
+others_know m m' cs cs' lg lg' role role' by seat le p q fresh same mine told (Timing found first from) k =
     let low = k.3 in (
       prefix_trans mine cs cs' k.0 p,
       prefix_trans told lg lg' k.1 q,
@@ -56,7 +56,7 @@ others_know m m' cs cs' lg lg' role role' by seat le p q fresh same mine told (A
 -- the knowledge of this seat by the rule
 abbrev pub IsKnown : (s : Words) → Kept s → ℕ → View → Type 0
 IsKnown s r seat view =
-    Knows r.moment r.commands r.log r.role r.announcer seat view.commands view.log view.role
+    Knows r.moment r.commands r.log r.role r.writer seat view.commands view.log view.role
 
 -- the rule after a step
 pub kept_with : (s : Words) (r : Kept s) (ws : List ℕ) (id : ℕ) (v : View) (m : ℕ)
@@ -65,15 +65,15 @@ pub kept_with : (s : Words) (r : Kept s) (ws : List ℕ) (id : ℕ) (v : View) (
     Stands (get_or ws 0 0) m commands role → AreBefore (limit role m) commands →
     AreAnswered (length commands) (limit role m) log → AreInOrder commands →
     AreInLife commands log → AreInTurn log →
-    ((seat : ℕ) → seat ≢ id → seat ≡ r.announcer → (r.commands ≡ commands) × (r.role ≡ role)) →
-    Knows m commands log role r.announcer id v.commands v.log v.role →
+    ((seat : ℕ) → seat ≢ id → seat ≡ r.writer → (r.commands ≡ commands) × (r.role ≡ role)) →
+    Knows m commands log role r.writer id v.commands v.log v.role →
     Kept (record { words = ws; homes = s.homes; views = set s.views id v })
 kept_with s r ws id v m commands log role wide le p q fresh stands before answered ordered alive turn same mine = record {
   moment = m;
   commands = commands;
   log = log;
   role = role;
-  announcer = r.announcer;
+  writer = r.writer;
   wide = wide;
   stands = stands;
   before = before;
@@ -81,10 +81,10 @@ kept_with s r ws id v m commands log role wide le p q fresh stands before answer
   ordered = ordered;
   alive = alive;
   turn = turn;
-  each = each_after (λ seat u. Knows m commands log role r.announcer seat u.commands u.log u.role)
+  each = each_after (λ seat u. Knows m commands log role r.writer seat u.commands u.log u.role)
       s.views id v mine
       (λ seat u apart at. others_know r.moment m r.commands commands r.log log r.role role
-      r.announcer seat le p q fresh (same seat apart) u.commands u.log u.role (r.each seat u at));
+      r.writer seat le p q fresh (same seat apart) u.commands u.log u.role (r.each seat u at));
 }
 
 -- one seat knows something else
@@ -103,7 +103,7 @@ parted s r id left right mine theirs = record {
   commands = r.commands;
   log = r.log;
   role = r.role;
-  announcer = r.announcer;
+  writer = r.writer;
   wide = r.wide;
   stands = r.stands;
   before = r.before;
@@ -122,7 +122,7 @@ pub loads : (s : Words) (r : Kept s) (id : ℕ) (cs : List (ℕ × Unit {0})) (v
     (log : List Answer) → r.moment ≤ m → IsPrefix r.log log →
     AreLater r.moment (length r.log) log → Stands (word s) m r.commands r.role → AreBefore (limit r.role m) r.commands →
     AreAnswered (length r.commands) (limit r.role m) log → AreInLife r.commands log →
-    AreInTurn log → Knows m r.commands log r.role r.announcer id v.commands v.log v.role →
+    AreInTurn log → Knows m r.commands log r.role r.writer id v.commands v.log v.role →
     Kept (stepped s 0 (word s) id cs v keeps)
 loads s r id cs v m log le q fresh stands before answered alive turn mine =
     let after : List ℕ → Words =
@@ -141,9 +141,9 @@ loads_as s r id cs v mine = loads s r id cs v r.moment r.log (omega arith) (pref
 -- the facts of the rule about one seat
 pub known_of : (s : Words) (r : Kept s) (id : ℕ) (view : View) (own : Role) →
     get_elem? s.views id ≡ some view → view.role ≡ own →
-    Knows r.moment r.commands r.log r.role r.announcer id view.commands view.log own
+    Knows r.moment r.commands r.log r.role r.writer id view.commands view.log own
 known_of s r id view own at same =
-    subst (λ (w : Role). Knows r.moment r.commands r.log r.role r.announcer id view.commands
+    subst (λ (w : Role). Knows r.moment r.commands r.log r.role r.writer id view.commands
     view.log w) same (r.each id view at)
 
 -- the facts about the commands that the word shows
@@ -152,7 +152,7 @@ pub counted : (n m : ℕ) (commands : List Taken) (role : Role) → Stands n m c
 counted n m commands Spent h = absurd h
 counted n m commands (Noting noted answers) h = absurd h
 counted n m commands (Resting found) h = absurd h
-counted n m commands (Watching found first from) h = absurd h
+counted n m commands (Timing found first from) h = absurd h
 counted n m commands Idle h = (omega arith, omega arith)
 counted n m commands (Announced from) h = let e = h.0 in (omega arith, omega arith)
 
@@ -162,7 +162,7 @@ pub at_rest : (n m : ℕ) (commands : List Taken) (role : Role) → Stands n m c
 at_rest n m commands Spent h even = absurd h
 at_rest n m commands (Noting noted answers) h even = absurd h
 at_rest n m commands (Resting found) h even = absurd h
-at_rest n m commands (Watching found first from) h even = absurd h
+at_rest n m commands (Timing found first from) h even = absurd h
 at_rest n m commands Idle h even = refl
 at_rest n m commands (Announced from) h even = let e = h.0 in absurd (omega arith)
 
@@ -172,7 +172,7 @@ pub stands_on : (n m m' : ℕ) (commands : List Taken) (role : Role) → m ≤ m
 stands_on n m m' commands Spent le h = absurd h
 stands_on n m m' commands (Noting noted answers) le h = absurd h
 stands_on n m m' commands (Resting found) le h = absurd h
-stands_on n m m' commands (Watching found first from) le h = absurd h
+stands_on n m m' commands (Timing found first from) le h = absurd h
 stands_on n m m' commands Idle le h = h
 stands_on n m m' commands (Announced from) le h = let low = h.1 in (h.0, omega arith)
 
@@ -180,7 +180,7 @@ pub limit_on : (role : Role) (m m' : ℕ) → m ≤ m' → limit role m ≤ limi
 limit_on Spent m m' le = le
 limit_on (Noting noted answers) m m' le = le
 limit_on (Resting found) m m' le = le
-limit_on (Watching found first from) m m' le = le
+limit_on (Timing found first from) m m' le = le
 limit_on Idle m m' le = le
 limit_on (Announced from) m m' le = omega arith
 
@@ -189,6 +189,6 @@ pub limited : (n m : ℕ) (commands : List Taken) (role : Role) → Stands n m c
 limited n m commands Spent h = absurd h
 limited n m commands (Noting noted answers) h = absurd h
 limited n m commands (Resting found) h = absurd h
-limited n m commands (Watching found first from) h = absurd h
+limited n m commands (Timing found first from) h = absurd h
 limited n m commands Idle h = omega arith
 limited n m commands (Announced from) h = h.1

@@ -1,7 +1,7 @@
 pub mod Lists
 pub mod Keeping
 pub mod Announcing
-pub mod Watching
+pub mod Timing
 pub mod Honesty
 pub mod Noting
 pub mod Life

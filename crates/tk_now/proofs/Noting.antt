@@ -1,4 +1,4 @@
--- The announcer may take in a watcher's knowledge, and compare it with all commands: both keep the
+-- The writer may take in a reader's knowledge, and compare it with all commands: both keep the
 -- rule.
 use Rattle.std.proofs.Common.{ℕ, List, [], refl, sym, ◌∙◌, subst}
 use mathlib.Core.List.{IsPrefix}
@@ -15,18 +15,18 @@ use Rattle.tk_now.specs.Steps.{Seated, compared, recounted}
 use Rattle.tk_now.specs.Views.{view_of, noting, spent, found_by, noted_commands, noted_log, IsIdle, IsResting, IsNoting}
 use Rattle.tk_now.proofs.Keeping.{known_of, reseated, parted, loads_as}
 
--- the announcer takes in a watcher's knowledge
-pub notes : (id : ℕ) (view : View) (other : ℕ) (watcher : View) → IsIdle view →
-    IsResting watcher → Joins Kept id view other watcher (noting view watcher) spent
-notes id view other watcher is there s r at apart from =
+-- the writer takes in a reader's knowledge
+pub notes : (id : ℕ) (view : View) (other : ℕ) (reader : View) → IsIdle view →
+    IsResting reader → Joins Kept id view other reader (noting view reader) spent
+notes id view other reader is there s r at apart from =
     let known = known_of s r id view Idle at is in
-    let w = noting view watcher in
+    let w = noting view reader in
     let here = sym (set_else s.views id other w apart) ∙ from in
-    let begins = known_of s r other watcher (Resting (found_by watcher.role)) here there in
+    let begins = known_of s r other reader (Resting (found_by reader.role)) here there in
     let noted = reseated s r id w (known.0, known.1, known.2, begins.0, begins.1, known.3) in
     reseated _ noted other spent tt
 
--- the announcer compares its note with all commands and answers
+-- the writer compares its note with all commands and answers
 pub compares : (slots id : ℕ) (me : Seated) → IsNoting me.0 →
     Allows Kept slots id me 0 (λ n. n) (compared (step slots 0 0 0 none) me)
 compares slots id me is s r _ at _ =
@@ -50,7 +50,7 @@ compares slots id me is s r _ at _ =
       ),
     )
 
--- the announcer compares its note, and then notes all commands and answers
+-- the writer compares its note, and then notes all commands and answers
 pub recounts : (slots id : ℕ) (me : Seated) → IsNoting me.0 →
     Allows Kept slots id me 0 (λ n. n) (recounted (step slots 0 0 0 none) me)
 recounts slots id me is s r _ at _ =
@@ -83,7 +83,7 @@ recounts slots id me is s r _ at _ =
       ),
     )
 
--- the announcer gives its note to a watcher
+-- the writer gives its note to a reader
 pub returns : (id : ℕ) (view : View) → IsNoting view →
     Splits Kept id view (view_of view.commands view.log Idle)
     (view_of view.commands (noted_log view.role) (Resting []))

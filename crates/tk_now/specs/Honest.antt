@@ -16,7 +16,7 @@ abbrev pub masked : ℕ → Taken → Taken
 masked bits t = record t { reading = t.reading % 2 ^ bits }
 
 -- `at` is the true count at each moment, which never falls; `command` and `answer` are the true
--- counts of the readings of commands and of watchers, by their positions. A watcher's reading may
+-- counts of the readings of commands and of readers, by their positions. A reader's reading may
 -- have bits above the counter's
 pub record AreTrueCounts (at command answer : ℕ → ℕ) (bits : ℕ) (commands : List Taken)
     (log : List Answer) : Type 0 where

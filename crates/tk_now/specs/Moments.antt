@@ -3,7 +3,7 @@ use Rattle.std.specs.Prelude.{◌≡◌, ℕ, ◌+◌, ◌*◌, ◌%◌, ◌<◌
 use mathlib.Core.List.{IsPrefix}
 use Rattle.tk_now.specs.declared.rule.Taken.{Taken}
 use Rattle.tk_now.specs.declared.rule.Answer.{Answer}
-use Rattle.tk_now.specs.Views.{Announcing, Watched, taken}
+use Rattle.tk_now.specs.Views.{Announcing, Noticed, taken}
 
 -- each of these commands had its reading between its two moments, and by this moment
 abbrev pub AreBefore : ℕ → List Taken → Type 0
@@ -52,11 +52,11 @@ IsAcceptedAt since commands reading commands' =
     (from to : ℕ) × (since ≡ Some from) × (from < to)
     × (commands' ≡ commands ++ taken from to reading ∷ [])
 
--- a watcher's answer: the counter returned the reading to a read after this call's first load. It
+-- a reader's answer: the counter returned the reading to a read after this call's first load. It
 -- follows the latest accepted command. The answers in `begun` are those that any thread had by the
 -- first look: they are of no later command, and had their readings by then, and no other answer was
 -- over by then. It is listed after them
-pub record IsTimed {C : Type 0} (answers : C → ℕ → ℕ → Type 0) (counter : C) (old new : Watched)
+pub record IsTimed {C : Type 0} (answers : C → ℕ → ℕ → Type 0) (counter : C) (old new : Noticed)
     (place reading : ℕ) : Type 0 where
   pub word : ℕ
   pub found : new.found ≡ old.found ++ word ∷ word ∷ []
@@ -78,21 +78,21 @@ pub record IsTimed {C : Type 0} (answers : C → ℕ → ℕ → Type 0) (counte
 
 -- no answer: the two loads found these words, which differ or are odd. The first is no earlier than
 -- the known commands
-pub record IsBusy (old new : Watched) (first last : ℕ) : Type 0 where
+pub record IsBusy (old new : Noticed) (first last : ℕ) : Type 0 where
   pub found : new.found ≡ old.found ++ first ∷ last ∷ []
   pub from : 2 * length old.commands ≤ first + 2
   pub busy : first ≡ last → first % 2 ≡ 1
 
--- a watcher got all knowledge: it knows the announcer's commands, of which it knew the first, and
--- the answers of all watchers, of which it knew the first. The announcer knows the same answers
+-- a reader got all knowledge: it knows the writer's commands, of which it knew the first, and
+-- the answers of all readers, of which it knew the first. The writer knows the same answers
 -- now. Its loads are counted anew
-pub record IsTold (announcer : Announcing) (old new : Watched) : Type 0 where
+pub record IsTold (writer : Announcing) (old new : Noticed) : Type 0 where
   pub notice : new.notice ≡ old.notice
-  pub commands : new.commands ≡ announcer.commands
-  pub begins : IsPrefix old.commands announcer.commands
+  pub commands : new.commands ≡ writer.commands
+  pub begins : IsPrefix old.commands writer.commands
   pub log : IsPrefix old.log new.log
-  pub all : new.log ≡ announcer.log
+  pub all : new.log ≡ writer.log
   pub found : new.found ≡ []
-  pub order : AreInOrder announcer.commands
-  pub life : AreInLife announcer.commands new.log
+  pub order : AreInOrder writer.commands
+  pub life : AreInLife writer.commands new.log
   pub turn : AreInTurn new.log

@@ -8,11 +8,11 @@ use Rattle.tk_now.specs.declared.rule.Taken.{Taken}
 use Rattle.tk_now.specs.declared.rule.Answer.{Answer}
 use Rattle.tk_now.specs.declared.rule.View.{View}
 use Rattle.tk_now.specs.declared.rule.Role.{Role}
-use Rattle.tk_now.specs.declared.rule.Role.TheVariants.{Spent, Resting, Watching, Idle, Announced, Noting}
+use Rattle.tk_now.specs.declared.rule.Role.TheVariants.{Spent, Resting, Timing, Idle, Announced, Noting}
 use Rattle.tk_now.specs.Moments.{AreBefore, AreAnswered, AreInOrder, AreInLife, AreInTurn, AreLater}
 use Rattle.tk_now.specs.Views.{view_of, taken}
 
--- the announcer of a notice that was just opened
+-- the writer of a notice that was just opened
 abbrev pub started : ℕ → View
 started reading = view_of (taken 0 0 reading ∷ []) [] Idle
 
@@ -35,26 +35,26 @@ Counts commands word = (2 * length commands ≤ word + 2) × (word + 1 ≤ 2 * l
 
 -- the knowledge of a seat, by its role
 module _ (moment : ℕ) (commands : List Taken) (log : List Answer) (role : Role)
-    (announcer seat : ℕ) where
+    (writer seat : ℕ) where
   abbrev pub Knows : List Taken → List Answer → Role → Type 0
   Knows mine told (Resting found) = IsPrefix mine commands × IsPrefix told log
-  Knows mine told (Watching found first from) =
+  Knows mine told (Timing found first from) =
       IsPrefix mine commands × IsPrefix told log × Counts mine first × (from ≤ moment)
       × AreLater from (length told) log
   Knows mine told Spent = Unit {0}
-  Knows mine told (Noting noted answers) = (seat ≡ announcer) × (mine ≡ commands) × (role ≡ Idle)
+  Knows mine told (Noting noted answers) = (seat ≡ writer) × (mine ≡ commands) × (role ≡ Idle)
       × IsPrefix noted commands × IsPrefix answers log × IsPrefix told log
   Knows mine told own =
-      (seat ≡ announcer) × (mine ≡ commands) × (role ≡ own) × IsPrefix told log
+      (seat ≡ writer) × (mine ≡ commands) × (role ≡ own) × IsPrefix told log
 
 -- the rule: there is a number of steps, a list of the accepted commands and a list of the readings
--- that all watchers took
+-- that all readers took
 pub record Kept (state : State (Unit {0}) View) : Type 0 where
   pub moment : ℕ
   pub commands : List Taken
   pub log : List Answer
   pub role : Role
-  pub announcer : ℕ
+  pub writer : ℕ
   pub wide : length state.words ≡ 1
   pub stands : Stands (slice_index state.words 0) moment commands role
   pub before : AreBefore (limit role moment) commands
@@ -63,4 +63,4 @@ pub record Kept (state : State (Unit {0}) View) : Type 0 where
   pub alive : AreInLife commands log
   pub turn : AreInTurn log
   pub each : (seat : ℕ) (view : View) → get_elem? state.views seat ≡ some view →
-      Knows moment commands log role announcer seat view.commands view.log view.role
+      Knows moment commands log role writer seat view.commands view.log view.role

@@ -7,7 +7,7 @@ use Rattle.tk_now.specs.declared.rule.Answer.{Answer}
 use Rattle.tk_now.specs.declared.rule.View.{View}
 use Rattle.tk_now.specs.Moments.{AreBefore, AreAnswered, AreInOrder, AreInLife, AreInTurn, AreLater, IsAcceptedAt}
 use Rattle.tk_now.specs.Rule.{Counts}
-use Rattle.tk_now.specs.Views.{noted_commands, noted_log, taken, found_by, first_by, from_by, IsResting, IsWatching, IsIdle, IsNoting, IsAnnounced}
+use Rattle.tk_now.specs.Views.{noted_commands, noted_log, taken, found_by, first_by, from_by, IsResting, IsTiming, IsIdle, IsNoting, IsAnnounced}
 
 abbrev pub Move : Type 0
 Move = Step (Unit {0})
@@ -29,10 +29,10 @@ abbrev pub withdrawn : Move → Seated → ℕ → Seated → Type 0
 withdrawn move old found new =
     (new.0.commands ≡ old.0.commands) × (new.0.log ≡ old.0.log) × IsIdle new.0
 
--- the first load: the watcher knows all accepted commands and all answers so far, whose readings
+-- the first load: the reader knows all accepted commands and all answers so far, whose readings
 -- are over
 pub record IsBegun (old : View) (found : ℕ) (new : View) : Type 0 where
-  pub watching : IsWatching new
+  pub timing : IsTiming new
   pub first : first_by new.role ≡ found
   pub found_is : found_by new.role ≡ found_by old.role ++ found ∷ []
   pub commands : IsPrefix old.commands new.commands
@@ -50,7 +50,7 @@ answer_of first from to reading = record {
   taken = taken from to reading;
 }
 
--- an answer, which is listed after all answers so far. Those that the watcher didn't know at its
+-- an answer, which is listed after all answers so far. Those that the reader didn't know at its
 -- first look were over later
 pub record IsListed (reading : ℕ) (old new : View) : Type 0 where
   pub same : new.commands ≡ old.commands
@@ -78,7 +78,7 @@ abbrev pub ended : ℕ → Move → Seated → ℕ → Seated → Type 0
 ended reading move old found new =
     (move.word ≡ 0) × (new.1 ≡ old.1) × IsEnd reading old.0 found new.0
 
--- the noted commands are the first of the announcer's. It learns all answers so far: they begin with
+-- the noted commands are the first of the writer's. It learns all answers so far: they begin with
 -- those that it knew, and with the noted ones, are in life with all of its commands, and are listed
 -- in turn
 abbrev pub compared : Move → Seated → ℕ → Seated → Type 0

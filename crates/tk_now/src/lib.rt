@@ -3,8 +3,8 @@
 //! | Item | Its meaning |
 //! |---|---|
 //! | `Notice` | a word: the number of accepted commands, and whether one is in progress |
-//! | `Announcer` | announces commands; a notice has one announcer |
-//! | `Watcher` | reads the counter between two loads of the notice |
+//! | `NoticeWriter` | announces commands; a notice has one writer |
+//! | `NoticeReader` | reads the counter between two loads of the notice |
 //! | `Timed` | a reading with the number of the command before it |
 //! | `Busy` | why a call returned no reading |
 //! | `SharedCounter` | a counter that many threads read |
@@ -17,15 +17,15 @@
 //! on the notice so far. Readings are in cycles of the counter.
 #![tactic(auto)]
 
-mod announcer;
 mod counter;
 mod honest;
 mod notice;
+mod reader;
 mod rule;
-mod watcher;
+mod writer;
 
-pub use announcer::Announcer;
 pub use counter::{HostCounter, Look, SharedCounter, SharedTicker};
 pub use honest::{answers_are_in_life, counts_are_in_order};
 pub use notice::Notice;
-pub use watcher::{Busy, Timed, Watcher};
+pub use reader::{Busy, NoticeReader, Timed};
+pub use writer::NoticeWriter;

@@ -10,7 +10,7 @@
 //! 3. Once its effect is published, it makes the word even. An accepted command counts, and a
 //!    refused one doesn't.
 //!
-//! A watcher:
+//! A reader:
 //!
 //! 4. It loads the word.
 //! 5. It reads the counter.
@@ -21,12 +21,12 @@
 //!
 //! No call waits. Only `open` and `Look::first` allocate.
 ghost use Rattle.std.specs.Prelude.{◌≡◌, IfOk, None};
-ghost use Rattle.tk_now.specs.Views.{opened_announcer, opened_watcher};
+ghost use Rattle.tk_now.specs.Views.{opened_notice_reader, opened_notice_writer};
 
-use crate::announcer::Announcer;
 use crate::counter::Look;
+use crate::reader::NoticeReader;
 use crate::rule::{Hands, Words};
-use crate::watcher::Watcher;
+use crate::writer::NoticeWriter;
 use std::alloc::{AllocError, Allocator, Global};
 use std::marker::Model;
 
@@ -52,7 +52,7 @@ impl<A: Allocator> Model for Notice<A> {
 }
 
 impl<A: Allocator> Notice<A> {
-    /// Opens a notice with no command in progress, and returns it with its announcer. `reading` is
+    /// Opens a notice with no command in progress, and returns it with its writer. `reading` is
     /// the reading of the opening, which is command 0.
     ///
     /// It allocates the word.
@@ -60,26 +60,23 @@ impl<A: Allocator> Notice<A> {
     /// # Errors
     ///
     /// `AllocError` if the allocation fails.
-    pub fn open(alloc: A, reading: u64) -> Result<(Notice<A>, Announcer), AllocError>
-        ensures { IfOk result (λ opened. opened.1 ≡ opened_announcer opened.0 reading) }
+    pub fn open(alloc: A, reading: u64) -> Result<(Notice<A>, NoticeWriter), AllocError>
+        ensures { IfOk result (λ opened. opened.1 ≡ opened_notice_writer opened.0 reading) }
     {
         let (words, seat) = Words::of_words(alloc, &[0], &reading)?;
         let look = Look { seat };
-        Ok((Notice { words }, Announcer { look, number: 0 }))
+        Ok((Notice { words }, NoticeWriter { look, number: 0 }))
     }
 
-    /// Returns one more watcher, which knows the accepted commands and no reading.
-    pub fn watcher(&self, announcer: &mut Announcer) -> Watcher
-        requires notice { announcer.old.notice ≡ self.now }
-        requires idle { announcer.old.since ≡ None }
-        ensures announcer { announcer.new ≡ announcer.old }
-        ensures watcher { result ≡ opened_watcher announcer.old }
+    /// Returns one more reader, which knows the accepted commands and no reading.
+    pub fn reader(&self, writer: &mut NoticeWriter) -> NoticeReader
+        requires notice { writer.old.notice ≡ self.now }
+        requires idle { writer.old.since ≡ None }
+        ensures writer { writer.new ≡ writer.old }
+        ensures reader { result ≡ opened_notice_reader writer.old }
     {
-        let seat = self
-            .words
-            .shared
-            .split_seat::<Hands>(&mut announcer.look.seat);
-        Watcher {
+        let seat = self.words.shared.split_seat::<Hands>(&mut writer.look.seat);
+        NoticeReader {
             look: Look { seat },
         }
     }

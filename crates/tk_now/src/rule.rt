@@ -22,7 +22,7 @@ pub struct Taken {
     pub reading: u64,
 }
 
-/// Describes a reading that a watcher took.
+/// Describes a reading that a reader took.
 pub struct Answer {
     /// The number of the latest command that was accepted before it; the opening is number 0.
     pub place: u64,
@@ -32,19 +32,19 @@ pub struct Answer {
 
 /// Describes the activity of a seat.
 pub enum Role {
-    /// No activity: the seat was joined to the announcer's.
+    /// No activity: the seat was joined to the writer's.
     Spent,
-    /// A watcher at rest, with the words that its loads have found.
+    /// A reader at rest, with the words that its loads have found.
     Resting(LinkedList<u64>),
-    /// A watcher between its two loads: the words found so far, the word that the first load found,
+    /// A reader between its two loads: the words found so far, the word that the first load found,
     /// and the moment of that load.
-    Watching(LinkedList<u64>, u64, u64),
-    /// The announcer while no command is in progress.
+    Timing(LinkedList<u64>, u64, u64),
+    /// The writer while no command is in progress.
     Idle,
-    /// The announcer while a command is in progress, and the moment of the announcement.
+    /// The writer while a command is in progress, and the moment of the announcement.
     Announced(u64),
-    /// The announcer while no command is in progress, with a note of the commands and answers that
-    /// a watcher knew.
+    /// The writer while no command is in progress, with a note of the commands and answers that
+    /// a reader knew.
     Noting(LinkedList<Taken>, LinkedList<Answer>),
 }
 
@@ -52,7 +52,7 @@ pub enum Role {
 pub struct View {
     /// The readings of the accepted commands, the opening's first.
     pub commands: LinkedList<Taken>,
-    /// The readings that watchers took, of all threads.
+    /// The readings that readers took, of all threads.
     pub log: LinkedList<Answer>,
     /// Its activity.
     pub role: Role,

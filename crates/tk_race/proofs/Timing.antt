@@ -31,7 +31,7 @@ record IsAsked {S : Type 0} (answers : S → ℕ → ℕ → Type 0) (counter : 
     (clock : ClockId) (result : Result Timespec ReadError) (read : ℕ) : Type 0 where
   pub seen : Begins old.seen new.seen
   pub more : KnowsMore old new
-  pub is : IsSeenBy answers counter clock new.seen old.watched new.watched result
+  pub is : IsSeenBy answers counter clock new.seen old.noticed new.noticed result
   pub id : new.id ≡ old.id
   pub accepted : new.accepted ≡ old.accepted
   pub learnt : new.learnt ≡ old.learnt
@@ -103,7 +103,7 @@ answered answers counter old new clock (Err refusal) read asked = record {
 pub timed : {S : Type 0} (answers : S → ℕ → ℕ → Type 0) (counter : S) (old new : Known)
     (clock : ClockId) (result : Result Timespec ReadError) (read : ℕ) → Begins old.seen new.seen →
     KnowsMore old new →
-    IsSeenBy answers counter clock new.seen old.watched new.watched result →
+    IsSeenBy answers counter clock new.seen old.noticed new.noticed result →
     (new.id ≡ old.id) × (new.accepted ≡ old.accepted) × (new.learnt ≡ old.learnt) →
     read ≡ length new.seen.entries → IsAnswer old new (Now clock) (reply_of result read)
 timed answers counter old new clock result read seen more is same front =

@@ -11,7 +11,7 @@ use Rattle.tk_now.specs.declared.rule.Taken.{Taken}
 use Rattle.tk_now.specs.declared.rule.Answer.{Answer}
 use Rattle.tk_now.specs.Life.{AreReadings}
 use Rattle.tk_now.specs.Moments.{AreInOrder, IsAcceptedAt}
-use Rattle.tk_now.specs.Views.{Announcing, opened_announcer, taken}
+use Rattle.tk_now.specs.Views.{Announcing, opened_notice_writer, taken}
 use Rattle.tk_now.proofs.Lists.{get_push}
 use Rattle.tk_shared.specs.Locked.{IsAtRest}
 
@@ -45,10 +45,10 @@ only t u zero at = (refl, same_Some t u at)
 only t u (suc place) at = absurd (cc (at))
 
 -- the notice of a keeper that was just opened
-pub opened_at_rest : (notice : TableId) (history : Journal) (announcer : Announcing) →
-    history.entries ≡ [] → announcer ≡ opened_announcer notice history.opening.reading →
-    IsAtRest notice history announcer
-opened_at_rest notice history announcer empty is =
+pub opened_at_rest : (notice : TableId) (history : Journal) (notice_writer : Announcing) →
+    history.entries ≡ [] → notice_writer ≡ opened_notice_writer notice history.opening.reading →
+    IsAtRest notice history notice_writer
+opened_at_rest notice history notice_writer empty is =
     let reading = history.opening.reading in
     let none = ap length empty in
     subst (IsAtRest notice history) (sym is)
@@ -69,17 +69,17 @@ opened_at_rest notice history announcer empty is =
     })
 
 -- the announced command was accepted, and its entry made
-pub accepted_at_rest : (notice : TableId) (history : Journal) (announcer now : Announcing)
-    (entry : Entry) (since : Option ℕ) (reading : ℕ) → IsAtRest notice history announcer →
-    now.notice ≡ announcer.notice → now.since ≡ None → reading ≡ entry.reading →
-    IsAcceptedAt since announcer.commands reading now.commands → AreInOrder now.commands →
+pub accepted_at_rest : (notice : TableId) (history : Journal) (notice_writer now : Announcing)
+    (entry : Entry) (since : Option ℕ) (reading : ℕ) → IsAtRest notice history notice_writer →
+    now.notice ≡ notice_writer.notice → now.since ≡ None → reading ≡ entry.reading →
+    IsAcceptedAt since notice_writer.commands reading now.commands → AreInOrder now.commands →
     IsAtRest notice (followed_by history entry) now
-accepted_at_rest notice history announcer now entry since reading rest same idle read accepted order =
+accepted_at_rest notice history notice_writer now entry since reading rest same idle read accepted order =
     record {
       notice = same ∙ rest.notice;
       idle = idle;
       readings = subst (AreReadings (followed_by history entry)) (sym accepted.4)
-          (readings_followed_by history announcer.commands entry
+          (readings_followed_by history notice_writer.commands entry
           (taken accepted.0 accepted.1 reading) read rest.readings);
       order = order;
     }
@@ -98,7 +98,7 @@ refused_at_rest notice history before announced now rest same commands is =
       order = subst AreInOrder (sym commands) rest.order;
     })
 
--- the announcer learnt more answers
+-- the notice's writer learnt more answers
 pub told_at_rest : (notice : TableId) (history : Journal) (before now : Announcing)
     (log : List Answer) → now ≡ record before { log = log } → IsAtRest notice history before →
     IsAtRest notice history now

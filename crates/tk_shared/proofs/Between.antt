@@ -48,7 +48,7 @@ module _ (history : Journal) (commands : List Taken) (log : List Answer) (old ne
       let high = mid.1 in
       omega (arith, over, low, high)
   over_before (inr (inl mine)) = b.above a.position first
-      (get_first new.watched.log old'.watched.log mine a.position first a.own)
+      (get_first new.noticed.log old'.noticed.log mine a.position first a.own)
 
   -- the first answer follows no later command than the second
   no_later : first.taken.to ≤ second.taken.from → first.place ≤ second.place
@@ -115,8 +115,8 @@ times_in_order answers journal callers closed counter counter' old new old' new'
 pub open_in_order : {S : Type 0} (answers : S → ℕ → ℕ → Type 0) → OpenNowNeverFalls answers
 open_in_order answers last informed counter counter' old new old' new' time time' first second known known' is is' over honest =
     let history = last.seen in
-    let commands = last.watched.commands in
-    let log = last.watched.log in
+    let commands = last.noticed.commands in
+    let log = last.noticed.log in
     let all = informed_within last informed in
     let a = told_of answers counter history commands log old new time
     (known_within history commands log new last known all) first is in

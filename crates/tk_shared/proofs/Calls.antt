@@ -15,11 +15,11 @@ use Rattle.tk_clock.proofs.Lists.{prefix_self, prefix_trans, prefix_length}
 use Rattle.tk_now.specs.declared.rule.Taken.{Taken}
 use Rattle.tk_now.specs.declared.rule.Answer.{Answer}
 use Rattle.tk_now.specs.Moments.{IsTimed}
-use Rattle.tk_now.specs.Views.{Watched, taken}
+use Rattle.tk_now.specs.Views.{Noticed, taken}
 use Rattle.tk_now.proofs.Lists.{get_first}
 use Rattle.tk_page.specs.History.{Begins}
 use Rattle.tk_shared.specs.Callers.{Known, IsInformed, IsKnownBy}
-use Rattle.tk_shared.specs.Closing.{HasListed, HasWatched, IsClosed, IsPartOf}
+use Rattle.tk_shared.specs.Closing.{HasListed, HasNoticed, IsClosed, IsPartOf}
 use Rattle.tk_shared.specs.History.{AreSnapshots}
 use Rattle.tk_shared.specs.NeverBack.{HasSeen, HasTaken, IsCallOf, IsNowOf, answer_seen, answer_taken}
 use Rattle.tk_shared.proofs.Back.{monotonic_of}
@@ -34,9 +34,9 @@ pub record Told (history : Journal) (commands : List Taken) (log : List Answer) 
   pub within : answer.place ≤ length history.entries
   pub known : IsPrefix mine commands
   pub long : length mine ≡ answer.place + 1
-  pub own : slice_get new.watched.log position ≡ Some answer
+  pub own : slice_get new.noticed.log position ≡ Some answer
   pub listed : slice_get log position ≡ Some answer
-  pub above : (i : ℕ) (a : Answer) → slice_get old.watched.log i ≡ Some a →
+  pub above : (i : ℕ) (a : Answer) → slice_get old.noticed.log i ≡ Some a →
       a.taken.to ≤ answer.taken.from
   pub span : answer.taken.from < answer.taken.to
   pub after : (i : ℕ) (t : Taken) → slice_get mine i ≡ Some t →
@@ -48,8 +48,8 @@ pub record IsWithin (history : Journal) (all : List Taken) (listed : List Answer
     : Type 0 where
   pub begins : Begins caller.seen history
   pub learnt : AreSnapshots history caller.learnt.publications
-  pub commands : IsPrefix caller.watched.commands all
-  pub log : IsPrefix caller.watched.log listed
+  pub commands : IsPrefix caller.noticed.commands all
+  pub log : IsPrefix caller.noticed.log listed
 
 -- a caller whose knowledge another one has
 pub known_within : (history : Journal) (commands : List Taken) (log : List Answer)
@@ -65,12 +65,12 @@ known_within history commands log one other known is = record {
 
 -- a caller that was told everything
 pub informed_within : (caller : Known) → IsInformed caller →
-    IsWithin caller.seen caller.watched.commands caller.watched.log caller
+    IsWithin caller.seen caller.noticed.commands caller.noticed.log caller
 informed_within caller is = record {
   begins = (refl, prefix_self caller.seen.entries);
   learnt = is.snapshots;
-  commands = prefix_self caller.watched.commands;
-  log = prefix_self caller.watched.log;
+  commands = prefix_self caller.noticed.commands;
+  log = prefix_self caller.noticed.log;
 }
 
 -- a call by one of the callers of a closed keeper
@@ -80,13 +80,13 @@ pub closed_within : (journal : Journal) (callers : List Known) (closed : IsClose
 closed_within journal callers closed old new call =
     let last = call.last in
     let part = all_at (IsPartOf closed.history) callers call.place last closed.parts call.among in
-    let watched = all_at (HasWatched closed.commands) callers call.place last closed.watched
+    let noticed = all_at (HasNoticed closed.commands) callers call.place last closed.noticed
     call.among in
     known_within closed.history closed.commands closed.log new last call.known
     (record {
       begins = part.begins;
       learnt = part.learnt;
-      commands = watched.begins;
+      commands = noticed.begins;
       log = all_at (HasListed closed.log) callers call.place last closed.listed call.among;
     })
 
@@ -97,27 +97,27 @@ module _ {S : Type 0} (answers : S → ℕ → ℕ → Type 0) (counter : S) (hi
   IsTold answer = Told history commands log old new answer time
 
   -- the result of a call, by its two looks
-  looked : (before : Watched) (place answer : ℕ) → IsPrefix old.watched.log before.log →
-      (timed : IsTimed answers counter before new.watched place answer) →
+  looked : (before : Noticed) (place answer : ℕ) → IsPrefix old.noticed.log before.log →
+      (timed : IsTimed answers counter before new.noticed place answer) →
       place ≤ length history.entries →
       nanoseconds time
       ≡ pos (monotonic (prefix place history) (answer % 2 ^ history.opening.counter.bits)) →
       IsTold (record { place = place; taken = taken timed.from timed.to answer })
   looked before place answer known timed low value =
       let one : Answer = record { place = place; taken = taken timed.from timed.to answer } in
-      let here : slice_get new.watched.log (length timed.between) ≡ Some one =
+      let here : slice_get new.noticed.log (length timed.between) ≡ Some one =
       subst (λ (l : List Answer). slice_get l (length timed.between) ≡ Some one) (sym timed.listed)
       (slice_get-push timed.between one) in
       record {
-        mine = new.watched.commands;
+        mine = new.noticed.commands;
         position = length timed.between;
         within = low;
         known = is_within.commands;
         long = sym timed.latest;
         own = here;
-        listed = get_first new.watched.log log is_within.log (length timed.between) one here;
+        listed = get_first new.noticed.log log is_within.log (length timed.between) one here;
         above = λ i a at. (timed.above i a
-            (get_first old.watched.log timed.begun (prefix_trans _ _ _ known timed.known) i a at)).1;
+            (get_first old.noticed.log timed.begun (prefix_trans _ _ _ known timed.known) i a at)).1;
         span = timed.span;
         after = timed.after;
         value = value;
@@ -150,7 +150,7 @@ module _ {S : Type 0} (answers : S → ℕ → ℕ → Type 0) (counter : S) (hi
       let value : nanoseconds time ≡ base_value is.0.base Monotonic is.1 = is.3.1 in
       let reading : is.1 ≡ is.2.answer % 2 ^ history.opening.counter.bits =
       is.2.masked ∙ ap (λ (b : ReadBase). is.2.answer % 2 ^ b.counter.bits) base in
-      looked old.watched n is.2.answer (prefix_self old.watched.log) is.2.timed
+      looked old.noticed n is.2.answer (prefix_self old.noticed.log) is.2.timed
       (omega (arith, low, most))
       (value ∙ ap (λ (p : ReadBase × ℕ). base_value p.0 Monotonic p.1) (λ i. (base i, reading i)))
 

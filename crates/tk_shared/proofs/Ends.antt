@@ -8,7 +8,7 @@ use Rattle.tk_page.specs.History.{Begins}
 use Rattle.tk_latch.specs.Latch.{LatchId}
 use Rattle.tk_shared.specs.Callers.{Known, made_by}
 use Rattle.tk_now.specs.Views.{Announcing}
-use Rattle.tk_shared.specs.Closing.{accepted_by, AreDifferent, HasWatched, HaveListed, IsPartOf, IsClosed}
+use Rattle.tk_shared.specs.Closing.{accepted_by, AreDifferent, HasNoticed, HaveListed, IsPartOf, IsClosed}
 use Rattle.tk_shared.specs.History.{AreSnapshots}
 use Rattle.tk_shared.specs.Locked.{Held, IsAtRest, IsHeld}
 use Rattle.tk_shared.proofs.Counts.{all_counted}
@@ -27,26 +27,26 @@ part_of history publications caller are begins learnt own = record {
 }
 
 pub closed : (page : TableId) (latch : LatchId) (notice : TableId) (held : Held)
-    (announcer : Announcing) (callers : List Known) → IsHeld page latch held →
-    IsAtRest notice held.shown.journal announcer → AreDifferent callers →
-    All (IsPartOf held.shown.journal) callers → All (HasWatched announcer.commands) callers →
-    HaveListed announcer.commands callers →
+    (notice_writer : Announcing) (callers : List Known) → IsHeld page latch held →
+    IsAtRest notice held.shown.journal notice_writer → AreDifferent callers →
+    All (IsPartOf held.shown.journal) callers → All (HasNoticed notice_writer.commands) callers →
+    HaveListed notice_writer.commands callers →
     held.total ≡ accepted_by callers → IsClosed held.kept callers
-closed page latch notice held announcer callers is rest different parts watched listed total =
+closed page latch notice held notice_writer callers is rest different parts noticed listed total =
     let history = held.shown.journal in
     let all : length history.entries ≡ accepted_by callers = sym is.counted ∙ total in
     record {
       history = history;
       whole = is.whole;
       kept = is.kept;
-      commands = announcer.commands;
+      commands = notice_writer.commands;
       log = listed.log;
       readings = rest.readings;
       order = rest.order;
       alive = listed.alive;
       turn = listed.turn;
       parts = parts;
-      watched = watched;
+      noticed = noticed;
       listed = listed.each;
       known = listed.known;
       own = all_counted history callers different parts all;

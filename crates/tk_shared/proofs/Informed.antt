@@ -1,4 +1,4 @@
--- A caller that was told everything under the lock.
+-- A caller that was informed of everything under the lock.
 use Rattle.std.proofs.Common.{◌≡◌, List, sym, ap, ◌∙◌, subst, arith}
 use Rattle.atomic_table.specs.Seated.{TableId}
 use mathlib.Core.List.{IsPrefix}
@@ -8,26 +8,26 @@ use Rattle.tk_latch.specs.Latch.{LatchId, Learnt, told_reader}
 use Rattle.tk_now.specs.declared.rule.Taken.{Taken}
 use Rattle.tk_now.specs.Life.{AreReadings}
 use Rattle.tk_now.specs.Moments.{AreInLife, AreInOrder, IsTold}
-use Rattle.tk_now.specs.Views.{Announcing, Watched}
+use Rattle.tk_now.specs.Views.{Announcing, Noticed}
 use Rattle.tk_shared.specs.Callers.{Known, IsInformed, IsKnownBy}
 use Rattle.tk_shared.specs.Locked.{Held, IsAtRest, IsHeld}
 
--- what page, latch and announcer tell a caller while the lock is held
+-- a caller knows this after page, latch and notice informed it while the lock was held
 pub informed_by : (page : TableId) (latch : LatchId) (held : Held) → IsHeld page latch held →
-    (notice : TableId) (announcer : Announcing) → IsAtRest notice held.shown.journal announcer →
-    (old watched : Watched) → IsTold announcer old watched → (caller : Known) →
+    (notice : TableId) (notice_writer : Announcing) → IsAtRest notice held.shown.journal notice_writer →
+    (old noticed : Noticed) → IsTold notice_writer old noticed → (caller : Known) →
     IsInformed (record caller {
       seen = held.shown.journal;
       learnt = told_reader held.latched;
-      watched = watched;
+      noticed = noticed;
     })
-informed_by page latch held is notice announcer rest old watched told caller = record {
+informed_by page latch held is notice notice_writer rest old noticed told caller = record {
   whole = is.whole;
   mark = let latest = is.latest in omega (arith, latest);
   snapshots = is.snapshots;
   readings = subst (AreReadings held.shown.journal) (sym told.commands) rest.readings;
   order = subst AreInOrder (sym told.commands) told.order;
-  life = subst (λ (l : List Taken). AreInLife l watched.log) (sym told.commands) told.life;
+  life = subst (λ (l : List Taken). AreInLife l noticed.log) (sym told.commands) told.life;
   turn = told.turn;
 }
 
@@ -42,7 +42,7 @@ known_by_trans one two three p q = record {
 
 -- one caller that knows as much as another one, and maybe more answers
 pub knows_as_much : (one other : Known) → other.seen ≡ one.seen → other.learnt ≡ one.learnt →
-    other.watched.commands ≡ one.watched.commands → IsPrefix one.watched.log other.watched.log →
+    other.noticed.commands ≡ one.noticed.commands → IsPrefix one.noticed.log other.noticed.log →
     IsKnownBy one other
 knows_as_much one other seen learnt commands log = record {
   seen = (ap (λ (j : Journal). j.opening) seen, as_prefix (ap (λ (j : Journal). j.entries) (sym seen)));

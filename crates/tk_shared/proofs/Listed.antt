@@ -30,7 +30,7 @@ each_longer : (log more : List Answer) (callers : List Known) → IsPrefix log m
     Each (HasListed log) callers → Each (HasListed more) callers
 each_longer log more [] p each = tt
 each_longer log more (caller ∷ callers) p each = (
-  prefix_trans caller.watched.log log more each.0 p,
+  prefix_trans caller.noticed.log log more each.0 p,
   each_longer log more callers p each.1,
 )
 
@@ -39,7 +39,7 @@ longest : (all : List Answer) (callers : List Known) → Each (HasListed all) ca
 longest all [] each = record { log = []; within = (all, refl); known = inl refl; each = tt }
 longest all (caller ∷ callers) each =
     let rest = longest all callers each.1 in
-    let mine = caller.watched.log in
+    let mine = caller.noticed.log in
     elim (cases_lt (length rest.log) (length mine)) [
       | inl less ↦
           let p = prefix_shorter rest.log mine all rest.within each.0 (omega (arith, less)) in

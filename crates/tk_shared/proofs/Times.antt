@@ -12,20 +12,20 @@ use Rattle.tk_counter.specs.Counter.{mask}
 use Rattle.tk_clock.specs.Snapshot.{Snapshot, snapshot_of}
 use Rattle.tk_latch.specs.Latch.{Learnt, IsRead}
 use Rattle.tk_now.specs.Moments.{AreInLife, AreInOrder, IsTimed}
-use Rattle.tk_now.specs.Views.{Watched}
+use Rattle.tk_now.specs.Views.{Noticed}
 use Rattle.tk_shared.specs.Now.{IsTaken, IsResultAt, IsSeenBy}
 
 pub taken_by : {S : Type 0} (answers : S → ℕ → ℕ → Type 0) (counter : S) (learnt learnt' : Learnt)
-    (watched watched' : Watched) (snapshot : Snapshot) (place answer bound : ℕ) →
-    IsRead learnt learnt' snapshot → IsTimed answers counter watched watched' place answer →
+    (noticed noticed' : Noticed) (snapshot : Snapshot) (place answer bound : ℕ) →
+    IsRead learnt learnt' snapshot → IsTimed answers counter noticed noticed' place answer →
     place ≡ snapshot.front → bound ≡ mask snapshot.base.counter →
-    AreInOrder watched'.commands × AreInLife watched'.commands watched'.log →
-    IsTaken answers counter learnt learnt' watched watched' snapshot (bit_and answer bound)
-taken_by answers counter learnt learnt' watched watched' snapshot place answer bound read timed here most life =
+    AreInOrder noticed'.commands × AreInLife noticed'.commands noticed'.log →
+    IsTaken answers counter learnt learnt' noticed noticed' snapshot (bit_and answer bound)
+taken_by answers counter learnt learnt' noticed noticed' snapshot place answer bound read timed here most life =
     record {
       read = read;
       answer = answer;
-      timed = subst (λ (n : ℕ). IsTimed answers counter watched watched' n answer) here timed;
+      timed = subst (λ (n : ℕ). IsTimed answers counter noticed noticed' n answer) here timed;
       masked = ap (bit_and answer) most ∙ and_mask answer snapshot.base.counter.bits;
       order = life.0;
       life = life.1;
@@ -33,7 +33,7 @@ taken_by answers counter learnt learnt' watched watched' snapshot place answer b
 
 -- a result by the page
 pub seen_by : {S : Type 0} (answers : S → ℕ → ℕ → Type 0) (counter : S) (clock : ClockId)
-    (history : Journal) (old before new : Watched) (snapshot : Snapshot)
+    (history : Journal) (old before new : Noticed) (snapshot : Snapshot)
     (place front answer bound : ℕ) (result : Result Timespec ReadError) →
     IsPrefix old.commands before.commands → IsPrefix old.log before.log →
     IsTimed answers counter before new place answer → front ≡ place →

@@ -15,7 +15,7 @@ use Rattle.tk_page.specs.History.{Begins}
 use Rattle.tk_latch.specs.Latch.{LatchId, told_reader}
 use Rattle.tk_shared.specs.Callers.{Known, IsAccepted, IsRefused, IsRefusalAfter, entry_of}
 use Rattle.tk_now.specs.Moments.{IsTold}
-use Rattle.tk_now.specs.Views.{Announcing, Watched}
+use Rattle.tk_now.specs.Views.{Announcing, Noticed}
 use Rattle.tk_shared.specs.Locked.{Held, IsAtRest, IsHeld}
 use Rattle.tk_shared.proofs.Held.{with_entry, held_accepted}
 use Rattle.tk_shared.proofs.Informed.{informed_by}
@@ -49,12 +49,12 @@ module _ (page : TableId) (latch : LatchId) (held : Held) (is : IsHeld page latc
     reason = reason refusal told;
     counted = refl;
     learnt = refl;
-    watched = refl;
+    noticed = refl;
   }
 
   -- the knowledge of the caller if its command was accepted
-  abbrev pub told : Watched → Known
-  told watched =
+  abbrev pub told : Noticed → Known
+  told noticed =
       let now = with_entry held (entry_of old reading cmd) in
       record {
         id = old.id;
@@ -62,16 +62,16 @@ module _ (page : TableId) (latch : LatchId) (held : Held) (is : IsHeld page latc
         reads = old.reads;
         seen = now.shown.journal;
         learnt = told_reader now.latched;
-        watched = watched;
+        noticed = noticed;
       }
 
   pub accepted : (number : ℕ) → IsPrefix old.learnt.publications held.latched.publications →
       first_refusal held.kept (entry_of old reading cmd) ≡ None →
       number ≡ accepted_count (followed_by held.kept (entry_of old reading cmd)) →
-      (notice : TableId) (announcer : Announcing) (watched : Watched) →
-      IsAtRest notice (followed_by held.shown.journal (entry_of old reading cmd)) announcer →
-      IsTold announcer old.watched watched → IsAccepted old (told watched) cmd number
-  accepted number learnt none counted notice announcer watched rest known =
+      (notice : TableId) (notice_writer : Announcing) (noticed : Noticed) →
+      IsAtRest notice (followed_by held.shown.journal (entry_of old reading cmd)) notice_writer →
+      IsTold notice_writer old.noticed noticed → IsAccepted old (told noticed) cmd number
+  accepted number learnt none counted notice notice_writer noticed rest known =
       let history = held.shown.journal in
       let entry = entry_of old reading cmd in
       let now = held_accepted page latch held entry is none in
@@ -99,12 +99,12 @@ module _ (page : TableId) (latch : LatchId) (held : Held) (is : IsHeld page latc
         beyond = omega (arith, many, longer, fewer, latest);
         mark = let all = length_push held.latched.publications next in
             omega (arith, all, latest, many, longer);
-        informed = informed_by page latch (with_entry held entry) now notice announcer rest
-            old.watched watched known (told watched);
+        informed = informed_by page latch (with_entry held entry) now notice notice_writer rest
+            old.noticed noticed known (told noticed);
         known = record {
           seen = (begins.0, prefix_trans _ _ _ begins.1 (entry ∷ [], refl));
           learnt = prefix_trans _ _ _ learnt (next ∷ [], refl);
-          commands = subst (IsPrefix old.watched.commands) (sym known.commands) known.begins;
+          commands = subst (IsPrefix old.noticed.commands) (sym known.commands) known.begins;
           log = known.log;
         };
       }

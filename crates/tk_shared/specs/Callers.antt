@@ -17,7 +17,7 @@ use Rattle.tk_page.specs.History.{Begins, Sight}
 use Rattle.atomic_table.specs.Seated.{TableId}
 use Rattle.tk_now.specs.Life.{AreReadings}
 use Rattle.tk_now.specs.Moments.{AreInLife, AreInOrder, AreInTurn}
-use Rattle.tk_now.specs.Views.{Watched, opened_announcer, opened_watcher}
+use Rattle.tk_now.specs.Views.{Noticed, opened_notice_writer, opened_notice_reader}
 use Rattle.tk_latch.specs.Latch.{LatchId, Learnt, mark_of, opened_reader}
 use Rattle.tk_shared.specs.History.{AreSnapshots}
 
@@ -30,18 +30,18 @@ pub record Known : Type 0 where
   pub reads : ℕ
   pub seen : Journal
   pub learnt : Learnt
-  pub watched : Watched
+  pub noticed : Noticed
 
 -- a caller, by its number, its count of accepted commands, and its knowledge from the page, the
 -- latch and the notice
-abbrev pub known_of : ℕ → ℕ → Sight → Learnt → Watched → Known
-known_of id accepted sight learnt watched = record {
+abbrev pub known_of : ℕ → ℕ → Sight → Learnt → Noticed → Known
+known_of id accepted sight learnt noticed = record {
   id = id;
   accepted = accepted;
   reads = sight.reads;
   seen = sight.journal;
   learnt = learnt;
-  watched = watched;
+  noticed = noticed;
 }
 
 -- the number of these entries that a caller made
@@ -62,8 +62,8 @@ IsSameCaller old new =
 pub record IsKnownBy (one other : Known) : Type 0 where
   pub seen : Begins one.seen other.seen
   pub learnt : IsPrefix one.learnt.publications other.learnt.publications
-  pub commands : IsPrefix one.watched.commands other.watched.commands
-  pub log : IsPrefix one.watched.log other.watched.log
+  pub commands : IsPrefix one.noticed.commands other.noticed.commands
+  pub log : IsPrefix one.noticed.log other.noticed.log
 
 -- a caller that was told everything under the lock: it has seen a whole history, and knows all of
 -- its snapshots and the readings of all of its commands, in order. All callers' readings so far are
@@ -72,10 +72,10 @@ pub record IsInformed (caller : Known) : Type 0 where
   pub whole : IsWhole caller.seen
   pub mark : mark_of caller.learnt.publications ≡ length caller.seen.entries
   pub snapshots : AreSnapshots caller.seen caller.learnt.publications
-  pub readings : AreReadings caller.seen caller.watched.commands
-  pub order : AreInOrder caller.watched.commands
-  pub life : AreInLife caller.watched.commands caller.watched.log
-  pub turn : AreInTurn caller.watched.log
+  pub readings : AreReadings caller.seen caller.noticed.commands
+  pub order : AreInOrder caller.noticed.commands
+  pub life : AreInLife caller.noticed.commands caller.noticed.log
+  pub turn : AreInTurn caller.noticed.log
 
 -- a caller whose command was accepted with this number: the history that it has seen is the history
 -- before the command with this one entry more. It was told everything
@@ -114,7 +114,7 @@ pub record IsRefused (old new : Known) (cmd : Command) (refusal : Refusal) : Typ
   pub reason : IsRefusalAfter new.seen (entry_of old reading cmd) refusal
   pub counted : new.accepted ≡ old.accepted
   pub learnt : new.learnt ≡ old.learnt
-  pub watched : new.watched ≡ old.watched
+  pub noticed : new.noticed ≡ old.noticed
 
 -- a caller of a keeper that was just opened
 abbrev pub newcomer : LatchId → TableId → Journal → ℕ → Known
@@ -124,7 +124,7 @@ newcomer latch notice opened id = record {
   reads = 0;
   seen = opened;
   learnt = opened_reader latch (snapshot_of opened);
-  watched = opened_watcher (opened_announcer notice opened.opening.reading);
+  noticed = opened_notice_reader (opened_notice_writer notice opened.opening.reading);
 }
 
 -- `count` of them, with the numbers 0, 1, and so on

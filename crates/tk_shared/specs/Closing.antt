@@ -35,19 +35,19 @@ pub record IsPartOf (history : Journal) (caller : Known) : Type 0 where
 
 -- a caller's knowledge from the notice: the readings of the first of these commands, and readings
 -- that are in their lives among all of them
-pub record HasWatched (commands : List Taken) (caller : Known) : Type 0 where
-  pub begins : IsPrefix caller.watched.commands commands
-  pub life : AreInLife commands caller.watched.log
+pub record HasNoticed (commands : List Taken) (caller : Known) : Type 0 where
+  pub begins : IsPrefix caller.noticed.commands commands
+  pub life : AreInLife commands caller.noticed.log
 
 -- the readings that a caller knows of are the first of these
 abbrev pub HasListed : List Answer → Known → Type 0
-HasListed log caller = IsPrefix caller.watched.log log
+HasListed log caller = IsPrefix caller.noticed.log log
 
 -- these are all the readings that one of these callers knows of, or there are none
 abbrev pub IsKnownLog : List Answer → List Known → Type 0
 IsKnownLog log callers = (log ≡ [])
     ⊎ ((place : ℕ) × (caller : Known) × (slice_get callers place ≡ Some caller)
-    × (caller.watched.log ≡ log))
+    × (caller.noticed.log ≡ log))
 
 -- there is one list of the readings of all these callers, each in its life among all commands and
 -- over before the next one. What each caller knows begins it, and one caller knows all of it
@@ -74,7 +74,7 @@ pub record IsClosed (journal : Journal) (callers : List Known) : Type 0 where
   pub alive : AreInLife commands log
   pub turn : AreInTurn log
   pub parts : All (IsPartOf history) callers
-  pub watched : All (HasWatched commands) callers
+  pub noticed : All (HasNoticed commands) callers
   pub listed : All (HasListed log) callers
   pub known : IsKnownLog log callers
   pub own : All (IsCounted history) callers

@@ -44,9 +44,9 @@ pub record IsHeld (named_page : TableId) (named_latch : LatchId) (held : Held) :
   pub counted : held.total ≡ length held.shown.journal.entries
 
 -- no command is in progress, and the commands' readings in the notice are the history's, in order
-pub record IsAtRest (named_notice : TableId) (history : Journal) (announcer : Announcing)
+pub record IsAtRest (named_notice : TableId) (history : Journal) (notice_writer : Announcing)
     : Type 0 where
-  pub notice : announcer.notice ≡ named_notice
-  pub idle : announcer.since ≡ None
-  pub readings : AreReadings history announcer.commands
-  pub order : AreInOrder announcer.commands
+  pub notice : notice_writer.notice ≡ named_notice
+  pub idle : notice_writer.since ≡ None
+  pub readings : AreReadings history notice_writer.commands
+  pub order : AreInOrder notice_writer.commands

@@ -50,7 +50,7 @@ pub record IsCallOf (callers : List Known) (old new : Known) : Type 0 where
 -- a call of `now` returned this time of MONOTONIC
 abbrev pub HasSeen : {S : Type 0} → (S → ℕ → ℕ → Type 0) → S → Known → Known → Timespec → Type 0
 HasSeen answers counter old new time =
-    IsSeenBy answers counter Monotonic new.seen old.watched new.watched (Ok time)
+    IsSeenBy answers counter Monotonic new.seen old.noticed new.noticed (Ok time)
 
 -- a call of `now_fast` did
 abbrev pub HasTaken : {S : Type 0} → (S → ℕ → ℕ → Type 0) → S → Known → Known → Timespec → Type 0
@@ -87,7 +87,7 @@ IsNowOf answers counter old new time answer =
 -- was accepted between the two answers. For other calls no clause gives the order of the moments
 abbrev pub IsOverBefore : Known → Known → Answer → Answer → Type 0
 IsOverBefore new old' first second = (first.taken.to ≤ second.taken.from)
-    ⊎ IsPrefix new.watched.log old'.watched.log ⊎ (first.place < second.place)
+    ⊎ IsPrefix new.noticed.log old'.noticed.log ⊎ (first.place < second.place)
 
 -- two calls by callers of one keeper, which was closed since. The first was over before the second
 -- looked first, and the counter was honest. Then the first time is at most the second
@@ -107,4 +107,4 @@ OpenNowNeverFalls {S} answers = (last : Known) → IsInformed last → (counter 
     (old new old' new' : Known) (time time' : Timespec) (first second : Answer) →
     IsKnownBy new last → IsKnownBy new' last → IsNowOf answers counter old new time first →
     IsNowOf answers counter' old' new' time' second → IsOverBefore new old' first second →
-    IsHonest last.seen last.watched.commands first second → nanoseconds time ≤ℤ nanoseconds time'
+    IsHonest last.seen last.noticed.commands first second → nanoseconds time ≤ℤ nanoseconds time'

@@ -11,7 +11,7 @@ use Rattle.tk_clock.specs.State.{ReadBase, base_of, base_value}
 use Rattle.tk_clock.specs.Time.{nanoseconds}
 use Rattle.tk_latch.specs.Latch.{Learnt, IsRead, IsMoved}
 use Rattle.tk_now.specs.Moments.{AreInLife, AreInOrder, IsBusy, IsTimed}
-use Rattle.tk_now.specs.Views.{Watched}
+use Rattle.tk_now.specs.Views.{Noticed}
 use Rattle.tk_shared.specs.Callers.{Known}
 use Rattle.tk_shared.specs.declared.now_fault.NowFault.{NowFault}
 use Rattle.tk_shared.specs.declared.now_fault.NowFault.TheVariants.{Refused, Moved, Busy, Late, Ahead}
@@ -23,18 +23,18 @@ IsTimeAt base clock reading time = (read_refusal base clock reading ≡ None)
     × (pos 0 ≤ℤ time.sec)
 
 module _ {S : Type 0} (answers : S → ℕ → ℕ → Type 0) (counter : S) (learnt learnt' : Learnt)
-    (watched watched' : Watched) where
+    (noticed noticed' : Noticed) where
   -- this call read a whole publication from the latch. Then, between two loads of the notice that
   -- found no command in progress, it took a reading, whose place is the publication's number. The
-  -- reading is used modulo 2^bits. All readings that the watcher knows of are in their lives among
-  -- the commands that it knows of
+  -- reading is used modulo 2^bits. All readings that the notice's reader knows of are in their lives
+  -- among the commands that it knows of
   pub record IsTaken (snapshot : Snapshot) (reading : ℕ) : Type 0 where
     pub read : IsRead learnt learnt' snapshot
     pub answer : ℕ
-    pub timed : IsTimed answers counter watched watched' snapshot.front answer
+    pub timed : IsTimed answers counter noticed noticed' snapshot.front answer
     pub masked : reading ≡ answer % 2 ^ snapshot.base.counter.bits
-    pub order : AreInOrder watched'.commands
-    pub life : AreInLife watched'.commands watched'.log
+    pub order : AreInOrder noticed'.commands
+    pub life : AreInLife noticed'.commands noticed'.log
 
   -- a clock's time at such a reading
   abbrev pub IsNowBy : ClockId → Timespec → Type 0
@@ -49,29 +49,29 @@ module _ {S : Type 0} (answers : S → ℕ → ℕ → Type 0) (counter : S) (le
       (snapshot : Snapshot) × (reading : ℕ) × IsTaken snapshot reading
       × (read_refusal snapshot.base clock reading ≡ Some refusal)
   IsNoTimeBy clock (Moved moved) =
-      IsMoved learnt learnt' moved.first moved.last × (watched' ≡ watched)
+      IsMoved learnt learnt' moved.first moved.last × (noticed' ≡ noticed)
   IsNoTimeBy clock (Busy busy) =
       (snapshot : Snapshot) × IsRead learnt learnt' snapshot
-      × IsBusy watched watched' busy.first busy.last
+      × IsBusy noticed noticed' busy.first busy.last
   IsNoTimeBy clock (Late late) =
       (snapshot : Snapshot) × (answer : ℕ) × IsRead learnt learnt' snapshot
-      × IsTimed answers counter watched watched' late.place answer
+      × IsTimed answers counter noticed noticed' late.place answer
       × (snapshot.front ≡ late.front) × (late.front < late.place)
   IsNoTimeBy clock (Ahead late) =
       (snapshot : Snapshot) × (answer : ℕ) × IsRead learnt learnt' snapshot
-      × IsTimed answers counter watched watched' late.place answer
+      × IsTimed answers counter noticed noticed' late.place answer
       × (snapshot.front ≡ late.front) × (late.place < late.front)
 
 -- the same of a caller
 abbrev pub IsNow : {S : Type 0} → (S → ℕ → ℕ → Type 0) → S → ClockId → Known → Known → Timespec →
     Type 0
 IsNow answers counter clock old new time =
-    IsNowBy answers counter old.learnt new.learnt old.watched new.watched clock time
+    IsNowBy answers counter old.learnt new.learnt old.noticed new.noticed clock time
 
 abbrev pub IsNoTime : {S : Type 0} → (S → ℕ → ℕ → Type 0) → S → ClockId → Known → Known →
     NowFault → Type 0
 IsNoTime answers counter clock old new fault =
-    IsNoTimeBy answers counter old.learnt new.learnt old.watched new.watched clock fault
+    IsNoTimeBy answers counter old.learnt new.learnt old.noticed new.noticed clock fault
 
 -- a clock's result at a reading: its time, or the first refusal
 abbrev pub IsResultAt : ReadBase → ClockId → ℕ → Result Timespec ReadError → Type 0
@@ -83,9 +83,9 @@ IsResultAt base clock reading result =
 -- progress this call took a reading, whose place is the last entry that the caller has seen. The
 -- result is the clock's in the history so far, at the reading modulo 2^bits
 pub record IsSeenBy {S : Type 0} (answers : S → ℕ → ℕ → Type 0) (counter : S) (clock : ClockId)
-    (history : Journal) (old new : Watched) (result : Result Timespec ReadError) : Type 0 where
-  -- the knowledge of the watcher before the two loads
-  pub before : Watched
+    (history : Journal) (old new : Noticed) (result : Result Timespec ReadError) : Type 0 where
+  -- the knowledge of the notice's reader before the two loads
+  pub before : Noticed
   pub commands : IsPrefix old.commands before.commands
   pub log : IsPrefix old.log before.log
   pub answer : ℕ
@@ -97,5 +97,5 @@ pub record IsSeenBy {S : Type 0} (answers : S → ℕ → ℕ → Type 0) (count
 -- the caller keeps its knowledge of the latch and of the notice
 abbrev pub KnowsMore : Known → Known → Type 0
 KnowsMore old new = IsPrefix old.learnt.publications new.learnt.publications
-    × IsPrefix old.watched.commands new.watched.commands
-    × IsPrefix old.watched.log new.watched.log
+    × IsPrefix old.noticed.commands new.noticed.commands
+    × IsPrefix old.noticed.log new.noticed.log

@@ -8,7 +8,7 @@ use Rattle.tk_clock.specs.Legal.{IsWhole}
 use Rattle.tk_clock.specs.Limits.{is_settable}
 use Rattle.tk_clock.specs.Snapshot.{snapshot_of}
 use Rattle.tk_page.specs.History.{History, Sight}
-use Rattle.tk_now.specs.Views.{Announcing, opened_announcer}
+use Rattle.tk_now.specs.Views.{Announcing, opened_notice_writer}
 use Rattle.tk_latch.specs.Latch.{LatchId, Published, Learnt, most_readers, opened_writer, opened_reader}
 use Rattle.tk_shared.specs.declared.fault.OpenError.{OpenError}
 use Rattle.tk_shared.specs.declared.fault.OpenError.TheVariants.{Count, Invalid, Memory}
@@ -63,15 +63,15 @@ pub record IsOpened (counter : Counter) (real : Timespec) (journal : Journal) : 
   pub whole : IsWhole journal
 
 -- a page and a latch that show the journal without entries, a reader for each caller, and the
--- announcer of a notice that was opened at the journal's reading
+-- writer of a notice that was opened at the journal's reading
 pub record IsReady (start : Start) (publisher : History) (viewer : Sight)
-    (writer : Published) (readers : List Learnt) (announcer : Announcing) : Type 0 where
+    (writer : Published) (readers : List Learnt) (notice_writer : Announcing) : Type 0 where
   pub published : publisher ≡ record { page = start.page; journal = start.journal }
   pub seen : viewer ≡ record { page = start.page; reads = 0; journal = start.journal }
   pub latched : writer ≡ opened_writer start.latch (snapshot_of start.journal)
   pub learnt : readers
       ≡ replicate start.callers (opened_reader start.latch (snapshot_of start.journal))
-  pub announced : announcer ≡ opened_announcer start.notice start.journal.opening.reading
+  pub announced : notice_writer ≡ opened_notice_writer start.notice start.journal.opening.reading
   pub counter : start.latch.counter ≡ start.journal.opening.counter
   pub whole : IsWhole start.journal
   pub empty : start.journal.entries ≡ []

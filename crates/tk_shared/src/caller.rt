@@ -5,7 +5,7 @@ use crate::named::Named;
 use std::marker::Model;
 use std::sync::ledger::Share;
 use tk_latch::LatchReader;
-use tk_now::Watcher;
+use tk_now::NoticeReader;
 use tk_page::Viewer;
 
 /// Gives commands to a shared keeper and reads its clocks.
@@ -17,7 +17,7 @@ use tk_page::Viewer;
 pub struct Caller<L: Named> {
     pub(crate) viewer: Viewer,
     pub(crate) reader: LatchReader,
-    pub(crate) watcher: Watcher,
+    pub(crate) notice_reader: NoticeReader,
     /// Its part of the ledger, which counts its accepted commands.
     pub(crate) share: Share<L>,
     pub(crate) id: u32,
@@ -30,12 +30,12 @@ impl<L: Named> Model for Caller<L> {
 
     ghost Value = { Known };
 
-    ghost view = { λ c. known_of c.id c.accepted c.viewer c.reader c.watcher };
+    ghost view = { λ c. known_of c.id c.accepted c.viewer c.reader c.notice_reader };
 
     ghost invariant = { λ c.
         (c.viewer.page ≡ L.page) × (c.reader.latch ≡ L.latch) × (c.share.parts ≡ 1)
         × (c.share.amount ≡ c.accepted) × (c.accepted ≤ made_by c.id c.viewer.journal.entries)
-        × (c.watcher.notice ≡ L.notice) };
+        × (c.notice_reader.notice ≡ L.notice) };
 }
 
 impl<L: Named> Caller<L> {

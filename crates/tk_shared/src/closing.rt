@@ -2,7 +2,7 @@
 ghost use Rattle.std.specs.Prelude.{◌≡◌, ◌+◌, ◌<◌, ◌≤◌, All, MatchResult, None, length, vec_len};
 ghost use mathlib.Core.List.{IsPrefix};
 ghost use Rattle.tk_now.specs.Moments.{AreInLife, AreInTurn};
-ghost use Rattle.tk_shared.specs.Closing.{AreDifferent, HasListed, HasWatched, HaveListed, IsClosed, IsPartOf, accepted_by};
+ghost use Rattle.tk_shared.specs.Closing.{AreDifferent, HasListed, HasNoticed, HaveListed, IsClosed, IsPartOf, accepted_by};
 ghost use Rattle.tk_shared.specs.History.{AreSnapshots};
 
 use crate::caller::Caller;
@@ -14,7 +14,7 @@ use std::sync::Wait;
 use std::sync::ledger::Share;
 use tk_keeper::Timekeeper;
 use tk_latch::{Latch, LatchWriter};
-use tk_now::{Announcer, Notice};
+use tk_now::{NoticeWriter, Notice};
 use tk_page::{Page, Publisher};
 
 /// Contains the parts of a closed keeper.
@@ -69,7 +69,7 @@ impl<L: Named, C: Counter> SharedKeeper<L, C> {
             keeper,
             mut publisher,
             mut writer,
-            mut announcer,
+            mut notice_writer,
             counter,
             mask: _,
             mut book,
@@ -82,7 +82,7 @@ impl<L: Named, C: Counter> SharedKeeper<L, C> {
             &latch,
             &mut writer,
             &notice,
-            &mut announcer,
+            &mut notice_writer,
             &mut all,
             callers,
         );
@@ -99,26 +99,26 @@ fn take_all<L: Named, R: Wait>(
     latch: &Latch,
     writer: &mut LatchWriter,
     notice: &Notice,
-    announcer: &mut Announcer,
+    notice_writer: &mut NoticeWriter,
     all: &mut Share<L>,
     callers: Vec<Caller<L>>,
 )
     requires page { (page.now ≡ L.page) × (publisher.old.page ≡ L.page) }
     requires latch { (latch.now ≡ L.latch) × (writer.old.latch ≡ L.latch) }
-    requires notice { (notice.now ≡ L.notice) × (announcer.old.notice ≡ L.notice) }
-    requires idle { announcer.old.since ≡ None }
+    requires notice { (notice.now ≡ L.notice) × (notice_writer.old.notice ≡ L.notice) }
+    requires idle { notice_writer.old.since ≡ None }
     requires snapshots { AreSnapshots publisher.old.journal writer.old.publications }
     requires within { all.old.parts ≤ L.parts }
     ensures parts { all.new.parts ≡ all.old.parts + length callers.items }
     ensures within { all.new.parts ≤ L.parts }
     ensures amount { all.new.amount ≡ all.old.amount + accepted_by callers.items }
     ensures seen { All (IsPartOf publisher.old.journal) callers.items }
-    ensures watched { All (HasWatched announcer.old.commands) callers.items }
-    ensures listed { HaveListed announcer.old.commands callers.items }
+    ensures noticed { All (HasNoticed notice_writer.old.commands) callers.items }
+    ensures listed { HaveListed notice_writer.old.commands callers.items }
 {
     for caller in callers {
         take_in(
-            rt, page, publisher, latch, writer, notice, announcer, all, caller,
+            rt, page, publisher, latch, writer, notice, notice_writer, all, caller,
         );
     }
 }
@@ -132,38 +132,38 @@ fn take_in<L: Named, R: Wait>(
     latch: &Latch,
     writer: &mut LatchWriter,
     notice: &Notice,
-    announcer: &mut Announcer,
+    notice_writer: &mut NoticeWriter,
     all: &mut Share<L>,
     caller: Caller<L>,
 )
     requires page { (page.now ≡ L.page) × (publisher.old.page ≡ L.page) }
     requires latch { (latch.now ≡ L.latch) × (writer.old.latch ≡ L.latch) }
-    requires notice { (notice.now ≡ L.notice) × (announcer.old.notice ≡ L.notice) }
-    requires idle { announcer.old.since ≡ None }
+    requires notice { (notice.now ≡ L.notice) × (notice_writer.old.notice ≡ L.notice) }
+    requires idle { notice_writer.old.since ≡ None }
     requires snapshots { AreSnapshots publisher.old.journal writer.old.publications }
     ensures same { (publisher.new ≡ publisher.old) × (writer.new ≡ writer.old)
-        × (announcer.new.notice ≡ announcer.old.notice)
-        × (announcer.new.commands ≡ announcer.old.commands)
-        × (announcer.new.since ≡ announcer.old.since) }
-    ensures log { IsPrefix announcer.old.log announcer.new.log }
-    ensures alive { AreInLife announcer.old.commands announcer.new.log }
-    ensures turn { AreInTurn announcer.new.log }
+        × (notice_writer.new.notice ≡ notice_writer.old.notice)
+        × (notice_writer.new.commands ≡ notice_writer.old.commands)
+        × (notice_writer.new.since ≡ notice_writer.old.since) }
+    ensures log { IsPrefix notice_writer.old.log notice_writer.new.log }
+    ensures alive { AreInLife notice_writer.old.commands notice_writer.new.log }
+    ensures turn { AreInTurn notice_writer.new.log }
     ensures parts { (all.new.parts ≡ all.old.parts + 1) × (all.new.parts ≤ L.parts) }
     ensures amount { all.new.amount ≡ all.old.amount + caller.accepted }
     ensures seen { IsPartOf publisher.old.journal caller }
-    ensures watched { HasWatched announcer.old.commands caller }
-    ensures listed { HasListed announcer.new.log caller }
+    ensures noticed { HasNoticed notice_writer.old.commands caller }
+    ensures listed { HasListed notice_writer.new.log caller }
 {
     let Caller {
         mut viewer,
         mut reader,
-        watcher,
+        notice_reader,
         share,
         id: _,
         accepted: _,
     } = caller;
     page.tell(rt, publisher, &mut viewer);
     latch.tell(writer, &mut reader);
-    announcer.take_in(notice, watcher);
+    notice_writer.take_in(notice, notice_reader);
     all.merge(share);
 }

@@ -13,7 +13,7 @@ use crate::named::Named;
 use crate::shared_keeper::SharedKeeper;
 use std::sync::Wait;
 use tk_latch::{Latch, LatchWriter};
-use tk_now::{Announcer, Notice};
+use tk_now::{NoticeWriter, Notice};
 use tk_page::{Page, Publisher};
 
 impl<L: Named, C: Counter> SharedKeeper<L, C> {
@@ -67,12 +67,12 @@ impl<L: Named, C: Counter> Locked<L, C> {
             × (other.new.accepted ≡ other.old.accepted) }
     {
         let (publisher, writer) = (&mut self.publisher, &mut self.writer);
-        let announcer = &mut self.announcer;
-        inform(rt, page, publisher, latch, writer, notice, announcer, other);
+        let notice_writer = &mut self.notice_writer;
+        inform(rt, page, publisher, latch, writer, notice, notice_writer, other);
         let (publisher, writer) = (&mut self.publisher, &mut self.writer);
-        let announcer = &mut self.announcer;
+        let notice_writer = &mut self.notice_writer;
         inform(
-            rt, page, publisher, latch, writer, notice, announcer, caller,
+            rt, page, publisher, latch, writer, notice, notice_writer, caller,
         );
     }
 }
@@ -85,26 +85,26 @@ fn inform<L: Named, R: Wait>(
     latch: &Latch,
     writer: &mut LatchWriter,
     notice: &Notice,
-    announcer: &mut Announcer,
+    notice_writer: &mut NoticeWriter,
     caller: &mut Caller<L>,
 )
     requires page { (page.now ≡ L.page) × (publisher.old.page ≡ L.page) }
     requires latch { (latch.now ≡ L.latch) × (writer.old.latch ≡ L.latch) }
-    requires notice { (notice.now ≡ L.notice) × (announcer.old.notice ≡ L.notice) }
-    requires idle { announcer.old.since ≡ None }
+    requires notice { (notice.now ≡ L.notice) × (notice_writer.old.notice ≡ L.notice) }
+    requires idle { notice_writer.old.since ≡ None }
     ensures same { (publisher.new ≡ publisher.old) × (writer.new ≡ writer.old) }
-    ensures announcer { announcer.new ≡ record announcer.old { log = announcer.new.log } }
-    ensures log { IsPrefix announcer.old.log announcer.new.log }
+    ensures notice_writer { notice_writer.new ≡ record notice_writer.old { log = notice_writer.new.log } }
+    ensures log { IsPrefix notice_writer.old.log notice_writer.new.log }
     ensures caller { caller.new ≡ record caller.old {
       seen = publisher.old.journal;
       learnt = told_reader writer.old;
-      watched = caller.new.watched;
+      noticed = caller.new.noticed;
     } }
-    ensures told { IsTold announcer.new caller.old.watched caller.new.watched }
+    ensures told { IsTold notice_writer.new caller.old.noticed caller.new.noticed }
     ensures begins { Begins caller.old.seen publisher.old.journal }
     ensures extends { IsPrefix caller.old.learnt.publications writer.old.publications }
 {
     page.tell(rt, publisher, &mut caller.viewer);
     latch.tell(writer, &mut caller.reader);
-    announcer.tell(notice, &mut caller.watcher);
+    notice_writer.tell(notice, &mut caller.notice_reader);
 }

@@ -18,7 +18,7 @@ use std::sync::ledger::{Book, Share};
 use tk_clock::{Command, Entry, Refusal, Snapshot};
 use tk_keeper::Timekeeper;
 use tk_latch::{Latch, LatchWriter};
-use tk_now::{Announcer, Notice};
+use tk_now::{NoticeWriter, Notice};
 use tk_page::{Page, Publisher};
 
 /// Contains the value under the lock.
@@ -32,7 +32,7 @@ pub struct Locked<L: Named, C: Counter> {
     /// Publishes accepted commands on the latch, which is outside the lock too.
     pub(crate) writer: LatchWriter,
     /// Announces commands in the notice, which is outside the lock too.
-    pub(crate) announcer: Announcer,
+    pub(crate) notice_writer: NoticeWriter,
     pub(crate) counter: C,
     /// The greatest reading of the counter.
     pub(crate) mask: u64,
@@ -54,7 +54,7 @@ impl<L: Named, C: Counter> Model for Locked<L, C> {
         IsHeld L.page L.latch
         (held_of c.keeper.journal c.publisher c.writer c.mask c.book.total)
         × (c.rest.parts ≡ 0) × (c.rest.amount ≡ 0)
-        × IsAtRest L.notice c.publisher.journal c.announcer };
+        × IsAtRest L.notice c.publisher.journal c.notice_writer };
 }
 
 impl<L: Named, C: Counter> Locked<L, C> {
@@ -80,19 +80,19 @@ impl<L: Named, C: Counter> Locked<L, C> {
             (λ number. IsAccepted caller.old caller.new cmd number)
             (λ refusal. IsRefused caller.old caller.new cmd refusal × (self.new ≡ self.old)) }
         ensures reading { MatchResult result
-            (λ _. EndsAtReading C.answers_after caller.new.seen caller.new.watched.commands)
+            (λ _. EndsAtReading C.answers_after caller.new.seen caller.new.noticed.commands)
             (λ refusal. IsRefusedAtReading C.answers_after caller.old caller.new.seen cmd refusal) }
         ensures seen { caller.new.seen ≡ self.new.history }
         ensures folded { self.new.journal.opening ≡ self.old.journal.opening }
         ensures same { IsSameCaller caller.old caller.new }
     {
-        self.announcer.announce(notice);
-        let reading = self.counter.read_after(self.announcer.look()) & self.mask;
+        self.notice_writer.announce(notice);
+        let reading = self.counter.read_after(self.notice_writer.look()) & self.mask;
         let who = caller.id;
         let number = match self.keeper.apply(who, reading, cmd) {
             Ok(number) => number,
             Err(refusal) => {
-                self.announcer.withdraw(notice);
+                self.notice_writer.withdraw(notice);
                 page.tell(rt, &mut self.publisher, &mut caller.viewer);
                 return Err(refusal);
             }
@@ -105,13 +105,13 @@ impl<L: Named, C: Counter> Locked<L, C> {
         show_on_latch(latch, &mut self.writer, snapshot);
         accept(
             notice,
-            &mut self.announcer,
+            &mut self.notice_writer,
             reading,
             &self.publisher,
             &self.writer,
         );
         latch.tell(&mut self.writer, &mut caller.reader);
-        self.announcer.tell(notice, &mut caller.watcher);
+        self.notice_writer.tell(notice, &mut caller.notice_reader);
         self.book.add(&mut caller.share, 1);
         caller.accepted += 1;
         Ok(number)
@@ -134,22 +134,22 @@ impl<L: Named, C: Counter> Locked<L, C> {
 /// the latch. Until then it is announced.
 fn accept(
     notice: &Notice,
-    announcer: &mut Announcer,
+    notice_writer: &mut NoticeWriter,
     reading: u64,
     publisher: &Publisher,
     writer: &LatchWriter,
 )
-    requires notice { announcer.old.notice ≡ notice.now }
-    requires announced { IsSome announcer.old.since }
-    requires room { length announcer.old.commands < 2 ^ 63 }
-    requires on_page { length publisher.now.journal.entries ≡ length announcer.old.commands }
-    requires on_latch { length writer.now.publications ≡ length announcer.old.commands + 1 }
-    ensures notice { announcer.new.notice ≡ announcer.old.notice }
-    ensures idle { announcer.new.since ≡ None }
-    ensures accepted { IsAcceptedAt announcer.old.since announcer.old.commands reading
-        announcer.new.commands }
+    requires notice { notice_writer.old.notice ≡ notice.now }
+    requires announced { IsSome notice_writer.old.since }
+    requires room { length notice_writer.old.commands < 2 ^ 63 }
+    requires on_page { length publisher.now.journal.entries ≡ length notice_writer.old.commands }
+    requires on_latch { length writer.now.publications ≡ length notice_writer.old.commands + 1 }
+    ensures notice { notice_writer.new.notice ≡ notice_writer.old.notice }
+    ensures idle { notice_writer.new.since ≡ None }
+    ensures accepted { IsAcceptedAt notice_writer.old.since notice_writer.old.commands reading
+        notice_writer.new.commands }
 {
-    announcer.accept(notice, reading);
+    notice_writer.accept(notice, reading);
 }
 
 /// Publishes the next snapshot on the latch. The latch can count one publication for every command

@@ -15,7 +15,7 @@ use std::sync::Wait;
 use std::thread;
 use tk_clock::{ClockId, ReadError, Timespec};
 use tk_latch::{Latch, LatchReader};
-use tk_now::{Notice, SharedCounter, Watcher};
+use tk_now::{Notice, SharedCounter, NoticeReader};
 use tk_page::{Page, Viewer};
 
 impl<L: Named, C: Counter> SharedKeeper<L, C> {
@@ -44,21 +44,21 @@ impl<L: Named, C: Counter> SharedKeeper<L, C> {
     ) -> Result<Timespec, ReadError>
         ensures reads { caller.old.reads < caller.new.reads }
         ensures extends { Begins caller.old.seen caller.new.seen }
-        ensures watched { KnowsMore caller.old caller.new }
-        ensures answer { IsSeenBy S.answers counter.now clock caller.new.seen caller.old.watched
-            caller.new.watched result }
+        ensures noticed { KnowsMore caller.old caller.new }
+        ensures answer { IsSeenBy S.answers counter.now clock caller.new.seen caller.old.noticed
+            caller.new.noticed result }
         ensures clocks { ReadsAs caller.new.seen (base_of caller.new.seen) }
         ensures same { (caller.new.id ≡ caller.old.id)
             × (caller.new.accepted ≡ caller.old.accepted)
             × (caller.new.learnt ≡ caller.old.learnt) }
     {
-        let (viewer, watcher) = (&mut caller.viewer, &mut caller.watcher);
+        let (viewer, notice_reader) = (&mut caller.viewer, &mut caller.notice_reader);
         time_seen(
             rt,
             &self.page,
             viewer,
             &self.notice,
-            watcher,
+            notice_reader,
             counter,
             clock,
         )
@@ -100,8 +100,8 @@ impl<L: Named, C: Counter> SharedKeeper<L, C> {
             × (caller.new.reads ≡ caller.old.reads)
             × (caller.new.seen ≡ caller.old.seen) }
     {
-        let (reader, watcher) = (&mut caller.reader, &mut caller.watcher);
-        time_by(&self.latch, reader, &self.notice, watcher, counter, clock)
+        let (reader, notice_reader) = (&mut caller.reader, &mut caller.notice_reader);
+        time_by(&self.latch, reader, &self.notice, notice_reader, counter, clock)
     }
 }
 
@@ -113,24 +113,24 @@ fn time_seen<R: Wait, S: SharedCounter>(
     page: &Page,
     viewer: &mut Viewer,
     notice: &Notice,
-    watcher: &mut Watcher,
+    notice_reader: &mut NoticeReader,
     counter: &S,
     clock: ClockId,
 ) -> Result<Timespec, ReadError>
     requires page { viewer.old.page ≡ page.now }
-    requires notice { watcher.old.notice ≡ notice.now }
+    requires notice { notice_reader.old.notice ≡ notice.now }
     ensures page { viewer.new.page ≡ viewer.old.page }
-    ensures notice { watcher.new.notice ≡ watcher.old.notice }
+    ensures notice { notice_reader.new.notice ≡ notice_reader.old.notice }
     ensures reads { viewer.old.reads < viewer.new.reads }
     ensures begins { Begins viewer.old.journal viewer.new.journal }
-    ensures watched { IsPrefix watcher.old.commands watcher.new.commands
-        × IsPrefix watcher.old.log watcher.new.log }
-    ensures answer { IsSeenBy S.answers counter.now clock viewer.new.journal watcher.old watcher.new
+    ensures noticed { IsPrefix notice_reader.old.commands notice_reader.new.commands
+        × IsPrefix notice_reader.old.log notice_reader.new.log }
+    ensures answer { IsSeenBy S.answers counter.now clock viewer.new.journal notice_reader.old notice_reader.new
         result }
 {
     for _ in rt.forever() {
         let snapshot = viewer.read(rt, page);
-        let Ok(timed) = watcher.time(notice, counter) else {
+        let Ok(timed) = notice_reader.time(notice, counter) else {
             // whoever gives the command may need this processor
             thread::yield_now();
             continue;
@@ -149,28 +149,28 @@ fn time_by<S: SharedCounter>(
     latch: &Latch,
     reader: &mut LatchReader,
     notice: &Notice,
-    watcher: &mut Watcher,
+    notice_reader: &mut NoticeReader,
     counter: &S,
     clock: ClockId,
 ) -> Result<Timespec, NowFault>
     requires latch { reader.old.latch ≡ latch.now }
-    requires notice { watcher.old.notice ≡ notice.now }
+    requires notice { notice_reader.old.notice ≡ notice.now }
     ensures latch { reader.new.latch ≡ reader.old.latch }
-    ensures notice { watcher.new.notice ≡ watcher.old.notice }
+    ensures notice { notice_reader.new.notice ≡ notice_reader.old.notice }
     ensures learnt { IsPrefix reader.old.publications reader.new.publications }
-    ensures watched { IsPrefix watcher.old.commands watcher.new.commands
-        × IsPrefix watcher.old.log watcher.new.log }
+    ensures noticed { IsPrefix notice_reader.old.commands notice_reader.new.commands
+        × IsPrefix notice_reader.old.log notice_reader.new.log }
     ensures answer { MatchResult result
-        (λ time. IsNowBy S.answers counter.now reader.old reader.new watcher.old watcher.new clock
+        (λ time. IsNowBy S.answers counter.now reader.old reader.new notice_reader.old notice_reader.new clock
         time)
-        (λ fault. IsNoTimeBy S.answers counter.now reader.old reader.new watcher.old watcher.new
+        (λ fault. IsNoTimeBy S.answers counter.now reader.old reader.new notice_reader.old notice_reader.new
         clock fault) }
 {
     let snapshot = match reader.try_read(latch) {
         Ok(snapshot) => snapshot,
         Err(moved) => return Err(NowFault::Moved(moved)),
     };
-    let timed = match watcher.time(notice, counter) {
+    let timed = match notice_reader.time(notice, counter) {
         Ok(timed) => timed,
         Err(busy) => return Err(NowFault::Busy(busy)),
     };

@@ -15,7 +15,7 @@ use tk_clock::{Clock, Timespec};
 use tk_counter::CounterDesc;
 use tk_keeper::Timekeeper;
 use tk_latch::{Latch, LatchReader, LatchWriter, READERS_LIMIT};
-use tk_now::{Announcer, Notice};
+use tk_now::{NoticeWriter, Notice};
 use tk_page::{Page, Publisher, Viewer};
 
 /// The greatest number of callers of a keeper. Every caller has a reader of the latch.
@@ -32,7 +32,7 @@ pub(crate) struct Parts {
     /// One for each caller.
     pub(crate) readers: Vec<LatchReader>,
     pub(crate) notice: Notice,
-    pub(crate) announcer: Announcer,
+    pub(crate) notice_writer: NoticeWriter,
     pub(crate) keeper: Timekeeper,
 }
 
@@ -76,7 +76,7 @@ impl<C: Counter> Model for Prepared<C> {
           journal = p.parts.keeper.journal;
           spare = p.parts.keeper.spare;
         }) p.parts.publisher p.parts.viewer p.parts.writer p.parts.readers.items
-        p.parts.announcer
+        p.parts.notice_writer
         × (p.mask ≡ greatest_reading p.parts.keeper.journal.opening.counter)
         × (p.blank.parts ≡ length p.parts.readers.items) };
 }
@@ -165,7 +165,7 @@ fn assemble<R: Wait>(
           callers = callers;
           journal = keeper.journal;
           spare = parts.keeper.spare;
-        }) parts.publisher parts.viewer parts.writer parts.readers.items parts.announcer) }
+        }) parts.publisher parts.viewer parts.writer parts.readers.items parts.notice_writer) }
 {
     let mut keeper = keeper;
     if keeper.reserve(room).is_err() {
@@ -178,7 +178,7 @@ fn assemble<R: Wait>(
     let Ok((latch, writer, readers)) = Latch::open(alloc, snapshot, callers) else {
         return Err(AllocError);
     };
-    let (notice, announcer) = Notice::open(alloc, snapshot.last())?;
+    let (notice, notice_writer) = Notice::open(alloc, snapshot.last())?;
     Ok(Parts {
         page,
         publisher,
@@ -187,7 +187,7 @@ fn assemble<R: Wait>(
         writer,
         readers,
         notice,
-        announcer,
+        notice_writer,
         keeper,
     })
 }

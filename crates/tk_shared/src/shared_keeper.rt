@@ -5,7 +5,7 @@ ghost use Rattle.tk_clock.specs.Snapshot.{snapshot_of};
 ghost use Rattle.tk_keeper.specs.Keeper.{ReadsAs};
 ghost use Rattle.tk_page.specs.History.{Begins};
 ghost use Rattle.tk_latch.specs.Latch.{IsRead, IsMoved, opened_reader};
-ghost use Rattle.tk_now.specs.Views.{opened_announcer};
+ghost use Rattle.tk_now.specs.Views.{opened_notice_writer};
 ghost use Rattle.tk_shared.specs.Callers.{IsAccepted, IsRefused, IsSameCaller, newcomers};
 ghost use Rattle.tk_shared.specs.Opening.{IsNamed, most_callers};
 ghost use Rattle.tk_shared.specs.Readings.{EndsAtReading, IsRefusedAtReading};
@@ -22,7 +22,7 @@ use std::sync::ledger::Share;
 use std::sync::{Mutex, Wait};
 use tk_clock::{Command, Refusal, Snapshot};
 use tk_latch::{Latch, LatchReader, Moved};
-use tk_now::{Announcer, Notice};
+use tk_now::{NoticeWriter, Notice};
 use tk_page::{Page, Viewer};
 
 /// Shares a timekeeper among callers in many threads.
@@ -82,7 +82,7 @@ impl<L: Named, C: Counter> SharedKeeper<L, C> {
             writer,
             readers,
             notice,
-            mut announcer,
+            mut notice_writer,
             keeper,
         } = parts;
         let callers = readers.len();
@@ -93,7 +93,7 @@ impl<L: Named, C: Counter> SharedKeeper<L, C> {
             viewer,
             readers,
             &notice,
-            &mut announcer,
+            &mut notice_writer,
             &mut rest,
         ) else {
             return Err(OpenFault {
@@ -105,7 +105,7 @@ impl<L: Named, C: Counter> SharedKeeper<L, C> {
             keeper,
             publisher,
             writer,
-            announcer,
+            notice_writer,
             counter,
             mask,
             book,
@@ -144,7 +144,7 @@ impl<L: Named, C: Counter> SharedKeeper<L, C> {
             (λ number. IsAccepted caller.old caller.new cmd number)
             (λ refusal. IsRefused caller.old caller.new cmd refusal) }
         ensures reading { MatchResult result
-            (λ _. EndsAtReading C.answers_after caller.new.seen caller.new.watched.commands)
+            (λ _. EndsAtReading C.answers_after caller.new.seen caller.new.noticed.commands)
             (λ refusal. IsRefusedAtReading C.answers_after caller.old caller.new.seen cmd refusal) }
         ensures same { IsSameCaller caller.old caller.new }
     {
@@ -166,7 +166,7 @@ impl<L: Named, C: Counter> SharedKeeper<L, C> {
         ensures same { (caller.new.id ≡ caller.old.id)
             × (caller.new.accepted ≡ caller.old.accepted)
             × (caller.new.learnt ≡ caller.old.learnt)
-            × (caller.new.watched ≡ caller.old.watched) }
+            × (caller.new.noticed ≡ caller.old.noticed) }
     {
         caller.viewer.read(rt, &self.page)
     }
@@ -190,7 +190,7 @@ impl<L: Named, C: Counter> SharedKeeper<L, C> {
             × (caller.new.accepted ≡ caller.old.accepted)
             × (caller.new.reads ≡ caller.old.reads)
             × (caller.new.seen ≡ caller.old.seen)
-            × (caller.new.watched ≡ caller.old.watched) }
+            × (caller.new.noticed ≡ caller.old.noticed) }
     {
         caller.reader.try_read(&self.latch)
     }
@@ -214,7 +214,7 @@ fn make_callers<L: Named>(
     viewer: Viewer,
     readers: Vec<LatchReader>,
     notice: &Notice,
-    announcer: &mut Announcer,
+    notice_writer: &mut NoticeWriter,
     shares: &mut Share<L>,
 ) -> Result<Vec<Caller<L>>, AllocError>
     requires page { (viewer.page ≡ page.now) × (viewer.page ≡ L.page) }
@@ -223,12 +223,12 @@ fn make_callers<L: Named>(
         ≡ replicate (length readers.items) (opened_reader L.latch (snapshot_of viewer.journal)) }
     requires few { length readers.items ≤ most_callers }
     requires notice { notice.now ≡ L.notice }
-    requires announcer { announcer.old
-        ≡ opened_announcer L.notice viewer.journal.opening.reading }
+    requires notice_writer { notice_writer.old
+        ≡ opened_notice_writer L.notice viewer.journal.opening.reading }
     requires shares { (shares.old.parts ≡ length readers.items) × (shares.old.amount ≡ 0) }
     ensures callers { IfOk result (λ callers.
         callers.items ≡ newcomers L.latch L.notice viewer.journal (length readers.items)) }
-    ensures announcer { announcer.new ≡ announcer.old }
+    ensures notice_writer { notice_writer.new ≡ notice_writer.old }
     ensures shares { IfOk result (λ _. (shares.new.parts ≡ 0) × (shares.new.amount ≡ 0)) }
 {
     let mut viewer = viewer;
@@ -240,7 +240,7 @@ fn make_callers<L: Named>(
         callers.push_reserved(Caller {
             viewer: mine,
             reader,
-            watcher: notice.watcher(announcer),
+            notice_reader: notice.reader(notice_writer),
             share: shares.split_off(1, 0),
             id,
             accepted: 0,

@@ -33,10 +33,10 @@ module _ {S : Type 0} (answers : S → ℕ → ℕ → Type 0) (counter : S) (on
     known' : IsKnownBy asked.after' last
     known' = known_by_trans asked.after' two last asked.known' known_two
 
-    in_life : AreInLife last.watched.commands (first ∷ second ∷ [])
+    in_life : AreInLife last.noticed.commands (first ∷ second ∷ [])
     in_life =
-        let commands = last.watched.commands in
-        let log = last.watched.log in
+        let commands = last.noticed.commands in
+        let log = last.noticed.log in
         let all = informed_within last informed in
         let a = told_of answers counter last.seen commands log asked.before asked.after time
         (known_within last.seen commands log asked.after last known all) first (inl (asked.seen, refl)) in
@@ -48,7 +48,7 @@ module _ {S : Type 0} (answers : S → ℕ → ℕ → Type 0) (counter : S) (on
 
     -- the first caller gave the only command
     only_command : {C : Type 0} (after : C → ℕ → ℕ → Type 0) → length last.seen.entries ≡ 1 →
-        HasCommanded after one → EndsAtReading after last.seen last.watched.commands
+        HasCommanded after one → EndsAtReading after last.seen last.noticed.commands
     only_command after all gave =
         let since = gave.since in
         let begins = known_by_trans since one last gave.known known_one in
@@ -63,7 +63,7 @@ module _ {S : Type 0} (answers : S → ℕ → ℕ → Type 0) (counter : S) (on
         } in
         let mine = gave.readings.count in
         let count = informed.readings.count in
-        let commands = prefix_whole since.watched.commands last.watched.commands begins.commands
+        let commands = prefix_whole since.noticed.commands last.noticed.commands begins.commands
         (omega (arith, all, some, mine, count)) in
         subst (λ (p : Journal × List Taken). EndsAtReading after p.0 p.1)
         (λ i. (same i, commands i)) ends
@@ -75,7 +75,7 @@ module _ {S : Type 0} (answers : S → ℕ → ℕ → Type 0) (counter : S) (on
         law last informed counter counter asked.before asked.after asked.before' asked.after' time time'
         first second known known' (inl (asked.seen, refl)) (inl (asked.seen', refl))
         (inr (inl asked.handed.log))
-        (trusted last.seen last.watched.commands first second refl all informed.readings
+        (trusted last.seen last.noticed.commands first second refl all informed.readings
         informed.order (only_command after all gave) asked.seen.timed.given asked.seen'.timed.given
         in_life)
 

@@ -38,8 +38,8 @@ pub record HaveRisen {S : Type 0} (answers : S → ℕ → ℕ → Type 0) (coun
 -- a caller gave the last command of a history that it has seen, at a reading of a counter
 pub record HasCommanded {C : Type 0} (after : C → ℕ → ℕ → Type 0) (caller : Known) : Type 0 where
   pub since : Known
-  pub readings : AreReadings since.seen since.watched.commands
-  pub ends : EndsAtReading after since.seen since.watched.commands
+  pub readings : AreReadings since.seen since.noticed.commands
+  pub ends : EndsAtReading after since.seen since.noticed.commands
   pub known : IsKnownBy since caller
 
 -- the counter is known to be honest in every run with one command and these two answers. In such a

@@ -14,7 +14,7 @@ impl NamesReading for Brand {
     ghost reading = { 0 };
 }
 
-/// The announcer announces a command: the word becomes odd.
+/// The writer announces a command: the word becomes odd.
 pub struct Announces;
 
 impl Play<(), View> for Announces {
@@ -43,7 +43,7 @@ impl Play<(), View> for Withdraws {
     ghost then = { withdrawn };
 }
 
-/// The first load of the word by a watcher.
+/// The first load of the word by a reader.
 pub struct Begins;
 
 impl Play<(), View> for Begins {
@@ -52,7 +52,7 @@ impl Play<(), View> for Begins {
     ghost then = { began };
 }
 
-/// The second load of the word by a watcher. If it is the same and even, the reading that was taken
+/// The second load of the word by a reader. If it is the same and even, the reading that was taken
 /// in between is listed.
 pub struct Ends<R> {
     reading: PhantomData<R>,
@@ -64,7 +64,7 @@ impl<R: NamesReading> Play<(), View> for Ends<R> {
     ghost then = { ended R.reading };
 }
 
-/// The announcer gives its knowledge of the commands to a new watcher.
+/// The writer gives its knowledge of the commands to a new reader.
 pub struct Hands;
 
 impl Split<View> for Hands {
@@ -77,7 +77,7 @@ impl Split<View> for Hands {
     ghost right = { λ view. view_of view.commands [] (Resting []) };
 }
 
-/// The announcer takes in a watcher's seat, and notes its knowledge.
+/// The writer takes in a reader's seat, and notes its knowledge.
 pub struct KeepsNote;
 
 impl Join<View> for KeepsNote {
@@ -88,7 +88,7 @@ impl Join<View> for KeepsNote {
     ghost spent = { spent };
 }
 
-/// The announcer loads the word, and learns the relation of its note to the commands.
+/// The writer loads the word, and learns the relation of its note to the commands.
 pub struct Compares;
 
 impl Play<(), View> for Compares {
@@ -97,7 +97,7 @@ impl Play<(), View> for Compares {
     ghost then = { compared };
 }
 
-/// The announcer loads the word, compares its note with the commands and answers, and then notes
+/// The writer loads the word, compares its note with the commands and answers, and then notes
 /// all of them.
 pub struct Recounts;
 
@@ -107,7 +107,7 @@ impl Play<(), View> for Recounts {
     ghost then = { recounted };
 }
 
-/// The announcer gives its note to a watcher.
+/// The writer gives its note to a reader.
 pub struct Returns;
 
 impl Split<View> for Returns {

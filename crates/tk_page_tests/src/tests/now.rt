@@ -5,12 +5,12 @@ use std::sync::atomic::{AtomicU64, Ordering};
 use std::test::Fail;
 use std::thread::{Threads, join};
 use std::time::Instant;
-use tk_now::{Announcer, HostCounter, Notice, SharedTicker, Timed, Watcher};
+use tk_now::{HostCounter, Notice, NoticeReader, NoticeWriter, SharedTicker, Timed};
 
 /// The number of commands, of which every third is refused.
 const COMMANDS: u64 = 100_000;
 
-/// The number of readings that a watcher asks for.
+/// The number of readings that a reader asks for.
 const READINGS: u64 = 200_000;
 
 /// Gives all commands, and stores the reading of the latest accepted one in `latest`. Returns
@@ -18,26 +18,26 @@ const READINGS: u64 = 200_000;
 /// announced.
 fn gives_all(
     notice: &Notice,
-    mut announcer: Announcer,
+    mut writer: NoticeWriter,
     counter: &SharedTicker,
     latest: &AtomicU64,
     greatest: &AtomicU64,
 ) -> bool
-    requires notice { announcer.notice ≡ notice.now }
-    requires idle { announcer.since ≡ None }
-    requires opened { length announcer.commands ≡ 1 }
+    requires notice { writer.notice ≡ notice.now }
+    requires idle { writer.since ≡ None }
+    requires opened { length writer.commands ≡ 1 }
 {
     let mut is_good = true;
     for number in 0..COMMANDS {
         let before = greatest.load(Ordering::SeqCst);
-        announcer.announce(notice);
-        let reading = announcer.read(counter);
+        writer.announce(notice);
+        let reading = writer.read(counter);
         is_good = is_good && before < reading;
         if number % 3 == 0 {
-            announcer.withdraw(notice);
+            writer.withdraw(notice);
         } else {
             latest.store(reading, Ordering::SeqCst);
-            announcer.accept(notice, reading);
+            writer.accept(notice, reading);
         }
     }
     is_good
@@ -47,19 +47,19 @@ fn gives_all(
 /// the call began, and above the reading of the latest command at that time.
 fn takes_all(
     notice: &Notice,
-    mut watcher: Watcher,
+    mut reader: NoticeReader,
     counter: &SharedTicker,
     latest: &AtomicU64,
     greatest: &AtomicU64,
 ) -> bool
-    requires { watcher.notice ≡ notice.now }
+    requires { reader.notice ≡ notice.now }
 {
     let mut is_good = true;
     for _ in 0..READINGS {
         let before = greatest
             .load(Ordering::SeqCst)
             .max(latest.load(Ordering::SeqCst));
-        if let Ok(Timed { place: _, reading }) = watcher.time(notice, counter) {
+        if let Ok(Timed { place: _, reading }) = reader.time(notice, counter) {
             is_good = is_good && before < reading;
             greatest.fetch_max(reading, Ordering::SeqCst);
         }
@@ -67,12 +67,12 @@ fn takes_all(
     is_good
 }
 
-/// Watches on two threads.
-fn watch_beside<R: Threads + Sync>(
+/// Takes readings on two threads.
+fn takes_beside<R: Threads + Sync>(
     rt: &R,
     notice: &Notice,
-    one: Watcher,
-    other: Watcher,
+    one: NoticeReader,
+    other: NoticeReader,
     counter: &SharedTicker,
     latest: &AtomicU64,
     greatest: &AtomicU64,
@@ -96,20 +96,20 @@ fn watch_beside<R: Threads + Sync>(
 fn readings_never_fall_while_commands_are_given(rt: HostRuntime) -> Result<(), Fail> {
     let counter = SharedTicker::new(1, 1);
     let (latest, greatest) = (AtomicU64::new(0), AtomicU64::new(0));
-    let (notice, mut announcer) = Notice::open(rt.alloc(), 0)?;
-    let one = notice.watcher(&mut announcer);
-    let other = notice.watcher(&mut announcer);
+    let (notice, mut writer) = Notice::open(rt.alloc(), 0)?;
+    let one = notice.reader(&mut writer);
+    let other = notice.reader(&mut writer);
     let (notice, counter, latest, greatest) = (&notice, &counter, &latest, &greatest);
     let rt = &rt;
     let (given, taken) = join(
         rt,
         move || -> bool
-            requires { (announcer.notice ≡ notice.now) × (announcer.since ≡ None)
-                × (length announcer.commands ≡ 1) }
-        { gives_all(notice, announcer, counter, latest, greatest) },
+            requires { (writer.notice ≡ notice.now) × (writer.since ≡ None)
+                × (length writer.commands ≡ 1) }
+        { gives_all(notice, writer, counter, latest, greatest) },
         move || -> bool
             requires { (one.notice ≡ notice.now) × (other.notice ≡ notice.now) }
-        { watch_beside(rt, notice, one, other, counter, latest, greatest) },
+        { takes_beside(rt, notice, one, other, counter, latest, greatest) },
     );
     assert!(rt; given && taken);
     Ok(())
@@ -118,9 +118,9 @@ fn readings_never_fall_while_commands_are_given(rt: HostRuntime) -> Result<(), F
 #[test]
 fn a_place_is_the_number_of_accepted_commands(rt: HostRuntime) -> Result<(), Fail> {
     let counter = SharedTicker::new(10, 5);
-    let (notice, mut announcer) = Notice::open(rt.alloc(), 10)?;
-    let mut watcher = notice.watcher(&mut announcer);
-    let opened = watcher.time(&notice, &counter);
+    let (notice, mut writer) = Notice::open(rt.alloc(), 10)?;
+    let mut reader = notice.reader(&mut writer);
+    let opened = reader.time(&notice, &counter);
     assert!(rt;
         opened
             == Ok(Timed {
@@ -128,29 +128,29 @@ fn a_place_is_the_number_of_accepted_commands(rt: HostRuntime) -> Result<(), Fai
                 reading: 10
             })
     );
-    announcer.announce(&notice);
-    let busy = watcher.time(&notice, &counter);
+    writer.announce(&notice);
+    let busy = reader.time(&notice, &counter);
     assert!(rt; busy.is_err());
-    let reading = announcer.read(&counter);
+    let reading = writer.read(&counter);
     assert!(rt; reading == 20);
-    announcer.accept(&notice, reading);
+    writer.accept(&notice, reading);
     assert!(rt;
-        watcher.time(&notice, &counter)
+        reader.time(&notice, &counter)
             == Ok(Timed {
                 place: 1,
                 reading: 25
             })
     );
-    announcer.announce(&notice);
-    announcer.withdraw(&notice);
+    writer.announce(&notice);
+    writer.withdraw(&notice);
     assert!(rt;
-        watcher.time(&notice, &counter)
+        reader.time(&notice, &counter)
             == Ok(Timed {
                 place: 1,
                 reading: 30
             })
     );
-    announcer.take_in(&notice, watcher);
+    writer.take_in(&notice, reader);
     Ok(())
 }
 
@@ -158,11 +158,11 @@ fn a_place_is_the_number_of_accepted_commands(rt: HostRuntime) -> Result<(), Fai
 fn the_hosts_clock_advances(rt: HostRuntime) -> Result<(), Fail> {
     let start = Instant::now(&rt)?;
     let counter = HostCounter::new(&rt, start);
-    let (notice, mut announcer) = Notice::open(rt.alloc(), 0)?;
-    let mut watcher = notice.watcher(&mut announcer);
+    let (notice, mut writer) = Notice::open(rt.alloc(), 0)?;
+    let mut reader = notice.reader(&mut writer);
     let mut before = 0;
     for _ in 0..1000 {
-        let Ok(timed) = watcher.time(&notice, &counter) else {
+        let Ok(timed) = reader.time(&notice, &counter) else {
             return Err("a reading".into());
         };
         assert!(rt; before <= timed.reading);

@@ -16,11 +16,11 @@ returns-in-Err-clause-right g c =
 pub returns-in-Ok-now-clause-right : goal.returns-in-Ok-now-clause-right
 returns-in-Ok-now-clause-right g c =
     let promised = c.in-Ok-now.ensures in
-    rw c.in-Now.is (timed _ c.of.result _ _ _ (Ok _) _ promised.extends promised.watched
+    rw c.in-Now.is (timed _ c.of.result _ _ _ (Ok _) _ promised.extends promised.noticed
     promised.answer promised.same c.front-in-Ok-now.ensures)
 
 pub returns-in-Err-now-clause-right : goal.returns-in-Err-now-clause-right
 returns-in-Err-now-clause-right g c =
     let promised = c.in-Err-now.ensures in
-    rw c.in-Now.is (timed _ c.of.result _ _ _ (Err _) _ promised.extends promised.watched
+    rw c.in-Now.is (timed _ c.of.result _ _ _ (Err _) _ promised.extends promised.noticed
     promised.answer promised.same c.front-in-Err-now.ensures)

@@ -4,7 +4,7 @@ use Rattle.tk_page.specs.History.{History}
 use Rattle.tk_clock.proofs.Lists.{prefix_self, prefix_trans}
 use Rattle.tk_now.specs.declared.rule.Taken.{Taken}
 use Rattle.tk_now.specs.Moments.{AreInLife}
-use Rattle.tk_shared.specs.Closing.{HasListed, HasWatched, IsPartOf, accepted_by}
+use Rattle.tk_shared.specs.Closing.{HasListed, HasNoticed, IsPartOf, accepted_by}
 use Rattle.tk_shared.proofs.Counts.{accepted-cons, all_first}
 use Rattle.tk_shared.proofs.Listed.{have_listed}
 use Rattle.tk_shared.proofs.closing.take_all.Goals as goal
@@ -21,14 +21,14 @@ loop-caller-preserved g c =
     let history = c.args.publisher.now.journal in
     let first : IsPartOf history caller =
     subst (λ (h : History). IsPartOf h.journal caller) i.same.0 t.seen in
-    let commands = c.args.announcer.now.commands in
-    let log = c.take_in.new.announcer.log in
-    let known : HasWatched commands caller =
-    subst (λ (l : List Taken). HasWatched l caller) i.same.3 t.watched in
+    let commands = c.args.notice_writer.now.commands in
+    let log = c.take_in.new.notice_writer.log in
+    let known : HasNoticed commands caller =
+    subst (λ (l : List Taken). HasNoticed l caller) i.same.3 t.noticed in
     let alive : AreInLife commands log = subst (λ (l : List Taken). AreInLife l log) i.same.3 t.alive
     in
     let was = i.listed in
-    let more = prefix_trans was.0 c.loop-caller.announcer.log log was.1 t.log in
+    let more = prefix_trans was.0 c.loop-caller.notice_writer.log log was.1 t.log in
     let joined = t.parts.0 in
     let added = t.amount in
     let parts = i.parts in
@@ -46,8 +46,8 @@ loop-caller-preserved g c =
       amount = omega (arith, added, sum, amount);
       seen = λ others. i.seen (subst (All (IsPartOf history)) (sym step)
           (all_first (IsPartOf history) caller rest first others));
-      watched = λ others. i.watched (subst (All (HasWatched commands)) (sym step)
-          (all_first (HasWatched commands) caller rest known others));
+      noticed = λ others. i.noticed (subst (All (HasNoticed commands)) (sym step)
+          (all_first (HasNoticed commands) caller rest known others));
       listed = (
         log,
         prefix_self log,
@@ -55,7 +55,7 @@ loop-caller-preserved g c =
         t.turn,
         λ all longer others. was.4 all (prefix_trans was.0 log all more longer)
             (subst (All (HasListed all)) (sym step) (all_first (HasListed all) caller rest
-            (prefix_trans caller.watched.log log all t.listed longer) others)),
+            (prefix_trans caller.noticed.log log all t.listed longer) others)),
       );
     }
 
@@ -69,24 +69,24 @@ loop-caller-init g c =
       within = search rules;
       amount = search rules;
       seen = λ all. subst (All (IsPartOf c.args.publisher.now.journal)) items all;
-      watched = λ all. subst (All (HasWatched c.args.announcer.now.commands)) items all;
+      noticed = λ all. subst (All (HasNoticed c.args.notice_writer.now.commands)) items all;
       listed = (
         [],
-        (c.args.announcer.now.log, refl),
+        (c.args.notice_writer.now.log, refl),
         λ i place a t at_a at_t. absurd (cc (at_a)),
         λ i j a b less at_a at_b. absurd (cc (at_a)),
         λ all longer rest. subst (All (HasListed all)) items rest,
       );
     }
 
-pub returns-clause-watched : goal.returns-clause-watched
-returns-clause-watched g c =
+pub returns-clause-noticed : goal.returns-clause-noticed
+returns-clause-noticed g c =
     let none : length (into_iter_items c.loop-caller.caller-iterator) ≡ 0 = search rules in
-    c.loop-caller.invariant.watched (λ k d low. absurd (omega (arith, none, low)))
+    c.loop-caller.invariant.noticed (λ k d low. absurd (omega (arith, none, low)))
 
 pub returns-clause-listed : goal.returns-clause-listed
 returns-clause-listed g c =
     let none : length (into_iter_items c.loop-caller.caller-iterator) ≡ 0 = search rules in
     let w = c.loop-caller.invariant.listed in
     let all = w.4 w.0 (prefix_self w.0) (λ k d low. absurd (omega (arith, none, low))) in
-    have_listed c.args.announcer.now.commands w.0 c.args.callers.items w.2 w.3 all
+    have_listed c.args.notice_writer.now.commands w.0 c.args.callers.items w.2 w.3 all

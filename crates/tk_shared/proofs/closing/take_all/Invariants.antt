@@ -3,15 +3,15 @@ use mathlib.Core.List.{IsPrefix}
 use Rattle.tk_now.specs.declared.rule.Answer.{Answer}
 use Rattle.tk_now.specs.Moments.{AreInLife, AreInTurn}
 use Rattle.std.specs.Vec.Iter.{into_iter_items}
-use Rattle.tk_shared.specs.Closing.{HasListed, HasWatched, IsPartOf, accepted_by}
+use Rattle.tk_shared.specs.Closing.{HasListed, HasNoticed, IsPartOf, accepted_by}
 use Rattle.tk_shared.proofs.closing.take_all.Given as goal
 
 abbrev pub invariant-loop-caller : goal.invariant-loop-caller
 invariant-loop-caller g l = record {
   same : (l.publisher ≡ l.initial.publisher) × (l.writer ≡ l.initial.writer)
-      × (l.announcer.notice ≡ l.initial.announcer.notice)
-      × (l.announcer.commands ≡ l.initial.announcer.commands)
-      × (l.announcer.since ≡ l.initial.announcer.since);
+      × (l.notice_writer.notice ≡ l.initial.notice_writer.notice)
+      × (l.notice_writer.commands ≡ l.initial.notice_writer.commands)
+      × (l.notice_writer.since ≡ l.initial.notice_writer.since);
   parts : l.all.parts + length (into_iter_items l.caller-iterator)
       ≡ l.initial.all.parts + length l.fn.callers.items;
   within : l.all.parts ≤ g.L.Ledger.parts;
@@ -20,12 +20,12 @@ invariant-loop-caller g l = record {
   -- if the remaining callers have their parts, all have
   seen : All (IsPartOf l.initial.publisher.journal) (into_iter_items l.caller-iterator) →
       All (IsPartOf l.initial.publisher.journal) l.fn.callers.items;
-  watched : All (HasWatched l.initial.announcer.commands) (into_iter_items l.caller-iterator) →
-      All (HasWatched l.initial.announcer.commands) l.fn.callers.items;
-  -- the readings of the callers so far are the first of what the announcer knows. If the callers that
-  -- are left know the first of a longer list too, all do
-  listed : (log : List Answer) × IsPrefix log l.announcer.log
-      × AreInLife l.initial.announcer.commands log × AreInTurn log
+  noticed : All (HasNoticed l.initial.notice_writer.commands) (into_iter_items l.caller-iterator) →
+      All (HasNoticed l.initial.notice_writer.commands) l.fn.callers.items;
+  -- the readings of the callers so far are the first that the notice's writer knows. If the callers
+  -- that are left know the first of a longer list too, all do
+  listed : (log : List Answer) × IsPrefix log l.notice_writer.log
+      × AreInLife l.initial.notice_writer.commands log × AreInTurn log
       × ((all : List Answer) → IsPrefix log all →
       All (HasListed all) (into_iter_items l.caller-iterator) → All (HasListed all) l.fn.callers.items);
 }

@@ -8,7 +8,7 @@ use Rattle.tk_shared.proofs.now.time_seen.Goals as goal
 pub returns-then-front-timed-clause-answer : goal.returns-then-front-timed-clause-answer
 returns-then-front-timed-clause-answer g c =
     seen_by g.S.SharedCounter.answers c.args.counter.now c.args.clock
-    c.read-snapshot.new.self.journal c.args.watcher.now c.loop.watcher c.time.new.self
+    c.read-snapshot.new.self.journal c.args.notice_reader.now c.loop.notice_reader c.time.new.self
     c.read-snapshot.result c.in-Ok.timed.place c.front.result c.in-Ok.timed.reading c.mask.result
     c.get.result c.loop.invariant.commands c.loop.invariant.log c.in-Ok.ensures.answer
     c.if-front-timed.true
@@ -19,8 +19,8 @@ pub returns-then-front-timed-clause-begins : goal.returns-then-front-timed-claus
 returns-then-front-timed-clause-begins g c =
     begins-trans _ _ _ c.loop.invariant.begins c.read-snapshot.ensures.begins
 
-pub returns-then-front-timed-clause-watched : goal.returns-then-front-timed-clause-watched
-returns-then-front-timed-clause-watched g c = (
+pub returns-then-front-timed-clause-noticed : goal.returns-then-front-timed-clause-noticed
+returns-then-front-timed-clause-noticed g c = (
   prefix_trans _ _ _ c.loop.invariant.commands c.time.ensures.extends.0,
   prefix_trans _ _ _ c.loop.invariant.log c.time.ensures.extends.1,
 )

@@ -25,7 +25,7 @@ compared-requires-clause-asked g c κs within =
       handed = known_by_trans first.caller c.follow.new.other c.follow.new.caller handed told.follows;
       known = handed;
       known' = knows_as_much later.caller later.caller refl refl refl
-          (prefix_self later.caller.watched.log);
+          (prefix_self later.caller.noticed.log);
     }
 
 pub compared-requires-clause-trusted : goal.compared-requires-clause-trusted

@@ -3,7 +3,7 @@ use Rattle.tk_page_tests.proofs.tests.now.gives_all.Given as goal
 
 abbrev pub invariant-loop-number : goal.invariant-loop-number
 invariant-loop-number l = record {
-  notice : l.announcer.notice ≡ l.initial.announcer.notice;
-  idle : l.announcer.since ≡ None;
-  few : length l.announcer.commands ≤ l.number + 1;
+  notice : l.writer.notice ≡ l.initial.writer.notice;
+  idle : l.writer.since ≡ None;
+  few : length l.writer.commands ≤ l.number + 1;
 }

@@ -24,7 +24,7 @@ use Rattle.tk_shared.proofs.locked.Locked.command.Goals as goal
 abbrev refused_caller : (g : Over) → goal.After-tell g → Known
 refused_caller g c =
     let caller = c.caller.inside in
-    known_of caller.id caller.accepted caller.viewer caller.reader caller.watcher
+    known_of caller.id caller.accepted caller.viewer caller.reader caller.notice_reader
 
 abbrev refused_by : (g : Over) → goal.After-tell g → Held
 refused_by g c =
@@ -35,7 +35,7 @@ refused_by g c =
 abbrev caller_of : (g : Over) → goal.After-caller-1 g → Known
 caller_of g c =
     let caller = c.caller.inside in
-    known_of caller.id caller.accepted caller.viewer caller.reader caller.watcher
+    known_of caller.id caller.accepted caller.viewer caller.reader caller.notice_reader
 
 abbrev held_by : (g : Over) → goal.After-caller-1 g → Held
 held_by g c =
@@ -79,12 +79,12 @@ at_rest g c =
     let entry = entry_by g c in
     let told = c.tell-4.ensures.same in
     told_at_rest g.L.Named.notice (followed_by c.self.inside.publisher.journal entry)
-    c.accept.new.announcer c.tell-4.new.self c.tell-4.new.self.log told
-    (accepted_at_rest g.L.Named.notice c.self.inside.publisher.journal c.self.inside.announcer
-    c.accept.new.announcer entry c.announce.new.self.since entry.reading c.self.invariant.3
+    c.accept.new.notice_writer c.tell-4.new.self c.tell-4.new.self.log told
+    (accepted_at_rest g.L.Named.notice c.self.inside.publisher.journal c.self.inside.notice_writer
+    c.accept.new.notice_writer entry c.announce.new.self.since entry.reading c.self.invariant.3
     (c.accept.ensures.notice ∙ c.announce.ensures.same.0) c.accept.ensures.idle refl
     (subst (λ (l : List Taken). IsAcceptedAt c.announce.new.self.since l entry.reading
-    c.accept.new.announcer.commands) c.announce.ensures.same.1 c.accept.ensures.accepted)
+    c.accept.new.notice_writer.commands) c.announce.ensures.same.1 c.accept.ensures.accepted)
     (subst AreInOrder (ap (λ (a : Announcing). a.commands) told) c.tell-4.ensures.told.order))
 
 pub returns-in-Err-clause-answer : goal.returns-in-Err-clause-answer
@@ -158,7 +158,7 @@ invariant_of-self g c =
       c.self.invariant.2,
       subst (λ (h : History). IsAtRest g.L.Named.notice h.journal c.withdraw.new.self)
           (sym c.tell.ensures.publisher)
-          (refused_at_rest g.L.Named.notice c.self.inside.publisher.journal c.self.inside.announcer
+          (refused_at_rest g.L.Named.notice c.self.inside.publisher.journal c.self.inside.notice_writer
           c.announce.new.self c.withdraw.new.self c.self.invariant.3 c.announce.ensures.same.0
           c.announce.ensures.same.1 c.withdraw.ensures),
     )
@@ -204,7 +204,7 @@ returns-clause-answer g c =
     let stated = accepted g.L.Named.page g.L.Named.latch (held_by g c) c.self.invariant.0 old
     c.read_after.result c.args.cmd c.publish_for.ensures.begins c.in-Ok.number c.tell-2.ensures.extends
     answer.0 (answer.2 ∙ ap accepted_count answer.1) g.L.Named.notice c.tell-4.new.self
-    c.tell-4.new.watcher (at_rest g c) c.tell-4.ensures.told in
+    c.tell-4.new.reader (at_rest g c) c.tell-4.ensures.told in
     let seen = ap (λ (s : Sight). s.journal) c.publish_for.ensures.viewer in
     let reads = ap (λ (s : Sight). s.reads) c.publish_for.ensures.viewer in
     let learnt = c.tell-3.ensures.reader ∙ ap told_reader (latched g c) in
@@ -214,7 +214,7 @@ returns-clause-answer g c =
       reads = p.0;
       seen = p.1;
       learnt = p.2;
-      watched = c.tell-4.new.watcher;
+      noticed = c.tell-4.new.reader;
     } in
     subst
     (λ (k : Known).
@@ -235,7 +235,7 @@ returns-clause-reading g c =
     let same : at.0 ≡ moment_of c.look.result.now =
     same_Some _ _ (sym at.2 ∙ c.look.ensures) in
     let found : EndsAtReading g.C.Counter.answers_after
-    (followed_by held.shown.journal (entry_by g c)) c.tell-4.new.watcher.commands =
+    (followed_by held.shown.journal (entry_by g c)) c.tell-4.new.reader.commands =
     record {
       counter = c.self.inside.counter;
       from = moment_of c.look.result.now;
@@ -252,4 +252,4 @@ returns-clause-reading g c =
           same);
     } in
     subst (λ (j : Journal).
-    EndsAtReading g.C.Counter.answers_after j c.tell-4.new.watcher.commands) (sym seen) found
+    EndsAtReading g.C.Counter.answers_after j c.tell-4.new.reader.commands) (sym seen) found

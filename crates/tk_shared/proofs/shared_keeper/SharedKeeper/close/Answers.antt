@@ -18,7 +18,7 @@ returns g c =
     let total : inside.book.total ≡ accepted_by c.args.callers.items =
     omega (arith, counted, none, joined) in (
       enough,
-      closed g.L.Named.page g.L.Named.latch g.L.Named.notice held inside.announcer
+      closed g.L.Named.page g.L.Named.latch g.L.Named.notice held inside.notice_writer
           c.args.callers.items c.keeper.invariant.0 c.keeper.invariant.3 c.requires.different
-          c.take_all.ensures.seen c.take_all.ensures.watched c.take_all.ensures.listed total,
+          c.take_all.ensures.seen c.take_all.ensures.noticed c.take_all.ensures.listed total,
     )

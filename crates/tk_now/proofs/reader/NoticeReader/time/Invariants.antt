@@ -1,4 +1,4 @@
-use Rattle.tk_now.proofs.watcher.Watcher.time.Given as goal
+use Rattle.tk_now.proofs.reader.NoticeReader.time.Given as goal
 
 abbrev pub ghosts-end : goal.ghosts-end
 ghosts-end g a = record { reading = a.reading }

@@ -1,6 +1,6 @@
 use Rattle.std.proofs.Common.{rules}
 use Rattle.tk_now.proofs.Announcing.{accepts}
-use Rattle.tk_now.proofs.announcer.accept_reading.Goals as goal
+use Rattle.tk_now.proofs.writer.accept_reading.Goals as goal
 
 pub store-requires : goal.store-requires
 store-requires g c = (

@@ -1,6 +1,6 @@
 use Rattle.std.proofs.Common.{rules, ap, sym, subst, IsSome}
 use Rattle.tk_now.proofs.Announcing.{withdraws, announced_of}
-use Rattle.tk_now.proofs.announcer.Announcer.withdraw.Goals as goal
+use Rattle.tk_now.proofs.writer.NoticeWriter.withdraw.Goals as goal
 
 pub store-requires : goal.store-requires
 store-requires g c =

@@ -2,7 +2,7 @@ ghost use Rattle.std.specs.Prelude.{◌≡◌, MatchResult};
 ghost use mathlib.Core.List.{IsPrefix};
 ghost use Rattle.tk_now.specs.Moments.{AreBefore, AreInLife, AreInOrder, AreInTurn};
 ghost use Rattle.tk_now.specs.Steps.{IsBegun, IsEnd};
-ghost use Rattle.tk_now.specs.Views.{IsResting, IsWatching, from_by};
+ghost use Rattle.tk_now.specs.Views.{IsResting, IsTiming, from_by};
 
 use crate::counter::{Look, SharedCounter};
 use crate::notice::{Notice, WORD};
@@ -12,18 +12,18 @@ use std::marker::{Brand, Model};
 
 /// Takes readings of a shared counter while no command is in progress.
 ///
-/// It belongs to one thread at a time. Contracts see it as the readings of commands and of watchers
+/// It belongs to one thread at a time. Contracts see it as the readings of commands and of readers
 /// that it knows of, and the words that its loads of the notice have found.
 #[derive(Drop)]
-pub struct Watcher {
+pub struct NoticeReader {
     pub(crate) look: Look,
 }
 
-impl Model for Watcher {
+impl Model for NoticeReader {
     ghost use Rattle.std.specs.Prelude.{◌≡◌, []};
-    ghost use Rattle.tk_now.specs.Views.{IsResting, Watched, found_by};
+    ghost use Rattle.tk_now.specs.Views.{IsResting, Noticed, found_by};
 
-    ghost Value = { Watched };
+    ghost Value = { Noticed };
 
     ghost view = { λ a. record {
       notice = a.look.seat.table_id;
@@ -54,7 +54,7 @@ pub struct Busy {
     pub last: u64,
 }
 
-impl Watcher {
+impl NoticeReader {
     ghost use Rattle.tk_now.specs.Moments.{IsTimed, IsBusy};
 
     /// Reads the counter while no command is in progress.
@@ -112,7 +112,7 @@ fn begin<A: Allocator>(notice: &Notice<A>, look: &mut Look) -> u64
 fn end<R: NamesReading, A: Allocator>(notice: &Notice<A>, look: &mut Look, reading: u64) -> u64
     requires notice { look.old.seat.table_id ≡ notice.now }
     requires named { R.reading ≡ reading }
-    requires watching { IsWatching look.old.seat.me.0 }
+    requires timing { IsTiming look.old.seat.me.0 }
     requires before { AreBefore (from_by look.old.seat.me.0.role) look.old.seat.me.0.commands }
     ensures notice { look.new.seat.table_id ≡ look.old.seat.table_id }
     ensures carried { look.new.seat.me.1 ≡ look.old.seat.me.1 }

@@ -7,16 +7,16 @@ use Rattle.tk_now.specs.Views.{IsNoting, noted_commands, noted_log}
 use mathlib.Core.List.{IsPrefix}
 use Rattle.tk_now.proofs.Announcing.{idle_of}
 use Rattle.tk_now.proofs.Noting.{notes, compares}
-use Rattle.tk_now.proofs.announcer.Announcer.take_in.Goals as goal
+use Rattle.tk_now.proofs.writer.NoticeWriter.take_in.Goals as goal
 
 pub join_seat-requires : goal.join_seat-requires
 join_seat-requires g c =
     let idle = idle_of _ c.self.invariant.0 (ap (λ p. p.since) c.self.view_is ∙ c.requires.idle) in (
       search rules,
       search rules,
-      c.watcher.invariant.1,
+      c.reader.invariant.1,
       search rules,
-      notes _ _ _ _ idle c.watcher.invariant.0,
+      notes _ _ _ _ idle c.reader.invariant.0,
     )
 
 pub load-requires : goal.load-requires
@@ -30,7 +30,7 @@ returns-clause-begins g c =
     let e = subst (λ (v : View). IsPrefix (noted_commands v.role) v.commands) both
     c.load.ensures.2.2 in
     subst (λ (t : List Taken × List Taken). IsPrefix t.0 t.1)
-    (λ i. (ap (λ p. p.commands) c.watcher.view_is i, ap (λ p. p.commands) c.self.view_is i)) e
+    (λ i. (ap (λ p. p.commands) c.reader.view_is i, ap (λ p. p.commands) c.self.view_is i)) e
 
 pub returns-clause-order : goal.returns-clause-order
 returns-clause-order g c =
@@ -45,7 +45,7 @@ returns-clause-log g c =
     let mine = subst (λ (v : View). IsPrefix v.log log) both c.load.ensures.2.4 in
     let noted = subst (λ (v : View). IsPrefix (noted_log v.role) log) both c.load.ensures.2.5 in (
       subst (λ (l : List Answer). IsPrefix l log) (ap (λ p. p.log) c.self.view_is) mine,
-      subst (λ (l : List Answer). IsPrefix l log) (ap (λ p. p.log) c.watcher.view_is) noted,
+      subst (λ (l : List Answer). IsPrefix l log) (ap (λ p. p.log) c.reader.view_is) noted,
     )
 
 pub returns-clause-life : goal.returns-clause-life

@@ -1,4 +1,4 @@
--- The loads of a watcher keep the rule, and the result of two loads.
+-- The loads of a reader keep the rule, and the result of two loads.
 use Rattle.std.proofs.Common.{◌≡◌, ℕ, ◌+◌, ◌/◌, ◌%◌, List, [], ◌∷◌, ◌++◌, length, refl, sym, ap, ◌∙◌, subst, arith, append_assoc}
 use mathlib.Core.List.{IsPrefix}
 use mathlib.Core.Logic.{dite}
@@ -10,11 +10,11 @@ use Rattle.tk_clock.proofs.Lists.{prefix_self, prefix_trans, prefix_whole, prefi
 use Rattle.tk_now.specs.declared.rule.Taken.{Taken}
 use Rattle.tk_now.specs.declared.rule.Answer.{Answer}
 use Rattle.tk_now.specs.declared.rule.View.{View}
-use Rattle.tk_now.specs.declared.rule.Role.TheVariants.{Resting, Watching}
+use Rattle.tk_now.specs.declared.rule.Role.TheVariants.{Resting, Timing}
 use Rattle.tk_now.specs.Moments.{AreBefore, AreAnswered, AreInLife, AreInTurn, AreLater, IsTimed, IsBusy}
 use Rattle.tk_now.specs.Rule.{limit, Knows, Kept}
 use Rattle.tk_now.specs.Steps.{Seated, began, ended, IsBegun, IsEnd, IsListed, answer_of}
-use Rattle.tk_now.specs.Views.{Watched, view_of, found_by, first_by, from_by, IsResting, IsWatching}
+use Rattle.tk_now.specs.Views.{Noticed, view_of, found_by, first_by, from_by, IsResting, IsTiming}
 use Rattle.tk_now.proofs.Lists.{prefix_push, none_later, later_more, later_push, turn_push, before_more, answered_more, answered_push, life_answer}
 use Rattle.tk_now.proofs.Keeping.{Words, word, loads, known_of, counted, at_rest, stands_on, limit_on, limited}
 
@@ -30,7 +30,7 @@ answered_on s r =
 looks : (s : Words) (r : Kept s) (id : ℕ) (cs : List (ℕ × Unit {0})) (v : View)
     (log : List Answer) → IsPrefix r.log log → AreLater r.moment (length r.log) log →
     AreAnswered (length r.commands) (limit r.role (r.moment + 1)) log → AreInLife r.commands log →
-    AreInTurn log → Knows (r.moment + 1) r.commands log r.role r.announcer id v.commands v.log v.role →
+    AreInTurn log → Knows (r.moment + 1) r.commands log r.role r.writer id v.commands v.log v.role →
     Kept (stepped s 0 (word s) id cs v keeps)
 looks s r id cs v log more fresh answered alive turn mine =
     let now = r.moment + 1 in
@@ -51,7 +51,7 @@ begins slots id me is s r _ at _ =
     let old = limit r.role r.moment in
     let less = limited n r.moment r.commands r.role r.stands in
     let counts = counted n r.moment r.commands r.role r.stands in
-    let v = view_of r.commands r.log (Watching (found ++ n ∷ []) n now) in (
+    let v = view_of r.commands r.log (Timing (found ++ n ∷ []) n now) in (
       v,
       keeps,
       tt,
@@ -67,7 +67,7 @@ begins slots id me is s r _ at _ =
         refl,
         refl,
         record {
-          watching = refl;
+          timing = refl;
           first = refl;
           found_is = refl;
           commands = known.0;
@@ -84,10 +84,10 @@ abbrev Ends : ℕ → ℕ → ℕ → Seated → Words → Type 0
 Ends reading slots id me s = (w : View) × Kept (stepped s 0 (word s) id me.1 w keeps)
     × ended reading (step slots 0 0 0 none) me (word s) (w, me.1)
 
--- the knowledge of a watcher between its loads
+-- the knowledge of a reader between its loads
 abbrev Held : ℕ → Seated → (s : Words) → Kept s → Type 0
-Held id me s r = Knows r.moment r.commands r.log r.role r.announcer id me.0.commands me.0.log
-    (Watching (found_by me.0.role) (first_by me.0.role) (from_by me.0.role))
+Held id me s r = Knows r.moment r.commands r.log r.role r.writer id me.0.commands me.0.log
+    (Timing (found_by me.0.role) (first_by me.0.role) (from_by me.0.role))
 
 -- the second load, after which this is the log
 rested : (reading slots id : ℕ) (me : Seated) (s : Words) (r : Kept s) (log : List Answer) →
@@ -168,12 +168,12 @@ unlisted reading slots id me s r known moved =
     (λ here even. absurd (moved here even))
 
 -- the second look
-pub ends : (reading slots id : ℕ) (me : Seated) → IsWatching me.0 →
+pub ends : (reading slots id : ℕ) (me : Seated) → IsTiming me.0 →
     AreBefore (from_by me.0.role) me.0.commands →
     Allows Kept slots id me 0 (λ n. n) (ended reading (step slots 0 0 0 none) me)
 ends reading slots id me is before s r _ at _ =
     let known = known_of s r id me.0
-    (Watching (found_by me.0.role) (first_by me.0.role) (from_by me.0.role)) at is in
+    (Timing (found_by me.0.role) (first_by me.0.role) (from_by me.0.role)) at is in
     let e : Ends reading slots id me s = dite (ℕ_discrete (word s) (first_by me.0.role))
     (λ here. dite (ℕ_discrete (word s % 2) 0)
     (λ even. listed reading slots id me s r before known here even)
@@ -189,8 +189,8 @@ both_found old begun new first last reading b e =
     e.found_is ∙ (ap (λ (f : List ℕ). f ++ last ∷ []) b.found_is
     ∙ append_assoc (found_by old.role) (first ∷ []) (last ∷ []))
 
--- both loads only add to the watcher's knowledge
-pub both_prefixes : (old : Watched) (v0 v1 v2 : View) (first last reading : ℕ) →
+-- both loads only add to the reader's knowledge
+pub both_prefixes : (old : Noticed) (v0 v1 v2 : View) (first last reading : ℕ) →
     old.commands ≡ v0.commands → old.log ≡ v0.log → IsBegun v0 first v1 →
     IsEnd reading v1 last v2 →
     IsPrefix old.commands v2.commands × IsPrefix old.log v2.log
@@ -202,7 +202,7 @@ both_prefixes old v0 v1 v2 first last reading commands log b e = (
 )
 
 -- two loads that found one even word, and a reading between them
-pub times : {C : Type 0} (answers : C → ℕ → ℕ → Type 0) (counter : C) (old : Watched)
+pub times : {C : Type 0} (answers : C → ℕ → ℕ → Type 0) (counter : C) (old : Noticed)
     (v0 v1 v2 : View) (table : TableId) (first last reading : ℕ) → old.log ≡ v0.log →
     old.found ≡ found_by v0.role → IsBegun v0 first v1 → IsEnd reading v1 last v2 →
     answers counter (from_by v1.role) reading → first ≡ last → first % 2 ≡ 0 →
@@ -242,7 +242,7 @@ times answers counter old v0 v1 v2 table first last reading log found b e given 
     }
 
 -- two loads that found two words, or an odd one
-pub is_busy : (old : Watched) (v0 v1 v2 : View) (table : TableId) (first last reading : ℕ) →
+pub is_busy : (old : Noticed) (v0 v1 v2 : View) (table : TableId) (first last reading : ℕ) →
     old.commands ≡ v0.commands → old.found ≡ found_by v0.role → IsBegun v0 first v1 →
     IsEnd reading v1 last v2 → (first ≡ last → first % 2 ≡ 1) → IsBusy old (record {
       notice = table;

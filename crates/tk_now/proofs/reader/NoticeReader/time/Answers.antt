@@ -1,6 +1,6 @@
 use Rattle.std.proofs.Common.{rules, ap, sym}
-use Rattle.tk_now.proofs.Watching.{times, both_prefixes}
-use Rattle.tk_now.proofs.watcher.Watcher.time.Goals as goal
+use Rattle.tk_now.proofs.Timing.{times, both_prefixes}
+use Rattle.tk_now.proofs.reader.NoticeReader.time.Goals as goal
 
 pub returns-then-first-last-clause-extends : goal.returns-then-first-last-clause-extends
 returns-then-first-last-clause-extends g c =

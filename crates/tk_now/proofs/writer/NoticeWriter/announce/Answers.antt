@@ -1,6 +1,6 @@
 use Rattle.std.proofs.Common.{rules, ap, ◌∙◌}
 use Rattle.tk_now.proofs.Announcing.{announces, idle_of}
-use Rattle.tk_now.proofs.announcer.Announcer.announce.Goals as goal
+use Rattle.tk_now.proofs.writer.NoticeWriter.announce.Goals as goal
 
 pub store-requires : goal.store-requires
 store-requires g c =

@@ -4,26 +4,26 @@ ghost use Rattle.tk_now.specs.Views.{IsAnnounced, IsIdle, from_by, moment_of};
 
 use crate::counter::{Look, SharedCounter};
 use crate::notice::{Notice, WORD};
+use crate::reader::NoticeReader;
 use crate::rule::{
     Accepts, Announces, Compares, Hands, KeepsNote, NamesReading, Recounts, Returns, Withdraws,
 };
-use crate::watcher::Watcher;
 use std::alloc::Allocator;
 use std::marker::{Brand, Model};
 use std::mem;
 
-/// Announces commands in a notice. A notice has one announcer.
+/// Announces commands in a notice. A notice has one writer.
 ///
 /// Contracts see it as the readings of the accepted commands, and the moment of the announcement
 /// if a command is in progress.
 #[derive(Drop)]
-pub struct Announcer {
+pub struct NoticeWriter {
     pub(crate) look: Look,
     /// The number of accepted commands.
     pub(crate) number: u64,
 }
 
-impl Model for Announcer {
+impl Model for NoticeWriter {
     ghost use Rattle.std.specs.Prelude.{◌≡◌, ◌+◌, ◌≤◌, ◌^◌, length};
     ghost use Rattle.tk_now.specs.Views.{Announcing, announcing, since_by};
 
@@ -42,7 +42,7 @@ impl Model for Announcer {
         × (length a.look.seat.me.0.commands ≤ 2 ^ 63) };
 }
 
-impl Announcer {
+impl NoticeWriter {
     ghost use Rattle.std.specs.Prelude.{IsSome};
     ghost use mathlib.Core.List.{IsPrefix};
     ghost use Rattle.tk_now.specs.Moments.{AreInLife, AreInOrder, AreInTurn, IsReadAt, IsTold};
@@ -103,44 +103,44 @@ impl Announcer {
         accept_reading::<Brand, A>(notice, &mut self.look, 2 * self.number, reading);
     }
 
-    /// Gives a watcher the readings of all accepted commands and of all watchers. The announcer
-    /// learns the watchers' readings too.
+    /// Gives a reader the readings of all accepted commands and of all readers. The writer learns
+    /// the readers' readings too.
     ///
     /// It waits for nobody and allocates nothing.
-    pub fn tell<A: Allocator>(&mut self, notice: &Notice<A>, watcher: &mut Watcher)
+    pub fn tell<A: Allocator>(&mut self, notice: &Notice<A>, reader: &mut NoticeReader)
         requires notice { self.old.notice ≡ notice.now }
-        requires watcher { watcher.old.notice ≡ notice.now }
+        requires reader { reader.old.notice ≡ notice.now }
         requires idle { self.old.since ≡ None }
         ensures same { self.new ≡ record self.old { log = self.new.log } }
         ensures log { IsPrefix self.old.log self.new.log }
-        ensures told { IsTold self.new watcher.old watcher.new }
+        ensures told { IsTold self.new reader.old reader.new }
     {
         let shared = &notice.words.shared;
         let seat = &mut self.look.seat;
         let vacant = shared.split_seat::<Hands>(seat);
-        let former = mem::replace(&mut watcher.look.seat, vacant);
+        let former = mem::replace(&mut reader.look.seat, vacant);
         shared.join_seat::<KeepsNote>(seat, former);
         shared.load::<Recounts>(seat, WORD);
-        watcher.look.seat = shared.split_seat::<Returns>(seat);
+        reader.look.seat = shared.split_seat::<Returns>(seat);
     }
 
-    /// Takes in a watcher, which is used up. The commands that it knew are the first of this
-    /// announcer's. The announcer learns all answers so far, of which the watcher knew the first;
-    /// each is in its life among all commands, and they are listed in turn.
+    /// Takes in a reader, which is used up. The commands that it knew are the first of this
+    /// writer's. The writer learns all answers so far, of which the reader knew the first; each is
+    /// in its life among all commands, and they are listed in turn.
     ///
     /// It waits for nobody and allocates nothing.
-    pub fn take_in<A: Allocator>(&mut self, notice: &Notice<A>, watcher: Watcher)
+    pub fn take_in<A: Allocator>(&mut self, notice: &Notice<A>, reader: NoticeReader)
         requires notice { self.old.notice ≡ notice.now }
-        requires watcher { watcher.notice ≡ notice.now }
+        requires reader { reader.notice ≡ notice.now }
         requires idle { self.old.since ≡ None }
         ensures same { self.new ≡ record self.old { log = self.new.log } }
-        ensures begins { IsPrefix watcher.commands self.old.commands }
+        ensures begins { IsPrefix reader.commands self.old.commands }
         ensures order { AreInOrder self.old.commands }
-        ensures log { IsPrefix self.old.log self.new.log × IsPrefix watcher.log self.new.log }
+        ensures log { IsPrefix self.old.log self.new.log × IsPrefix reader.log self.new.log }
         ensures life { AreInLife self.old.commands self.new.log }
         ensures turn { AreInTurn self.new.log }
     {
-        let Watcher { look } = watcher;
+        let NoticeReader { look } = reader;
         let Look { seat: former } = look;
         let shared = &notice.words.shared;
         let seat = &mut self.look.seat;

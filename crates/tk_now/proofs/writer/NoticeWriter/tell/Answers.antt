@@ -3,7 +3,7 @@ use Rattle.tk_now.specs.declared.rule.View.{View}
 use Rattle.tk_now.specs.Views.{IsNoting, IsResting}
 use Rattle.tk_now.proofs.Announcing.{hands, idle_of}
 use Rattle.tk_now.proofs.Noting.{notes, recounts, returns}
-use Rattle.tk_now.proofs.announcer.Announcer.tell.Goals as goal
+use Rattle.tk_now.proofs.writer.NoticeWriter.tell.Goals as goal
 
 pub split_seat-vacant-requires : goal.split_seat-vacant-requires
 split_seat-vacant-requires g c =
@@ -18,10 +18,10 @@ join_seat-requires g c =
     let none = ap (λ s. s.me.1) c.replace-former.ensures.value in (
       search rules,
       search rules,
-      none ∙ c.watcher.invariant.1,
+      none ∙ c.reader.invariant.1,
       search rules,
       notes _ _ _ _ (ap (λ (v : View). v.role) kept ∙ idle)
-          (subst IsResting (sym seen) c.watcher.invariant.0),
+          (subst IsResting (sym seen) c.reader.invariant.0),
     )
 
 pub load-requires : goal.load-requires

@@ -1,7 +1,0 @@
-use Rattle.std.proofs.Common.{rules}
-use Rattle.tk_now.proofs.Watching.{ends}
-use Rattle.tk_now.proofs.watcher.end.Goals as goal
-
-pub load-requires : goal.load-requires
-load-requires g c =
-    (search rules, search rules, ends _ _ _ _ c.requires.watching c.requires.before)
