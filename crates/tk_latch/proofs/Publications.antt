@@ -9,7 +9,7 @@ use Rattle.tk_clock.proofs.Lists.{prefix_self, prefix_trans, prefix_whole}
 use Rattle.tk_clock.proofs.Words.{stated-restored, restored-stated}
 use Rattle.tk_latch.specs.declared.rule.History.{History}
 use Rattle.tk_latch.specs.Publications.{latest_words, IsPublication, AreNumbered, IsBeginning}
-use Rattle.tk_latch.specs.Look.{AreLatest}
+use Rattle.tk_latch.specs.Attempt.{AreLatest}
 
 -- the snapshot that words encode is the one that they restore
 pub snapshot_is : (counter : Counter) (words : List ℕ) (snapshot : Snapshot) →

@@ -19,7 +19,7 @@ use Rattle.tk_latch.specs.Publications.{latest_words, AreNumbered, IsBeginning}
 use Rattle.tk_latch.specs.Rule.{Copies, Counts, Latched}
 use Rattle.tk_latch.specs.Steps.{Seated, began, loaded, ended}
 use Rattle.tk_latch.specs.Views.{resting, reading, found_by}
-use Rattle.tk_latch.specs.Look.{Gathered, AreLatest, IsLook}
+use Rattle.tk_latch.specs.Attempt.{Gathered, AreLatest, IsAttempt}
 use Rattle.tk_latch.proofs.Publications.{snapshot_is, begins_self, begins_trans, begins_whole, are_latest, latest_long}
 use Rattle.tk_latch.proofs.Keeping.{word, history_of, known_of, unmoved, counted}
 
@@ -209,10 +209,10 @@ Finishes view new last =
     × (first ≤ last) × (last ≡ first → later ≡ known)
 
 -- a whole read
-pub looks : (old begun view new : View) (first last : ℕ) (words : List ℕ) → Begun old begun first →
+pub attempts : (old begun view new : View) (first last : ℕ) (words : List ℕ) → Begun old begun first →
     Gathered begun first words view 10 →
-    Finishes view new last → IsLook old new first words last
-looks old begun view new first last words b g finish =
+    Finishes view new last → IsAttempt old new first words last
+attempts old begun view new first last words b g finish =
     let known = b.0 in
     let here : begun.history ≡ known = ap history_of b.1 in
     let e = finish begun.history (found_by begun.role) first g.0 g.1 in
@@ -256,21 +256,21 @@ learnt_of table view = record {
 -- a read that found one sequence twice
 pub whole_read : (table : TableId) (old : Learnt) (before after : View) (first last : ℕ)
     (words : List ℕ) (snapshot : Snapshot) →
-    IsLook before after first words last → first ≡ last → old.publications ≡ before.history.list →
+    IsAttempt before after first words last → first ≡ last → old.publications ≡ before.history.list →
     old.found ≡ found_of before →
     restored after.history.counter words ≡ Some snapshot →
     IsRead old (learnt_of table after) snapshot
-whole_read table old before after first last words snapshot look same publications found back =
-    let latest = look.whole same in
+whole_read table old before after first last words snapshot attempt same publications found back =
+    let latest = attempt.whole same in
     let is : latest.snapshot ≡ snapshot = same_Some latest.snapshot snapshot
     (sym latest.answer ∙ back) in
     let number : snapshot.front + 1 ≡ length after.history.list =
     subst (λ (s : Snapshot). s.front + 1 ≡ length after.history.list) is latest.latest in
     let long = ap length publications in
-    let count = look.counts in
+    let count = attempt.counts in
     let low = count.0 in
     let high = count.1 in
-    let from = look.from in
+    let from = attempt.from in
     record {
       whole =
           subst (λ (s : Snapshot). slice_get after.history.list s.front ≡ Some s) is latest.listed;
@@ -279,7 +279,7 @@ whole_read table old before after first last words snapshot look same publicatio
       mark = omega (arith, number);
       newer = omega (arith, number, long, low, high, from, same);
       sequence = first;
-      found = look.found ∙ ap (λ (f : List ℕ). f ++ first ∷ last ∷ []) (sym found)
+      found = attempt.found ∙ ap (λ (f : List ℕ). f ++ first ∷ last ∷ []) (sym found)
           ∙ ap (λ (n : ℕ). old.found ++ first ∷ n ∷ []) (sym same);
       half = omega (arith, number, low, high, same);
     }

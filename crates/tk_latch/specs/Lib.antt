@@ -3,5 +3,5 @@ pub mod Publications
 pub mod Views
 pub mod Rule
 pub mod Steps
-pub mod Look
+pub mod Attempt
 pub mod Errors

@@ -1,6 +1,6 @@
 ghost use Rattle.std.specs.Prelude.{◌≡◌, ◌+◌, ◌*◌, ◌%◌, length, MatchResult};
 ghost use mathlib.Core.List.{IsPrefix};
-ghost use Rattle.tk_latch.specs.Look.{IsLook, Gathered};
+ghost use Rattle.tk_latch.specs.Attempt.{IsAttempt, Gathered};
 ghost use Rattle.tk_latch.specs.Views.{resting, reading, found_by};
 
 use crate::errors::Moved;
@@ -66,7 +66,7 @@ impl LatchReader {
             (λ snapshot. IsRead self.old self.new snapshot)
             (λ moved. IsMoved self.old self.new moved.first moved.last) }
     {
-        let Look { first, words, last } = look_twice(latch, &mut self.seat);
+        let Attempt { first, words, last } = read_once(latch, &mut self.seat);
         self.mark = last / 2;
         if first != last {
             return Err(Moved { first, last });
@@ -75,20 +75,20 @@ impl LatchReader {
     }
 }
 
-/// The result of a read: the words, and the sequence before and after.
-struct Look {
+/// Contains what one read found: the words, and the sequence before and after.
+struct Attempt {
     first: u64,
     words: [u64; SNAPSHOT_WORDS],
     last: u64,
 }
 
 /// Loads the words of the copy that the sequence names, and the sequence before and after.
-fn look_twice<A: Allocator>(latch: &Latch<A>, seat: &mut Seat<(), View>) -> Look
+fn read_once<A: Allocator>(latch: &Latch<A>, seat: &mut Seat<(), View>) -> Attempt
     requires latch { seat.old.table_id ≡ latch.now.table }
     requires reader { seat.old.me.0 ≡ resting seat.old.me.0.history (found_by seat.old.me.0.role) }
     ensures latch { seat.new.table_id ≡ seat.old.table_id }
     ensures carried { seat.new.me.1 ≡ seat.old.me.1 }
-    ensures look { IsLook seat.old.me.0 seat.new.me.0 result.first result.words result.last }
+    ensures attempt { IsAttempt seat.old.me.0 seat.new.me.0 result.first result.words result.last }
 {
     let shared = &latch.words.shared;
     // 5. The first load of the sequence.
@@ -96,7 +96,7 @@ fn look_twice<A: Allocator>(latch: &Latch<A>, seat: &mut Seat<(), View>) -> Look
     let words = gather(latch, seat, first);
     // 7. The second load of the sequence.
     let last = shared.load::<Ends>(seat, SEQUENCE);
-    Look { first, words, last }
+    Attempt { first, words, last }
 }
 
 /// Loads the words of the copy that the sequence `first` names.

@@ -1,5 +1,5 @@
 use Rattle.std.proofs.Common.{◌≡◌}
-use Rattle.tk_latch.specs.Look.{Gathered}
+use Rattle.tk_latch.specs.Attempt.{Gathered}
 use Rattle.tk_latch.proofs.reader.gather.Given as goal
 
 abbrev pub invariant-loop-i : goal.invariant-loop-i

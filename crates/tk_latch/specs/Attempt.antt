@@ -25,7 +25,7 @@ pub record AreLatest (history : History) (words : List ℕ) : Type 0 where
   pub latest : snapshot.front + 1 ≡ length history.list
 
 -- a whole read: both loads of the sequence, and the words between them
-pub record IsLook (old new : View) (first : ℕ) (words : List ℕ) (last : ℕ) : Type 0 where
+pub record IsAttempt (old new : View) (first : ℕ) (words : List ℕ) (last : ℕ) : Type 0 where
   pub reader : new ≡ resting new.history (found_by new.role)
   pub found : found_by new.role ≡ found_by old.role ++ first ∷ last ∷ []
   pub extends : IsBeginning old.history new.history
