@@ -99,10 +99,10 @@ refused_at_rest notice history before announced now rest same commands is =
     })
 
 -- the notice's writer learnt more answers
-pub told_at_rest : (notice : TableId) (history : Journal) (before now : Announcing)
+pub informed_at_rest : (notice : TableId) (history : Journal) (before now : Announcing)
     (log : List Answer) → now ≡ record before { log = log } → IsAtRest notice history before →
     IsAtRest notice history now
-told_at_rest notice history before now log is rest =
+informed_at_rest notice history before now log is rest =
     subst (IsAtRest notice history) (sym is)
     (record {
       notice = rest.notice;

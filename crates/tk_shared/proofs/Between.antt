@@ -15,7 +15,7 @@ use Rattle.tk_now.proofs.Lists.{get_first, there}
 use Rattle.tk_shared.specs.Callers.{Known}
 use Rattle.tk_shared.specs.NeverBack.{IsHonest, IsOverBefore, NowNeverFalls, OpenNowNeverFalls}
 use Rattle.tk_shared.proofs.Back.{never_back}
-use Rattle.tk_shared.proofs.Calls.{Told, closed_within, informed_within, known_within, told_of}
+use Rattle.tk_shared.proofs.Calls.{Answered, closed_within, informed_within, known_within, answered_of}
 use Rattle.tk_shared.proofs.Cut.{cut, fewer_first, honest_cut, pos_le, readings_cut, some_first}
 
 -- two answers in their lives
@@ -32,9 +32,9 @@ life_two commands mine log first second i j more at_i at_j alive (suc (suc n)) k
 
 module _ (history : Journal) (commands : List Taken) (log : List Answer) (old new old' new' : Known)
     (first second : Answer) (time time' : Timespec)
-    (a : Told history commands log old new first time)
-    (b : Told history commands log old' new' second time') (alive : AreInLife commands log) where
-  -- the first call was over before the second one looked first
+    (a : Answered history commands log old new first time)
+    (b : Answered history commands log old' new' second time') (alive : AreInLife commands log) where
+  -- the first call was over before the second one's first look
   over_before : IsOverBefore new old' first second → first.taken.to ≤ second.taken.from
   over_before (inl before) = before
   over_before (inr (inr more)) =
@@ -103,9 +103,9 @@ pub times_in_order : {S : Type 0} (answers : S → ℕ → ℕ → Type 0) → N
 times_in_order answers journal callers closed counter counter' old new old' new' time time' first second call call' is is' over honest =
     let history = closed.history in
     let commands = closed.commands in
-    let a = told_of answers counter history commands closed.log old new time
+    let a = answered_of answers counter history commands closed.log old new time
     (closed_within journal callers closed old new call) first is in
-    let b = told_of answers counter' history commands closed.log old' new' time'
+    let b = answered_of answers counter' history commands closed.log old' new' time'
     (closed_within journal callers closed old' new' call') second is' in
     in_order history commands closed.log old new old' new' first second time time' a b closed.alive
     closed.readings closed.order honest
@@ -118,9 +118,9 @@ open_in_order answers last informed counter counter' old new old' new' time time
     let commands = last.noticed.commands in
     let log = last.noticed.log in
     let all = informed_within last informed in
-    let a = told_of answers counter history commands log old new time
+    let a = answered_of answers counter history commands log old new time
     (known_within history commands log new last known all) first is in
-    let b = told_of answers counter' history commands log old' new' time'
+    let b = answered_of answers counter' history commands log old' new' time'
     (known_within history commands log new' last known' all) second is' in
     in_order history commands log old new old' new' first second time time' a b informed.life
     informed.readings informed.order honest

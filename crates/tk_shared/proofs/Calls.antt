@@ -27,7 +27,7 @@ use Rattle.tk_shared.proofs.Cut.{all_at, first_items}
 use Rattle.tk_shared.proofs.Snapshots.{snapshots_prefix}
 
 -- the result of a call: this answer and this time
-pub record Told (history : Journal) (commands : List Taken) (log : List Answer) (old new : Known)
+pub record Answered (history : Journal) (commands : List Taken) (log : List Answer) (old new : Known)
     (answer : Answer) (time : Timespec) : Type 0 where
   pub mine : List Taken
   pub position : ℕ
@@ -63,7 +63,7 @@ known_within history commands log one other known is = record {
   log = prefix_trans _ _ _ known.log is.log;
 }
 
--- a caller that was told everything
+-- a caller that was informed of everything
 pub informed_within : (caller : Known) → IsInformed caller →
     IsWithin caller.seen caller.noticed.commands caller.noticed.log caller
 informed_within caller is = record {
@@ -93,8 +93,8 @@ closed_within journal callers closed old new call =
 module _ {S : Type 0} (answers : S → ℕ → ℕ → Type 0) (counter : S) (history : Journal)
     (commands : List Taken) (log : List Answer) (old new : Known) (time : Timespec)
     (is_within : IsWithin history commands log new) where
-  abbrev pub IsTold : Answer → Type 0
-  IsTold answer = Told history commands log old new answer time
+  abbrev pub IsAnswered : Answer → Type 0
+  IsAnswered answer = Answered history commands log old new answer time
 
   -- the result of a call, by its two looks
   looked : (before : Noticed) (place answer : ℕ) → IsPrefix old.noticed.log before.log →
@@ -102,7 +102,7 @@ module _ {S : Type 0} (answers : S → ℕ → ℕ → Type 0) (counter : S) (hi
       place ≤ length history.entries →
       nanoseconds time
       ≡ pos (monotonic (prefix place history) (answer % 2 ^ history.opening.counter.bits)) →
-      IsTold (record { place = place; taken = taken timed.from timed.to answer })
+      IsAnswered (record { place = place; taken = taken timed.from timed.to answer })
   looked before place answer known timed low value =
       let one : Answer = record { place = place; taken = taken timed.from timed.to answer } in
       let here : slice_get new.noticed.log (length timed.between) ≡ Some one =
@@ -123,9 +123,9 @@ module _ {S : Type 0} (answers : S → ℕ → ℕ → Type 0) (counter : S) (hi
         value = value;
       }
 
-  told_now : (is : HasSeen answers counter old new time) →
-      IsTold (answer_seen answers counter old new time is)
-  told_now is =
+  answered_now : (is : HasSeen answers counter old new time) →
+      IsAnswered (answer_seen answers counter old new time is)
+  answered_now is =
       let n = length new.seen.entries in
       let begins = is_within.begins.1 in
       let same : new.seen ≡ prefix n history = λ i. record {
@@ -137,9 +137,9 @@ module _ {S : Type 0} (answers : S → ℕ → ℕ → Type 0) (counter : S) (hi
       (is.read.1
       ∙ ap (λ (j : Journal). pos (monotonic j (is.answer % 2 ^ j.opening.counter.bits))) same)
 
-  told_fast : (is : HasTaken answers counter old new time) →
-      IsTold (answer_taken answers counter old new time is)
-  told_fast is =
+  answered_fast : (is : HasTaken answers counter old new time) →
+      IsAnswered (answer_taken answers counter old new time is)
+  answered_fast is =
       let n = is.0.front in
       let at = is.2.read.whole in
       let low = slice_get_within new.learnt.publications n is.0 at in
@@ -154,6 +154,6 @@ module _ {S : Type 0} (answers : S → ℕ → ℕ → Type 0) (counter : S) (hi
       (omega (arith, low, most))
       (value ∙ ap (λ (p : ReadBase × ℕ). base_value p.0 Monotonic p.1) (λ i. (base i, reading i)))
 
-  pub told_of : (answer : Answer) → IsNowOf answers counter old new time answer → IsTold answer
-  told_of answer (inl is) = subst IsTold (sym is.1) (told_now is.0)
-  told_of answer (inr is) = subst IsTold (sym is.1) (told_fast is.0)
+  pub answered_of : (answer : Answer) → IsNowOf answers counter old new time answer → IsAnswered answer
+  answered_of answer (inl is) = subst IsAnswered (sym is.1) (answered_now is.0)
+  answered_of answer (inr is) = subst IsAnswered (sym is.1) (answered_fast is.0)

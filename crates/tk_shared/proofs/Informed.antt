@@ -21,14 +21,14 @@ pub informed_by : (page : TableId) (latch : LatchId) (held : Held) → IsHeld pa
       learnt = told_reader held.latched;
       noticed = noticed;
     })
-informed_by page latch held is notice notice_writer rest old noticed told caller = record {
+informed_by page latch held is notice notice_writer rest old noticed informed caller = record {
   whole = is.whole;
   mark = let latest = is.latest in omega (arith, latest);
   snapshots = is.snapshots;
-  readings = subst (AreReadings held.shown.journal) (sym told.commands) rest.readings;
-  order = subst AreInOrder (sym told.commands) told.order;
-  life = subst (λ (l : List Taken). AreInLife l noticed.log) (sym told.commands) told.life;
-  turn = told.turn;
+  readings = subst (AreReadings held.shown.journal) (sym informed.commands) rest.readings;
+  order = subst AreInOrder (sym informed.commands) informed.order;
+  life = subst (λ (l : List Taken). AreInLife l noticed.log) (sym informed.commands) informed.life;
+  turn = informed.turn;
 }
 
 pub known_by_trans : (one two three : Known) → IsKnownBy one two → IsKnownBy two three →

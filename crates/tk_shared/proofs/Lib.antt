@@ -4,7 +4,7 @@ pub mod Refused
 pub mod Held
 pub mod Announced
 pub mod Informed
-pub mod Told
+pub mod Commands
 pub mod Counts
 pub mod Ends
 pub mod Times

@@ -65,9 +65,9 @@ pub record IsKnownBy (one other : Known) : Type 0 where
   pub commands : IsPrefix one.noticed.commands other.noticed.commands
   pub log : IsPrefix one.noticed.log other.noticed.log
 
--- a caller that was told everything under the lock: it has seen a whole history, and knows all of
--- its snapshots and the readings of all of its commands, in order. All callers' readings so far are
--- in their lives among those commands, each over before the next one
+-- a caller that was informed of everything under the lock: it has seen a whole history, and knows
+-- all of its snapshots and the readings of all of its commands, in order. All callers' readings so
+-- far are in their lives among those commands, each over before the next one
 pub record IsInformed (caller : Known) : Type 0 where
   pub whole : IsWhole caller.seen
   pub mark : mark_of caller.learnt.publications ≡ length caller.seen.entries
@@ -78,7 +78,7 @@ pub record IsInformed (caller : Known) : Type 0 where
   pub turn : AreInTurn caller.noticed.log
 
 -- a caller whose command was accepted with this number: the history that it has seen is the history
--- before the command with this one entry more. It was told everything
+-- before the command with this one entry more. It was informed of everything
 pub record IsAccepted (old new : Known) (cmd : Command) (answer : ℕ) : Type 0 where
   pub before : Journal
   pub reading : ℕ

@@ -81,8 +81,8 @@ IsNowOf answers counter old new time answer =
     ⊎ ((is : HasTaken answers counter old new time)
     × (answer ≡ answer_taken answers counter old new time is))
 
--- the first call was over before the second one looked first: its second look was no later than the
--- second call's first one. That is so if the second caller knew then what the first one knew after
+-- the first call was over before the second one's first look: its second look was no later than that
+-- one. That is so if the second caller knew then what the first one knew after
 -- its call, as a caller does of its own calls and of another caller's by `follow`, and if a command
 -- was accepted between the two answers. For other calls no clause gives the order of the moments
 abbrev pub IsOverBefore : Known → Known → Answer → Answer → Type 0
@@ -90,7 +90,7 @@ IsOverBefore new old' first second = (first.taken.to ≤ second.taken.from)
     ⊎ IsPrefix new.noticed.log old'.noticed.log ⊎ (first.place < second.place)
 
 -- two calls by callers of one keeper, which was closed since. The first was over before the second
--- looked first, and the counter was honest. Then the first time is at most the second
+-- one's first look, and the counter was honest. Then the first time is at most the second
 abbrev pub NowNeverFalls : {S : Type 0} → (S → ℕ → ℕ → Type 0) → Type 0
 NowNeverFalls {S} answers = (journal : Journal) (callers : List Known)
     (closed : IsClosed journal callers) (counter counter' : S) (old new old' new' : Known)
@@ -99,9 +99,9 @@ NowNeverFalls {S} answers = (journal : Journal) (callers : List Known)
     IsNowOf answers counter' old' new' time' second → IsOverBefore new old' first second →
     IsHonest closed.history closed.commands first second → nanoseconds time ≤ℤ nanoseconds time'
 
--- two calls by callers of one keeper, which may be open: a caller that was told everything knows all
--- that the two knew after their calls. The first call was over before the second looked first, and
--- the counter was honest. Then the first time is at most the second
+-- two calls by callers of one keeper, which may be open: a caller that was informed of everything
+-- knows all that the two knew after their calls. The first call was over before the second one's
+-- first look, and the counter was honest. Then the first time is at most the second
 abbrev pub OpenNowNeverFalls : {S : Type 0} → (S → ℕ → ℕ → Type 0) → Type 0
 OpenNowNeverFalls {S} answers = (last : Known) → IsInformed last → (counter counter' : S)
     (old new old' new' : Known) (time time' : Timespec) (first second : Answer) →

@@ -1,4 +1,4 @@
-//! Tells callers everything while the keeper is open.
+//! Informs callers of everything while the keeper is open.
 ghost use Rattle.std.specs.Prelude.{◌≡◌, None};
 ghost use mathlib.Core.List.{IsPrefix};
 ghost use Rattle.tk_page.specs.History.{Begins};
@@ -17,8 +17,9 @@ use tk_now::{NoticeWriter, Notice};
 use tk_page::{Page, Publisher};
 
 impl<L: Named, C: Counter> SharedKeeper<L, C> {
-    /// Tells a caller everything that another one knows, and the whole history with the readings of
-    /// all commands and of all callers so far. The other one is told all this too.
+    /// Informs a caller of everything that another one knows, and of the whole history with the
+    /// readings of all commands and of all callers so far. The other one is informed of all this
+    /// too.
     ///
     /// No answer of `now` or `now_fast` that the caller gets afterwards is below one that the other
     /// one got before (`now_never_falls`).
@@ -42,7 +43,7 @@ impl<L: Named, C: Counter> SharedKeeper<L, C> {
 }
 
 impl<L: Named, C: Counter> Locked<L, C> {
-    /// Tells a caller everything, after another one.
+    /// Informs a caller of everything, after another one.
     ///
     /// It waits for readers of the page.
     pub(crate) fn follow<R: Wait>(
@@ -100,7 +101,7 @@ fn inform<L: Named, R: Wait>(
       learnt = told_reader writer.old;
       noticed = caller.new.noticed;
     } }
-    ensures told { IsTold notice_writer.new caller.old.noticed caller.new.noticed }
+    ensures informed { IsTold notice_writer.new caller.old.noticed caller.new.noticed }
     ensures begins { Begins caller.old.seen publisher.old.journal }
     ensures extends { IsPrefix caller.old.learnt.publications writer.old.publications }
 {

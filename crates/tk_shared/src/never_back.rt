@@ -8,8 +8,8 @@ use tk_now::SharedCounter;
 /// whichever callers of one keeper made the two calls.
 ///
 /// The keeper was closed since, and shows the readings of all callers in one list. Or it is open,
-/// and some caller was told everything since (by `SharedKeeper::follow`, or by an accepted command)
-/// and knows all that the two callers knew after their calls.
+/// and some caller was informed of everything since (by `SharedKeeper::follow`, or by an accepted
+/// command) and knows all that the two callers knew after their calls.
 ///
 /// The counter's readings must be those of a true count of cycles (`IsHonest`). While the clocks
 /// are awake, at most half the counter's range may pass from one accepted command to the next, and

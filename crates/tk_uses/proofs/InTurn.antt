@@ -13,7 +13,7 @@ use Rattle.tk_shared.specs.Callers.{Known, IsInformed, IsKnownBy}
 use Rattle.tk_shared.specs.NeverBack.{OpenNowNeverFalls, answer_seen}
 use Rattle.tk_shared.specs.Readings.{EndsAtReading}
 use Rattle.tk_shared.proofs.Between.{life_two}
-use Rattle.tk_shared.proofs.Calls.{informed_within, known_within, told_of}
+use Rattle.tk_shared.proofs.Calls.{informed_within, known_within, answered_of}
 use Rattle.tk_shared.proofs.Informed.{known_by_trans}
 use Rattle.tk_uses.specs.InTurn.{HasCommanded, HaveAsked, IsTrusted}
 
@@ -38,9 +38,9 @@ module _ {S : Type 0} (answers : S → ℕ → ℕ → Type 0) (counter : S) (on
         let commands = last.noticed.commands in
         let log = last.noticed.log in
         let all = informed_within last informed in
-        let a = told_of answers counter last.seen commands log asked.before asked.after time
+        let a = answered_of answers counter last.seen commands log asked.before asked.after time
         (known_within last.seen commands log asked.after last known all) first (inl (asked.seen, refl)) in
-        let b = told_of answers counter last.seen commands log asked.before' asked.after' time'
+        let b = answered_of answers counter last.seen commands log asked.before' asked.after' time'
         (known_within last.seen commands log asked.after' last known' all) second
         (inl (asked.seen', refl)) in
         life_two commands commands log first second a.position b.position (λ k t at. at) a.listed

@@ -12,7 +12,7 @@ use Rattle.tk_shared.specs.NeverBack.{HasSeen, IsHonest}
 use Rattle.tk_shared.specs.Readings.{EndsAtReading}
 
 -- one caller got this time of MONOTONIC, and then the other one got that time. Before it asked, the
--- other one was told all that the first one knew
+-- other one knew all that the first one knew
 pub record HaveAsked {S : Type 0} (answers : S → ℕ → ℕ → Type 0) (counter : S) (one two : Known)
     (time time' : Timespec) : Type 0 where
   pub before : Known

@@ -19,7 +19,7 @@ use tk_shared::{
     prepare,
 };
 
-/// A counter that stands still: each reading is `READING`.
+/// A stopped counter: each reading is `READING`.
 #[derive(Drop)]
 struct Stopped<const READING: u64>;
 
@@ -40,7 +40,7 @@ struct Asked<L: Named> {
     time: Timespec,
 }
 
-/// Opens clocks on a counter that stands still, for two callers, and prints what they got.
+/// Opens clocks on a stopped counter for two callers, and prints their times.
 pub(crate) fn run<R: Threads + Wait + Print + Sync>(rt: &R, alloc: Global) -> Result<(), Stop> {
     let stopped = Stopped::<1_000_000>;
     match rises(rt, alloc, &stopped)? {

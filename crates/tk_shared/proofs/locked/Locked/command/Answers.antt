@@ -12,11 +12,11 @@ use Rattle.tk_now.specs.Views.{Announcing, moment_of, taken}
 use Rattle.tk_shared.specs.Locked.{Guarded, Held, held_of, IsAtRest, IsHeld}
 use Rattle.tk_shared.specs.Readings.{EndsAtReading, IsRefusedAtReading}
 use Rattle.tk_keeper.specs.Keeper.{Keeper}
-use Rattle.tk_shared.proofs.Announced.{accepted_at_rest, refused_at_rest, told_at_rest}
+use Rattle.tk_shared.proofs.Announced.{accepted_at_rest, refused_at_rest, informed_at_rest}
 use Rattle.tk_shared.proofs.Counts.{own_more}
 use Rattle.tk_shared.proofs.Held.{with_entry, held_accepted}
 use Rattle.tk_shared.proofs.Kept.{kept_snapshot}
-use Rattle.tk_shared.proofs.Told.{refused, accepted, reason, low_bits}
+use Rattle.tk_shared.proofs.Commands.{refused, accepted, reason, low_bits}
 use Rattle.tk_shared.proofs.locked.Locked.command.Given.{Over}
 use Rattle.tk_shared.proofs.locked.Locked.command.Goals as goal
 
@@ -77,15 +77,15 @@ at_rest : (g : Over) (c : goal.After-caller-1 g) →
     c.tell-4.new.self
 at_rest g c =
     let entry = entry_by g c in
-    let told = c.tell-4.ensures.same in
-    told_at_rest g.L.Named.notice (followed_by c.self.inside.publisher.journal entry)
-    c.accept.new.notice_writer c.tell-4.new.self c.tell-4.new.self.log told
+    let informed = c.tell-4.ensures.same in
+    informed_at_rest g.L.Named.notice (followed_by c.self.inside.publisher.journal entry)
+    c.accept.new.notice_writer c.tell-4.new.self c.tell-4.new.self.log informed
     (accepted_at_rest g.L.Named.notice c.self.inside.publisher.journal c.self.inside.notice_writer
     c.accept.new.notice_writer entry c.announce.new.self.since entry.reading c.self.invariant.3
     (c.accept.ensures.notice ∙ c.announce.ensures.same.0) c.accept.ensures.idle refl
     (subst (λ (l : List Taken). IsAcceptedAt c.announce.new.self.since l entry.reading
     c.accept.new.notice_writer.commands) c.announce.ensures.same.1 c.accept.ensures.accepted)
-    (subst AreInOrder (ap (λ (a : Announcing). a.commands) told) c.tell-4.ensures.told.order))
+    (subst AreInOrder (ap (λ (a : Announcing). a.commands) informed) c.tell-4.ensures.told.order))
 
 pub returns-in-Err-clause-answer : goal.returns-in-Err-clause-answer
 returns-in-Err-clause-answer g c =

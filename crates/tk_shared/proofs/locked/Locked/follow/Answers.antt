@@ -6,8 +6,8 @@ use Rattle.tk_shared.proofs.locked.Locked.follow.Goals as goal
 
 pub returns-clause-follows : goal.returns-clause-follows
 returns-clause-follows g c =
-    let first = c.inform.ensures.told.all in
-    let then = c.inform-2.ensures.told.all in
+    let first = c.inform.ensures.informed.all in
+    let then = c.inform-2.ensures.informed.all in
     knows_as_much _ _ (search rules) (search rules) (search rules)
     (subst (λ (p : List Answer × List Answer). IsPrefix p.0 p.1) (λ i. (sym first i, sym then i))
     c.inform-2.ensures.log)

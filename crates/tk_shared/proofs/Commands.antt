@@ -35,26 +35,27 @@ module _ (page : TableId) (latch : LatchId) (held : Held) (is : IsHeld page latc
   -- the reason of the refusal follows from the history
   pub reason : (refusal : Refusal) → IsRefusal held.kept (entry_of old reading cmd) refusal →
       IsRefusalAfter held.shown.journal (entry_of old reading cmd) refusal
-  reason refusal told = refused_after held.shown.journal held.kept (entry_of old reading cmd) refusal
-      is.whole is.kept told
+  reason refusal is_refusal =
+      refused_after held.shown.journal held.kept (entry_of old reading cmd) refusal is.whole is.kept
+      is_refusal
 
   -- the caller has seen the history, after which its command was refused
   pub refused : (refusal : Refusal) → IsRefusal held.kept (entry_of old reading cmd) refusal →
       IsRefused old (record old { seen = held.shown.journal }) cmd refusal
-  refused refusal told = record {
+  refused refusal is_refusal = record {
     reading = reading;
     masked = let most = is.masked in let low = and_le_r answer held.mask in omega (arith, most, low);
     extends = begins;
     whole = is.whole;
-    reason = reason refusal told;
+    reason = reason refusal is_refusal;
     counted = refl;
     learnt = refl;
     noticed = refl;
   }
 
   -- the knowledge of the caller if its command was accepted
-  abbrev pub told : Noticed → Known
-  told noticed =
+  abbrev pub caller_after : Noticed → Known
+  caller_after noticed =
       let now = with_entry held (entry_of old reading cmd) in
       record {
         id = old.id;
@@ -70,7 +71,7 @@ module _ (page : TableId) (latch : LatchId) (held : Held) (is : IsHeld page latc
       number ≡ accepted_count (followed_by held.kept (entry_of old reading cmd)) →
       (notice : TableId) (notice_writer : Announcing) (noticed : Noticed) →
       IsAtRest notice (followed_by held.shown.journal (entry_of old reading cmd)) notice_writer →
-      IsTold notice_writer old.noticed noticed → IsAccepted old (told noticed) cmd number
+      IsTold notice_writer old.noticed noticed → IsAccepted old (caller_after noticed) cmd number
   accepted number learnt none counted notice notice_writer noticed rest known =
       let history = held.shown.journal in
       let entry = entry_of old reading cmd in
@@ -100,7 +101,7 @@ module _ (page : TableId) (latch : LatchId) (held : Held) (is : IsHeld page latc
         mark = let all = length_push held.latched.publications next in
             omega (arith, all, latest, many, longer);
         informed = informed_by page latch (with_entry held entry) now notice notice_writer rest
-            old.noticed noticed known (told noticed);
+            old.noticed noticed known (caller_after noticed);
         known = record {
           seen = (begins.0, prefix_trans _ _ _ begins.1 (entry ∷ [], refl));
           learnt = prefix_trans _ _ _ learnt (next ∷ [], refl);
