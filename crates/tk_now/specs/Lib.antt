@@ -5,3 +5,4 @@ pub mod Steps
 pub mod Honest
 pub mod Life
 pub mod Ticker
+pub mod Busy

@@ -17,6 +17,7 @@
 //! on the notice so far. Readings are in cycles of the counter.
 #![tactic(auto)]
 
+mod busy;
 mod counter;
 mod honest;
 mod notice;
@@ -24,8 +25,9 @@ mod reader;
 mod rule;
 mod writer;
 
+pub use busy::Busy;
 pub use counter::{HostCounter, Look, SharedCounter, SharedTicker};
 pub use honest::{answers_are_in_life, counts_are_in_order};
 pub use notice::Notice;
-pub use reader::{Busy, NoticeReader, Timed};
+pub use reader::{NoticeReader, Timed};
 pub use writer::NoticeWriter;

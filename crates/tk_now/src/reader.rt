@@ -4,6 +4,7 @@ ghost use Rattle.tk_now.specs.Moments.{AreBefore, AreInLife, AreInOrder, AreInTu
 ghost use Rattle.tk_now.specs.Steps.{IsBegun, IsEnd};
 ghost use Rattle.tk_now.specs.Views.{IsResting, IsTiming, from_by};
 
+use crate::busy::Busy;
 use crate::counter::{Look, SharedCounter};
 use crate::notice::{Notice, WORD};
 use crate::rule::{Begins, Ends, NamesReading};
@@ -42,16 +43,6 @@ pub struct Timed {
     pub place: u64,
     /// The reading, in cycles.
     pub reading: u64,
-}
-
-/// Says that no reading was taken, because a command was in progress or was accepted between the
-/// two loads of the notice.
-#[derive(Clone, Copy, Debug, PartialEq, Eq)]
-pub struct Busy {
-    /// The word that the first load found.
-    pub first: u64,
-    /// The word that the second load found.
-    pub last: u64,
 }
 
 impl NoticeReader {

@@ -6,3 +6,4 @@ pub mod Closing
 pub mod Opening
 pub mod Now
 pub mod NeverBack
+pub mod Errors

@@ -1,4 +1,9 @@
+ghost use Rattle.std.specs.Prelude.{Some};
+ghost use Rattle.tk_shared.specs.Errors.{open_text};
+
 use crate::counter::Counter;
+use std::error::Error;
+use std::fmt;
 
 /// Says why a keeper can't be opened: the first variant that applies, in this order.
 #[derive(Clone, Copy, Debug, PartialEq, Eq)]
@@ -19,3 +24,27 @@ pub struct OpenFault<C: Counter> {
     /// The counter that was passed to `prepare`.
     pub counter: C,
 }
+
+impl fmt::Display for OpenError {
+    ghost output = { λ error. Some (open_text error) };
+
+    fn fmt<W: fmt::Write>(&self, f: &mut fmt::Formatter<W>) -> fmt::Result {
+        f.write_str(match self {
+            OpenError::Count => "count out of range",
+            OpenError::Invalid => "invalid opening",
+            OpenError::Memory => "out of memory",
+        })
+    }
+}
+
+impl<C: Counter> fmt::Display for OpenFault<C> {
+    ghost output = { λ fault. Some (open_text fault.error) };
+
+    fn fmt<W: fmt::Write>(&self, f: &mut fmt::Formatter<W>) -> fmt::Result {
+        write!(f, "{}", self.error)
+    }
+}
+
+impl Error for OpenError {}
+
+impl<C: Counter + fmt::Debug> Error for OpenFault<C> {}

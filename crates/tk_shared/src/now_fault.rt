@@ -1,3 +1,8 @@
+ghost use Rattle.std.specs.Prelude.{Some};
+ghost use Rattle.tk_shared.specs.Errors.{late_text, now_text};
+
+use std::error::Error;
+use std::fmt;
 use tk_clock::ReadError;
 
 /// Says why `now_fast` returned no time.
@@ -25,3 +30,32 @@ pub struct Late {
     /// The number of commands that were accepted before the reading.
     pub place: u64,
 }
+
+impl fmt::Display for NowFault {
+    ghost output = { λ fault. Some (now_text fault) };
+
+    fn fmt<W: fmt::Write>(&self, f: &mut fmt::Formatter<W>) -> fmt::Result {
+        match self {
+            NowFault::Refused(_) => write!(f, "the clock cannot be read at this reading"),
+            NowFault::Moved(moved) => write!(f, "{moved}"),
+            NowFault::Busy(busy) => write!(f, "{busy}"),
+            NowFault::Late(late) | NowFault::Ahead(late) => write!(f, "{late}"),
+        }
+    }
+}
+
+impl fmt::Display for Late {
+    ghost output = { λ late. Some (late_text late) };
+
+    fn fmt<W: fmt::Write>(&self, f: &mut fmt::Formatter<W>) -> fmt::Result {
+        write!(
+            f,
+            "commands accepted: {}, published: {}",
+            self.place, self.front
+        )
+    }
+}
+
+impl Error for NowFault {}
+
+impl Error for Late {}

@@ -18,7 +18,7 @@ pub(crate) enum Stop {
     Read(#[from] ReadError),
     #[error("a front has no snapshot: {0}")]
     Front(#[from] FrontError),
-    #[error("the clocks can't be opened for threads")]
+    #[error("the clocks can't be opened for threads: {0}")]
     Open(OpenError),
     #[error("a write failed: {0}")]
     Output(#[from] io::Error),
