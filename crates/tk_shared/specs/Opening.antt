@@ -1,5 +1,5 @@
 -- How a shared keeper is opened.
-use Rattle.std.specs.Prelude.{◌≡◌, ℕ, ◌≤◌, List, [], replicate, not, nat_lt, ◌||◌, Option, Some, None, if◌then◌else◌}
+use Rattle.std.specs.Prelude.{◌≡◌, ℕ, ◌≤◌, [], replicate, not, nat_lt, ◌||◌, Option, Some, None, if◌then◌else◌}
 use Rattle.atomic_table.specs.Seated.{TableId}
 use Rattle.tk_counter.specs.Counter.{Counter, mask}
 use Rattle.tk_clock.specs.declared.timespec.Timespec.{Timespec}
@@ -7,11 +7,13 @@ use Rattle.tk_clock.specs.Journal.{Journal, opened}
 use Rattle.tk_clock.specs.Legal.{IsWhole}
 use Rattle.tk_clock.specs.Limits.{is_settable}
 use Rattle.tk_clock.specs.Snapshot.{snapshot_of}
-use Rattle.tk_page.specs.History.{History, Sight}
-use Rattle.tk_now.specs.Views.{Announcing, opened_notice_writer}
-use Rattle.tk_latch.specs.Latch.{LatchId, Published, Learnt, most_readers, opened_writer, opened_reader}
+use Rattle.tk_now.specs.Views.{opened_notice_writer}
+use Rattle.tk_latch.specs.Latch.{LatchId, most_readers, opened_writer, opened_reader}
 use Rattle.tk_shared.specs.declared.fault.OpenError.{OpenError}
 use Rattle.tk_shared.specs.declared.fault.OpenError.TheVariants.{Count, Invalid, Memory}
+use Rattle.tk_shared.specs.declared.parts.Parts.{Parts}
+use Rattle.tk_shared.specs.declared.parts.Shared.{Shared}
+use Rattle.tk_shared.specs.declared.parts.Writers.{Writers}
 
 -- the prepared parts: the page, the latch, the notice, the ledger's name, the number of callers,
 -- the journal without entries, and the capacity in commands
@@ -24,11 +26,34 @@ pub record Start : Type 0 where
   pub journal : Journal
   pub spare : ℕ
 
+-- what `open` gets from these parts, with a ledger of this name, for this number of callers
+abbrev pub start_of : Parts → ℕ → ℕ → Start
+start_of parts ledger callers = record {
+  page = parts.shared.page;
+  latch = parts.shared.latch;
+  notice = parts.shared.notice;
+  ledger = ledger;
+  callers = callers;
+  journal = parts.keeper.journal;
+  spare = parts.keeper.spare;
+}
+
 -- a type's names are the names of the prepared parts; every caller has one part of the ledger
 abbrev pub IsNamed : Start → TableId → LatchId → TableId → ℕ → ℕ → ℕ → Type 0
 IsNamed start page latch notice ledger parts callers =
     (start.page ≡ page) × (start.latch ≡ latch) × (start.notice ≡ notice)
     × (start.ledger ≡ ledger) × (start.callers ≡ parts) × (start.callers ≡ callers)
+
+-- the page, the latch and the notice have these names
+abbrev pub AreNamed : TableId → LatchId → TableId → Shared → Type 0
+AreNamed page latch notice shared =
+    (shared.page ≡ page) × (shared.latch ≡ latch) × (shared.notice ≡ notice)
+
+-- these write them, and no command is in progress
+abbrev pub AreWriters : Shared → Writers → Type 0
+AreWriters shared writers =
+    (writers.page.page ≡ shared.page) × (writers.latch.latch ≡ shared.latch)
+    × (writers.notice.notice ≡ shared.notice) × (writers.notice.since ≡ None)
 
 -- the name of no page and of no notice, and of no latch
 abbrev pub no_page : TableId
@@ -64,14 +89,14 @@ pub record IsOpened (counter : Counter) (real : Timespec) (journal : Journal) : 
 
 -- a page and a latch that show the journal without entries, a reader for each caller, and the
 -- writer of a notice that was opened at the journal's reading
-pub record IsReady (start : Start) (publisher : History) (viewer : Sight)
-    (writer : Published) (readers : List Learnt) (notice_writer : Announcing) : Type 0 where
-  pub published : publisher ≡ record { page = start.page; journal = start.journal }
-  pub seen : viewer ≡ record { page = start.page; reads = 0; journal = start.journal }
-  pub latched : writer ≡ opened_writer start.latch (snapshot_of start.journal)
-  pub learnt : readers
+pub record IsReady (start : Start) (parts : Parts) : Type 0 where
+  pub published : parts.writers.page ≡ record { page = start.page; journal = start.journal }
+  pub seen : parts.viewer ≡ record { page = start.page; reads = 0; journal = start.journal }
+  pub latched : parts.writers.latch ≡ opened_writer start.latch (snapshot_of start.journal)
+  pub learnt : parts.readers.items
       ≡ replicate start.callers (opened_reader start.latch (snapshot_of start.journal))
-  pub announced : notice_writer ≡ opened_notice_writer start.notice start.journal.opening.reading
+  pub announced : parts.writers.notice
+      ≡ opened_notice_writer start.notice start.journal.opening.reading
   pub counter : start.latch.counter ≡ start.journal.opening.counter
   pub whole : IsWhole start.journal
   pub empty : start.journal.entries ≡ []

@@ -1,21 +1,20 @@
 //! Closes a shared keeper after all callers are back.
-ghost use Rattle.std.specs.Prelude.{◌≡◌, ◌+◌, ◌<◌, ◌≤◌, All, MatchResult, None, length, vec_len};
+ghost use Rattle.std.specs.Prelude.{◌≡◌, ◌+◌, ◌<◌, ◌≤◌, All, MatchResult, length, vec_len};
 ghost use mathlib.Core.List.{IsPrefix};
 ghost use Rattle.tk_now.specs.Moments.{AreInLife, AreInTurn};
 ghost use Rattle.tk_shared.specs.Closing.{AreDifferent, HasListed, HasNoticed, HaveListed, IsClosed, IsPartOf, accepted_by};
 ghost use Rattle.tk_shared.specs.History.{AreSnapshots};
+ghost use Rattle.tk_shared.specs.Opening.{AreNamed, AreWriters};
 
 use crate::caller::Caller;
 use crate::counter::Counter;
 use crate::locked::Locked;
 use crate::named::Named;
+use crate::parts::{Shared, Writers};
 use crate::shared_keeper::SharedKeeper;
 use std::sync::Wait;
 use std::sync::ledger::Share;
 use tk_keeper::Timekeeper;
-use tk_latch::{Latch, LatchWriter};
-use tk_now::{NoticeWriter, Notice};
-use tk_page::{Page, Publisher};
 
 /// Contains the parts of a closed keeper.
 #[derive(Drop)]
@@ -59,33 +58,19 @@ impl<L: Named, C: Counter> SharedKeeper<L, C> {
             });
         }
         let SharedKeeper {
-            page,
-            latch,
-            notice,
+            shared,
             locked,
             callers: _,
         } = self;
         let Locked {
             keeper,
-            mut publisher,
-            mut writer,
-            mut notice_writer,
+            mut writers,
             counter,
             mask: _,
             mut book,
             rest: mut all,
         } = locked.into_inner();
-        take_all(
-            rt,
-            &page,
-            &mut publisher,
-            &latch,
-            &mut writer,
-            &notice,
-            &mut notice_writer,
-            &mut all,
-            callers,
-        );
+        take_all(rt, &shared, &mut writers, &mut all, callers);
         book.audit(&mut all);
         Ok(Closed { keeper, counter })
     }
@@ -94,32 +79,24 @@ impl<L: Named, C: Counter> SharedKeeper<L, C> {
 /// Gives all callers the knowledge of all publications, and joins their parts of the ledger.
 fn take_all<L: Named, R: Wait>(
     rt: &R,
-    page: &Page,
-    publisher: &mut Publisher,
-    latch: &Latch,
-    writer: &mut LatchWriter,
-    notice: &Notice,
-    notice_writer: &mut NoticeWriter,
+    shared: &Shared,
+    writers: &mut Writers,
     all: &mut Share<L>,
     callers: Vec<Caller<L>>,
 )
-    requires page { (page.now ≡ L.page) × (publisher.old.page ≡ L.page) }
-    requires latch { (latch.now ≡ L.latch) × (writer.old.latch ≡ L.latch) }
-    requires notice { (notice.now ≡ L.notice) × (notice_writer.old.notice ≡ L.notice) }
-    requires idle { notice_writer.old.since ≡ None }
-    requires snapshots { AreSnapshots publisher.old.journal writer.old.publications }
+    requires named { AreNamed L.page L.latch L.notice shared.now }
+    requires writers { AreWriters shared.now writers.old }
+    requires snapshots { AreSnapshots writers.old.page.journal writers.old.latch.publications }
     requires within { all.old.parts ≤ L.parts }
     ensures parts { all.new.parts ≡ all.old.parts + length callers.items }
     ensures within { all.new.parts ≤ L.parts }
     ensures amount { all.new.amount ≡ all.old.amount + accepted_by callers.items }
-    ensures seen { All (IsPartOf publisher.old.journal) callers.items }
-    ensures noticed { All (HasNoticed notice_writer.old.commands) callers.items }
-    ensures listed { HaveListed notice_writer.old.commands callers.items }
+    ensures seen { All (IsPartOf writers.old.page.journal) callers.items }
+    ensures noticed { All (HasNoticed writers.old.notice.commands) callers.items }
+    ensures listed { HaveListed writers.old.notice.commands callers.items }
 {
     for caller in callers {
-        take_in(
-            rt, page, publisher, latch, writer, notice, notice_writer, all, caller,
-        );
+        take_in(rt, shared, writers, all, caller);
     }
 }
 
@@ -127,32 +104,26 @@ fn take_all<L: Named, R: Wait>(
 /// others.
 fn take_in<L: Named, R: Wait>(
     rt: &R,
-    page: &Page,
-    publisher: &mut Publisher,
-    latch: &Latch,
-    writer: &mut LatchWriter,
-    notice: &Notice,
-    notice_writer: &mut NoticeWriter,
+    shared: &Shared,
+    writers: &mut Writers,
     all: &mut Share<L>,
     caller: Caller<L>,
 )
-    requires page { (page.now ≡ L.page) × (publisher.old.page ≡ L.page) }
-    requires latch { (latch.now ≡ L.latch) × (writer.old.latch ≡ L.latch) }
-    requires notice { (notice.now ≡ L.notice) × (notice_writer.old.notice ≡ L.notice) }
-    requires idle { notice_writer.old.since ≡ None }
-    requires snapshots { AreSnapshots publisher.old.journal writer.old.publications }
-    ensures same { (publisher.new ≡ publisher.old) × (writer.new ≡ writer.old)
-        × (notice_writer.new.notice ≡ notice_writer.old.notice)
-        × (notice_writer.new.commands ≡ notice_writer.old.commands)
-        × (notice_writer.new.since ≡ notice_writer.old.since) }
-    ensures log { IsPrefix notice_writer.old.log notice_writer.new.log }
-    ensures alive { AreInLife notice_writer.old.commands notice_writer.new.log }
-    ensures turn { AreInTurn notice_writer.new.log }
+    requires named { AreNamed L.page L.latch L.notice shared.now }
+    requires writers { AreWriters shared.now writers.old }
+    requires snapshots { AreSnapshots writers.old.page.journal writers.old.latch.publications }
+    ensures same { (writers.new.page ≡ writers.old.page) × (writers.new.latch ≡ writers.old.latch)
+        × (writers.new.notice.notice ≡ writers.old.notice.notice)
+        × (writers.new.notice.commands ≡ writers.old.notice.commands)
+        × (writers.new.notice.since ≡ writers.old.notice.since) }
+    ensures log { IsPrefix writers.old.notice.log writers.new.notice.log }
+    ensures alive { AreInLife writers.old.notice.commands writers.new.notice.log }
+    ensures turn { AreInTurn writers.new.notice.log }
     ensures parts { (all.new.parts ≡ all.old.parts + 1) × (all.new.parts ≤ L.parts) }
     ensures amount { all.new.amount ≡ all.old.amount + caller.accepted }
-    ensures seen { IsPartOf publisher.old.journal caller }
-    ensures noticed { HasNoticed notice_writer.old.commands caller }
-    ensures listed { HasListed notice_writer.new.log caller }
+    ensures seen { IsPartOf writers.old.page.journal caller }
+    ensures noticed { HasNoticed writers.old.notice.commands caller }
+    ensures listed { HasListed writers.new.notice.log caller }
 {
     let Caller {
         mut viewer,
@@ -162,8 +133,8 @@ fn take_in<L: Named, R: Wait>(
         id: _,
         accepted: _,
     } = caller;
-    page.tell(rt, publisher, &mut viewer);
-    latch.tell(writer, &mut reader);
-    notice_writer.take_in(notice, notice_reader);
+    shared.page.tell(rt, &mut writers.page, &mut viewer);
+    shared.latch.tell(&mut writers.latch, &mut reader);
+    writers.notice.take_in(&shared.notice, notice_reader);
     all.merge(share);
 }

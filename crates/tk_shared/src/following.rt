@@ -1,20 +1,19 @@
 //! Informs callers of everything while the keeper is open.
-ghost use Rattle.std.specs.Prelude.{◌≡◌, None};
+ghost use Rattle.std.specs.Prelude.{◌≡◌};
 ghost use mathlib.Core.List.{IsPrefix};
 ghost use Rattle.tk_page.specs.History.{Begins};
 ghost use Rattle.tk_latch.specs.Latch.{told_reader};
 ghost use Rattle.tk_now.specs.Moments.{IsTold};
 ghost use Rattle.tk_shared.specs.Callers.{IsInformed, IsKnownBy, IsSameCaller};
+ghost use Rattle.tk_shared.specs.Opening.{AreNamed, AreWriters};
 
 use crate::caller::Caller;
 use crate::counter::Counter;
 use crate::locked::Locked;
 use crate::named::Named;
+use crate::parts::{Shared, Writers};
 use crate::shared_keeper::SharedKeeper;
 use std::sync::Wait;
-use tk_latch::{Latch, LatchWriter};
-use tk_now::{NoticeWriter, Notice};
-use tk_page::{Page, Publisher};
 
 impl<L: Named, C: Counter> SharedKeeper<L, C> {
     /// Informs a caller of everything that another one knows, and of the whole history with the
@@ -35,10 +34,7 @@ impl<L: Named, C: Counter> SharedKeeper<L, C> {
         ensures accepted { (caller.new.accepted ≡ caller.old.accepted)
             × (other.new.accepted ≡ other.old.accepted) }
     {
-        let (page, latch, notice) = (&self.page, &self.latch, &self.notice);
-        self.locked
-            .lock(rt)
-            .follow(rt, page, latch, notice, caller, other)
+        self.locked.lock(rt).follow(rt, &self.shared, caller, other)
     }
 }
 
@@ -49,15 +45,11 @@ impl<L: Named, C: Counter> Locked<L, C> {
     pub(crate) fn follow<R: Wait>(
         &mut self,
         rt: &R,
-        page: &Page,
-        latch: &Latch,
-        notice: &Notice,
+        shared: &Shared,
         caller: &mut Caller<L>,
         other: &mut Caller<L>,
     )
-        requires page { page.now ≡ L.page }
-        requires latch { latch.now ≡ L.latch }
-        requires notice { notice.now ≡ L.notice }
+        requires named { AreNamed L.page L.latch L.notice shared.now }
         ensures value { self.new ≡ self.old }
         ensures informed { IsInformed caller.new × IsInformed other.new }
         ensures known { IsKnownBy caller.old caller.new × IsKnownBy other.old other.new }
@@ -67,45 +59,30 @@ impl<L: Named, C: Counter> Locked<L, C> {
         ensures accepted { (caller.new.accepted ≡ caller.old.accepted)
             × (other.new.accepted ≡ other.old.accepted) }
     {
-        let (publisher, writer) = (&mut self.publisher, &mut self.writer);
-        let notice_writer = &mut self.notice_writer;
-        inform(rt, page, publisher, latch, writer, notice, notice_writer, other);
-        let (publisher, writer) = (&mut self.publisher, &mut self.writer);
-        let notice_writer = &mut self.notice_writer;
-        inform(
-            rt, page, publisher, latch, writer, notice, notice_writer, caller,
-        );
+        inform(rt, shared, &mut self.writers, other);
+        inform(rt, shared, &mut self.writers, caller);
     }
 }
 
 /// Gives a caller the knowledge of all publications, of all commands and of all readings so far.
-fn inform<L: Named, R: Wait>(
-    rt: &R,
-    page: &Page,
-    publisher: &mut Publisher,
-    latch: &Latch,
-    writer: &mut LatchWriter,
-    notice: &Notice,
-    notice_writer: &mut NoticeWriter,
-    caller: &mut Caller<L>,
-)
-    requires page { (page.now ≡ L.page) × (publisher.old.page ≡ L.page) }
-    requires latch { (latch.now ≡ L.latch) × (writer.old.latch ≡ L.latch) }
-    requires notice { (notice.now ≡ L.notice) × (notice_writer.old.notice ≡ L.notice) }
-    requires idle { notice_writer.old.since ≡ None }
-    ensures same { (publisher.new ≡ publisher.old) × (writer.new ≡ writer.old) }
-    ensures notice_writer { notice_writer.new ≡ record notice_writer.old { log = notice_writer.new.log } }
-    ensures log { IsPrefix notice_writer.old.log notice_writer.new.log }
+fn inform<L: Named, R: Wait>(rt: &R, shared: &Shared, writers: &mut Writers, caller: &mut Caller<L>)
+    requires named { AreNamed L.page L.latch L.notice shared.now }
+    requires writers { AreWriters shared.now writers.old }
+    ensures same { (writers.new.page ≡ writers.old.page) × (writers.new.latch ≡ writers.old.latch) }
+    ensures notice { writers.new.notice
+        ≡ record writers.old.notice { log = writers.new.notice.log } }
+    ensures log { IsPrefix writers.old.notice.log writers.new.notice.log }
     ensures caller { caller.new ≡ record caller.old {
-      seen = publisher.old.journal;
-      learnt = told_reader writer.old;
+      seen = writers.old.page.journal;
+      learnt = told_reader writers.old.latch;
       noticed = caller.new.noticed;
     } }
-    ensures informed { IsTold notice_writer.new caller.old.noticed caller.new.noticed }
-    ensures begins { Begins caller.old.seen publisher.old.journal }
-    ensures extends { IsPrefix caller.old.learnt.publications writer.old.publications }
+    ensures informed { IsTold writers.new.notice caller.old.noticed caller.new.noticed }
+    ensures begins { Begins caller.old.seen writers.old.page.journal }
+    ensures extends { IsPrefix caller.old.learnt.publications writers.old.latch.publications }
 {
-    page.tell(rt, publisher, &mut caller.viewer);
-    latch.tell(writer, &mut caller.reader);
-    notice_writer.tell(notice, &mut caller.notice_reader);
+    shared.page.tell(rt, &mut writers.page, &mut caller.viewer);
+    shared.latch.tell(&mut writers.latch, &mut caller.reader);
+    let reader = &mut caller.notice_reader;
+    writers.notice.tell(&shared.notice, reader);
 }

@@ -33,6 +33,7 @@ mod named;
 mod never_back;
 mod now;
 mod now_fault;
+mod parts;
 mod prepared;
 mod shared_keeper;
 mod shared_reader;

@@ -1,25 +1,25 @@
 //! The value that the lock protects, and the calls on it.
 ghost use Rattle.std.specs.Prelude.{◌≡◌, ◌+◌, ◌-◌, ◌^◌, ◌<◌, max, ◌++◌, ◌∷◌, [], length, MatchResult, IsSome, None};
-ghost use mathlib.Core.List.{IsPrefix};
 ghost use Rattle.tk_clock.specs.Folding.{folded_by};
 ghost use Rattle.tk_clock.specs.Journal.{accepted_count};
 ghost use Rattle.tk_clock.specs.Limits.{counted_most};
 ghost use Rattle.tk_now.specs.Moments.{IsAcceptedAt};
-ghost use Rattle.tk_page.specs.History.{Begins};
 ghost use Rattle.tk_shared.specs.Callers.{IsAccepted, IsRefused, IsSameCaller};
+ghost use Rattle.tk_shared.specs.Opening.{AreNamed};
 ghost use Rattle.tk_shared.specs.Readings.{EndsAtReading, IsRefusedAtReading};
 
 use crate::caller::Caller;
 use crate::counter::Counter;
 use crate::named::Named;
+use crate::parts::{Shared, Writers};
 use std::marker::Model;
 use std::sync::Wait;
 use std::sync::ledger::{Book, Share};
 use tk_clock::{Command, Entry, Refusal, Snapshot};
 use tk_keeper::Timekeeper;
 use tk_latch::{Latch, LatchWriter};
-use tk_now::{NoticeWriter, Notice};
-use tk_page::{Page, Publisher};
+use tk_now::{Notice, NoticeWriter};
+use tk_page::Publisher;
 
 /// Contains the value under the lock.
 ///
@@ -27,12 +27,7 @@ use tk_page::{Page, Publisher};
 #[derive(Drop)]
 pub struct Locked<L: Named, C: Counter> {
     pub(crate) keeper: Timekeeper,
-    /// Publishes accepted commands on the page, which is outside the lock.
-    pub(crate) publisher: Publisher,
-    /// Publishes accepted commands on the latch, which is outside the lock too.
-    pub(crate) writer: LatchWriter,
-    /// Announces commands in the notice, which is outside the lock too.
-    pub(crate) notice_writer: NoticeWriter,
+    pub(crate) writers: Writers,
     pub(crate) counter: C,
     /// The greatest reading of the counter.
     pub(crate) mask: u64,
@@ -48,13 +43,13 @@ impl<L: Named, C: Counter> Model for Locked<L, C> {
 
     ghost Value = { Guarded };
 
-    ghost view = { λ c. record { history = c.publisher.journal; journal = c.keeper.journal } };
+    ghost view = { λ c. record { history = c.writers.page.journal; journal = c.keeper.journal } };
 
     ghost invariant = { λ c.
         IsHeld L.page L.latch
-        (held_of c.keeper.journal c.publisher c.writer c.mask c.book.total)
+        (held_of c.keeper.journal c.writers.page c.writers.latch c.mask c.book.total)
         × (c.rest.parts ≡ 0) × (c.rest.amount ≡ 0)
-        × IsAtRest L.notice c.publisher.journal c.notice_writer };
+        × IsAtRest L.notice c.writers.page.journal c.writers.notice };
 }
 
 impl<L: Named, C: Counter> Locked<L, C> {
@@ -67,15 +62,11 @@ impl<L: Named, C: Counter> Locked<L, C> {
     pub(crate) fn command<R: Wait>(
         &mut self,
         rt: &R,
-        page: &Page,
-        latch: &Latch,
-        notice: &Notice,
+        shared: &Shared,
         caller: &mut Caller<L>,
         cmd: Command,
     ) -> Result<u64, Refusal>
-        requires page { page.now ≡ L.page }
-        requires latch { latch.now ≡ L.latch }
-        requires notice { notice.now ≡ L.notice }
+        requires named { AreNamed L.page L.latch L.notice shared.now }
         ensures answer { MatchResult result
             (λ number. IsAccepted caller.old caller.new cmd number)
             (λ refusal. IsRefused caller.old caller.new cmd refusal × (self.new ≡ self.old)) }
@@ -86,32 +77,33 @@ impl<L: Named, C: Counter> Locked<L, C> {
         ensures folded { self.new.journal.opening ≡ self.old.journal.opening }
         ensures same { IsSameCaller caller.old caller.new }
     {
-        self.notice_writer.announce(notice);
-        let reading = self.counter.read_after(self.notice_writer.look()) & self.mask;
+        let (page, latch, notice) = (&shared.page, &shared.latch, &shared.notice);
+        self.writers.notice.announce(notice);
+        let reading = self.counter.read_after(self.writers.notice.look()) & self.mask;
         let who = caller.id;
         let number = match self.keeper.apply(who, reading, cmd) {
             Ok(number) => number,
             Err(refusal) => {
-                self.notice_writer.withdraw(notice);
-                page.tell(rt, &mut self.publisher, &mut caller.viewer);
+                self.writers.notice.withdraw(notice);
+                page.tell(rt, &mut self.writers.page, &mut caller.viewer);
                 return Err(refusal);
             }
         };
-        latch.tell(&mut self.writer, &mut caller.reader);
+        latch.tell(&mut self.writers.latch, &mut caller.reader);
         let entry = Entry { who, reading, cmd };
         let snapshot = self.keeper.snapshot();
-        let (publisher, viewer) = (&mut self.publisher, &mut caller.viewer);
+        let (publisher, viewer) = (&mut self.writers.page, &mut caller.viewer);
         publisher.publish_for(rt, page, entry, &snapshot, viewer);
-        show_on_latch(latch, &mut self.writer, snapshot);
+        show_on_latch(latch, &mut self.writers.latch, snapshot);
         accept(
             notice,
-            &mut self.notice_writer,
+            &mut self.writers.notice,
             reading,
-            &self.publisher,
-            &self.writer,
+            &self.writers.page,
+            &self.writers.latch,
         );
-        latch.tell(&mut self.writer, &mut caller.reader);
-        self.notice_writer.tell(notice, &mut caller.notice_reader);
+        latch.tell(&mut self.writers.latch, &mut caller.reader);
+        self.writers.notice.tell(notice, &mut caller.notice_reader);
         self.book.add(&mut caller.share, 1);
         caller.accepted += 1;
         Ok(number)
@@ -134,22 +126,22 @@ impl<L: Named, C: Counter> Locked<L, C> {
 /// the latch. Until then it is announced.
 fn accept(
     notice: &Notice,
-    notice_writer: &mut NoticeWriter,
+    writer: &mut NoticeWriter,
     reading: u64,
     publisher: &Publisher,
-    writer: &LatchWriter,
+    latch_writer: &LatchWriter,
 )
-    requires notice { notice_writer.old.notice ≡ notice.now }
-    requires announced { IsSome notice_writer.old.since }
-    requires room { length notice_writer.old.commands < 2 ^ 63 }
-    requires on_page { length publisher.now.journal.entries ≡ length notice_writer.old.commands }
-    requires on_latch { length writer.now.publications ≡ length notice_writer.old.commands + 1 }
-    ensures notice { notice_writer.new.notice ≡ notice_writer.old.notice }
-    ensures idle { notice_writer.new.since ≡ None }
-    ensures accepted { IsAcceptedAt notice_writer.old.since notice_writer.old.commands reading
-        notice_writer.new.commands }
+    requires notice { writer.old.notice ≡ notice.now }
+    requires announced { IsSome writer.old.since }
+    requires room { length writer.old.commands < 2 ^ 63 }
+    requires on_page { length publisher.now.journal.entries ≡ length writer.old.commands }
+    requires on_latch { length latch_writer.now.publications ≡ length writer.old.commands + 1 }
+    ensures notice { writer.new.notice ≡ writer.old.notice }
+    ensures idle { writer.new.since ≡ None }
+    ensures accepted { IsAcceptedAt writer.old.since writer.old.commands reading
+        writer.new.commands }
 {
-    notice_writer.accept(notice, reading);
+    writer.accept(notice, reading);
 }
 
 /// Publishes the next snapshot on the latch. The latch can count one publication for every command

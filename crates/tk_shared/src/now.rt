@@ -10,13 +10,14 @@ use crate::caller::Caller;
 use crate::counter::Counter;
 use crate::named::Named;
 use crate::now_fault::{Late, NowFault};
+use crate::parts::Shared;
 use crate::shared_keeper::SharedKeeper;
 use std::sync::Wait;
 use std::thread;
 use tk_clock::{ClockId, ReadError, Timespec};
-use tk_latch::{Latch, LatchReader};
-use tk_now::{Notice, SharedCounter, NoticeReader};
-use tk_page::{Page, Viewer};
+use tk_latch::LatchReader;
+use tk_now::{NoticeReader, SharedCounter};
+use tk_page::Viewer;
 
 impl<L: Named, C: Counter> SharedKeeper<L, C> {
     /// Returns a clock's time now, at a reading of `counter` taken by this call (`ktime_get`).
@@ -53,15 +54,7 @@ impl<L: Named, C: Counter> SharedKeeper<L, C> {
             × (caller.new.learnt ≡ caller.old.learnt) }
     {
         let (viewer, notice_reader) = (&mut caller.viewer, &mut caller.notice_reader);
-        time_seen(
-            rt,
-            &self.page,
-            viewer,
-            &self.notice,
-            notice_reader,
-            counter,
-            clock,
-        )
+        time_seen(rt, &self.shared, viewer, notice_reader, counter, clock)
     }
 
     /// Returns a clock's time now without waiting, at a reading of `counter` taken by this call
@@ -101,7 +94,7 @@ impl<L: Named, C: Counter> SharedKeeper<L, C> {
             × (caller.new.seen ≡ caller.old.seen) }
     {
         let (reader, notice_reader) = (&mut caller.reader, &mut caller.notice_reader);
-        time_by(&self.latch, reader, &self.notice, notice_reader, counter, clock)
+        time_by(&self.shared, reader, notice_reader, counter, clock)
     }
 }
 
@@ -110,27 +103,26 @@ impl<L: Named, C: Counter> SharedKeeper<L, C> {
 #[inline]
 fn time_seen<R: Wait, S: SharedCounter>(
     rt: &R,
-    page: &Page,
+    shared: &Shared,
     viewer: &mut Viewer,
-    notice: &Notice,
     notice_reader: &mut NoticeReader,
     counter: &S,
     clock: ClockId,
 ) -> Result<Timespec, ReadError>
-    requires page { viewer.old.page ≡ page.now }
-    requires notice { notice_reader.old.notice ≡ notice.now }
-    ensures page { viewer.new.page ≡ viewer.old.page }
-    ensures notice { notice_reader.new.notice ≡ notice_reader.old.notice }
+    requires named { (viewer.old.page ≡ shared.now.page)
+        × (notice_reader.old.notice ≡ shared.now.notice) }
+    ensures same { (viewer.new.page ≡ viewer.old.page)
+        × (notice_reader.new.notice ≡ notice_reader.old.notice) }
     ensures reads { viewer.old.reads < viewer.new.reads }
     ensures begins { Begins viewer.old.journal viewer.new.journal }
     ensures noticed { IsPrefix notice_reader.old.commands notice_reader.new.commands
         × IsPrefix notice_reader.old.log notice_reader.new.log }
-    ensures answer { IsSeenBy S.answers counter.now clock viewer.new.journal notice_reader.old notice_reader.new
-        result }
+    ensures answer { IsSeenBy S.answers counter.now clock viewer.new.journal notice_reader.old
+        notice_reader.new result }
 {
     for _ in rt.forever() {
-        let snapshot = viewer.read(rt, page);
-        let Ok(timed) = notice_reader.time(notice, counter) else {
+        let snapshot = viewer.read(rt, &shared.page);
+        let Ok(timed) = notice_reader.time(&shared.notice, counter) else {
             // whoever gives the command may need this processor
             thread::yield_now();
             continue;
@@ -146,31 +138,30 @@ fn time_seen<R: Wait, S: SharedCounter>(
 /// command of that publication and before the next one.
 #[inline(always)]
 fn time_by<S: SharedCounter>(
-    latch: &Latch,
+    shared: &Shared,
     reader: &mut LatchReader,
-    notice: &Notice,
     notice_reader: &mut NoticeReader,
     counter: &S,
     clock: ClockId,
 ) -> Result<Timespec, NowFault>
-    requires latch { reader.old.latch ≡ latch.now }
-    requires notice { notice_reader.old.notice ≡ notice.now }
-    ensures latch { reader.new.latch ≡ reader.old.latch }
-    ensures notice { notice_reader.new.notice ≡ notice_reader.old.notice }
+    requires named { (reader.old.latch ≡ shared.now.latch)
+        × (notice_reader.old.notice ≡ shared.now.notice) }
+    ensures same { (reader.new.latch ≡ reader.old.latch)
+        × (notice_reader.new.notice ≡ notice_reader.old.notice) }
     ensures learnt { IsPrefix reader.old.publications reader.new.publications }
     ensures noticed { IsPrefix notice_reader.old.commands notice_reader.new.commands
         × IsPrefix notice_reader.old.log notice_reader.new.log }
     ensures answer { MatchResult result
-        (λ time. IsNowBy S.answers counter.now reader.old reader.new notice_reader.old notice_reader.new clock
-        time)
-        (λ fault. IsNoTimeBy S.answers counter.now reader.old reader.new notice_reader.old notice_reader.new
-        clock fault) }
+        (λ time. IsNowBy S.answers counter.now reader.old reader.new notice_reader.old
+        notice_reader.new clock time)
+        (λ fault. IsNoTimeBy S.answers counter.now reader.old reader.new notice_reader.old
+        notice_reader.new clock fault) }
 {
-    let snapshot = match reader.try_read(latch) {
+    let snapshot = match reader.try_read(&shared.latch) {
         Ok(snapshot) => snapshot,
         Err(moved) => return Err(NowFault::Moved(moved)),
     };
-    let timed = match notice_reader.time(notice, counter) {
+    let timed = match notice_reader.time(&shared.notice, counter) {
         Ok(timed) => timed,
         Err(busy) => return Err(NowFault::Busy(busy)),
     };

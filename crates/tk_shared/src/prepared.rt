@@ -2,11 +2,12 @@
 ghost use Rattle.std.specs.Prelude.{◌≡◌, ◌≢◌, ◌≤◌, [], length, min, MatchResult, IfOk, None};
 ghost use Rattle.tk_clock.specs.Legal.{IsWhole};
 ghost use Rattle.tk_clock.specs.Limits.{listed_most};
-ghost use Rattle.tk_shared.specs.Opening.{IsOpened, IsOpenFault, IsReady, opening_fault, most_callers};
+ghost use Rattle.tk_shared.specs.Opening.{IsOpened, IsOpenFault, IsReady, opening_fault, most_callers, start_of};
 ghost use Rattle.tk_shared.specs.Readings.{IsReading};
 
 use crate::counter::Counter;
 use crate::fault::{OpenError, OpenFault};
+use crate::parts::{Parts, Shared, Writers};
 use std::alloc::{AllocError, Global};
 use std::marker::Model;
 use std::sync::Wait;
@@ -14,27 +15,12 @@ use std::sync::ledger::Blank;
 use tk_clock::{Clock, Timespec};
 use tk_counter::CounterDesc;
 use tk_keeper::Timekeeper;
-use tk_latch::{Latch, LatchReader, LatchWriter, READERS_LIMIT};
-use tk_now::{NoticeWriter, Notice};
-use tk_page::{Page, Publisher, Viewer};
+use tk_latch::{Latch, READERS_LIMIT};
+use tk_now::Notice;
+use tk_page::Page;
 
 /// The greatest number of callers of a keeper. Every caller has a reader of the latch.
 pub const CALLERS_LIMIT: usize = READERS_LIMIT;
-
-/// Contains a keeper whose clocks were just opened, with its page, its latch and its notice.
-#[derive(Drop)]
-pub(crate) struct Parts {
-    pub(crate) page: Page,
-    pub(crate) publisher: Publisher,
-    pub(crate) viewer: Viewer,
-    pub(crate) latch: Latch,
-    pub(crate) writer: LatchWriter,
-    /// One for each caller.
-    pub(crate) readers: Vec<LatchReader>,
-    pub(crate) notice: Notice,
-    pub(crate) notice_writer: NoticeWriter,
-    pub(crate) keeper: Timekeeper,
-}
 
 /// Contains the parts for `SharedKeeper::open`.
 ///
@@ -52,31 +38,14 @@ pub struct Prepared<C: Counter> {
 impl<C: Counter> Model for Prepared<C> {
     ghost use Rattle.std.specs.Prelude.{◌≡◌, length};
     ghost use Rattle.tk_counter.specs.Counter.{mask as greatest_reading};
-    ghost use Rattle.tk_shared.specs.Opening.{Start, IsReady};
+    ghost use Rattle.tk_shared.specs.Opening.{Start, IsReady, start_of};
 
     ghost Value = { Start };
 
-    ghost view = { λ p. record {
-      page = p.parts.page;
-      latch = p.parts.latch;
-      notice = p.parts.notice;
-      ledger = p.blank.name;
-      callers = length p.parts.readers.items;
-      journal = p.parts.keeper.journal;
-      spare = p.parts.keeper.spare;
-    } };
+    ghost view = { λ p. start_of p.parts p.blank.name (length p.parts.readers.items) };
 
     ghost invariant = { λ p.
-        IsReady (record {
-          page = p.parts.page;
-          latch = p.parts.latch;
-          notice = p.parts.notice;
-          ledger = p.blank.name;
-          callers = length p.parts.readers.items;
-          journal = p.parts.keeper.journal;
-          spare = p.parts.keeper.spare;
-        }) p.parts.publisher p.parts.viewer p.parts.writer p.parts.readers.items
-        p.parts.notice_writer
+        IsReady (start_of p.parts p.blank.name (length p.parts.readers.items)) p.parts
         × (p.mask ≡ greatest_reading p.parts.keeper.journal.opening.counter)
         × (p.blank.parts ≡ length p.parts.readers.items) };
 }
@@ -157,15 +126,7 @@ fn assemble<R: Wait>(
     requires empty { keeper.journal.entries ≡ [] }
     ensures { IfOk result (λ parts. (parts.keeper.journal ≡ keeper.journal)
         × (min room listed_most ≤ parts.keeper.spare)
-        × IsReady (record {
-          page = parts.page;
-          latch = parts.latch;
-          notice = parts.notice;
-          ledger = 0;
-          callers = callers;
-          journal = keeper.journal;
-          spare = parts.keeper.spare;
-        }) parts.publisher parts.viewer parts.writer parts.readers.items parts.notice_writer) }
+        × IsReady (start_of parts 0 callers) parts) }
 {
     let mut keeper = keeper;
     if keeper.reserve(room).is_err() {
@@ -175,19 +136,25 @@ fn assemble<R: Wait>(
     let Ok((page, publisher, viewer)) = Page::open(alloc, rt, snapshot) else {
         return Err(AllocError);
     };
-    let Ok((latch, writer, readers)) = Latch::open(alloc, snapshot, callers) else {
+    let Ok((latch, latch_writer, readers)) = Latch::open(alloc, snapshot, callers) else {
         return Err(AllocError);
     };
     let (notice, notice_writer) = Notice::open(alloc, snapshot.last())?;
-    Ok(Parts {
+    let shared = Shared {
         page,
-        publisher,
-        viewer,
         latch,
-        writer,
-        readers,
         notice,
-        notice_writer,
+    };
+    let writers = Writers {
+        page: publisher,
+        latch: latch_writer,
+        notice: notice_writer,
+    };
+    Ok(Parts {
         keeper,
+        shared,
+        writers,
+        viewer,
+        readers,
     })
 }

@@ -7,7 +7,7 @@ ghost use Rattle.tk_page.specs.History.{Begins};
 ghost use Rattle.tk_latch.specs.Latch.{IsRead, IsMoved, opened_reader};
 ghost use Rattle.tk_now.specs.Views.{opened_notice_writer};
 ghost use Rattle.tk_shared.specs.Callers.{IsAccepted, IsRefused, IsSameCaller, newcomers};
-ghost use Rattle.tk_shared.specs.Opening.{IsNamed, most_callers};
+ghost use Rattle.tk_shared.specs.Opening.{AreNamed, IsNamed, most_callers};
 ghost use Rattle.tk_shared.specs.Readings.{EndsAtReading, IsRefusedAtReading};
 
 use crate::caller::Caller;
@@ -15,38 +15,38 @@ use crate::counter::Counter;
 use crate::fault::{OpenError, OpenFault};
 use crate::locked::Locked;
 use crate::named::Named;
-use crate::prepared::{Parts, Prepared};
+use crate::parts::{Parts, Shared};
+use crate::prepared::Prepared;
 use std::alloc::{AllocError, Global};
 use std::marker::Model;
 use std::sync::ledger::Share;
 use std::sync::{Mutex, Wait};
 use tk_clock::{Command, Refusal, Snapshot};
-use tk_latch::{Latch, LatchReader, Moved};
-use tk_now::{NoticeWriter, Notice};
-use tk_page::{Page, Viewer};
+use tk_latch::{LatchReader, Moved};
+use tk_now::NoticeWriter;
+use tk_page::Viewer;
 
 /// Shares a timekeeper among callers in many threads.
 ///
 /// Commands and folds take its lock; reads don't. Contracts see it as the number of its callers.
 #[derive(Drop)]
 pub struct SharedKeeper<L: Named, C: Counter> {
-    pub(crate) page: Page,
-    pub(crate) latch: Latch,
-    pub(crate) notice: Notice,
+    pub(crate) shared: Shared,
     pub(crate) locked: Mutex<Locked<L, C>>,
     pub(crate) callers: usize,
 }
 
 impl<L: Named, C: Counter> Model for SharedKeeper<L, C> {
     ghost use Rattle.std.specs.Prelude.{◌≡◌, ℕ};
+    ghost use Rattle.tk_shared.specs.Opening.{AreNamed};
 
     ghost Value = { ℕ };
 
     ghost view = { λ k. k.callers };
 
     ghost invariant = { λ k.
-        (k.page ≡ L.page) × (k.latch ≡ L.latch) × (k.callers ≡ L.callers)
-        × (L.callers ≡ L.parts) × (k.notice ≡ L.notice) };
+        AreNamed L.page L.latch L.notice k.shared
+        × (k.callers ≡ L.callers) × (L.callers ≡ L.parts) };
 }
 
 impl<L: Named, C: Counter> SharedKeeper<L, C> {
@@ -75,27 +75,16 @@ impl<L: Named, C: Counter> SharedKeeper<L, C> {
             blank,
         } = prepared;
         let Parts {
-            page,
-            publisher,
-            viewer,
-            latch,
-            writer,
-            readers,
-            notice,
-            mut notice_writer,
             keeper,
+            shared,
+            mut writers,
+            viewer,
+            readers,
         } = parts;
         let callers = readers.len();
         let (book, mut rest) = blank.open::<L>();
-        let Ok(made) = make_callers(
-            alloc,
-            &page,
-            viewer,
-            readers,
-            &notice,
-            &mut notice_writer,
-            &mut rest,
-        ) else {
+        let writer = &mut writers.notice;
+        let Ok(made) = make_callers(alloc, &shared, viewer, readers, writer, &mut rest) else {
             return Err(OpenFault {
                 error: OpenError::Memory,
                 counter,
@@ -103,22 +92,18 @@ impl<L: Named, C: Counter> SharedKeeper<L, C> {
         };
         let locked = Locked {
             keeper,
-            publisher,
-            writer,
-            notice_writer,
+            writers,
             counter,
             mask,
             book,
             rest,
         };
-        let shared = SharedKeeper {
-            page,
-            latch,
-            notice,
+        let keeper = SharedKeeper {
+            shared,
             locked: Mutex::new(locked),
             callers,
         };
-        Ok((shared, made))
+        Ok((keeper, made))
     }
 
     /// Applies a caller's command at the counter's reading, adds it to the journal with the
@@ -148,9 +133,7 @@ impl<L: Named, C: Counter> SharedKeeper<L, C> {
             (λ refusal. IsRefusedAtReading C.answers_after caller.old caller.new.seen cmd refusal) }
         ensures same { IsSameCaller caller.old caller.new }
     {
-        self.locked
-            .lock(rt)
-            .command(rt, &self.page, &self.latch, &self.notice, caller, cmd)
+        self.locked.lock(rt).command(rt, &self.shared, caller, cmd)
     }
 
     /// Returns the latest snapshot on the page, which is no older than any that this caller has
@@ -168,7 +151,7 @@ impl<L: Named, C: Counter> SharedKeeper<L, C> {
             × (caller.new.learnt ≡ caller.old.learnt)
             × (caller.new.noticed ≡ caller.old.noticed) }
     {
-        caller.viewer.read(rt, &self.page)
+        caller.viewer.read(rt, &self.shared.page)
     }
 
     /// Returns the latest publication of the latch, which is no earlier than any that this caller
@@ -192,7 +175,7 @@ impl<L: Named, C: Counter> SharedKeeper<L, C> {
             × (caller.new.seen ≡ caller.old.seen)
             × (caller.new.noticed ≡ caller.old.noticed) }
     {
-        caller.reader.try_read(&self.latch)
+        caller.reader.try_read(&self.shared.latch)
     }
 
     /// Folds the oldest entries of the journal so that at most `keep` are listed, and returns the
@@ -210,37 +193,36 @@ impl<L: Named, C: Counter> SharedKeeper<L, C> {
 /// Makes the callers, numbered from 0: one for each reader, with a part of the ledger.
 fn make_callers<L: Named>(
     alloc: Global,
-    page: &Page,
+    shared: &Shared,
     viewer: Viewer,
     readers: Vec<LatchReader>,
-    notice: &Notice,
-    notice_writer: &mut NoticeWriter,
+    writer: &mut NoticeWriter,
     shares: &mut Share<L>,
 ) -> Result<Vec<Caller<L>>, AllocError>
-    requires page { (viewer.page ≡ page.now) × (viewer.page ≡ L.page) }
+    requires named { AreNamed L.page L.latch L.notice shared.now }
+    requires page { viewer.page ≡ L.page }
     requires reads { viewer.reads ≡ 0 }
     requires readers { readers.items
         ≡ replicate (length readers.items) (opened_reader L.latch (snapshot_of viewer.journal)) }
     requires few { length readers.items ≤ most_callers }
-    requires notice { notice.now ≡ L.notice }
-    requires notice_writer { notice_writer.old
+    requires writer { writer.old
         ≡ opened_notice_writer L.notice viewer.journal.opening.reading }
     requires shares { (shares.old.parts ≡ length readers.items) × (shares.old.amount ≡ 0) }
     ensures callers { IfOk result (λ callers.
         callers.items ≡ newcomers L.latch L.notice viewer.journal (length readers.items)) }
-    ensures notice_writer { notice_writer.new ≡ notice_writer.old }
+    ensures writer { writer.new ≡ writer.old }
     ensures shares { IfOk result (λ _. (shares.new.parts ≡ 0) × (shares.new.amount ≡ 0)) }
 {
     let mut viewer = viewer;
     let mut callers = Vec::with_capacity(alloc, readers.len())?;
     let mut id = 0;
     for reader in readers {
-        let (mine, others) = viewer.split(page);
+        let (mine, others) = viewer.split(&shared.page);
         viewer = others;
         callers.push_reserved(Caller {
             viewer: mine,
             reader,
-            notice_reader: notice.reader(notice_writer),
+            notice_reader: shared.notice.reader(writer),
             share: shares.split_off(1, 0),
             id,
             accepted: 0,

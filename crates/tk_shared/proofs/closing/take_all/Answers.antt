@@ -18,17 +18,17 @@ loop-caller-preserved g c =
     let step : into_iter_items c.loop-caller.caller-iterator ≡ caller ∷ rest = search rules in
     let longer = ap length step in
     let sum = ap accepted_by step ∙ accepted-cons caller rest in
-    let history = c.args.publisher.now.journal in
+    let history = c.args.writers.now.page.journal in
     let first : IsPartOf history caller =
     subst (λ (h : History). IsPartOf h.journal caller) i.same.0 t.seen in
-    let commands = c.args.notice_writer.now.commands in
-    let log = c.take_in.new.notice_writer.log in
+    let commands = c.args.writers.now.notice.commands in
+    let log = c.take_in.new.writers.notice.log in
     let known : HasNoticed commands caller =
     subst (λ (l : List Taken). HasNoticed l caller) i.same.3 t.noticed in
     let alive : AreInLife commands log = subst (λ (l : List Taken). AreInLife l log) i.same.3 t.alive
     in
     let was = i.listed in
-    let more = prefix_trans was.0 c.loop-caller.notice_writer.log log was.1 t.log in
+    let more = prefix_trans was.0 c.loop-caller.writers.notice.log log was.1 t.log in
     let joined = t.parts.0 in
     let added = t.amount in
     let parts = i.parts in
@@ -68,11 +68,11 @@ loop-caller-init g c =
       parts = search rules;
       within = search rules;
       amount = search rules;
-      seen = λ all. subst (All (IsPartOf c.args.publisher.now.journal)) items all;
-      noticed = λ all. subst (All (HasNoticed c.args.notice_writer.now.commands)) items all;
+      seen = λ all. subst (All (IsPartOf c.args.writers.now.page.journal)) items all;
+      noticed = λ all. subst (All (HasNoticed c.args.writers.now.notice.commands)) items all;
       listed = (
         [],
-        (c.args.notice_writer.now.log, refl),
+        (c.args.writers.now.notice.log, refl),
         λ i place a t at_a at_t. absurd (cc (at_a)),
         λ i j a b less at_a at_b. absurd (cc (at_a)),
         λ all longer rest. subst (All (HasListed all)) items rest,
@@ -89,4 +89,4 @@ returns-clause-listed g c =
     let none : length (into_iter_items c.loop-caller.caller-iterator) ≡ 0 = search rules in
     let w = c.loop-caller.invariant.listed in
     let all = w.4 w.0 (prefix_self w.0) (λ k d low. absurd (omega (arith, none, low))) in
-    have_listed c.args.notice_writer.now.commands w.0 c.args.callers.items w.2 w.3 all
+    have_listed c.args.writers.now.notice.commands w.0 c.args.callers.items w.2 w.3 all

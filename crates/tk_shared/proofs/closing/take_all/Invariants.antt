@@ -8,24 +8,24 @@ use Rattle.tk_shared.proofs.closing.take_all.Given as goal
 
 abbrev pub invariant-loop-caller : goal.invariant-loop-caller
 invariant-loop-caller g l = record {
-  same : (l.publisher ≡ l.initial.publisher) × (l.writer ≡ l.initial.writer)
-      × (l.notice_writer.notice ≡ l.initial.notice_writer.notice)
-      × (l.notice_writer.commands ≡ l.initial.notice_writer.commands)
-      × (l.notice_writer.since ≡ l.initial.notice_writer.since);
+  same : (l.writers.page ≡ l.initial.writers.page) × (l.writers.latch ≡ l.initial.writers.latch)
+      × (l.writers.notice.notice ≡ l.initial.writers.notice.notice)
+      × (l.writers.notice.commands ≡ l.initial.writers.notice.commands)
+      × (l.writers.notice.since ≡ l.initial.writers.notice.since);
   parts : l.all.parts + length (into_iter_items l.caller-iterator)
       ≡ l.initial.all.parts + length l.fn.callers.items;
   within : l.all.parts ≤ g.L.Ledger.parts;
   amount : l.all.amount + accepted_by (into_iter_items l.caller-iterator)
       ≡ l.initial.all.amount + accepted_by l.fn.callers.items;
   -- if the remaining callers have their parts, all have
-  seen : All (IsPartOf l.initial.publisher.journal) (into_iter_items l.caller-iterator) →
-      All (IsPartOf l.initial.publisher.journal) l.fn.callers.items;
-  noticed : All (HasNoticed l.initial.notice_writer.commands) (into_iter_items l.caller-iterator) →
-      All (HasNoticed l.initial.notice_writer.commands) l.fn.callers.items;
+  seen : All (IsPartOf l.initial.writers.page.journal) (into_iter_items l.caller-iterator) →
+      All (IsPartOf l.initial.writers.page.journal) l.fn.callers.items;
+  noticed : All (HasNoticed l.initial.writers.notice.commands) (into_iter_items l.caller-iterator) →
+      All (HasNoticed l.initial.writers.notice.commands) l.fn.callers.items;
   -- the readings of the callers so far are the first that the notice's writer knows. If the callers
   -- that are left know the first of a longer list too, all do
-  listed : (log : List Answer) × IsPrefix log l.notice_writer.log
-      × AreInLife l.initial.notice_writer.commands log × AreInTurn log
+  listed : (log : List Answer) × IsPrefix log l.writers.notice.log
+      × AreInLife l.initial.writers.notice.commands log × AreInTurn log
       × ((all : List Answer) → IsPrefix log all →
       All (HasListed all) (into_iter_items l.caller-iterator) → All (HasListed all) l.fn.callers.items);
 }

@@ -19,7 +19,7 @@ invariant-loop-reader g l = record {
   amount : l.shares.amount ≡ 0;
   room : length l.fn.readers.items ≤ vec_capacity l.callers;
   len : vec_len l.callers ≡ l.id;
-  notice_writer : l.notice_writer ≡ l.initial.notice_writer;
+  writer : l.writer ≡ l.initial.writer;
   made : l.callers.items
       ≡ newcomers g.L.Named.latch g.L.Named.notice l.fn.viewer.journal l.id;
 }

@@ -29,7 +29,7 @@ refused_caller g c =
 abbrev refused_by : (g : Over) → goal.After-tell g → Held
 refused_by g c =
     let inside = c.self.inside in
-    held_of inside.keeper.journal inside.publisher inside.writer inside.mask inside.book.total
+    held_of inside.keeper.journal inside.writers.page inside.writers.latch inside.mask inside.book.total
 
 -- the same before a command that was accepted
 abbrev caller_of : (g : Over) → goal.After-caller-1 g → Known
@@ -40,7 +40,7 @@ caller_of g c =
 abbrev held_by : (g : Over) → goal.After-caller-1 g → Held
 held_by g c =
     let inside = c.self.inside in
-    held_of inside.keeper.journal inside.publisher inside.writer inside.mask inside.book.total
+    held_of inside.keeper.journal inside.writers.page inside.writers.latch inside.mask inside.book.total
 
 -- the command's entry
 abbrev entry_by : (g : Over) → goal.After-caller-1 g → Entry
@@ -54,7 +54,7 @@ now_held g c = held_accepted g.L.Named.page g.L.Named.latch (held_by g c) (entry
 
 next_is : (g : Over) (c : goal.After-caller-1 g) →
     c.snapshot-snapshot.result
-    ≡ snapshot_of (followed_by c.self.inside.publisher.journal (entry_by g c))
+    ≡ snapshot_of (followed_by c.self.inside.writers.page.journal (entry_by g c))
 next_is g c =
     let now = now_held g c in
     c.snapshot-snapshot.ensures.value
@@ -73,18 +73,18 @@ latched g c =
     c.show_on_latch.ensures ∙ ap pushed (λ i. (c.tell-2.ensures.writer i, next_is g c i))
 
 at_rest : (g : Over) (c : goal.After-caller-1 g) →
-    IsAtRest g.L.Named.notice (followed_by c.self.inside.publisher.journal (entry_by g c))
+    IsAtRest g.L.Named.notice (followed_by c.self.inside.writers.page.journal (entry_by g c))
     c.tell-4.new.self
 at_rest g c =
     let entry = entry_by g c in
     let informed = c.tell-4.ensures.same in
-    informed_at_rest g.L.Named.notice (followed_by c.self.inside.publisher.journal entry)
-    c.accept.new.notice_writer c.tell-4.new.self c.tell-4.new.self.log informed
-    (accepted_at_rest g.L.Named.notice c.self.inside.publisher.journal c.self.inside.notice_writer
-    c.accept.new.notice_writer entry c.announce.new.self.since entry.reading c.self.invariant.3
+    informed_at_rest g.L.Named.notice (followed_by c.self.inside.writers.page.journal entry)
+    c.accept.new.writer c.tell-4.new.self c.tell-4.new.self.log informed
+    (accepted_at_rest g.L.Named.notice c.self.inside.writers.page.journal c.self.inside.writers.notice
+    c.accept.new.writer entry c.announce.new.self.since entry.reading c.self.invariant.3
     (c.accept.ensures.notice ∙ c.announce.ensures.same.0) c.accept.ensures.idle refl
     (subst (λ (l : List Taken). IsAcceptedAt c.announce.new.self.since l entry.reading
-    c.accept.new.notice_writer.commands) c.announce.ensures.same.1 c.accept.ensures.accepted)
+    c.accept.new.writer.commands) c.announce.ensures.same.1 c.accept.ensures.accepted)
     (subst AreInOrder (ap (λ (a : Announcing). a.commands) informed) c.tell-4.ensures.told.order))
 
 pub returns-in-Err-clause-answer : goal.returns-in-Err-clause-answer
@@ -147,7 +147,7 @@ invariant_of-self g c =
     let held : Journal × History → Held = λ t. record {
       kept = t.0;
       shown = t.1;
-      latched = c.self.inside.writer;
+      latched = c.self.inside.writers.latch;
       mask = c.self.inside.mask;
       total = c.self.inside.book.total;
     } in
@@ -158,7 +158,7 @@ invariant_of-self g c =
       c.self.invariant.2,
       subst (λ (h : History). IsAtRest g.L.Named.notice h.journal c.withdraw.new.self)
           (sym c.tell.ensures.publisher)
-          (refused_at_rest g.L.Named.notice c.self.inside.publisher.journal c.self.inside.notice_writer
+          (refused_at_rest g.L.Named.notice c.self.inside.writers.page.journal c.self.inside.writers.notice
           c.announce.new.self c.withdraw.new.self c.self.invariant.3 c.announce.ensures.same.0
           c.announce.ensures.same.1 c.withdraw.ensures),
     )
@@ -185,7 +185,7 @@ invariant_of-self-2 g c =
 pub invariant_of-caller-2 : goal.invariant_of-caller-2
 invariant_of-caller-2 g c =
     let old = caller_of g c in
-    let history = c.self.inside.publisher.journal in
+    let history = c.self.inside.writers.page.journal in
     let seen = ap (λ (s : Sight). s.journal) c.publish_for.ensures.viewer in (
       search rules,
       search rules,

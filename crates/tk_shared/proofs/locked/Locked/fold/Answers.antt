@@ -7,7 +7,7 @@ use Rattle.tk_shared.proofs.locked.Locked.fold.Goals as goal
 pub invariant_of-self : goal.invariant_of-self
 invariant_of-self g c =
     let inside = c.self.inside in
-    let held = held_of inside.keeper.journal inside.publisher inside.writer inside.mask
+    let held = held_of inside.keeper.journal inside.writers.page inside.writers.latch inside.mask
     inside.book.total in
     let kept = inside.keeper.journal in
     let more = c.fold.result - kept.opening.count in

@@ -8,7 +8,7 @@ use Rattle.tk_shared.proofs.shared_keeper.SharedKeeper.close.Goals as goal
 pub returns : goal.returns
 returns g c =
     let inside = c.keeper.inside in
-    let held = held_of inside.keeper.journal inside.publisher inside.writer inside.mask
+    let held = held_of inside.keeper.journal inside.writers.page inside.writers.latch inside.mask
     inside.book.total in
     let enough : c.args.self ≤ vec_len c.args.callers = search rules in
     let here : c.take_all.new.all.parts ≡ g.L.Ledger.parts = search rules in
@@ -18,7 +18,7 @@ returns g c =
     let total : inside.book.total ≡ accepted_by c.args.callers.items =
     omega (arith, counted, none, joined) in (
       enough,
-      closed g.L.Named.page g.L.Named.latch g.L.Named.notice held inside.notice_writer
+      closed g.L.Named.page g.L.Named.latch g.L.Named.notice held inside.writers.notice
           c.args.callers.items c.keeper.invariant.0 c.keeper.invariant.3 c.requires.different
           c.take_all.ensures.seen c.take_all.ensures.noticed c.take_all.ensures.listed total,
     )
