@@ -7,7 +7,7 @@ use std::sync::Wait;
 use std::sync::atomic::{AtomicU64, Ordering};
 use std::thread::{self, Threads};
 use std::time::{Clock as Hours, Instant};
-use tk_clock::Command;
+use tk_clock::{Command, Snapshot};
 use tk_shared::{Caller, Named, Prepared, SharedKeeper, Ticker, prepare};
 use tk_test_support::{Effort, OPENED_TIME, STEP, Turn, nanosecond_counter, weighed, weight};
 
@@ -207,21 +207,23 @@ fn beside<L: Named + Send + Sync, R: Threads + Wait + Sync>(
         move || quarters(rt, keeper, others, commands, ended),
         move || {
             if is_fast {
-                fast_reads(keeper, caller, ended)
+                reads(rt, keeper, caller, ended, true)
             } else {
-                reads(rt, keeper, caller, ended)
+                reads(rt, keeper, caller, ended, false)
             }
         },
     );
     done
 }
 
-/// Reads until all four have ended.
+/// Reads by one of the two calls until all four have ended. Only successful reads count.
+#[inline(always)]
 fn reads<L: Named, R: Wait>(
     rt: &R,
     keeper: &SharedKeeper<L, Ticker>,
     caller: &mut Caller<L>,
     ended: &AtomicU64,
+    is_fast: bool,
 ) -> Done {
     let (mut count, mut sum) = (0u64, 0u64);
     for _ in 0..u64::MAX {
@@ -229,30 +231,7 @@ fn reads<L: Named, R: Wait>(
             break;
         }
         for _ in 0..READS_BETWEEN {
-            sum = sum.wrapping_add(weight(&keeper.read(rt, caller)));
-        }
-        count = count.wrapping_add(READS_BETWEEN);
-    }
-    Done {
-        count,
-        sum,
-        read: count,
-    }
-}
-
-/// Makes fast reads until all four have ended. Only successful reads count.
-fn fast_reads<L: Named>(
-    keeper: &SharedKeeper<L, Ticker>,
-    caller: &mut Caller<L>,
-    ended: &AtomicU64,
-) -> Done {
-    let (mut count, mut sum) = (0u64, 0u64);
-    for _ in 0..u64::MAX {
-        if ended.load(Ordering::SeqCst) >= 4 {
-            break;
-        }
-        for _ in 0..READS_BETWEEN {
-            if let Ok(snapshot) = keeper.fast_read(caller) {
+            if let Some(snapshot) = read_once(rt, keeper, caller, is_fast) {
                 sum = sum.wrapping_add(weight(&snapshot));
                 count = count.wrapping_add(1);
             }
@@ -262,5 +241,20 @@ fn fast_reads<L: Named>(
         count,
         sum,
         read: count,
+    }
+}
+
+/// Reads once. Returns `None` if a publication was made during a fast read.
+#[inline(always)]
+fn read_once<L: Named, R: Wait>(
+    rt: &R,
+    keeper: &SharedKeeper<L, Ticker>,
+    caller: &mut Caller<L>,
+    is_fast: bool,
+) -> Option<Snapshot> {
+    if is_fast {
+        keeper.fast_read(caller).ok()
+    } else {
+        Some(keeper.read(rt, caller))
     }
 }
