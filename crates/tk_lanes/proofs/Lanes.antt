@@ -67,36 +67,33 @@ cycles segment v =
 abbrev reaches : Segment → List ℕ → ℕ → List ℕ
 reaches segment v bias = zip2 wrap_add (cycles segment v) (replicate 8 bias)
 
--- the units that 2^32 cycles add, in nanoseconds
-abbrev step_of : Segment → ℕ
+-- the nanoseconds of 2^32 cycles
+abbrev pub step_of : Segment → ℕ
 step_of segment = (segment.mult * 2 ^ (32 - segment.shift)) % 18446744073709551616
 
--- the nanoseconds of the high halves of the cycles; and of the low halves, with the part below a nanosecond
+-- the nanoseconds of the high halves of the cycles
 abbrev highs : List ℕ → ℕ → List ℕ
 highs counts step = zip2 wrap_mul (zip2 shr counts (replicate 8 32)) (replicate 8 step)
 
+-- the segment's values after the low halves of the cycles
 abbrev lows : Segment → List ℕ → ℕ → ℕ → List ℕ
 lows segment counts mult shift =
-    zip2 shr
+    zip2 wrap_add
+    (zip2 shr
     (zip2 wrap_add (zip2 wrap_mul (zip2 bit_and counts (replicate 8 4294967295)) (replicate 8 mult))
     (replicate 8 segment.frac))
-    (replicate 8 shift)
-
-abbrev nanos : Segment → List ℕ → ℕ → ℕ → ℕ → List ℕ
-nanos segment counts step mult shift =
-    zip2 wrap_add (zip2 wrap_add (highs counts step) (lows segment counts mult shift))
+    (replicate 8 shift))
     (replicate 8 segment.base)
 
 -- one lane of them
-abbrev high : Segment → ℕ → ℕ
-high segment cycles = wrap_mul (shr cycles 32) (step_of segment)
+high_lane : Segment → ℕ → ℕ
+high_lane segment cycles = wrap_mul (shr cycles 32) (step_of segment)
 
-abbrev low : Segment → ℕ → ℕ
-low segment cycles = wrap_add (wrap_mul (bit_and cycles 4294967295) segment.mult) segment.frac
+abbrev low_units : Segment → ℕ → ℕ
+low_units segment cycles = wrap_add (wrap_mul (bit_and cycles 4294967295) segment.mult) segment.frac
 
-lane_nanos : Segment → ℕ → ℕ
-lane_nanos segment cycles =
-    wrap_add (wrap_add (high segment cycles) (shr (low segment cycles) segment.shift)) segment.base
+low_lane : Segment → ℕ → ℕ
+low_lane segment cycles = wrap_add (shr (low_units segment cycles) segment.shift) segment.base
 
 splat : (v : List ℕ) → length v ≡ 8 → (y : ℕ) → replicate 8 y ≡ map (λ _. y) v
 splat v long y = splat_is_map v 8 y long
@@ -122,28 +119,30 @@ cycles-map segment v long =
     (splat v long 0)
     (gaps-map segment v long)
 
-lanes-map : (segment : Segment) (counts : List ℕ) → length counts ≡ 8 →
-    nanos segment counts (step_of segment) segment.mult segment.shift ≡ map (lane_nanos segment) counts
-unfolding lane_nanos
-lanes-map segment counts long =
-    let high_half = zip2_of_maps shr (λ x. x) (λ _. 32) counts (itself counts) (splat counts long 32) in
+highs-map : (segment : Segment) (counts : List ℕ) → length counts ≡ 8 →
+    highs counts (step_of segment) ≡ map (high_lane segment) counts
+unfolding high_lane
+highs-map segment counts long =
+    zip2_of_maps wrap_mul (λ x. shr x 32) (λ _. step_of segment) counts
+    (zip2_of_maps shr (λ x. x) (λ _. 32) counts (itself counts) (splat counts long 32))
+    (splat counts long (step_of segment))
+
+lows-map : (segment : Segment) (counts : List ℕ) → length counts ≡ 8 →
+    lows segment counts segment.mult segment.shift ≡ map (low_lane segment) counts
+unfolding low_lane
+lows-map segment counts long =
     let low_half =
     zip2_of_maps bit_and (λ x. x) (λ _. 4294967295) counts (itself counts)
     (splat counts long 4294967295) in
-    let highs_are =
-    zip2_of_maps wrap_mul (λ x. shr x 32) (λ _. step_of segment) counts high_half
-    (splat counts long (step_of segment)) in
-    let lows_are =
+    let units_are =
     zip2_of_maps wrap_add (λ x. wrap_mul (bit_and x 4294967295) segment.mult) (λ _. segment.frac)
     counts
     (zip2_of_maps wrap_mul (λ x. bit_and x 4294967295) (λ _. segment.mult) counts low_half
     (splat counts long segment.mult))
     (splat counts long segment.frac) in
-    zip2_of_maps wrap_add (λ x. wrap_add (high segment x) (shr (low segment x) segment.shift))
-    (λ _. segment.base) counts
-    (zip2_of_maps wrap_add (high segment) (λ x. shr (low segment x) segment.shift) counts highs_are
-    (zip2_of_maps shr (low segment) (λ _. segment.shift) counts lows_are
-    (splat counts long segment.shift)))
+    zip2_of_maps wrap_add (λ x. shr (low_units segment x) segment.shift) (λ _. segment.base) counts
+    (zip2_of_maps shr (low_units segment) (λ _. segment.shift) counts units_are
+    (splat counts long segment.shift))
     (splat counts long segment.base)
 
 -- a word that is at most a value below 2^64 is not wrapped
@@ -205,27 +204,39 @@ module _ (segment : Segment) (cycles : ℕ) (shift : segment.shift ≤ 32)
       mul-le segment.mult up 4294967295 4294967296 (omega (arith, mult)) (omega (arith, few)) in
       unwrapped _ (omega (arith, product))
 
-  lane_is : lane_nanos segment cycles
-      ≡ (cycles * segment.mult + segment.frac) / down + segment.base
-  unfolding lane_nanos
-  lane_is =
-      let a : high segment cycles ≡ top_half * segment.mult * up =
-      ap (wrap_mul top_half) step_is
-      ∙ ap (λ n. n % 18446744073709551616) (turned top_half segment.mult up)
-      ∙ unwrapped _ (omega (arith, quotient, value)) in
-      let c : wrap_mul (bit_and cycles 4294967295) segment.mult ≡ bottom_half * segment.mult =
+  low_is : low_lane segment cycles ≡ rest / down + segment.base
+  unfolding low_lane
+  low_is =
+      let product : wrap_mul (bit_and cycles 4294967295) segment.mult ≡ bottom_half * segment.mult =
       ap (λ n. wrap_mul n segment.mult) (and_mask cycles 32)
       ∙ unwrapped _ (omega (arith, rest_fits)) in
-      let d : low segment cycles ≡ rest =
-      ap (λ n. wrap_add n segment.frac) c ∙ unwrapped _ rest_fits in
-      let e : wrap_add (high segment cycles) (shr (low segment cycles) segment.shift)
-      ≡ (cycles * segment.mult + segment.frac) / down =
-      ap₂ wrap_add a (ap (λ n. n / down) d)
-      ∙ unwrapped _ (omega (arith, quotient, value)) ∙ sym quotient in
-      ap (λ n. wrap_add n segment.base) e ∙ unwrapped _ value
+      let units : low_units segment cycles ≡ rest =
+      ap (λ n. wrap_add n segment.frac) product ∙ unwrapped _ rest_fits in
+      ap (λ n. wrap_add (n / down) segment.base) units
+      ∙ unwrapped _ (omega (arith, quotient, value))
+
+  high_is : high_lane segment cycles ≡ top_half * segment.mult * up
+  unfolding high_lane
+  high_is =
+      ap (wrap_mul top_half) step_is
+      ∙ ap (λ n. n % 18446744073709551616) (turned top_half segment.mult up)
+      ∙ unwrapped _ (omega (arith, quotient, value))
     where
       turned : (a b c : ℕ) → a * (b * c) ≡ a * b * c
       turned a b c = omega arith
+
+  -- the low half is enough if it is the whole
+  near_is : cycles < 4294967296 →
+      low_lane segment cycles ≡ (cycles * segment.mult + segment.frac) / down + segment.base
+  near_is few =
+      low_is
+      ∙ ap (λ n. (n * segment.mult + segment.frac) / down + segment.base) (mod-eq_of_lt few)
+
+  far_is : wrap_add (high_lane segment cycles) (low_lane segment cycles)
+      ≡ (cycles * segment.mult + segment.frac) / down + segment.base
+  far_is =
+      ap₂ wrap_add high_is low_is
+      ∙ unwrapped _ (omega (arith, quotient, value)) ∙ omega (arith, quotient)
 
 -- two functions that agree at each stamp give the same list of lanes
 same_maps : (f g : ℕ → ℕ) (P : ℕ → Type 0) → ((x : ℕ) → P x → f x ≡ g x) → (v : List ℕ) →
@@ -238,25 +249,52 @@ same_maps f g P same (x ∷ xs) all =
 div_grows : (a b k : ℕ) → 0 < k → a ≤ b → a / k ≤ b / k
 div_grows a b k some grown = le-div (a / k) b k some (omega (arith, div-mul-le_self a k, grown))
 
--- each lane holds the segment's value after its number of cycles
-pub nanos-map : (segment : Segment) → IsFitting segment → segment.mult < 4294967296 →
-    (counts : List ℕ) → length counts ≡ 8 → Each1 (λ gap. gap ≤ segment.span) counts →
-    (step mult shift : ℕ) → step ≡ step_of segment → mult ≡ segment.mult → shift ≡ segment.shift →
-    nanos segment counts step mult shift ≡ map (nanos_after segment) counts
+-- the segment's value within its span fits a word
+value_low : (segment : Segment) → IsFitting segment → (gap : ℕ) → gap ≤ segment.span →
+    (gap * segment.mult + segment.frac) / 2 ^ segment.shift + segment.base < 18446744073709551616
 unfolding nanos_after
-nanos-map segment fitting few counts long near step mult shift p q r =
-    ap (λ n. nanos segment counts n mult shift) p
-    ∙ ap₂ (nanos segment counts (step_of segment)) q r
-    ∙ lanes-map segment counts long
-    ∙ same_maps (lane_nanos segment) (nanos_after segment) (λ gap. gap ≤ segment.span)
-    (λ gap within.
+value_low segment fitting gap within =
     let product : gap * segment.mult ≤ segment.span * segment.mult =
     mul-le-mul_right segment.mult within in
     let grown : (gap * segment.mult + segment.frac) / 2 ^ segment.shift
     ≤ (segment.span * segment.mult + segment.frac) / 2 ^ segment.shift =
     div_grows _ _ _ (pow_pos segment.shift) (omega (arith, product)) in
-    lane_is segment gap fitting.shift few fitting.frac
-    (omega (arith, grown, fitting.value))) counts near
+    omega (arith, grown, fitting.value)
+
+-- each lane holds the segment's value after its number of cycles
+module _ (segment : Segment) (fitting : IsFitting segment) (few : segment.mult < 4294967296)
+    (counts : List ℕ) (long : length counts ≡ 8) (near : Each1 (λ gap. gap ≤ segment.span) counts)
+    (mult shift : ℕ) (p : mult ≡ segment.mult) (q : shift ≡ segment.shift) where
+  lows_are : lows segment counts mult shift ≡ map (low_lane segment) counts
+  lows_are = ap₂ (lows segment counts) p q ∙ lows-map segment counts long
+
+  -- without the high halves, if they are 0
+  pub near_nanos : fold_l bit_or 0 counts < 4294967296 →
+      lows segment counts mult shift ≡ map (nanos_after segment) counts
+  unfolding nanos_after
+  near_nanos small =
+      let each = (most_is_or 0 counts 4294967295 (omega (arith, small))).1 in
+      let P : ℕ → Type 0 = λ gap. (gap ≤ segment.span) × (gap ≤ 4294967295) in
+      lows_are
+      ∙ same_maps (low_lane segment) (nanos_after segment) P
+      (λ gap given.
+      near_is segment gap fitting.shift few fitting.frac (value_low segment fitting gap given.0)
+      (omega (arith, given.1))) counts
+      (both (λ gap. gap ≤ segment.span) (λ gap. gap ≤ 4294967295) P (λ gap a b. (a, b)) counts near
+      each)
+
+  pub far_nanos : (step : ℕ) → step ≡ step_of segment →
+      zip2 wrap_add (highs counts step) (lows segment counts mult shift)
+      ≡ map (nanos_after segment) counts
+  unfolding nanos_after
+  far_nanos step r =
+      zip2_of_maps wrap_add (high_lane segment) (low_lane segment) counts
+      (ap (highs counts) r ∙ highs-map segment counts long) lows_are
+      ∙ same_maps (λ gap. wrap_add (high_lane segment gap) (low_lane segment gap))
+      (nanos_after segment) (λ gap. gap ≤ segment.span)
+      (λ gap within.
+      far_is segment gap fitting.shift few fitting.frac (value_low segment fitting gap within)) counts
+      near
 
 -- if a gap is within the span, the stamp is not behind
 near_gap : (segment : Segment) → segment.span ≤ segment.half → (x : ℕ) → gap_of segment x ≤ segment.span →

@@ -1,6 +1,6 @@
 -- A clock as a straight line over the cycles since the last command.
-use Rattle.std.specs.Prelude.{Ok, ◌≡◌, ◌<◌, ◌≤◌, ℕ, ◌+◌, ◌-◌, ◌*◌, ◌/◌, ◌%◌, ◌^◌, List, bit_and, nat_lt, if◌then◌else◌}
-use Rattle.std.specs.Simd.Lanes.{Each1}
+use Rattle.std.specs.Prelude.{Bool, MatchBool, map, Ok, ◌≡◌, ◌<◌, ◌≤◌, ℕ, ◌+◌, ◌-◌, ◌*◌, ◌/◌, ◌%◌, ◌^◌, List, bit_and, nat_lt, if◌then◌else◌}
+use Rattle.std.specs.Simd.Lanes.{chunk, put_chunk, Each1}
 use Rattle.tk_clock.specs.declared.clock_id.ClockId.{ClockId}
 use Rattle.tk_clock.specs.State.{ReadBase}
 use Rattle.tk_clock.specs.Read.{read_of}
@@ -33,6 +33,14 @@ pub record IsNear (segment : Segment) (stamp : ℕ) : Type 0 where
 -- all stamps of a list are near
 abbrev pub IsEachNear : Segment → List ℕ → Type 0
 IsEachNear segment stamps = Each1 (IsNear segment) stamps
+
+-- the eight stamps starting at index `at` are near and converted, or nothing is written
+abbrev pub IsEightConverted : Segment → List ℕ → ℕ → List ℕ → List ℕ → Bool → Type 0
+IsEightConverted segment stamps at old new converted =
+    let lanes = chunk at lane_count stamps in
+    MatchBool converted
+    (IsEachNear segment lanes × (new ≡ put_chunk at old (map (segment_nanos segment) lanes)))
+    (new ≡ old)
 
 -- the numbers of a segment fit one another and 64-bit words
 pub record IsFitting (segment : Segment) : Type 0 where

@@ -1,10 +1,10 @@
 //! Converts eight stamps at a time.
-ghost use Rattle.std.specs.Prelude.{◌≡◌, ◌+◌, ◌≤◌, length, MatchBool, map};
-ghost use Rattle.std.specs.Simd.Lanes.{chunk, put_chunk, Each1};
+ghost use Rattle.std.specs.Prelude.{◌≡◌, ◌+◌, ◌≤◌, length, map};
+ghost use Rattle.std.specs.Simd.Lanes.{put_chunk, Each1};
 ghost use Rattle.tk_clock.specs.State.{ReadBase};
 ghost use Rattle.tk_clock.specs.declared.clock_id.ClockId.{ClockId};
 ghost use Rattle.tk_lanes.specs.Batch.{IsFilled};
-ghost use Rattle.tk_lanes.specs.Segment.{lane_count, nanos_after, segment_nanos, IsEachNear, IsFitting, IsSegment};
+ghost use Rattle.tk_lanes.specs.Segment.{lane_count, nanos_after, IsEightConverted, IsFitting, IsSegment};
 
 use super::{LANES, Segment};
 use std::simd::prelude::*;
@@ -41,10 +41,7 @@ impl Segment {
         requires fitting { IsFitting self }
         requires same { length stamps.now ≡ length out.old }
         requires inside { at + lane_count ≤ length stamps.now }
-        ensures { let lanes = chunk at lane_count stamps.now in
-            MatchBool result
-            (IsEachNear self lanes × (out.new ≡ put_chunk at out.old (map (segment_nanos self) lanes)))
-            (out.new ≡ out.old) }
+        ensures { IsEightConverted self stamps.now at out.old out.new result }
     {
         let ahead = u64x8::from_slice(&stamps[at..]) - u64x8::splat(self.last);
         if ahead.reduce_or() > self.ahead {
@@ -61,10 +58,7 @@ impl Segment {
         requires fitting { IsFitting self }
         requires same { length stamps.now ≡ length out.old }
         requires inside { at + lane_count ≤ length stamps.now }
-        ensures { let lanes = chunk at lane_count stamps.now in
-            MatchBool result
-            (IsEachNear self lanes × (out.new ≡ put_chunk at out.old (map (segment_nanos self) lanes)))
-            (out.new ≡ out.old) }
+        ensures { IsEightConverted self stamps.now at out.old out.new result }
     {
         let stamp = u64x8::from_slice(&stamps[at..]);
         if stamp.reduce_or() > self.mask {
@@ -84,13 +78,6 @@ impl Segment {
 
     /// Writes the clock's time for eight lanes, starting at index `at`. `cycles` contains the
     /// number of cycles of each lane, none of them beyond the span.
-    ///
-    /// With `cycles = high * 2^32 + low`, the product has two parts, each of 64 bits. A shift to the
-    /// left by `32 - shift` is part of the first factor, because the rattle backend shifts lanes by
-    /// a variable one after the other:
-    ///
-    ///     (cycles * mult + frac) >> shift
-    ///         = high * (mult << (32 - shift)) + ((low * mult + frac) >> shift)
     #[inline(always)]
     fn write(self, cycles: u64x8, out: &mut [u64], at: usize)
         requires fitting { IsFitting self }
@@ -99,11 +86,35 @@ impl Segment {
         requires inside { at + lane_count ≤ length out.old }
         ensures { out.new ≡ put_chunk at out.old (map (nanos_after self) cycles) }
     {
+        self.nanos(cycles).copy_to_slice(&mut out[at..]);
+    }
+
+    /// Returns the clock's time in eight lanes, in ns. `cycles` contains the number of cycles of
+    /// each lane, none of them beyond the span.
+    ///
+    /// With `cycles = high * 2^32 + low`, the product has two parts, each of 64 bits. A shift to the
+    /// left by `32 - shift` is part of the first factor, because the rattle backend shifts lanes by
+    /// a variable one after the other:
+    ///
+    ///     (cycles * mult + frac) >> shift
+    ///         = high * (mult << (32 - shift)) + ((low * mult + frac) >> shift)
+    ///
+    /// If the high halves of all lanes are 0, their product is left out.
+    #[inline(always)]
+    fn nanos(self, cycles: u64x8) -> u64x8
+        requires fitting { IsFitting self }
+        requires near { Each1 (λ gap. gap ≤ self.span) cycles }
+        requires lanes { length cycles ≡ lane_count }
+        ensures { result ≡ map (nanos_after self) cycles }
+    {
         let mult = u64::from(self.mult);
-        let high = (cycles >> u64x8::splat(32)) * u64x8::splat(mult << (32 - self.shift));
         let low = (cycles & u64x8::splat(0xffff_ffff)) * u64x8::splat(mult);
         let rest = (low + u64x8::splat(self.frac)) >> u64x8::splat(u64::from(self.shift));
-        let nanos = high + rest + u64x8::splat(self.base);
-        nanos.copy_to_slice(&mut out[at..]);
+        let nanos = rest + u64x8::splat(self.base);
+        if cycles.reduce_or() < 1 << 32 {
+            return nanos;
+        }
+        let high = (cycles >> u64x8::splat(32)) * u64x8::splat(mult << (32 - self.shift));
+        high + nanos
     }
 }
