@@ -22,6 +22,7 @@ pub mod Effects
 pub mod Settings
 pub mod Words
 pub mod Reaching
-pub mod Origin
+pub mod Lines
 pub mod Reach
+pub mod Reading
 pub mod Lists

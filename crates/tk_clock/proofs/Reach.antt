@@ -11,7 +11,7 @@ use Rattle.tk_clock.specs.Limits.{limit}
 use Rattle.tk_clock.specs.Refusal.{read_refusal}
 use Rattle.tk_clock.specs.Origin.{value_after}
 use Rattle.tk_clock.specs.Reach.{distance, IsAhead, IsFirstReached, IsNeverReached, IsReadAt, GivesAgain}
-use Rattle.tk_clock.proofs.Origin.{value_ahead, value_rises}
+use Rattle.tk_clock.proofs.Lines.{value_ahead, value_rises}
 
 -- a value below its limit, as a test
 is_below : (a b : ℤ) → a <ℤ b → int_lt a b ≡ true

@@ -1,5 +1,5 @@
 -- An amount of time as whole seconds and a part below a second.
-use Rattle.std.specs.Prelude.{◌≡◌, ℕ, ◌+◌, ◌*◌, ◌/◌, ◌%◌, ◌<◌}
+use Rattle.std.specs.Prelude.{◌≡◌, ℕ, ◌+◌, ◌*◌, ◌/◌, ◌%◌, ◌^◌, ◌<◌, ◌≤◌, ◌⊎◌}
 use Rattle.std.proofs.Common.{ap, ◌∙◌}
 use Rattle.std.proofs.lemmas.Nat.{div-mul-add, mod-mul-add}
 use Rattle.tk_counter.specs.Counter.{Counter, second}
@@ -16,6 +16,10 @@ IsAmountOf counter amount units = (units_of counter amount ≡ units) × (amount
 -- a number of units of 2^-shift nanoseconds, as whole seconds and the units left over
 abbrev pub amount_of : Counter → ℕ → Amount
 amount_of counter units = record { sec = units / second counter; frac = units % second counter }
+
+-- a number of nanoseconds; if it doesn't fit in 63 bits, any number that doesn't either
+abbrev pub IsNanos : ℕ → ℕ → Type 0
+IsNanos result nanos = (result ≡ nanos) ⊎ ((2 ^ 63 ≤ nanos) × (2 ^ 63 ≤ result))
 
 -- an amount whose part below a second is in range is the amount of its units
 pub amount_of-units_of : (counter : Counter) (amount : Amount) → amount.frac < second counter →

@@ -1,8 +1,11 @@
 -- A clock after the last reading: its amount there, and the amount that a cycle adds.
-use Rattle.std.specs.Prelude.{ℕ, ◌+◌, ◌*◌, ◌/◌, ◌^◌, ℤ, pos, ◌+ℤ◌, ◌*ℤ◌, Bool, true, false, ◌||◌, if◌then◌else◌}
+use Rattle.std.specs.Prelude.{◌≡◌, ◌<◌, ◌≤◌, ℕ, ◌+◌, ◌*◌, ◌/◌, ◌^◌, ℤ, pos, ◌+ℤ◌, ◌*ℤ◌, Bool, true, false, ◌||◌, if◌then◌else◌}
 use Rattle.tk_clock.specs.declared.clock_id.ClockId.{ClockId}
 use Rattle.tk_clock.specs.declared.clock_id.ClockId.TheVariants.{Realtime, Monotonic, Boottime, Tai, RealtimeCoarse, MonotonicCoarse, MonotonicRaw}
-use Rattle.tk_clock.specs.State.{ReadBase}
+use Rattle.tk_counter.specs.Counter.{Counter, second}
+use Rattle.tk_clock.specs.declared.origin.Origin.{Origin}
+use Rattle.tk_clock.specs.Limits.{limit, clock_end, raw_end}
+use Rattle.tk_clock.specs.State.{ReadBase, base_cycles}
 
 -- whether a clock changes only at commands
 abbrev pub is_coarse : ClockId → Bool
@@ -42,3 +45,28 @@ abbrev pub value_after : ReadBase → ClockId → ℕ → ℤ
 value_after base clock cycles =
     pos ((units_at_last base clock + cycles * mult_of base clock) / 2 ^ base.counter.shift)
     +ℤ offset_of base clock
+
+-- the base as it would be while awake
+abbrev pub awake : ReadBase → ReadBase
+awake base = record base { asleep = false }
+
+-- the cycles that a clock counts up to a reading
+abbrev pub counted_cycles : ReadBase → ClockId → ℕ → ℕ
+counted_cycles base clock reading = if is_coarse clock then 0 else base_cycles base reading
+
+-- the value of a line a number of cycles after its beginning, in nanoseconds
+abbrev pub line_after : Counter → Origin → ℕ → ℕ
+line_after counter origin cycles =
+    (origin.sec * second counter + origin.frac + cycles * origin.mult) / 2 ^ counter.shift
+    + origin.offset
+
+-- a clock's line after the last reading, and its limit
+pub record IsOrigin (base : ReadBase) (clock : ClockId) (origin : Origin) : Type 0 where
+  pub units : origin.sec * second base.counter + origin.frac ≡ units_at_last base clock
+  pub sec_low : origin.sec < raw_end
+  pub frac_low : origin.frac < second base.counter
+  pub slope : origin.mult ≡ mult_of base clock
+  pub start : pos origin.offset ≡ offset_of base clock
+  pub start_low : origin.offset < clock_end * 10 ^ 9
+  pub ends : pos origin.limit ≡ limit clock
+  pub ends_low : origin.limit ≤ clock_end * 10 ^ 9

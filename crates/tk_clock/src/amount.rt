@@ -1,11 +1,9 @@
-ghost use Rattle.std.specs.Prelude.{◌≡◌, ℕ, ◌+◌, ◌*◌, ◌/◌, ◌^◌, ◌<◌, ◌≤◌, ◌⊎◌, MatchOption};
+ghost use Rattle.std.specs.Prelude.{◌≡◌, ℕ, ◌+◌, ◌*◌, ◌/◌, ◌^◌, ◌<◌, ◌≤◌, MatchOption};
 ghost use Rattle.tk_counter.specs.Counter.{second};
+ghost use Rattle.tk_clock.specs.Amount.{IsNanos};
 ghost use Rattle.tk_clock.specs.Limits.{clock_end, raw_end};
 
-use tk_counter::CounterDesc;
-
-/// Counts the nanoseconds of a second.
-pub(crate) const NANOS_PER_SECOND: u64 = 1_000_000_000;
+use tk_counter::{CounterDesc, NANOS_PER_SECOND};
 
 /// Replaces an amount of ns that doesn't fit in 63 bits. All such amounts are beyond every clock's
 /// limit.
@@ -114,9 +112,8 @@ impl Amount {
     pub fn nanos_after(self, desc: &CounterDesc, cycles: u64, mult: u32) -> u64
         requires rest { self.frac < second desc.now }
         requires few { self.sec ≤ raw_end }
-        ensures stated { let nanos = (units_of desc.now self + cycles * mult) / 2 ^ desc.now.shift in
-            (result ≡ nanos) ⊎ ((2 ^ 63 ≤ nanos) × (2 ^ 63 ≤ result)) }
-        ensures most { result ≤ 15 * 10 ^ 18 }
+        ensures { IsNanos result
+            ((units_of desc.now self + cycles * mult) / 2 ^ desc.now.shift) }
     {
         self.sec * NANOS_PER_SECOND + gained_nanos(self.frac, cycles, mult, desc.shift())
     }
@@ -127,8 +124,7 @@ impl Amount {
 fn gained_nanos(frac: u64, cycles: u64, mult: u32, shift: u32) -> u64
     requires rest { frac < 2 ^ 62 }
     requires shift { shift ≤ 32 }
-    ensures stated { let nanos = (frac + cycles * mult) / 2 ^ shift in
-        (result ≡ nanos) ⊎ ((2 ^ 63 ≤ nanos) × (2 ^ 63 ≤ result)) }
+    ensures stated { IsNanos result ((frac + cycles * mult) / 2 ^ shift) }
     ensures most { result ≤ 139 * 10 ^ 17 }
 {
     if cycles < NARROW_CYCLES {
@@ -173,8 +169,7 @@ fn few_units(frac: u64, cycles: u64, mult: u32) -> u64
 fn long_nanos(frac: u64, cycles: u64, mult: u32, shift: u32) -> u64
     requires rest { frac < 2 ^ 62 }
     requires shift { shift ≤ 32 }
-    ensures stated { let nanos = (frac + cycles * mult) / 2 ^ shift in
-        (result ≡ nanos) ⊎ ((2 ^ 63 ≤ nanos) × (2 ^ 63 ≤ result)) }
+    ensures stated { IsNanos result ((frac + cycles * mult) / 2 ^ shift) }
     ensures most { result ≤ 139 * 10 ^ 17 }
 {
     let (upper, rest) = halves(frac, cycles, mult);

@@ -8,7 +8,9 @@
 //! | `Command`, `Entry` | a change to the clocks; an accepted one with its caller and its reading |
 //! | `Refusal` | the first test that a command fails |
 //! | `ClockId`, `ReadError` | the clock that is read; why it can't be read |
+//! | `Origin` | a clock between two commands: its amount, its slope, its offset, its limit |
 //! | `Timespec` | seconds and nanoseconds |
+//! | `COUNTED_LIMIT`, `SNAPSHOT_WORDS` | the most commands that are counted; the words of a snapshot |
 //!
 //! Units: readings in cycles; amounts of time inside in `2^-shift` ns; offsets in ns; frequencies
 //! in `2^-16` ppm; ticks in microseconds; the TAI offset in seconds. No call allocates or waits.
@@ -19,6 +21,7 @@ mod clock;
 mod clock_id;
 mod command;
 mod limits;
+mod origin;
 mod read_base;
 mod refusal;
 mod snapshot;
@@ -27,6 +30,8 @@ mod timespec;
 pub use clock::Clock;
 pub use clock_id::ClockId;
 pub use command::{Command, Entry};
+pub use limits::COUNTED_LIMIT;
+pub use origin::Origin;
 pub use refusal::{ReadError, Refusal};
-pub use snapshot::Snapshot;
+pub use snapshot::{SNAPSHOT_WORDS, Snapshot};
 pub use timespec::Timespec;

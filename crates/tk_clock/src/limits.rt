@@ -1,10 +1,9 @@
-ghost use Rattle.std.specs.Prelude.{◌≡◌, ◌*◌, ◌^◌, ◌<◌, ◌≤◌, pos, ◌≤ℤ◌, ◌<ℤ◌};
-ghost use Rattle.tk_clock.specs.Limits.{limit, clock_end, settable_end, is_settable, is_suspension, is_well_formed, sets_real};
+ghost use Rattle.std.specs.Prelude.{◌≡◌, ◌*◌, ◌^◌, ◌<◌, pos, ◌≤ℤ◌, ◌<ℤ◌, nat_lt};
+ghost use Rattle.tk_clock.specs.Limits.{settable_end, is_settable, is_suspension, is_well_formed, sets_real};
 
-use crate::amount::NANOS_PER_SECOND;
-use crate::clock_id::ClockId;
 use crate::command::Command;
 use crate::timespec::Timespec;
+use tk_counter::{NANOS_PER_SECOND, SECONDS_END};
 
 /// The end of MONOTONIC, in seconds: 30 years of 365 days (`TIME_UPTIME_SEC_MAX`).
 pub(crate) const MONOTONIC_END: u64 = 946_080_000;
@@ -13,9 +12,8 @@ pub(crate) const MONOTONIC_END: u64 = 946_080_000;
 /// It runs ahead of MONOTONIC fastest at the least tick and frequency.
 pub(crate) const RAW_END: u64 = 1_060_000_000;
 
-/// The end of the other clocks, in seconds: the most that 63 bits of nanoseconds can represent
-/// (`KTIME_SEC_MAX`).
-const CLOCK_END: i64 = 9_223_372_036;
+/// The end of the other clocks, in seconds.
+const CLOCK_END: i64 = SECONDS_END as i64;
 
 /// The end of the times that REALTIME may be set to, in seconds: 30 years before its own end
 /// (`TIME_SETTOD_SEC_MAX`).
@@ -30,17 +28,14 @@ pub(crate) const LONGEST_TICK: i64 = 11_000;
 /// The greatest TAI offset, in seconds (`MAX_TAI_OFFSET`).
 pub(crate) const TAI_OFFSET_LIMIT: i64 = 100_000;
 
-/// Returns the end of a clock, in ns.
-#[inline(always)]
-pub(crate) fn limit(clock: ClockId) -> u64
-    ensures value { pos result ≡ limit clock }
-    ensures most { result ≤ clock_end * 10 ^ 9 }
-{
-    match clock {
-        ClockId::Monotonic | ClockId::MonotonicCoarse => MONOTONIC_END * NANOS_PER_SECOND,
-        _ => CLOCK_END as u64 * NANOS_PER_SECOND,
-    }
-}
+/// The limit of MONOTONIC, in ns.
+pub(crate) const MONOTONIC_LIMIT: u64 = MONOTONIC_END * NANOS_PER_SECOND;
+
+/// The limit of the other clocks, in ns.
+pub(crate) const CLOCK_LIMIT: u64 = SECONDS_END * NANOS_PER_SECOND;
+
+/// The most commands that are counted: 2^63 - 1.
+pub const COUNTED_LIMIT: u64 = (1 << 63) - 1;
 
 /// Returns the end of the times that REALTIME may be set to, in ns.
 pub(crate) fn settable_limit() -> u64
@@ -49,12 +44,19 @@ pub(crate) fn settable_limit() -> u64
     SETTABLE_END as u64 * NANOS_PER_SECOND
 }
 
+/// Returns whether nanoseconds last less than a second.
+fn is_below_a_second(nsec: u32) -> bool
+    ensures { result ≡ nat_lt nsec (10 ^ 9) }
+{
+    u64::from(nsec) < NANOS_PER_SECOND
+}
+
 /// Returns whether REALTIME may be set to this time.
 #[tactic(auto, unfolding(crate::specs::Limits::is_settable))]
 pub(crate) fn is_settable(time: Timespec) -> bool
     ensures { result ≡ is_settable time }
 {
-    time.sec >= 0 && time.sec < SETTABLE_END && time.nsec < 1_000_000_000
+    time.sec >= 0 && time.sec < SETTABLE_END && is_below_a_second(time.nsec)
 }
 
 /// Returns whether a suspension may have this length.
@@ -62,7 +64,7 @@ pub(crate) fn is_settable(time: Timespec) -> bool
 fn is_suspension(away: Timespec) -> bool
     ensures { result ≡ is_suspension away }
 {
-    away.sec >= 0 && away.sec < CLOCK_END && away.nsec < 1_000_000_000
+    away.sec >= 0 && away.sec < CLOCK_END && is_below_a_second(away.nsec)
 }
 
 /// Returns whether a command's numbers are in their ranges.
@@ -72,7 +74,7 @@ pub(crate) fn is_well_formed(cmd: Command) -> bool
 {
     match cmd {
         Command::SetTime(time) => is_settable(time),
-        Command::Step(by) => by.nsec < 1_000_000_000,
+        Command::Step(by) => is_below_a_second(by.nsec),
         Command::Tick(tick) => (SHORTEST_TICK..=LONGEST_TICK).contains(&tick),
         Command::Tai(seconds) => (0..=TAI_OFFSET_LIMIT).contains(&seconds),
         Command::Resume(away) => is_suspension(away),

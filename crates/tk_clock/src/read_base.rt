@@ -1,15 +1,17 @@
-ghost use Rattle.std.specs.Prelude.{◌≡◌, ℕ, ◌+◌, ◌*◌, ◌/◌, ◌^◌, ◌<◌, ◌≤◌, ◌⊎◌, MatchOption, MatchResult, Some, None, pos, ◌≤ℤ◌, ◌+ℤ◌, ◌*ℤ◌, ◌<ℤ◌, not, nat_lt, int_lt, true, false, IsTrue, ◌↔◌};
+ghost use Rattle.std.specs.Prelude.{◌≡◌, ◌*◌, ◌/◌, ◌^◌, ◌<◌, ◌≤◌, MatchResult, Some, None, pos, ◌≤ℤ◌, ◌*ℤ◌, nat_lt, IsTrue, ◌↔◌};
 
 mod changes;
+mod origins;
 mod reaching;
 
-use crate::amount::{Amount, NANOS_PER_SECOND};
+use crate::amount::Amount;
 use crate::clock_id::ClockId;
-use crate::limits::{SHORTEST_TICK, limit};
+use crate::limits::SHORTEST_TICK;
 use crate::refusal::ReadError;
+use crate::snapshot::SNAPSHOT_WORDS;
 use crate::timespec::{Timespec, timespec_of};
 use std::marker::Model;
-use tk_counter::{CounterDesc, FREQUENCY_LIMIT};
+use tk_counter::{CounterDesc, FREQUENCY_LIMIT, NANOS_PER_SECOND};
 
 /// Contains the part of the state that a read of the clocks needs, as the kernel's `struct
 /// tk_read_base`.
@@ -82,12 +84,12 @@ impl Model for ReadBase {
 }
 
 impl ReadBase {
-    ghost use Rattle.tk_counter.specs.Counter.{mask, fastest, half, gap};
-    ghost use Rattle.tk_clock.specs.Limits.{limit, is_past_limit, clock_end, raw_end, monotonic_end, greatest_tai};
+    ghost use Rattle.tk_counter.specs.Counter.{half, gap};
+    ghost use Rattle.tk_clock.specs.Limits.{raw_end, monotonic_end, greatest_tai};
     ghost use Rattle.tk_clock.specs.Refusal.{read_refusal};
-    ghost use Rattle.tk_clock.specs.State.{base_cycles, base_monotonic, base_raw, base_value, forwarded};
+    ghost use Rattle.tk_clock.specs.State.{base_cycles, base_monotonic, base_value};
     ghost use Rattle.tk_clock.specs.Time.{nanoseconds};
-    ghost use Rattle.tk_clock.specs.Running.{IsRated, IsWithin, slowest};
+    ghost use Rattle.tk_clock.specs.Running.{IsRated, IsWithin};
     ghost use Rattle.tk_clock.specs.Amount.{amount_of};
     ghost use Rattle.tk_clock.specs.Words.{words_of, restored};
 
@@ -96,7 +98,7 @@ impl ReadBase {
         ensures { let counter = self.now.counter in
             result ≡ nat_lt (half counter) (gap counter self.now.last reading) }
     {
-        self.leads_back(self.desc.gap(self.last, reading))
+        self.desc.is_behind(self.desc.gap(self.last, reading))
     }
 
     /// Returns the cycles from the last reading to another one: 0 while the clocks are asleep, or
@@ -105,40 +107,11 @@ impl ReadBase {
         ensures { result ≡ base_cycles self.now reading }
     {
         let gap = self.desc.gap(self.last, reading);
-        if self.asleep || self.leads_back(gap) {
+        if self.asleep || self.desc.is_behind(gap) {
             0
         } else {
             gap
         }
-    }
-
-    /// Returns whether a gap leads back: whether it is greater than the mask minus the gap.
-    /// `CounterDesc::is_behind` gives the same result, and takes any number.
-    fn leads_back(&self, gap: u64) -> bool
-        requires { gap ≤ mask self.now.counter }
-        ensures { result ≡ nat_lt (half self.now.counter) gap }
-    {
-        self.desc.mask() - gap < gap
-    }
-
-    /// Returns MONOTONIC at a reading, in ns. If the exact value is 2^63 ns or more, which is
-    /// beyond every clock's limit, the result may be a different number of at least 2^63.
-    fn monotonic_at(&self, reading: u64) -> u64
-        ensures stated { let nanos = base_monotonic self.now reading in
-            (result ≡ nanos) ⊎ ((2 ^ 63 ≤ nanos) × (2 ^ 63 ≤ result)) }
-        ensures most { result ≤ 15 * 10 ^ 18 }
-    {
-        let cycles = self.cycles_since(reading);
-        self.monotonic.nanos_after(&self.desc, cycles, self.mult)
-    }
-
-    /// Returns MONOTONIC_RAW at a reading, in ns, with the same exception as `monotonic_at`.
-    fn raw_at(&self, reading: u64) -> u64
-        ensures { let nanos = base_raw self.now reading in
-            (result ≡ nanos) ⊎ ((2 ^ 63 ≤ nanos) × (2 ^ 63 ≤ result)) }
-    {
-        let cycles = self.cycles_since(reading);
-        self.raw.nanos_after(&self.desc, cycles, self.desc.mult())
     }
 
     /// Returns MONOTONIC at the last reading.
@@ -166,7 +139,7 @@ impl ReadBase {
     }
 
     /// Encodes the base and a front as ten 64-bit words.
-    pub fn words(&self, front: u64) -> [u64; 10]
+    pub fn words(&self, front: u64) -> [u64; SNAPSHOT_WORDS]
         ensures value { result ≡ words_of (record { front = front; base = self.now }) }
         ensures back { IsWithin self.now → restored self.now.counter
             (words_of (record { front = front; base = self.now }))
@@ -204,64 +177,19 @@ impl ReadBase {
         u64::from(self.tai) * NANOS_PER_SECOND
     }
 
-    /// Returns a clock's value at a reading, in ns. If the exact value is at the clock's limit or
-    /// beyond it, the result may be a different number at or beyond the limit.
-    #[inline(always)]
-    fn value(&self, clock: ClockId, reading: u64) -> u64
-        ensures { let nanos = base_value self.now clock reading in
-            (pos result ≡ nanos) ⊎ ((limit clock ≤ℤ nanos) × (limit clock ≤ℤ pos result)) }
-    {
-        match clock {
-            ClockId::Monotonic => self.monotonic_at(reading),
-            ClockId::Realtime => self.monotonic_at(reading).saturating_add(self.real_offset),
-            ClockId::Boottime => self.monotonic_at(reading).saturating_add(self.boot_offset),
-            ClockId::Tai => {
-                (self.monotonic_at(reading) + self.tai_nanos()).saturating_add(self.real_offset)
-            }
-            ClockId::RealtimeCoarse => self.monotonic_now().saturating_add(self.real_offset),
-            ClockId::MonotonicCoarse => self.monotonic_now(),
-            ClockId::MonotonicRaw => self.raw_at(reading),
-        }
-    }
-
     /// Returns a clock's time at a reading, or the first test that fails.
-    ///
-    /// Every clock has its own copy of the code, so that the clock is tested only once.
     #[inline(always)]
     pub fn get(&self, clock: ClockId, reading: u64) -> Result<Timespec, ReadError>
+        requires { IsWithin self.now }
         ensures { MatchResult result
             (λ time. (read_refusal self.now clock reading ≡ None)
             × (nanoseconds time ≡ base_value self.now clock reading) × (time.nsec < 10 ^ 9)
             × (pos 0 ≤ℤ time.sec))
             (λ refusal. read_refusal self.now clock reading ≡ Some refusal) }
     {
-        match clock {
-            ClockId::Realtime => self.time_of(ClockId::Realtime, reading),
-            ClockId::Monotonic => self.time_of(ClockId::Monotonic, reading),
-            ClockId::Boottime => self.time_of(ClockId::Boottime, reading),
-            ClockId::Tai => self.time_of(ClockId::Tai, reading),
-            ClockId::RealtimeCoarse => self.time_of(ClockId::RealtimeCoarse, reading),
-            ClockId::MonotonicCoarse => self.time_of(ClockId::MonotonicCoarse, reading),
-            ClockId::MonotonicRaw => self.time_of(ClockId::MonotonicRaw, reading),
+        match self.nanos(clock, reading) {
+            Ok(nanos) => Ok(timespec_of(nanos)),
+            Err(refusal) => Err(refusal),
         }
-    }
-
-    /// Returns the result of `get` for a clock that the compiler knows.
-    #[inline(always)]
-    fn time_of(&self, clock: ClockId, reading: u64) -> Result<Timespec, ReadError>
-        ensures { MatchResult result
-            (λ time. (read_refusal self.now clock reading ≡ None)
-            × (nanoseconds time ≡ base_value self.now clock reading) × (time.nsec < 10 ^ 9)
-            × (pos 0 ≤ℤ time.sec))
-            (λ refusal. read_refusal self.now clock reading ≡ Some refusal) }
-    {
-        if reading > self.desc.mask() {
-            return Err(ReadError::Invalid);
-        }
-        let nanos = self.value(clock, reading);
-        if nanos >= limit(clock) {
-            return Err(ReadError::Range);
-        }
-        Ok(timespec_of(nanos))
     }
 }

@@ -4,11 +4,13 @@ mod known_words;
 mod words;
 
 use crate::clock_id::ClockId;
+use crate::origin::Origin;
 use crate::read_base::ReadBase;
 use crate::refusal::ReadError;
 use crate::timespec::Timespec;
 use std::marker::Model;
 use tk_counter::CounterDesc;
+pub use words::SNAPSHOT_WORDS;
 
 /// Converts readings to times. It contains the number of accepted commands, and the part of the
 /// state after them that a read needs.
@@ -39,6 +41,8 @@ impl Model for Snapshot {
 
 impl Snapshot {
     ghost use Rattle.tk_clock.specs.Limits.{raw_end};
+    ghost use Rattle.tk_clock.specs.Origin.{IsOrigin};
+    ghost use Rattle.tk_clock.specs.Read.{read_of};
     ghost use Rattle.tk_clock.specs.Refusal.{read_refusal};
     ghost use Rattle.tk_clock.specs.State.{base_value};
     ghost use Rattle.tk_clock.specs.Reach.{IsFirstReached, IsNeverReached, IsReadAt, GivesAgain};
@@ -66,6 +70,28 @@ impl Snapshot {
             (λ refusal. read_refusal self.now.base clock reading ≡ Some refusal) }
     {
         self.base.get(clock, reading)
+    }
+
+    /// Returns a clock's time at `reading`, in ns since 1970 or since opening
+    /// (`ktime_get_real_ns`): the time of `get` as one number.
+    ///
+    /// # Errors
+    ///
+    /// Returns `Invalid` and `Range` in the same cases as `get`.
+    #[inline(always)]
+    pub fn nanos(&self, clock: ClockId, reading: u64) -> Result<u64, ReadError>
+        ensures { result ≡ read_of self.now.base clock reading }
+    {
+        self.base.nanos(clock, reading)
+    }
+
+    /// Returns a clock's line since the last command: its amount there, the amount that a cycle
+    /// adds, its offset and its limit. A program can convert many readings by it.
+    #[inline(always)]
+    pub fn origin(&self, clock: ClockId) -> Origin
+        ensures { IsOrigin self.now.base clock result }
+    {
+        self.base.origin(clock)
     }
 
     /// Returns the first reading, in cycles, at which the clock has reached `time`: at this reading

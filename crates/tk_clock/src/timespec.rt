@@ -3,7 +3,7 @@ ghost use Rattle.std.specs.Int.{int_max};
 ghost use Rattle.tk_clock.specs.Time.{nanoseconds, timespec_of};
 ghost use Rattle.tk_clock.specs.Limits.{clock_end};
 
-use crate::amount::NANOS_PER_SECOND;
+use tk_counter::NANOS_PER_SECOND;
 
 /// Represents a time or an amount of time: `sec * 10^9 + nsec` nanoseconds.
 ///

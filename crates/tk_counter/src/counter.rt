@@ -6,6 +6,7 @@ mod gaps;
 mod rates;
 
 use crate::desc_error::DescError;
+pub use advance::SECONDS_END;
 pub use rates::{FREQUENCY_LIMIT, USUAL_TICK};
 use std::marker::Model;
 
@@ -37,7 +38,7 @@ impl Model for CounterDesc {
 }
 
 /// The nanoseconds of a second.
-const NANOS_PER_SECOND: u64 = 1_000_000_000;
+pub const NANOS_PER_SECOND: u64 = 1_000_000_000;
 
 impl CounterDesc {
     ghost use Rattle.tk_counter.specs.Counter.{Counter, IsCounter, mask, half, max_adjustment, max_cycles, fast_span, second};

@@ -5,6 +5,8 @@
 //! |---|---|
 //! | `CounterDesc` | the bits of a reading, and the length of a cycle |
 //! | `DescError` | says why numbers describe no counter |
+//! | `NANOS_PER_SECOND` | the nanoseconds of a second |
+//! | `SECONDS_END` | the seconds that no clock reaches |
 //! | `FREQUENCY_LIMIT` | the greatest frequency that takes effect |
 //! | `USUAL_TICK` | the tick of a clock that no command has set |
 //!
@@ -16,5 +18,5 @@
 mod counter;
 mod desc_error;
 
-pub use counter::{CounterDesc, FREQUENCY_LIMIT, USUAL_TICK};
+pub use counter::{CounterDesc, FREQUENCY_LIMIT, NANOS_PER_SECOND, SECONDS_END, USUAL_TICK};
 pub use desc_error::DescError;

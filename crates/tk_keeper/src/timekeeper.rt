@@ -20,9 +20,6 @@ pub const LISTED_LIMIT: usize = 1_048_576;
 /// that at least as many commands are accepted before the next fold.
 pub const KEEP_LIMIT: u64 = LISTED_LIMIT as u64 / 2;
 
-/// The most commands that a journal counts, the folded ones included.
-const COUNTED_LIMIT: u64 = (1 << 63) - 1;
-
 /// The number of commands from one kept copy of the clocks to the next: one is kept after each entry
 /// whose number is a multiple of this.
 pub const KEPT_EVERY: usize = 256;

@@ -14,7 +14,7 @@ use Rattle.tk_clock.specs.Limits.{limit}
 use Rattle.tk_clock.specs.Read.{read_of}
 use Rattle.tk_lanes.specs.declared.segment.Segment.{Segment}
 use Rattle.tk_clock.specs.Origin.{is_coarse, units_at_last, running_mult, mult_of, offset_of}
-use Rattle.tk_clock.proofs.Origin.{same_units, counted, value_is}
+use Rattle.tk_clock.proofs.Lines.{same_units, counted, value_is}
 use Rattle.tk_lanes.specs.Segment.{segment_cycles, segment_nanos, nanos_after, IsNear}
 
 -- a segment with a clock's numbers: the nanoseconds that the clock counts up to the last reading,

@@ -2,4 +2,3 @@ pub mod Lanes
 pub mod Drawn
 pub mod Spans
 pub mod Filled
-pub mod Reading

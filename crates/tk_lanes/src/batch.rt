@@ -1,14 +1,9 @@
-ghost use Rattle.std.specs.Prelude.{◌≡◌, ◌≤◌, ◌^◌, length, pos, ◌≤ℤ◌, ◌<ℤ◌};
-ghost use Rattle.tk_clock.specs.Read.{read_of};
-ghost use Rattle.tk_clock.specs.Time.{nanoseconds};
+ghost use Rattle.std.specs.Prelude.{◌≡◌, ◌≤◌, length};
 ghost use Rattle.tk_lanes.specs.Batch.{IsBatch, IsBatchFrom};
 
 use crate::batch_error::BatchError;
 use crate::segment::{LANES, Segment};
-use tk_clock::{ClockId, ReadError, Snapshot, Timespec};
-
-/// The nanoseconds of a second.
-const NANOS_PER_SECOND: u64 = 1_000_000_000;
+use tk_clock::{ClockId, Snapshot};
 
 /// Writes a clock's time at each stamp to `out`, in ns, one stamp after the other. Stamps are in
 /// cycles.
@@ -85,29 +80,10 @@ fn plain_from(
     ensures { IsBatchFrom snapshot.now.base clock stamps.now first end out.old out.new result }
 {
     for index in first..end {
-        match nanos(snapshot, clock, stamps[index]) {
+        match snapshot.nanos(clock, stamps[index]) {
             Ok(nanos) => out[index] = nanos,
             Err(refusal) => return Err(BatchError::at(index, refusal)),
         }
     }
     Ok(())
-}
-
-/// Returns a clock's time at a stamp, in ns.
-fn nanos(snapshot: &Snapshot, clock: ClockId, stamp: u64) -> Result<u64, ReadError>
-    ensures { result ≡ read_of snapshot.now.base clock stamp }
-{
-    match snapshot.get(clock, stamp) {
-        Ok(time) => Ok(nanos_of(time)),
-        Err(refusal) => Err(refusal),
-    }
-}
-
-/// Converts a time to ns (`timespec64_to_ns`).
-fn nanos_of(time: Timespec) -> u64
-    requires since { pos 0 ≤ℤ time.sec }
-    requires until { nanoseconds time <ℤ pos (2 ^ 64) }
-    ensures { pos result ≡ nanoseconds time }
-{
-    time.sec.unsigned_abs() * NANOS_PER_SECOND + u64::from(time.nsec)
 }

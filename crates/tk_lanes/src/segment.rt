@@ -1,13 +1,13 @@
 //! Describes a clock as a straight line over the cycles since the last command, as far as the clock
 //! stays below its limit.
-ghost use Rattle.std.specs.Prelude.{◌*◌, ◌-◌, ◌^◌, ◌<◌, ◌≤◌, IfSome};
+ghost use Rattle.std.specs.Prelude.{◌≡◌, ◌+◌, ◌*◌, ◌-◌, ◌^◌, ◌<◌, ◌≤◌, IfSome};
+ghost use Rattle.tk_clock.specs.Limits.{raw_end};
 ghost use Rattle.tk_lanes.specs.Segment.{IsFitting, IsSegment};
 
 mod lanes;
-mod origin;
 
-use origin::{Origin, limit, offset};
-use tk_clock::{ClockId, Snapshot};
+use tk_clock::{ClockId, Origin, Snapshot};
+use tk_counter::NANOS_PER_SECOND;
 
 /// The number of stamps that are converted at a time.
 pub(crate) const LANES: usize = 8;
@@ -46,27 +46,43 @@ impl Segment {
         ensures fitting { IfSome result IsFitting }
     {
         let desc = snapshot.desc();
-        let origin = Origin::of(snapshot, clock);
-        let base = origin.nanos + offset(snapshot, clock);
-        let end = limit(clock);
-        if base >= end {
+        let shift = desc.shift();
+        let origin = snapshot.origin(clock);
+        let (counts, frac) = split(origin, shift);
+        let base = counts + origin.offset;
+        if base >= origin.limit {
             return None;
         }
-        let span = span_of((end - base) as u64, origin.mult, desc.shift(), desc.half());
+        let span = span_of(origin.limit - base, origin.mult, shift, desc.half());
         let (last, mask) = (snapshot.last(), desc.mask());
         let left = mask.checked_sub(last)?;
         Some(Segment {
             last,
             mult: origin.mult,
-            shift: desc.shift(),
-            frac: origin.frac,
-            base: base as u64,
+            shift,
+            frac,
+            base,
             mask,
             half: desc.half(),
             span,
             ahead: left.min(span),
         })
     }
+}
+
+/// Splits the time that a clock counts up to the last command into whole nanoseconds and the rest,
+/// in `2^-shift` ns.
+fn split(origin: Origin, shift: u32) -> (u64, u64)
+    requires sec { origin.sec < raw_end }
+    requires frac { origin.frac < 10 ^ 9 * 2 ^ shift }
+    requires shift { shift ≤ 32 }
+    ensures value { result.0 * 2 ^ shift + result.1
+        ≡ origin.sec * (10 ^ 9 * 2 ^ shift) + origin.frac }
+    ensures few { result.0 < raw_end * 10 ^ 9 }
+    ensures low { result.1 < 2 ^ shift }
+{
+    let nanos = origin.sec * NANOS_PER_SECOND + (origin.frac >> shift);
+    (nanos, origin.frac % (1 << shift))
 }
 
 /// Returns a gap, up to `half`, over which the clock gains less than `room` ns.

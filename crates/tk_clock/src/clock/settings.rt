@@ -7,13 +7,13 @@ ghost use Rattle.tk_clock.specs.Effect.{IsForwarded, IsEarly, IsEffect};
 ghost use Rattle.tk_clock.specs.Time.{nanoseconds};
 
 use super::Clock;
-use crate::amount::NANOS_PER_SECOND;
 use crate::clock_id::ClockId;
 use crate::command::Command;
 use crate::limits::settable_limit;
 use crate::read_base::ReadBase;
 use crate::refusal::Refusal;
 use crate::timespec::{Timespec, nanos_of};
+use tk_counter::NANOS_PER_SECOND;
 
 impl Clock {
     /// Returns the clocks with REALTIME set to a time (`do_settimeofday64`).

@@ -9,9 +9,8 @@ ghost use Rattle.tk_clock.specs.Running.{IsFar, IsRated, slowest};
 
 use super::ReadBase;
 use crate::amount::{Amount, NARROW_CYCLES};
-use crate::clock_id::ClockId;
 use crate::command::Command;
-use crate::limits::{MONOTONIC_END, limit, sets_real};
+use crate::limits::{CLOCK_LIMIT, MONOTONIC_END, sets_real};
 
 impl ReadBase {
     /// Returns the base with its amounts advanced to a reading (`timekeeping_forward_now`). Nothing
@@ -173,5 +172,5 @@ impl ReadBase {
 fn is_at_limit(elapsed: u64, offset: u64) -> bool
     ensures { result ≡ not (int_lt (pos elapsed +ℤ pos offset) (pos (clock_end * 10 ^ 9))) }
 {
-    elapsed.saturating_add(offset) >= limit(ClockId::Realtime)
+    elapsed.saturating_add(offset) >= CLOCK_LIMIT
 }

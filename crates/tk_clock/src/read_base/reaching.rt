@@ -1,5 +1,5 @@
 //! Finds the first reading at which a clock has reached a time.
-ghost use Rattle.std.specs.Prelude.{◌≡◌, ℕ, ◌+◌, ◌*◌, ◌^◌, ◌<◌, ◌≤◌, pos, ◌≤ℤ◌, ◌<ℤ◌, ◌/◌, MatchOption};
+ghost use Rattle.std.specs.Prelude.{◌≡◌, ℕ, ◌+◌, ◌*◌, ◌^◌, ◌<◌, ◌≤◌, ◌≤ℤ◌, ◌<ℤ◌, ◌/◌, MatchOption};
 
 use super::ReadBase;
 use crate::amount::HALF_WORD;
@@ -12,13 +12,15 @@ const WORD: u128 = 1 << 64;
 impl ReadBase {
     ghost use Rattle.tk_counter.specs.Counter.{mask, half, gap};
     ghost use Rattle.tk_clock.specs.Time.{nanoseconds};
-    ghost use Rattle.tk_clock.specs.Origin.{units_at_last, mult_of, offset_of, value_after};
+    ghost use Rattle.tk_clock.specs.Origin.{mult_of, value_after};
+    ghost use Rattle.tk_clock.specs.Running.{IsWithin};
     ghost use Rattle.tk_clock.specs.Reach.{IsFirstReached, IsNeverReached, IsReadAt, GivesAgain};
 
     /// Returns the first reading, up to half the counter's range after the last one, at which a
     /// read of the clock returns `time` or a later time. Returns `None` if there is no such
     /// reading.
     pub fn reading_at(&self, clock: ClockId, time: Timespec) -> Option<u64>
+        requires { IsWithin self.now }
         ensures first { let nanos = nanoseconds time in
             MatchOption result
             (IsNeverReached self.now clock nanos)
@@ -49,6 +51,7 @@ impl ReadBase {
     /// Returns the fewest cycles, up to half the counter's range, after which the clock's value is
     /// `time` or later. Returns `None` if no number of cycles is enough.
     fn cycles_until(&self, clock: ClockId, time: Timespec) -> Option<u64>
+        requires { IsWithin self.now }
         ensures { let nanos = nanoseconds time in
             MatchOption result
             ((cycles : ℕ) → cycles ≤ half self.now.counter →
@@ -58,8 +61,9 @@ impl ReadBase {
             × ((fewer : ℕ) → fewer < cycles → value_after self.now clock fewer <ℤ nanos)) }
     {
         let most = self.desc.half();
+        let origin = self.origin(clock);
         let units = self.units_until(clock, time);
-        let Some(cycles) = cycles_of(units, self.cycle_units(clock)) else {
+        let Some(cycles) = cycles_of(units, origin.mult) else {
             return None;
         };
         if cycles > most {
@@ -71,49 +75,15 @@ impl ReadBase {
     /// Returns the units that the clock still has to count after the last reading until its value
     /// is `time`: 0 if it is `time` or later there.
     fn units_until(&self, clock: ClockId, time: Timespec) -> u128
+        requires { IsWithin self.now }
         ensures enough { (cycles : ℕ) → result ≤ cycles * mult_of self.now clock →
             nanoseconds time ≤ℤ value_after self.now clock cycles }
         ensures needed { (cycles : ℕ) → cycles * mult_of self.now clock < result →
             value_after self.now clock cycles <ℤ nanoseconds time }
     {
-        let nanos = nanos_from_zero(time).saturating_sub(self.offset(clock));
-        (nanos << self.desc.shift()).saturating_sub(self.counted_units(clock))
-    }
-
-    /// Returns the units that the clock has counted up to the last reading.
-    fn counted_units(&self, clock: ClockId) -> u128
-        ensures { result ≡ units_at_last self.now clock }
-    {
-        match clock {
-            ClockId::MonotonicRaw => self.raw.units(&self.desc),
-            _ => self.monotonic.units(&self.desc),
-        }
-    }
-
-    /// Returns the units that a cycle adds to the clock: 0 if the clock doesn't run.
-    fn cycle_units(&self, clock: ClockId) -> u32
-        ensures { result ≡ mult_of self.now clock }
-    {
-        if self.asleep {
-            return 0;
-        }
-        match clock {
-            ClockId::RealtimeCoarse | ClockId::MonotonicCoarse => 0,
-            ClockId::MonotonicRaw => self.desc.mult(),
-            _ => self.mult,
-        }
-    }
-
-    /// Returns the clock's offset from its counted amount, in ns.
-    fn offset(&self, clock: ClockId) -> u128
-        ensures { pos result ≡ offset_of self.now clock }
-    {
-        match clock {
-            ClockId::Monotonic | ClockId::MonotonicCoarse | ClockId::MonotonicRaw => 0,
-            ClockId::Boottime => u128::from(self.boot_offset),
-            ClockId::Realtime | ClockId::RealtimeCoarse => u128::from(self.real_offset),
-            ClockId::Tai => u128::from(self.real_offset) + u128::from(self.tai_nanos()),
-        }
+        let origin = self.origin(clock);
+        let nanos = nanos_from_zero(time).saturating_sub(u128::from(origin.offset));
+        (nanos << self.desc.shift()).saturating_sub(origin.amount().units(&self.desc))
     }
 }
 

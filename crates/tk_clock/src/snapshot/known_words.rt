@@ -2,7 +2,7 @@ ghost use Rattle.std.specs.Prelude.{◌≡◌, length, true, Some, IsSome};
 ghost use Rattle.tk_counter.specs.Counter.{IsCounter};
 ghost use Rattle.tk_clock.specs.Words.{words_of, restored, are_in_range, snapshot_of_words};
 
-use super::Snapshot;
+use super::{SNAPSHOT_WORDS, Snapshot};
 use crate::amount::Amount;
 use crate::read_base::ReadBase;
 use tk_counter::CounterDesc;
@@ -12,7 +12,7 @@ impl Snapshot {
     ///
     /// It returns the same snapshot as `from_words`. The caller must prove that the words describe
     /// a snapshot, as the rule of a page does.
-    pub fn from_known_words(desc: CounterDesc, words: [u64; 10]) -> Snapshot
+    pub fn from_known_words(desc: CounterDesc, words: [u64; SNAPSHOT_WORDS]) -> Snapshot
         requires known { IsSome (restored desc words) }
         ensures value { restored desc words ≡ Some result }
         ensures again { words_of result ≡ words }
@@ -34,7 +34,7 @@ fn describes(desc: &CounterDesc)
 }
 
 /// Returns the clocks that words 1 to 9 describe.
-pub(super) fn base_of_words(desc: CounterDesc, words: &[u64; 10]) -> ReadBase
+pub(super) fn base_of_words(desc: CounterDesc, words: &[u64; SNAPSHOT_WORDS]) -> ReadBase
     requires range { are_in_range desc words.now ≡ true }
     requires counter { IsCounter desc }
     ensures value { result ≡ (snapshot_of_words desc words.now).base }

@@ -8,6 +8,9 @@ use crate::command::Command;
 use crate::limits::{MONOTONIC_END, RAW_END, TAI_OFFSET_LIMIT};
 use tk_counter::CounterDesc;
 
+/// The number of 64-bit words of a snapshot.
+pub const SNAPSHOT_WORDS: usize = 10;
+
 impl Snapshot {
     /// Encodes the snapshot as ten 64-bit words, from which `from_words` restores it.
     ///
@@ -21,7 +24,7 @@ impl Snapshot {
     /// - 8 and 9: MONOTONIC_RAW, as words 3 and 4
     ///
     /// The words don't contain the counter's description, which `from_words` needs too.
-    pub fn words(&self) -> [u64; 10]
+    pub fn words(&self) -> [u64; SNAPSHOT_WORDS]
         ensures value { result ≡ words_of self.now }
         ensures back { restored self.now.base.counter (words_of self.now) ≡ Some self.now }
     {
@@ -39,7 +42,7 @@ impl Snapshot {
     /// - 4: below 946,080,000
     /// - 7: up to 200,001, which is a TAI offset of 100,000 s
     /// - 9: below 1,060,000,000
-    pub fn from_words(desc: CounterDesc, words: [u64; 10]) -> Option<Snapshot>
+    pub fn from_words(desc: CounterDesc, words: [u64; SNAPSHOT_WORDS]) -> Option<Snapshot>
         ensures value { result ≡ restored desc words }
         ensures again { IfSome result (λ snapshot. words_of snapshot ≡ words) }
     {
@@ -59,7 +62,7 @@ impl Snapshot {
 
 /// Returns whether all words are in their ranges.
 #[tactic(auto, unfolding(crate::specs::Words::are_in_range))]
-fn are_in_range(desc: &CounterDesc, words: &[u64; 10]) -> bool
+fn are_in_range(desc: &CounterDesc, words: &[u64; SNAPSHOT_WORDS]) -> bool
     ensures value { result ≡ are_in_range desc.now words.now }
     ensures counter { IsCounter desc.now }
     ensures ten { length words.now ≡ 10 }

@@ -1,6 +1,7 @@
 //! Tests values that were worked out manually, outside the contracts, and the edges of each range.
 
 mod copies;
+mod nanoseconds;
 mod openings;
 mod parts;
 mod reaching;

@@ -2,8 +2,9 @@ ghost use Rattle.std.specs.Prelude.{◌≡◌, ℕ, ◌+◌, ◌*◌, ◌/◌, �
 
 use super::{CounterDesc, NANOS_PER_SECOND};
 
-/// The number of seconds at which `advance` returns `None`. No clock reaches it.
-const SECONDS_END: u64 = 9_223_372_036;
+/// The number of seconds at which `advance` returns `None`: the most that 63 bits of nanoseconds can
+/// represent (`KTIME_SEC_MAX`). No clock reaches it.
+pub const SECONDS_END: u64 = 9_223_372_036;
 
 impl CounterDesc {
     ghost use Rattle.tk_counter.specs.Counter.{second, seconds_end};

@@ -22,6 +22,7 @@ impl CounterDesc {
     pub fn is_behind(&self, gap: u64) -> bool
         ensures { IsTrue result ↔ (half self.now < gap) }
     {
-        gap > self.half()
+        let mask = self.mask();
+        gap > mask || mask - gap < gap
     }
 }

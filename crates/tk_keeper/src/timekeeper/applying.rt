@@ -7,9 +7,9 @@ ghost use Rattle.tk_clock.specs.Monotonic.{monotonic};
 ghost use Rattle.tk_clock.specs.Refusal.{first_refusal, is_full, IsRefusal};
 ghost use Rattle.tk_clock.specs.declared.command.Entry.{Entry};
 
-use super::{COUNTED_LIMIT, KEPT_EVERY, Kept, LISTED_LIMIT, Timekeeper};
+use super::{KEPT_EVERY, Kept, LISTED_LIMIT, Timekeeper};
 use std::alloc::Allocator;
-use tk_clock::{Command, Entry, Refusal};
+use tk_clock::{COUNTED_LIMIT, Command, Entry, Refusal};
 
 impl<A: Allocator + Copy> Timekeeper<A> {
     /// Applies a command to the clocks, adds it to the journal, and returns the entry's number,

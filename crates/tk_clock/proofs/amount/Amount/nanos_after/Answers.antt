@@ -12,8 +12,8 @@ on_top whole gained nanos total e (inr beyond) =
     let more = beyond.1 in
     inr (omega (arith, e, far), omega (arith, more))
 
-pub returns-clause-stated : goal.returns-clause-stated
-returns-clause-stated c =
+pub returns : goal.returns
+returns c =
     let amount = c.args.self in
     let same = ap (λ s. (amount.frac + c.args.cycles * c.args.mult) / 2 ^ s)
     c.shift.ensures.value in

@@ -9,5 +9,5 @@ returns-in_default c =
     c.half-most.ensures ∙ ap (λ (b : ReadBase). half b.counter) c.self.view_is in
     λ cycles near.
     c.units_until-units.ensures.needed cycles
-    (subst (λ m. cycles * m < c.units_until-units.result) c.cycle_units.ensures
+    (subst (λ m. cycles * m < c.units_until-units.result) c.origin-origin.ensures.slope
     (c.in_default.ensures cycles (omega (arith, most, near, c.half-most.type_inv))))

@@ -1,6 +1,6 @@
 -- The value of a clock after the last reading, by its amount there.
-use Rattle.std.proofs.Common.{◌≡◌, ℕ, ◌+◌, ◌*◌, ◌/◌, ◌^◌, ◌≤◌, Bool, true, false, refl, sym, ap, ◌∙◌, arith}
-use Rattle.std.specs.Prelude.{pos, ◌+ℤ◌, ◌≤ℤ◌, ◌||◌, if◌then◌else◌}
+use Rattle.std.proofs.Common.{◌≡◌, ap₂, ℕ, ◌+◌, ◌*◌, ◌/◌, ◌^◌, ◌≤◌, Bool, true, false, refl, sym, ap, ◌∙◌, arith}
+use Rattle.std.specs.Prelude.{ℤ, pos, ◌+ℤ◌, ◌≤ℤ◌, ◌||◌, if◌then◌else◌}
 use Rattle.std.proofs.lemmas.Bool.{le-ltb}
 use Rattle.std.proofs.lemmas.Int.{ints}
 use Rattle.std.proofs.Math.Nat.{mul-le-mul_right}
@@ -9,7 +9,8 @@ use Rattle.tk_clock.specs.declared.clock_id.ClockId.{ClockId}
 use Rattle.tk_clock.specs.declared.clock_id.ClockId.TheVariants.{Realtime, Monotonic, Boottime, Tai, RealtimeCoarse, MonotonicCoarse, MonotonicRaw}
 use Rattle.tk_clock.specs.Monotonic.{cycles_since}
 use Rattle.tk_clock.specs.State.{ReadBase, base_value}
-use Rattle.tk_clock.specs.Origin.{is_coarse, units_at_last, running_mult, mult_of, offset_of, value_after}
+use Rattle.tk_clock.specs.declared.origin.Origin.{Origin}
+use Rattle.tk_clock.specs.Origin.{is_coarse, units_at_last, running_mult, mult_of, offset_of, value_after, line_after, IsOrigin, awake, counted_cycles}
 use Rattle.tk_clock.specs.Reach.{distance}
 use Rattle.tk_clock.proofs.Offsets.{cycles_since-self}
 use Rattle.tk_clock.proofs.Reaching.{nanos-rise}
@@ -40,6 +41,31 @@ value_is base Tai stamp = omega (arith, ints)
 value_is base RealtimeCoarse stamp = refl
 value_is base MonotonicCoarse stamp = omega (arith, ints)
 value_is base MonotonicRaw stamp = omega (arith, ints)
+
+-- a coarse clock gains no units
+coarse_units : (asleep coarse : Bool) (counter : Counter) (last stamp u : ℕ) →
+    (if coarse then 0 else cycles_since counter asleep last stamp) * (if coarse then 0 else u)
+    ≡ cycles_since counter asleep last (if coarse then last else stamp) * u
+coarse_units asleep true counter last stamp u =
+    let none = cycles_since-self counter asleep last in rw none (omega arith)
+coarse_units asleep false counter last stamp u = refl
+
+-- the value of a clock, by its line while awake
+pub line_reads : (base : ReadBase) (clock : ClockId) (line : Origin) (reading : ℕ) →
+    IsOrigin (awake base) clock line →
+    base_value base clock reading
+    ≡ pos (line_after base.counter line (counted_cycles base clock reading))
+line_reads base clock line reading given =
+    let gained = ap (λ m. counted_cycles base clock reading * m) given.slope
+    ∙ coarse_units base.asleep (is_coarse clock) base.counter base.last reading
+    (running_mult base clock) in
+    let counted_is = ap₂ (λ u n. (u + n) / 2 ^ base.counter.shift) given.units gained in
+    value_is base clock reading
+    ∙ ap (λ n. pos n +ℤ offset_of base clock) (sym counted_is)
+    ∙ on_line _ line.offset (offset_of base clock) given.start
+  where
+    on_line : (n o : ℕ) (z : ℤ) → pos o ≡ z → pos n +ℤ z ≡ pos (n + o)
+    on_line n o z e = ap (λ i. pos n +ℤ i) (sym e)
 
 -- up to half the range, all cycles count
 all_cycles : (counter : Counter) (last reading : ℕ) → gap counter last reading ≤ half counter →
