@@ -8,6 +8,7 @@ pub mod State
 pub mod Running
 pub mod Limits
 pub mod Refusal
+pub mod RefusalText
 pub mod Legal
 pub mod Folding
 pub mod Life

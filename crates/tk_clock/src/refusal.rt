@@ -1,5 +1,9 @@
-ghost use Rattle.std.specs.Prelude.{◌≡◌};
+ghost use Rattle.std.specs.Prelude.{◌≡◌, Some};
 ghost use Rattle.tk_clock.specs.Refusal.{refusal_of};
+ghost use Rattle.tk_clock.specs.RefusalText.{refusal_text, read_text};
+
+use std::error::Error;
+use std::fmt;
 
 /// Says why a command is refused: the first test that fails. A refused command changes nothing.
 ///
@@ -32,6 +36,37 @@ pub enum ReadError {
     /// The clock is at its limit or beyond it.
     Range,
 }
+
+impl fmt::Display for Refusal {
+    ghost output = { λ refusal. Some (refusal_text refusal) };
+
+    fn fmt<W: fmt::Write>(&self, f: &mut fmt::Formatter<W>) -> fmt::Result {
+        f.write_str(match self {
+            Refusal::Full => "full journal",
+            Refusal::Asleep => "clocks asleep",
+            Refusal::Awake => "clocks awake",
+            Refusal::Invalid => "reading, number or time out of range",
+            Refusal::Behind => "reading behind the last one",
+            Refusal::Range => "value out of range",
+            Refusal::Memory => "out of memory",
+        })
+    }
+}
+
+impl Error for Refusal {}
+
+impl fmt::Display for ReadError {
+    ghost output = { λ error. Some (read_text error) };
+
+    fn fmt<W: fmt::Write>(&self, f: &mut fmt::Formatter<W>) -> fmt::Result {
+        f.write_str(match self {
+            ReadError::Invalid => "reading above the mask",
+            ReadError::Range => "value out of range",
+        })
+    }
+}
+
+impl Error for ReadError {}
 
 impl From<ReadError> for Refusal {
     ghost from_gives = { λ error refusal. refusal ≡ refusal_of error };
