@@ -4,6 +4,7 @@ pub mod Storage
 pub mod Counted
 pub mod Converted
 pub mod Rate
+pub mod Read
 pub mod Reached
 pub mod Restored
 pub mod Version

@@ -1,4 +1,4 @@
-ghost use Rattle.std.specs.Prelude.{◌≡◌, ◌+◌, MatchOption};
+ghost use Rattle.std.specs.Prelude.{◌≡◌, MatchOption};
 ghost use Rattle.tk_clock.specs.Journal.{opened};
 ghost use Rattle.tk_clock.specs.Refusal.{opening_refusal};
 ghost use Rattle.tk_clock.specs.State.{state_of, effect};
@@ -11,13 +11,11 @@ ghost use Rattle.tk_c.specs.Storage.{snapshot_storage, clock_storage};
 
 use crate::code::Code;
 use crate::counted::CountedClock;
+use crate::general_registers::store_snapshot;
 use crate::named::command_named;
-use crate::storage::{ClockStorage, CounterStorage, SnapshotStorage};
-use tk_clock::{Clock, Refusal, Timespec};
+use crate::storage::{ClockStorage, SnapshotStorage};
+use tk_clock::{COUNTED_LIMIT, Clock, Refusal, Timespec};
 use tk_counter::CounterDesc;
-
-/// The most commands that are counted: 2^63 - 1.
-const COUNTED_LIMIT: u64 = (1 << 63) - 1;
 
 /// The number of the command `Update`.
 const UPDATE: u32 = 0;
@@ -128,19 +126,5 @@ pub extern "C" fn tkc_clock_snapshot(out: &mut SnapshotStorage, clock: &CountedC
       base = clock.now.clock.base;
     }) }
 {
-    // one field at a time, and never two neighbours in sequence: the rattle backend would copy two
-    // neighbours with an SSE register, which an interrupt in a kernel must not use
-    let snapshot = clock.clock.snapshot(clock.front);
-    out.front = snapshot.front();
-    out.base.counter = CounterStorage::from(snapshot.desc());
-    out.base.last = snapshot.last();
-    out.base.mult = snapshot.mult();
-    out.base.sec = snapshot.sec();
-    out.base.raw_sec = snapshot.raw_sec();
-    out.base.boot_offset = snapshot.boot_offset();
-    out.base.real_offset = snapshot.real_offset();
-    out.base.frac = snapshot.frac();
-    out.base.raw_frac = snapshot.raw_frac();
-    out.base.tai = snapshot.tai();
-    out.base.asleep = u8::from(snapshot.asleep());
+    store_snapshot(out, clock.clock.snapshot(clock.front));
 }

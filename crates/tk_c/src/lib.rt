@@ -19,6 +19,7 @@ mod clocks;
 mod code;
 mod counted;
 mod counters;
+mod general_registers;
 mod named;
 mod reached;
 mod snapshots;

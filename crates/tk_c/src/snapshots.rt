@@ -1,14 +1,12 @@
-ghost use Rattle.std.specs.Prelude.{◌≡◌, ◌^◌, ◌*◌, ◌<◌, ℕ, pos, ◌≤ℤ◌, List, [], length, MatchOption};
+ghost use Rattle.std.specs.Prelude.{◌≡◌, ◌^◌, ◌*◌, ◌<◌, ℕ, List, [], length, MatchOption};
 ghost use types.Logic.{sem};
-ghost use Rattle.tk_clock.specs.Refusal.{read_refusal};
-ghost use Rattle.tk_clock.specs.State.{ReadBase, base_value};
-ghost use Rattle.tk_clock.specs.Time.{nanoseconds};
-ghost use Rattle.tk_c.specs.Codes.{number_of, code_of_read};
+ghost use Rattle.tk_clock.specs.State.{ReadBase};
+ghost use Rattle.tk_c.specs.Codes.{number_of};
 ghost use Rattle.tk_c.specs.declared.code.Code.TheVariants.{Done, BadClock};
 ghost use Rattle.tk_c.specs.Converted.{IsAnswered};
 ghost use Rattle.tk_c.specs.Lists.{owned_at, shared_at, Lists};
 ghost use Rattle.tk_c.specs.Named.{clock_named};
-ghost use Rattle.tk_c.specs.Storage.{stored_time};
+ghost use Rattle.tk_c.specs.Read.{IsRead, IsReadBy};
 
 use crate::code::Code;
 use crate::named::clock_named;
@@ -34,13 +32,7 @@ pub extern "C" fn tkc_snapshot_get(
     clock: u32,
     reading: u64,
 ) -> u32
-    ensures { MatchOption (clock_named clock)
-        ((result ≡ number_of BadClock) × (out.new ≡ out.old))
-        (λ named. MatchOption (read_refusal snapshot.now.base named reading)
-        ((result ≡ number_of Done)
-        × (nanoseconds (stored_time out.new) ≡ base_value snapshot.now.base named reading)
-        × (out.new.nsec < 10 ^ 9) × (pos 0 ≤ℤ out.new.sec) × (out.new.padding ≡ 0))
-        (λ refusal. (result ≡ number_of (code_of_read refusal)) × (out.new ≡ out.old))) }
+    ensures { IsReadBy snapshot.now.base clock reading out.old out.new result }
 {
     match clock {
         0 => get_known(out, snapshot, ClockId::Realtime, reading),
@@ -55,13 +47,7 @@ pub extern "C" fn tkc_snapshot_get(
 /// function is out of line, so that those branches don't start with a jump table.
 #[inline(never)]
 fn get_named(out: &mut TimeStorage, snapshot: &Snapshot, clock: u32, reading: u64) -> u32
-    ensures { MatchOption (clock_named clock)
-        ((result ≡ number_of BadClock) × (out.new ≡ out.old))
-        (λ named. MatchOption (read_refusal snapshot.now.base named reading)
-        ((result ≡ number_of Done)
-        × (nanoseconds (stored_time out.new) ≡ base_value snapshot.now.base named reading)
-        × (out.new.nsec < 10 ^ 9) × (pos 0 ≤ℤ out.new.sec) × (out.new.padding ≡ 0))
-        (λ refusal. (result ≡ number_of (code_of_read refusal)) × (out.new ≡ out.old))) }
+    ensures { IsReadBy snapshot.now.base clock reading out.old out.new result }
 {
     match clock_named(clock) {
         Some(named) => get_known(out, snapshot, named, reading),
@@ -72,11 +58,7 @@ fn get_named(out: &mut TimeStorage, snapshot: &Snapshot, clock: u32, reading: u6
 /// Writes a clock's time at a reading, or returns the code of the first test that fails.
 #[inline(always)]
 fn get_known(out: &mut TimeStorage, snapshot: &Snapshot, clock: ClockId, reading: u64) -> u32
-    ensures { MatchOption (read_refusal snapshot.now.base clock reading)
-        ((result ≡ number_of Done)
-        × (nanoseconds (stored_time out.new) ≡ base_value snapshot.now.base clock reading)
-        × (out.new.nsec < 10 ^ 9) × (pos 0 ≤ℤ out.new.sec) × (out.new.padding ≡ 0))
-        (λ refusal. (result ≡ number_of (code_of_read refusal)) × (out.new ≡ out.old)) }
+    ensures { IsRead snapshot.now.base clock reading out.old out.new result }
 {
     match snapshot.get(clock, reading) {
         Ok(time) => {

@@ -1,5 +1,5 @@
 //! Converts values to 64-bit words, and words back to values after every test.
-ghost use Rattle.std.specs.Prelude.{◌≡◌, ◌⊎◌, MatchOption, Some};
+ghost use Rattle.std.specs.Prelude.{◌≡◌, MatchOption, Some};
 ghost use Rattle.tk_clock.specs.Running.{IsRunning};
 ghost use Rattle.tk_clock.specs.Snapshot.{Snapshot};
 ghost use Rattle.tk_clock.specs.Words.{words_of, restored};
@@ -11,13 +11,14 @@ ghost use Rattle.tk_c.specs.Storage.{snapshot_storage};
 
 use crate::code::Code;
 use crate::counted::CountedClock;
+use crate::general_registers::{loaded, store};
 use crate::storage::{ClockStorage, SnapshotStorage};
-use tk_clock::{Clock, Snapshot};
+use tk_clock::{Clock, SNAPSHOT_WORDS, Snapshot};
 use tk_counter::CounterDesc;
 
 /// Writes the ten words of a snapshot (`Snapshot::words`). include/tkcore.h lists them with units.
 #[unsafe(no_mangle)]
-pub extern "C" fn tkc_snapshot_words(words: &mut [u64; 10], snapshot: &Snapshot)
+pub extern "C" fn tkc_snapshot_words(words: &mut [u64; SNAPSHOT_WORDS], snapshot: &Snapshot)
     ensures value { words.new ≡ words_of snapshot.now }
     ensures back { restored snapshot.now.base.counter words.new ≡ Some snapshot.now }
 {
@@ -34,7 +35,7 @@ pub extern "C" fn tkc_snapshot_words(words: &mut [u64; 10], snapshot: &Snapshot)
 pub extern "C" fn tkc_snapshot_from_words(
     out: &mut SnapshotStorage,
     counter: &CounterDesc,
-    words: &[u64; 10],
+    words: &[u64; SNAPSHOT_WORDS],
 ) -> u32
     ensures { MatchOption (restored counter.now words.now)
         ((result ≡ number_of BadWords) × (out.new ≡ out.old))
@@ -53,7 +54,7 @@ pub extern "C" fn tkc_snapshot_from_words(
 /// the tick in microseconds.
 #[unsafe(no_mangle)]
 pub extern "C" fn tkc_clock_words(
-    words: &mut [u64; 10],
+    words: &mut [u64; SNAPSHOT_WORDS],
     frequency: &mut i64,
     tick: &mut i64,
     clock: &CountedClock,
@@ -81,7 +82,7 @@ pub extern "C" fn tkc_clock_words(
 pub extern "C" fn tkc_clock_from_words(
     out: &mut ClockStorage,
     counter: &CounterDesc,
-    words: &[u64; 10],
+    words: &[u64; SNAPSHOT_WORDS],
     frequency: i64,
     tick: i64,
 ) -> u32
@@ -100,55 +101,4 @@ pub extern "C" fn tkc_clock_from_words(
         front: snapshot.front(),
     });
     Code::Done.number()
-}
-
-/// Loads ten words, and recomputes every second one.
-///
-/// Otherwise the rattle backend would copy two neighbours with an SSE register, which an interrupt
-/// in a kernel must not use.
-#[inline(always)]
-fn loaded(words: &[u64; 10]) -> [u64; 10]
-    ensures { result ≡ words.now }
-{
-    let &[t0, t1, t2, t3, t4, t5, t6, t7, t8, t9] = words;
-    [
-        t0,
-        computed(t1),
-        t2,
-        computed(t3),
-        t4,
-        computed(t5),
-        t6,
-        computed(t7),
-        t8,
-        computed(t9),
-    ]
-}
-
-/// Returns the number, computed as twice its half plus the remainder. LLVM folds this.
-#[inline(always)]
-fn computed(number: u64) -> u64
-    ensures { result ≡ number }
-{
-    number / 2 * 2 + number % 2
-}
-
-/// Stores ten words one by one, without neighbours in a row.
-///
-/// Otherwise the rattle backend would copy two neighbours with an SSE register, which an interrupt
-/// in a kernel must not use.
-fn store(words: &mut [u64; 10], source: &[u64; 10])
-    ensures { words.new ≡ source.now }
-{
-    let &[t0, t1, t2, t3, t4, t5, t6, t7, t8, t9] = source;
-    words[0] = t0;
-    words[2] = t2;
-    words[4] = t4;
-    words[6] = t6;
-    words[8] = t8;
-    words[1] = t1;
-    words[3] = t3;
-    words[5] = t5;
-    words[7] = t7;
-    words[9] = t9;
 }

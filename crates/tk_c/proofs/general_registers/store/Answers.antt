@@ -1,4 +1,4 @@
-use Rattle.tk_c.proofs.words.store.Goals as goal
+use Rattle.tk_c.proofs.general_registers.store.Goals as goal
 use Rattle.tk_c.proofs.Stored.{stored}
 
 pub returns : goal.returns
