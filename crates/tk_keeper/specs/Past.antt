@@ -1,9 +1,9 @@
 -- The past of a journal, and the part of it that folding keeps.
-use Rattle.std.specs.Prelude.{◌≡◌, ℕ, ◌-◌, ◌≤◌, drop, Option, Some, None, nat_lt, if◌then◌else◌}
+use Rattle.std.specs.Prelude.{◌≡◌, ℕ, ◌-◌, ◌≤◌, drop, Option, Some, None, Result, MatchResult, nat_lt, if◌then◌else◌}
 use Rattle.tk_clock.specs.declared.clock_id.ClockId.{ClockId}
 use Rattle.tk_clock.specs.Journal.{Journal, prefix, accepted_count}
 use Rattle.tk_clock.specs.Clocks.{clock_value}
-use Rattle.tk_clock.specs.Snapshot.{snapshot_of}
+use Rattle.tk_clock.specs.Snapshot.{Snapshot, snapshot_of}
 use Rattle.tk_clock.specs.State.{state_of}
 use Rattle.tk_keeper.specs.declared.front_error.FrontError.{FrontError}
 use Rattle.tk_keeper.specs.declared.front_error.FrontError.TheVariants.{Unknown, Folded}
@@ -24,6 +24,13 @@ front_refusal journal front =
     if nat_lt (accepted_count journal) front then Some Unknown
     else if nat_lt front journal.opening.count then Some Folded
     else None
+
+-- the snapshot of a front, or why the front is refused
+abbrev pub IsSnapshotAt : Journal → ℕ → Result Snapshot FrontError → Type 0
+IsSnapshotAt journal front result = MatchResult result
+    (λ snapshot. (front_refusal journal front ≡ None)
+    × (snapshot ≡ snapshot_of (at_front front journal)))
+    (λ error. front_refusal journal front ≡ Some error)
 
 -- the folded journal agrees with the journal before the fold at each front that it still has
 pub record IsFolded (before after : Journal) : Type 0 where

@@ -1,11 +1,10 @@
 //! Makes snapshots of past fronts: from the nearest kept state at or before the front, or from the
 //! clocks of an earlier front if they are nearer.
-ghost use Rattle.std.specs.Prelude.{◌≡◌, ◌+◌, ◌<◌, ◌≤◌, length, MatchResult, IfOk, Some, None};
+ghost use Rattle.std.specs.Prelude.{◌≡◌, ◌+◌, ◌<◌, ◌≤◌, length, IfOk};
 ghost use Rattle.tk_clock.specs.Journal.{prefix};
-ghost use Rattle.tk_clock.specs.Snapshot.{snapshot_of};
 ghost use Rattle.tk_clock.specs.State.{state_of};
 ghost use Rattle.tk_keeper.specs.Keeper.{ReadsAs};
-ghost use Rattle.tk_keeper.specs.Past.{IsAt, at_front, front_refusal};
+ghost use Rattle.tk_keeper.specs.Past.{IsAt, IsSnapshotAt, at_front};
 
 use super::{KEPT_EVERY, Timekeeper};
 use crate::front_error::FrontError;
@@ -29,10 +28,7 @@ impl<A: Allocator + Copy> Timekeeper<A> {
     /// - `FrontError::Unknown` if `front` is above `len()`.
     /// - `FrontError::Folded` if `front` is below `folded()`.
     pub fn snapshot_at(&self, front: u64) -> Result<Snapshot, FrontError>
-        ensures answer { MatchResult result
-            (λ snapshot. (front_refusal self.now.journal front ≡ None)
-            × (snapshot ≡ snapshot_of (at_front front self.now.journal)))
-            (λ error. front_refusal self.now.journal front ≡ Some error) }
+        ensures answer { IsSnapshotAt self.now.journal front result }
         ensures clocks { IfOk result
             (λ snapshot. ReadsAs (at_front front self.now.journal) snapshot.base) }
     {
@@ -55,10 +51,7 @@ impl<A: Allocator + Copy> Timekeeper<A> {
     ) -> Result<Snapshot, FrontError>
         requires cursor { IsAt self.now.journal cursor.old }
         ensures cursor { IsAt self.now.journal cursor.new }
-        ensures answer { MatchResult result
-            (λ snapshot. (front_refusal self.now.journal front ≡ None)
-            × (snapshot ≡ snapshot_of (at_front front self.now.journal)))
-            (λ error. front_refusal self.now.journal front ≡ Some error) }
+        ensures answer { IsSnapshotAt self.now.journal front result }
         ensures clocks { IfOk result
             (λ snapshot. ReadsAs (at_front front self.now.journal) snapshot.base) }
     {
