@@ -60,7 +60,7 @@ ready state reading cmd early =
     }
 
 -- while awake, a reading that is not behind counts the whole gap
-cycles-ahead : (counter : Counter) (asleep : Bool) (last reading : ℕ) → asleep ≡ false →
+pub cycles-ahead : (counter : Counter) (asleep : Bool) (last reading : ℕ) → asleep ≡ false →
     nat_lt (half counter) (gap counter last reading) ≡ false →
     cycles_since counter asleep last reading ≡ gap counter last reading
 cycles-ahead counter asleep last reading awake ahead =

@@ -1,4 +1,5 @@
 pub mod Worked
+mod WorkedChanges
 pub mod Append
 pub mod Stretches
 pub mod Offsets
@@ -26,3 +27,5 @@ pub mod Lines
 pub mod Reach
 pub mod Reading
 pub mod Lists
+pub mod Rescaling
+pub mod ChangeCounter

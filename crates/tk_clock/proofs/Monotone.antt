@@ -55,7 +55,7 @@ at_most true x y low = omega arith
 at_most false x y low = low
 
 -- before the next entry's reading, a prefix counts at most the cycles up to that entry
-since_low : (counter : Counter) (asleep : Bool) (last reading next : ℕ) →
+pub since_low : (counter : Counter) (asleep : Bool) (last reading next : ℕ) →
     (asleep ≡ true) ⊎ (half counter < gap counter last reading)
     ⊎ (gap counter last reading ≤ gap counter last next) →
     cycles_since counter asleep last reading ≤ (if asleep then 0 else gap counter last next)

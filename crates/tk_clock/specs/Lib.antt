@@ -20,3 +20,4 @@ pub mod Words
 pub mod Read
 pub mod Origin
 pub mod Reach
+pub mod ChangeCounter

@@ -3,6 +3,8 @@ ghost use Rattle.tk_counter.specs.Counter.{second};
 ghost use Rattle.tk_clock.specs.Amount.{IsNanos};
 ghost use Rattle.tk_clock.specs.Limits.{clock_end, raw_end};
 
+mod rescaling;
+
 use tk_counter::{CounterDesc, NANOS_PER_SECOND};
 
 /// Replaces an amount of ns that doesn't fit in 63 bits. All such amounts are beyond every clock's

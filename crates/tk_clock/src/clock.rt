@@ -1,5 +1,6 @@
 ghost use Rattle.std.specs.Prelude.{◌≡◌, ◌≤◌, ◌⊎◌, true, false, MatchResult, Some, None};
 
+mod change_counter;
 mod effects;
 mod parts;
 mod settings;

@@ -1,5 +1,6 @@
 ghost use Rattle.std.specs.Prelude.{◌≡◌, ◌*◌, ◌/◌, ◌^◌, ◌<◌, ◌≤◌, MatchResult, Some, None, pos, ◌≤ℤ◌, ◌*ℤ◌, nat_lt, IsTrue, ◌↔◌};
 
+mod carrying;
 mod changes;
 mod origins;
 mod reaching;
