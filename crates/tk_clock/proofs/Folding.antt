@@ -5,7 +5,7 @@ use Rattle.std.proofs.lemmas.List.{take-append-drop, length-take-le, take_all, t
 use Rattle.std.proofs.Math.Seq.{take-add}
 use Rattle.tk_clock.specs.declared.command.Entry.{Entry}
 use Rattle.tk_clock.specs.Folding.{IsAlike, journal_from, folded_by}
-use Rattle.tk_clock.specs.Journal.{Opening, Journal, prefix, followed_by}
+use Rattle.tk_clock.specs.Journal.{Opening, Journal, prefix, followed_by, accepted_count}
 use Rattle.tk_clock.specs.Legal.{IsLegal, IsAccepted, folded_opening}
 use Rattle.tk_clock.specs.Monotonic.{current_frequency, current_tick}
 use Rattle.tk_clock.specs.Refusal.{clock_refusal}
@@ -53,38 +53,37 @@ accepted-folded journal n all =
 pub IsLegal-folded : (journal : Journal) (n : ℕ) → n ≤ length journal.entries → IsLegal journal →
     IsLegal (folded_by n journal)
 IsLegal-folded journal n within legal =
-    let whole = legal.past.0 in
-    let is_whole = legal.past.1 in
+    let unfolded = legal.past.0 in
+    let past = legal.past.1 in
     let start = prefix 0 journal in
     let gone = take n journal.entries in
-    let longer = extended_by whole gone in
-    let begins : state_of start ≡ state_of whole =
+    let longer = extended_by unfolded gone in
+    let begins : state_of start ≡ state_of unfolded =
     ap (λ (o : Opening). let j : Journal = record { opening = o; entries = [] }
     in state_of j) legal.past.2
-    ∙ state_of-started (length whole.entries) whole in
+    ∙ state_of-started (accepted_count unfolded) unfolded in
     let later : Follows start gone =
     Follows-take start n journal.entries (Follows-accepted start journal.entries legal.accepted)
     in
     let same : state_of (prefix n journal) ≡ state_of longer =
-    state_of-alike start whole gone begins later in
-    let number : journal.opening.count + n ≡ length (whole.entries ++ gone) =
+    state_of-alike start unfolded gone begins later in
+    let number : journal.opening.count + n ≡ accepted_count longer =
     omega (
       arith,
       ap (λ (o : Opening). o.count) legal.past.2,
-      length-append whole.entries gone,
+      length-append unfolded.entries gone,
       length-take-le n journal.entries within,
     ) in
     record {
       past = (
         longer,
         record {
-          described = is_whole.described;
-          opens = is_whole.opens;
-          accepted = IsAccepted-extended whole gone is_whole.accepted
-              (Follows-alike start whole gone begins later);
+          starts = past.starts;
+          accepted = IsAccepted-extended unfolded gone past.accepted
+              (Follows-alike start unfolded gone begins later);
         },
         ap (λ k. folded_opening k (state_of (prefix n journal))) number
-            ∙ ap (folded_opening (length (whole.entries ++ gone))) same,
+            ∙ ap (folded_opening (accepted_count longer)) same,
       );
       accepted = accepted-folded journal n legal.accepted;
     }
@@ -139,17 +138,17 @@ tick-folded journal n within all = ap (λ (s : State). s.tick) (state_of-whole j
 -- folding no entry doesn't change a legal journal
 pub folded_by-nothing : (journal : Journal) → IsLegal journal → folded_by 0 journal ≡ journal
 folded_by-nothing journal legal =
-    let whole = legal.past.0 in
+    let unfolded = legal.past.0 in
     let start = prefix 0 journal in
-    let begins : state_of start ≡ state_of whole =
+    let begins : state_of start ≡ state_of unfolded =
     ap (λ (o : Opening). let j : Journal = record { opening = o; entries = [] }
     in state_of j) legal.past.2
-    ∙ state_of-started (length whole.entries) whole in
-    let count : journal.opening.count + 0 ≡ length whole.entries =
+    ∙ state_of-started (accepted_count unfolded) unfolded in
+    let count : journal.opening.count + 0 ≡ accepted_count unfolded =
     omega (arith, ap (λ (o : Opening). o.count) legal.past.2) in
     let opening : (folded_by 0 journal).opening ≡ journal.opening =
     ap (λ k. folded_opening k (state_of start)) count
-    ∙ ap (folded_opening (length whole.entries)) begins
+    ∙ ap (folded_opening (accepted_count unfolded)) begins
     ∙ sym legal.past.2 in
     ap (λ (o : Opening). let j : Journal = record { opening = o; entries = journal.entries }
     in j) opening

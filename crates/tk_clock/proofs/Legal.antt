@@ -15,7 +15,7 @@ use Rattle.tk_clock.specs.Time.{nanoseconds}
 use Rattle.tk_counter.specs.Counter.{Counter, IsCounter, usual_tick}
 use Rattle.tk_clock.specs.State.{State, state_of, effect}
 use Rattle.tk_clock.specs.Refusal.{first_of, clock_refusal, state_refusal, first_refusal, opening_refusal, is_full}
-use Rattle.tk_clock.specs.Legal.{IsLegal, IsAccepted, IsWhole, folded_opening}
+use Rattle.tk_clock.specs.Legal.{IsLegal, IsAccepted, IsWhole, IsStart, AtOpening, AtChange, IsUnfolded, folded_opening}
 use Rattle.tk_clock.proofs.Append.{slice_get-append, slice_get-push, prefix-followed_by}
 use Rattle.tk_clock.proofs.Ledger.{ledger, fits_sleep, clock_refusal-state, no_more}
 use Rattle.tk_clock.proofs.Refusals.{first_refusal-room}
@@ -181,6 +181,15 @@ IsWhole-opened counter reading real described opens = record {
   accepted = λ k entry e. absurd (none_listed k entry e);
 }
 
+-- newly opened clocks begin to run over their counter
+IsUnfolded-opened : (counter : Counter) (reading : ℕ) (real : Timespec) → IsCounter counter →
+    opening_refusal counter reading real ≡ None →
+    IsUnfolded (opened counter reading real)
+IsUnfolded-opened counter reading real described opens = record {
+  starts = AtOpening counter reading real described opens;
+  accepted = λ k entry e. absurd (none_listed k entry e);
+}
+
 -- clocks that may be opened begin with a legal journal
 pub IsLegal-opened : (counter : Counter) (reading : ℕ) (real : Timespec) → IsCounter counter →
     opening_refusal counter reading real ≡ None →
@@ -188,7 +197,7 @@ pub IsLegal-opened : (counter : Counter) (reading : ℕ) (real : Timespec) → I
 IsLegal-opened counter reading real described opens = record {
   past = (
     opened counter reading real,
-    IsWhole-opened counter reading real described opens,
+    IsUnfolded-opened counter reading real described opens,
     opened-folded counter reading real,
   );
   accepted = λ k entry e. absurd (none_listed k entry e);
@@ -203,7 +212,7 @@ IsLegal-whole journal whole =
     record {
       past = (
         opened counter reading real,
-        IsWhole-opened counter reading real whole.described whole.opens.2,
+        IsUnfolded-opened counter reading real whole.described whole.opens.2,
         whole.opens.3 ∙ opened-folded counter reading real,
       );
       accepted = whole.accepted;
@@ -214,31 +223,54 @@ nothing_before journal none =
     ap (λ (es : List Entry). record journal { entries = es })
     (take_all 0 journal.entries (omega arith))
 
+-- an opening before which no command was accepted is that of newly opened clocks
+pub record IsOpened (opening : Opening) : Type 0 where
+  pub counter : Counter
+  pub reading : ℕ
+  pub real : Timespec
+  pub described : IsCounter counter
+  pub opens : opening_refusal counter reading real ≡ None
+  pub stated : opening ≡ (opened counter reading real).opening
+
+start-opened : (opening : Opening) → IsStart opening → opening.count ≡ 0 → IsOpened opening
+start-opened opening (AtOpening counter reading real described opens) none = record {
+  counter = counter;
+  reading = reading;
+  real = real;
+  described = described;
+  opens = opens;
+  stated = refl;
+}
+start-opened opening (AtChange before reading counter first starts accepted described changes) none =
+    absurd (omega (arith, none))
+
 -- a legal journal is whole if no command was accepted before its first entry
 pub IsWhole-legal : (journal : Journal) → IsLegal journal → journal.opening.count ≡ 0 →
     IsWhole journal
 IsWhole-legal journal legal none =
     let past = legal.past.0 in
-    let whole = legal.past.1 in
-    let reading = whole.opens.0 in
-    let real = whole.opens.1 in
-    let counter = past.opening.counter in
-    let start = opened counter reading real in
-    let few : length past.entries ≡ 0 = sym (ap (λ (o : Opening). o.count) legal.past.2) ∙ none in
-    let empty : past ≡ start =
+    let count : past.opening.count + length past.entries ≡ 0 =
+    sym (ap (λ (o : Opening). o.count) legal.past.2) ∙ none in
+    let few : length past.entries ≡ 0 = omega (arith, count) in
+    let start = start-opened past.opening legal.past.1.starts (omega (arith, count)) in
+    let counter = start.counter in
+    let reading = start.reading in
+    let real = start.real in
+    let begin = opened counter reading real in
+    let empty : past ≡ begin =
     sym (nothing_before past few)
     ∙ ap (λ (o : Opening). let j : Journal = record { opening = o; entries = [] }
-    in j) whole.opens.3 in
-    let opening : journal.opening ≡ start.opening =
-    legal.past.2 ∙ ap (λ k. folded_opening k (state_of past)) few
+    in j) start.stated in
+    let opening : journal.opening ≡ begin.opening =
+    legal.past.2 ∙ ap (λ k. folded_opening k (state_of past)) count
     ∙ ap (λ (j : Journal). folded_opening 0 (state_of j)) empty
     ∙ sym (opened-folded counter reading real) in
     let same : journal.opening.counter ≡ counter = ap (λ (o : Opening). o.counter) opening in
     record {
-      described = subst IsCounter (sym same) whole.described;
+      described = subst IsCounter (sym same) start.described;
       opens = subst
           (λ (k : Counter). (r : ℕ) × (t : Timespec) × (opening_refusal k r t ≡ None)
           × (journal.opening ≡ (opened k r t).opening))
-          (sym same) (reading, real, whole.opens.2, opening);
+          (sym same) (reading, real, start.opens, opening);
       accepted = legal.accepted;
     }

@@ -29,3 +29,4 @@ pub mod Reading
 pub mod Lists
 pub mod Rescaling
 pub mod ChangeCounter
+pub mod ChangeLegal

@@ -98,13 +98,20 @@ same_parts : (state : State) (mult amount raw : ℕ) (real boot : ℤ) → state
     }
 same_parts state mult amount raw real boot p q r s t = rw (← p, q, r, s, t) refl
 
--- the state of a journal without entries that begins in the state of another journal is that state
-pub state_of-started : (count : ℕ) (journal : Journal) →
-    state_of (journal_from count (state_of journal) []) ≡ state_of journal
-state_of-started count journal =
-    let state = state_of journal in
+-- the state of a journal without entries is the state in which it begins, if the multiplier follows
+-- from its frequency and tick
+pub state_of-begun : (count : ℕ) (state : State) →
+    state.base.mult ≡ multiplier state.base.counter state.frequency state.tick →
+    state_of (journal_from count state []) ≡ state
+state_of-begun count state steered =
     let start = journal_from count state [] in
-    sym (same_parts state (current_multiplier start) _ _ _ _ (IsSteered-journal journal)
+    sym (same_parts state (current_multiplier start) _ _ _ _ steered
     (no_stretch state.base.amount (current_multiplier start))
     (no_cycles state.base.raw_amount state.base.counter.mult)
     (no_more state.base.real_offset) (no_more state.base.boot_offset))
+
+-- so it is the state of the journal that left it
+pub state_of-started : (count : ℕ) (journal : Journal) →
+    state_of (journal_from count (state_of journal) []) ≡ state_of journal
+state_of-started count journal =
+    state_of-begun count (state_of journal) (IsSteered-journal journal)

@@ -1,11 +1,12 @@
--- Which journals can exist: some whole journal leaves the opening, and all entries were accepted.
-use Rattle.std.specs.Prelude.{◌≡◌, ℕ, length, slice_get, Some, None}
-use Rattle.tk_counter.specs.Counter.{IsCounter}
+-- Which journals can exist: clocks can have come to the opening, and all entries were accepted.
+use Rattle.std.specs.Prelude.{◌≡◌, ℕ, ◌+◌, slice_get, Some, None}
+use Rattle.tk_counter.specs.Counter.{Counter, IsCounter}
 use Rattle.tk_clock.specs.declared.timespec.Timespec.{Timespec}
 use Rattle.tk_clock.specs.declared.command.Entry.{Entry}
-use Rattle.tk_clock.specs.Journal.{Opening, Journal, opened, prefix}
+use Rattle.tk_clock.specs.Journal.{Opening, Journal, opened, prefix, accepted_count}
 use Rattle.tk_clock.specs.State.{State, state_of}
 use Rattle.tk_clock.specs.Refusal.{clock_refusal, opening_refusal}
+use Rattle.tk_clock.specs.ChangeCounter.{changed, change_refusal}
 
 -- each entry was accepted after the entries before it
 abbrev pub IsAccepted : Journal → Type 0
@@ -37,9 +38,25 @@ folded_opening n state = record {
   asleep = state.base.asleep;
 }
 
--- a journal that begins in the state that some whole journal leaves, and whose entries were all
--- accepted; if no entry was folded, the whole journal has no entries
+-- an opening with which the clocks begin to run over a counter: they were opened with it, or their
+-- counter was changed after a journal over another one, all of whose entries were accepted
+pub data IsStart : Opening → Type 0 where
+  AtOpening : (counter : Counter) (reading : ℕ) (real : Timespec) → IsCounter counter →
+      opening_refusal counter reading real ≡ None → IsStart (opened counter reading real).opening
+  AtChange : (before : Journal) (reading : ℕ) (counter : Counter) (first : ℕ) →
+      IsStart before.opening → IsAccepted before → IsCounter counter →
+      change_refusal (state_of before) reading counter first ≡ None →
+      IsStart (folded_opening (accepted_count before + 1)
+      (changed (state_of before) reading counter first))
+
+-- a journal that lists every command since the clocks began to run over its counter
+pub record IsUnfolded (journal : Journal) : Type 0 where
+  pub starts : IsStart journal.opening
+  pub accepted : IsAccepted journal
+
+-- a journal that begins in the state that some such journal leaves, and whose entries were all
+-- accepted; if no entry was folded, that journal has no entries
 pub record IsLegal (journal : Journal) : Type 0 where
-  pub past : (whole : Journal) × IsWhole whole
-      × (journal.opening ≡ folded_opening (length whole.entries) (state_of whole))
+  pub past : (unfolded : Journal) × IsUnfolded unfolded
+      × (journal.opening ≡ folded_opening (accepted_count unfolded) (state_of unfolded))
   pub accepted : IsAccepted journal

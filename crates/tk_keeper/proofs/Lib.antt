@@ -1,3 +1,4 @@
+pub mod ChangeCounter
 pub mod Folding
 pub mod Items
 pub mod Kept

@@ -1,6 +1,7 @@
 ghost use Rattle.std.specs.Prelude.{◌≡◌, ◌≤◌, MatchResult, Some, None};
 
 mod applying;
+mod changing;
 mod folding;
 mod past;
 mod replaying;

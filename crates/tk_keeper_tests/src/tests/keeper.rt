@@ -1,5 +1,6 @@
 //! Tests values that were worked out manually, outside the contracts, and the edges of each range.
 
+mod change_counter;
 mod copies;
 mod folding;
 mod fronts;
