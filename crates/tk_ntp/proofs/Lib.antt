@@ -1,0 +1,7 @@
+pub mod Gains
+pub mod Lengths
+pub mod Near
+pub mod Long
+pub mod Kept
+pub mod Reading
+pub mod Worked

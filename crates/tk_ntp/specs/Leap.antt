@@ -1,0 +1,62 @@
+-- The leap second as a second of REALTIME begins (second_overflow, kernel/time/ntp.c).
+use Rattle.std.specs.Prelude.{ℕ, ◌+◌, ◌-◌, ◌%◌, ℤ, pos, negsuc, Bool, false, not, ◌&&◌, ◌||◌, nat_eq, nat_lt, Option, Some, None, if◌then◌else◌}
+use Rattle.tk_clock.specs.Limits.{greatest_tai}
+use Rattle.tk_ntp.specs.declared.leap.Leap.{Leap}
+use Rattle.tk_ntp.specs.declared.leap.Leap.TheVariants.{None as NoLeap, Insert, Delete}
+use Rattle.tk_ntp.specs.declared.leap_plan.LeapState.{LeapState}
+use Rattle.tk_ntp.specs.declared.leap_plan.LeapState.TheVariants.{Idle, Inserting, Deleting, InProgress, Over}
+use Rattle.tk_ntp.specs.declared.leap_plan.LeapPlan.{LeapPlan}
+
+-- what a leap adds to REALTIME, in seconds
+abbrev pub leap_seconds : Leap → ℤ
+leap_seconds NoLeap = pos 0
+leap_seconds Insert = negsuc 0
+leap_seconds Delete = pos 1
+
+-- the TAI offset after a leap, so that TAI runs on; it stays in its range, from 0 to greatest_tai
+abbrev pub tai_after_leap : Leap → ℕ → ℕ
+tai_after_leap NoLeap tai = tai
+tai_after_leap Insert tai = if nat_lt tai greatest_tai then tai + 1 else tai
+tai_after_leap Delete tai = tai - 1
+
+-- no leap second is announced
+abbrev pub no_plan : LeapPlan
+no_plan = record { state = Idle; due = None }
+
+-- the leap second is over
+abbrev pub over : LeapPlan
+over = record { state = Over; due = None }
+
+-- the plan that the status announces: an insertion as the next day begins, or a deletion as the
+-- last second of this day does
+abbrev pub announced : LeapPlan → Bool → Bool → ℕ → LeapPlan
+announced plan insert delete sec =
+    if insert then record { state = Inserting; due = Some (sec + 86400 - sec % 86400) }
+    else if delete then record { state = Deleting; due = Some (sec + 86400 - (sec + 1) % 86400) }
+    else plan
+
+-- whether the leap is due at a second
+abbrev pub is_due : Option ℕ → ℕ → Bool
+is_due (Some due) sec = nat_eq due sec
+is_due None sec = false
+
+-- the plan after a second has begun, by the plan's state and by what the status asks for
+abbrev pub plan_in : LeapState → LeapPlan → Bool → Bool → ℕ → LeapPlan
+plan_in Idle plan insert delete sec = announced plan insert delete sec
+plan_in Inserting plan insert delete sec =
+    if not insert then no_plan
+    else if is_due plan.due sec then record plan { state = InProgress }
+    else plan
+plan_in Deleting plan insert delete sec =
+    if not delete then no_plan else if is_due plan.due sec then over else plan
+plan_in InProgress plan insert delete sec = over
+plan_in Over plan insert delete sec =
+    if insert || delete then plan else record plan { state = Idle }
+
+-- the leap that comes with the second
+abbrev pub leap_in : LeapState → LeapPlan → Bool → Bool → ℕ → Leap
+leap_in Idle plan insert delete sec = NoLeap
+leap_in Inserting plan insert delete sec = if insert && is_due plan.due sec then Insert else NoLeap
+leap_in Deleting plan insert delete sec = if delete && is_due plan.due sec then Delete else NoLeap
+leap_in InProgress plan insert delete sec = NoLeap
+leap_in Over plan insert delete sec = NoLeap

@@ -1,0 +1,13 @@
+pub mod Bits
+pub mod Fault
+pub mod Request
+pub mod Length
+pub mod Phase
+pub mod Loops
+pub mod Leap
+pub mod Ntp
+pub mod Second
+pub mod Given
+pub mod Offset
+pub mod Modes
+pub mod Reply

@@ -1,0 +1,45 @@
+ghost use Rattle.std.specs.Prelude.{◌≡◌, ◌<◌, pos, ◌+ℤ◌};
+ghost use Rattle.tk_clock.specs.Limits.{greatest_tai};
+ghost use Rattle.tk_ntp.specs.Leap.{leap_seconds, tai_after_leap};
+
+use crate::request::TAI_OFFSET_LIMIT;
+
+/// Says what REALTIME leaps by as a second begins.
+#[derive(Clone, Copy, Debug, PartialEq, Eq)]
+pub enum Leap {
+    /// No leap.
+    None,
+    /// A second is inserted: REALTIME goes back by a second.
+    Insert,
+    /// A second is deleted: REALTIME goes forward by a second.
+    Delete,
+}
+
+impl Leap {
+    /// Returns the seconds that the leap adds to REALTIME: -1 for an insertion, 1 for a deletion,
+    /// otherwise 0.
+    pub fn seconds(self) -> i64
+        ensures { result ≡ leap_seconds self }
+    {
+        match self {
+            Leap::None => 0,
+            Leap::Insert => -1,
+            Leap::Delete => 1,
+        }
+    }
+
+    /// Returns the TAI offset after the leap, in seconds, from the one before it, so that TAI runs
+    /// on. An offset that would leave its range of 0 to 100,000 stays as it is.
+    pub fn tai_after(self, tai: u32) -> u32
+        ensures value { result ≡ tai_after_leap self tai }
+        ensures runs_on { 0 < tai → tai < greatest_tai →
+            pos result +ℤ leap_seconds self ≡ pos tai }
+    {
+        match self {
+            Leap::None => tai,
+            Leap::Insert if tai < TAI_OFFSET_LIMIT => tai + 1,
+            Leap::Insert => tai,
+            Leap::Delete => tai.saturating_sub(1),
+        }
+    }
+}

@@ -1,0 +1,37 @@
+//! Steers a clock as adjtimex(2) does: offsets, frequencies and leap seconds change the state of a
+//! discipline, and this state gives the length of each second.
+//!
+//! | Item | Its meaning |
+//! |---|---|
+//! | `Discipline` | the state, changed by requests and by each second of REALTIME that begins |
+//! | `Timex` | a request, and the fields of a reply |
+//! | `Reply`, `TimeState` | the reply to a request, and the clock's state in it |
+//! | `Leap` | what REALTIME leaps by as a second begins |
+//! | `ADJ_OFFSET` .. | the bits of a request's `modes` |
+//! | `STA_PLL` .. | the bits of a status |
+//!
+//! Units: lengths of seconds in `2^-32` ns; frequencies of requests in `2^-16` ppm; errors and ticks
+//! in microseconds; offsets in nanoseconds or microseconds, as the status says. No call allocates
+//! or waits.
+#![tactic(auto)]
+
+mod bits;
+mod discipline;
+mod leap;
+mod leap_plan;
+mod length;
+mod loops;
+mod phase;
+mod reply;
+mod request;
+mod timex;
+
+pub use bits::{
+    ADJ_ADJTIME, ADJ_ESTERROR, ADJ_FREQUENCY, ADJ_MAXERROR, ADJ_MICRO, ADJ_NANO, ADJ_OFFSET,
+    ADJ_READONLY, ADJ_SETOFFSET, ADJ_STATUS, ADJ_TAI, ADJ_TICK, ADJ_TIMECONST, STA_CLOCKERR,
+    STA_DEL, STA_FLL, STA_FREQHOLD, STA_INS, STA_MODE, STA_NANO, STA_PLL, STA_UNSYNC,
+};
+pub use discipline::Discipline;
+pub use leap::Leap;
+pub use reply::{Reply, TimeState};
+pub use timex::Timex;

@@ -1,0 +1,103 @@
+use std::alloc::{AllocError, Global};
+use tk_clock::Timespec;
+use tk_ntp::Timex;
+
+/// Represents an order, with its numbers in the ranges of their types.
+#[derive(Clone, Copy)]
+pub enum Order {
+    /// Makes a fresh discipline with this `hz`.
+    New(u32),
+    /// Lets this second of REALTIME begin.
+    Second(u64),
+    /// Says that REALTIME was set.
+    Clear,
+    /// Asks the discipline at a time of REALTIME.
+    Adjtimex(Timespec, Timex),
+}
+
+impl Order {
+    /// Reads an order from a line. `None` means that the line is no order.
+    pub fn read(alloc: Global, line: &str) -> Result<Option<Order>, AllocError> {
+        let Some((word, rest)) = line.split_once(',') else {
+            return Ok(if line == "clear" {
+                Some(Order::Clear)
+            } else {
+                None
+            });
+        };
+        let numbers = numbers_of(alloc, rest)?;
+        Ok(if word == "new" {
+            new_order(numbers.as_slice())
+        } else if word == "second" {
+            second_order(numbers.as_slice())
+        } else {
+            adjtimex_order(numbers.as_slice())
+        })
+    }
+}
+
+/// Returns the numbers of a line's fields. A field that isn't a number is left out.
+fn numbers_of(alloc: Global, fields: &str) -> Result<Vec<i64>, AllocError> {
+    let mut numbers = Vec::new(alloc);
+    for field in fields.split(',') {
+        if let Ok(number) = field.parse::<i64>() {
+            numbers.push(number)?;
+        }
+    }
+    Ok(numbers)
+}
+
+fn new_order(numbers: &[i64]) -> Option<Order> {
+    let [hz] = numbers else {
+        return None;
+    };
+    Some(Order::New(u32::try_from(*hz).ok()?))
+}
+
+fn second_order(numbers: &[i64]) -> Option<Order> {
+    let [sec] = numbers else {
+        return None;
+    };
+    Some(Order::Second(u64::try_from(*sec).ok()?))
+}
+
+fn adjtimex_order(numbers: &[i64]) -> Option<Order> {
+    let [sec, nsec, request @ ..] = numbers else {
+        return None;
+    };
+    let real = Timespec {
+        sec: *sec,
+        nsec: u32::try_from(*nsec).ok()?,
+    };
+    Some(Order::Adjtimex(real, timex_of(request)?))
+}
+
+fn timex_of(numbers: &[i64]) -> Option<Timex> {
+    let [
+        modes,
+        offset,
+        freq,
+        maxerror,
+        esterror,
+        status,
+        constant,
+        tick,
+        sec,
+        sub,
+    ] = numbers
+    else {
+        return None;
+    };
+    Some(Timex {
+        modes: u32::try_from(*modes).ok()?,
+        offset: *offset,
+        freq: *freq,
+        maxerror: *maxerror,
+        esterror: *esterror,
+        status: u32::try_from(*status).ok()?,
+        constant: *constant,
+        tick: *tick,
+        sec: *sec,
+        sub: *sub,
+    })
+}

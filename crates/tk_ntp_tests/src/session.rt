@@ -1,0 +1,98 @@
+use crate::order::Order;
+use std::io;
+use tk_clock::Timespec;
+use tk_ntp::{Discipline, Reply, Timex};
+
+/// Keeps a discipline, and TAI minus REALTIME in seconds.
+#[derive(Drop)]
+pub struct Session {
+    ntp: Option<Discipline>,
+    tai: u32,
+}
+
+impl Session {
+    /// Makes a session without a discipline.
+    pub fn new() -> Session {
+        Session { ntp: None, tai: 0 }
+    }
+
+    /// Follows the order of a line, and prints the answer.
+    pub fn follow(&mut self, rt: &HostRuntime, line: &str) -> io::Result<()> {
+        match Order::read(rt.alloc(), line)? {
+            Some(Order::New(hz)) => self.open(rt, hz),
+            Some(Order::Second(sec)) => self.begin(rt, sec),
+            Some(Order::Clear) => self.clear(rt),
+            Some(Order::Adjtimex(real, request)) => self.ask(rt, real, &request),
+            None => println!(rt; "no"),
+        }
+    }
+
+    fn open(&mut self, rt: &HostRuntime, hz: u32) -> io::Result<()> {
+        self.tai = 0;
+        self.ntp = Discipline::new(hz);
+        match &self.ntp {
+            Some(ntp) => println!(rt; "new,{}", ntp.second_length()),
+            None => println!(rt; "no"),
+        }
+    }
+
+    fn begin(&mut self, rt: &HostRuntime, sec: u64) -> io::Result<()> {
+        let Some(mut ntp) = self.ntp else {
+            return println!(rt; "no");
+        };
+        if sec > i64::MAX as u64 {
+            return println!(rt; "no");
+        }
+        let leap = ntp.overflow(sec);
+        self.tai = leap.tai_after(self.tai);
+        self.ntp = Some(ntp);
+        let seconds = leap.seconds();
+        println!(rt; "second,{seconds},{},{}", self.tai, ntp.second_length())
+    }
+
+    fn clear(&mut self, rt: &HostRuntime) -> io::Result<()> {
+        let Some(mut ntp) = self.ntp else {
+            return println!(rt; "no");
+        };
+        ntp.clear();
+        self.ntp = Some(ntp);
+        println!(rt; "clear,{}", ntp.second_length())
+    }
+
+    fn ask(&mut self, rt: &HostRuntime, real: Timespec, request: &Timex) -> io::Result<()> {
+        let Some(mut ntp) = self.ntp else {
+            return println!(rt; "no");
+        };
+        if request.is_faulty() || real.sec < 0 {
+            return println!(rt; "no");
+        }
+        if let Some(by) = request.step() {
+            ntp.clear();
+            println!(rt; "step,{},{}", by.sec, by.nsec)?;
+        }
+        let reply = ntp.adjtimex(request, real, self.tai);
+        self.tai = reply.tai;
+        self.ntp = Some(ntp);
+        print(rt, &reply, ntp.second_length())
+    }
+}
+
+/// Prints a reply, and the length of a second after it.
+fn print(rt: &HostRuntime, reply: &Reply, length: i64) -> io::Result<()> {
+    let Timex {
+        offset,
+        freq,
+        maxerror,
+        esterror,
+        status,
+        constant,
+        tick,
+        sec,
+        sub,
+        ..
+    } = reply.timex;
+    let state = reply.state;
+    let tai = reply.tai;
+    print!(rt; "adj,{state:?},{sec},{sub},{offset},{freq},{maxerror},{esterror}")?;
+    println!(rt; ",{status},{constant},{tick},{tai},{length}")
+}

@@ -1,0 +1,100 @@
+//! Leap seconds.
+use super::{Clock, fields, request};
+use std::test::Fail;
+use tk_ntp::{Leap, Reply, TimeState, Timex};
+
+/// Returns the reply with a TAI offset, whose modes are none.
+fn reply(state: TimeState, tai: u32, sec: u32, status: u32, maxerror: i64) -> Reply {
+    Reply {
+        state,
+        tai,
+        timex: Timex {
+            maxerror,
+            status,
+            ..fields(0, sec, 499_000)
+        },
+    }
+}
+
+/// Returns the request that announces a leap second by a status.
+fn announcing(status: u32) -> Timex {
+    Timex {
+        status,
+        constant: 36,
+        ..request(0x94)
+    }
+}
+
+#[test]
+fn a_second_is_inserted_at_midnight(rt: HostRuntime) -> Result<(), Fail> {
+    let mut clock = Clock::new(1_483_228_797)?;
+    let first = clock.reply(499_000_000, &announcing(16))?;
+    assert_eq!(rt; first.state, TimeState::Ok);
+    assert_eq!(rt; first.tai, 36);
+    for (sec, leap, state, tai, maxerror) in [
+        (1_483_228_798, Leap::None, TimeState::Ins, 36, 500),
+        (1_483_228_799, Leap::None, TimeState::Ins, 36, 1000),
+        (1_483_228_800, Leap::Insert, TimeState::Oop, 37, 1500),
+        (1_483_228_800, Leap::None, TimeState::Wait, 37, 2000),
+    ] {
+        assert_eq!(rt; clock.begin(sec), leap);
+        let expected = reply(state, tai, sec, 16, maxerror);
+        assert_eq!(rt; clock.reply(499_000_000, &request(0))?, expected);
+    }
+    let off = clock.reply(499_000_000, &request(0x10))?;
+    assert_eq!(rt; off.state, TimeState::Wait);
+    assert_eq!(rt; clock.begin(1_483_228_801), Leap::None);
+    let expected = reply(TimeState::Ok, 37, 1_483_228_801, 0, 2500);
+    assert_eq!(rt; clock.reply(499_000_000, &request(0))?, expected);
+    Ok(())
+}
+
+#[test]
+fn the_last_second_of_a_day_is_deleted(rt: HostRuntime) -> Result<(), Fail> {
+    let mut clock = Clock::new(1_483_228_797)?;
+    let _ = clock.reply(499_000_000, &announcing(32))?;
+    for (sec, leap, state, tai, maxerror) in [
+        (1_483_228_798, Leap::None, TimeState::Del, 36, 500),
+        (1_483_228_799, Leap::Delete, TimeState::Wait, 35, 1000),
+        (1_483_228_801, Leap::None, TimeState::Wait, 35, 1500),
+    ] {
+        assert_eq!(rt; clock.begin(sec), leap);
+        let expected = reply(state, tai, sec, 32, maxerror);
+        assert_eq!(rt; clock.reply(499_000_000, &request(0))?, expected);
+    }
+    Ok(())
+}
+
+#[test]
+fn a_set_forgets_when_the_leap_is_due(rt: HostRuntime) -> Result<(), Fail> {
+    let mut clock = Clock::new(1_483_228_790)?;
+    let _ = clock.reply(500_000_000, &announcing(16))?;
+    assert_eq!(rt; clock.begin(1_483_228_791), Leap::None);
+    clock.ntp.clear();
+    for sec in [1_483_228_799, 1_483_228_800, 1_483_228_801] {
+        assert_eq!(rt; clock.begin(sec), Leap::None);
+        let expected = reply(TimeState::Error, 36, sec, 80, 16_000_000);
+        assert_eq!(rt; clock.reply(499_000_000, &request(0))?, expected);
+    }
+    assert_eq!(rt;
+        clock.reply(499_000_000, &request(0x10))?.state,
+        TimeState::Ins
+    );
+    Ok(())
+}
+
+#[test]
+fn tai_runs_on_at_a_leap(rt: HostRuntime) {
+    for (leap, before, after, seconds) in [
+        (Leap::Insert, 36, 37, -1),
+        (Leap::Delete, 36, 35, 1),
+        (Leap::None, 36, 36, 0),
+        (Leap::Insert, 99_999, 100_000, -1),
+        (Leap::Insert, 100_000, 100_000, -1),
+        (Leap::Delete, 1, 0, 1),
+        (Leap::Delete, 0, 0, 1),
+    ] {
+        assert_eq!(rt; leap.tai_after(before), after);
+        assert_eq!(rt; leap.seconds(), seconds);
+    }
+}

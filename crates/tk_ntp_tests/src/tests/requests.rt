@@ -1,0 +1,236 @@
+//! Frequencies, ticks, errors, the old call adjtime, steps and faults.
+use super::{Clock, fields, reply, request};
+use std::test::Fail;
+use tk_clock::Timespec;
+use tk_ntp::{Discipline, TimeState, Timex};
+
+#[test]
+fn a_fresh_discipline_is_not_synchronized(rt: HostRuntime) -> Result<(), Fail> {
+    let mut clock = Clock::new(1_700_000_000)?;
+    assert_eq!(rt;
+        clock.reply(0, &request(0))?,
+        reply(TimeState::Error, fields(0, 1_700_000_000, 0))
+    );
+    assert_eq!(rt; clock.ntp.second_length(), 4_294_967_296_000_000_000);
+    assert_eq!(rt; clock.ntp.tick(), 10_000);
+    Ok(())
+}
+
+#[test]
+fn there_are_1_to_1024_parts_of_a_second(rt: HostRuntime) {
+    for (hz, is_there) in [(0, false), (1, true), (1024, true), (1025, false)] {
+        assert_eq!(rt; Discipline::new(hz).is_some(), is_there, "{hz}");
+    }
+}
+
+#[test]
+fn a_frequency_is_clamped(rt: HostRuntime) -> Result<(), Fail> {
+    let mut clock = Clock::new(1_700_000_010)?;
+    for (given, kept) in [
+        (6_553_600, 6_553_600),
+        (40_000_000, 32_768_000),
+        (-1, -1),
+        (140_737_488_355, 32_768_000),
+    ] {
+        let asked = Timex {
+            freq: given,
+            ..request(0x2)
+        };
+        let expected = Timex {
+            freq: kept,
+            ..fields(0x2, 1_700_000_010, 501_049)
+        };
+        let found = clock.reply(501_049_935, &asked)?;
+        assert_eq!(rt; found, reply(TimeState::Error, expected));
+    }
+    Ok(())
+}
+
+#[test]
+fn a_phase_goes_on_under_another_tick(rt: HostRuntime) -> Result<(), Fail> {
+    let mut clock = Clock::new(1_700_000_000)?;
+    let pll = Timex {
+        offset: 10_000_000,
+        status: 1,
+        constant: 6,
+        ..request(0x2035)
+    };
+    let _ = clock.reply(500_000_000, &pll)?;
+    clock.pass(1_700_000_004);
+    let ticked = Timex {
+        tick: 10_100,
+        ..request(0x4000)
+    };
+    let expected = Timex {
+        offset: 9_844_663,
+        maxerror: 2000,
+        status: 8193,
+        constant: 6,
+        tick: 10_100,
+        ..fields(0x4000, 1_700_000_004, 500_136_017)
+    };
+    assert_eq!(rt;
+        clock.reply(500_136_017, &ticked)?,
+        reply(TimeState::Ok, expected)
+    );
+    clock.pass(1_700_000_014);
+    let slower = Timex {
+        freq: -6_553_600,
+        tick: 9900,
+        ..request(0x4002)
+    };
+    let expected = Timex {
+        offset: 9_466_795,
+        freq: -6_553_600,
+        maxerror: 7000,
+        status: 8193,
+        constant: 6,
+        tick: 9900,
+        ..fields(0x4002, 1_700_000_014, 600_514_511)
+    };
+    assert_eq!(rt;
+        clock.reply(600_514_511, &slower)?,
+        reply(TimeState::Ok, expected)
+    );
+    assert_eq!(rt; clock.ntp.tick(), 9900);
+    Ok(())
+}
+
+#[test]
+fn the_greatest_error_grows_to_its_limit(rt: HostRuntime) -> Result<(), Fail> {
+    let mut clock = Clock::new(1_700_000_000)?;
+    let errors = Timex {
+        esterror: 7,
+        ..request(0x1c)
+    };
+    let _ = clock.reply(500_000_000, &errors)?;
+    for (sec, state, maxerror, status) in [
+        (1_700_000_010, TimeState::Ok, 5000, 0),
+        (1_700_032_000, TimeState::Ok, 16_000_000, 0),
+        (1_700_032_001, TimeState::Error, 16_000_000, 64),
+    ] {
+        clock.pass(sec);
+        let expected = Timex {
+            maxerror,
+            esterror: 7,
+            status,
+            ..fields(0, sec, 500_000)
+        };
+        assert_eq!(rt;
+            clock.reply(500_000_000, &request(0))?,
+            reply(state, expected)
+        );
+    }
+    Ok(())
+}
+
+#[test]
+fn adjtime_gives_500_us_in_a_second(rt: HostRuntime) -> Result<(), Fail> {
+    let mut clock = Clock::new(1_700_000_000)?;
+    let shot = Timex {
+        offset: 1200,
+        ..request(0x8001)
+    };
+    assert_eq!(rt; clock.reply(500_000_000, &shot)?.timex.offset, 0);
+    // of 10^9 * 2^32 and so many us: 0, then 500, 500, 200 and 0
+    for (sec, left, length) in [
+        (1_700_000_000, 1200, 4_294_967_296_000_000_000),
+        (1_700_000_001, 700, 4_297_114_779_648_000_000),
+        (1_700_000_002, 200, 4_297_114_779_648_000_000),
+        (1_700_000_003, 0, 4_295_826_289_459_200_000),
+        (1_700_000_004, 0, 4_294_967_296_000_000_000),
+    ] {
+        clock.pass(sec);
+        let expected = Timex {
+            offset: left,
+            ..fields(0xa001, sec, 500_249)
+        };
+        let found = clock.reply(500_249_981, &request(0xa001))?;
+        assert_eq!(rt; found, reply(TimeState::Error, expected));
+        assert_eq!(rt; clock.ntp.second_length(), length);
+    }
+    Ok(())
+}
+
+#[test]
+fn a_step_is_in_nanoseconds(rt: HostRuntime) {
+    for (modes, sec, sub, nsec) in [
+        (0x2100, -2, 250_000_000, 250_000_000),
+        (0x100, 1, 999_999, 999_999_000),
+        (0x100, i64::MIN, 0, 0),
+    ] {
+        let asked = Timex {
+            sec,
+            sub,
+            ..request(modes)
+        };
+        assert!(rt; !asked.is_faulty());
+        assert_eq!(rt; asked.step(), Some(Timespec { sec, nsec }));
+    }
+    let none = request(0x2001);
+    assert!(rt; !none.is_faulty());
+    assert_eq!(rt; none.step(), None);
+}
+
+#[test]
+fn each_fault_is_refused(rt: HostRuntime) {
+    for (modes, freq, tick, sub, is_faulty) in [
+        (0x8000, 0, 0, 0, true),
+        (0x8001, 0, 0, 0, false),
+        (0xc001, 0, 8999, 0, false),
+        (0x4000, 0, 8999, 0, true),
+        (0x4000, 0, 9000, 0, false),
+        (0x4000, 0, 11_000, 0, false),
+        (0x4000, 0, 11_001, 0, true),
+        (0x2, 140_737_488_356, 0, 0, true),
+        (0x2, -140_737_488_355, 0, 0, false),
+        (0x2, -140_737_488_356, 0, 0, true),
+        (0x8003, i64::MAX, 0, 0, true),
+        (0x100, 0, 0, 999_999, false),
+        (0x100, 0, 0, 1_000_000, true),
+        (0x2100, 0, 0, 999_999_999, false),
+        (0x2100, 0, 0, 1_000_000_000, true),
+        (0x100, 0, 0, -1, true),
+        (0, i64::MIN, i64::MIN, i64::MIN, false),
+    ] {
+        let asked = Timex {
+            freq,
+            tick,
+            sub,
+            ..request(modes)
+        };
+        assert_eq!(rt; asked.is_faulty(), is_faulty, "{modes} {freq} {tick} {sub}");
+    }
+}
+
+#[test]
+fn numbers_out_of_range_are_clamped(rt: HostRuntime) -> Result<(), Fail> {
+    let mut clock = Clock::new(1_700_000_000)?;
+    for (given, error, constant, tai) in [
+        (i64::MIN, 0, 4, 0),
+        (-1, 0, 4, 0),
+        (5, 5, 9, 5),
+        (6, 6, 10, 6),
+        (i64::MAX, 16_000_000, 10, 6),
+        (100_000, 100_000, 10, 100_000),
+        (100_001, 100_001, 10, 100_000),
+        (16_000_001, 16_000_000, 10, 100_000),
+    ] {
+        let asked = Timex {
+            maxerror: given,
+            esterror: given,
+            constant: given,
+            ..request(0xac)
+        };
+        let found = clock.reply(0, &asked)?;
+        let expected = Timex {
+            maxerror: error,
+            esterror: error,
+            constant,
+            ..fields(0xac, 1_700_000_000, 0)
+        };
+        assert_eq!(rt; found.timex, expected, "{given}");
+        assert_eq!(rt; found.tai, tai, "{given}");
+    }
+    Ok(())
+}
