@@ -4,4 +4,5 @@ pub mod Near
 pub mod Long
 pub mod Kept
 pub mod Reading
+pub mod Steering
 pub mod Worked

@@ -8,7 +8,9 @@ use Rattle.tk_ntp.specs.declared.reply.Reply.{Reply}
 use Rattle.tk_ntp.specs.declared.reply.TimeState.{TimeState}
 use Rattle.tk_ntp.specs.declared.reply.TimeState.TheVariants.{Ok, Ins, Del, Oop, Wait, Error}
 use Rattle.tk_ntp.specs.declared.leap.Leap.TheVariants.{None as NoLeap, Insert, Delete}
+use Rattle.tk_ntp.specs.declared.rate.Rate.{Rate}
 use Rattle.tk_ntp.specs.Fault.{is_faulty}
+use Rattle.tk_ntp.specs.Rate.{rate_for}
 use Rattle.tk_ntp.specs.Request.{step_of}
 use Rattle.tk_ntp.specs.Leap.{tai_after_leap}
 use Rattle.tk_ntp.specs.Ntp.{Ntp, fresh, cleared, second_length}
@@ -362,3 +364,20 @@ tick-faults : (is_faulty (ticked 0x4000 (pos 8999)) ≡ true)
     × (is_faulty (ticked 0x4000 (pos 9000)) ≡ false)
     × (is_faulty (ticked 0x4000 (pos 11000)) ≡ false)
 tick-faults = (refl, refl, refl, refl)
+
+-- ---- the frequency and the tick for the length of a second
+
+abbrev rate : ℤ → ℤ → Rate
+rate freq tick = record { frequency = freq; tick = tick }
+
+rates : (rate_for (pos 4294967296000000000) 10000 ≡ rate (pos 0) (pos 10000))
+    × (rate_for (pos 4296645017600000000) 10000 ≡ rate (pos 25600000) (pos 10000))
+    × (rate_for (pos 4297114779648000000) 10000 ≡ rate (pos 32768000) (pos 10000))
+    × (rate_for (pos 4337487472230400000) 10100 ≡ rate (neg_ℤ (pos 6553600)) (pos 10100))
+rates = (refl, refl, refl, refl)
+
+-- a length that no frequency reaches at its tick, and lengths beyond 10.05 percent
+far_rates : (rate_for (pos 4299262263296000000) 10000 ≡ rate (pos 0) (pos 10010))
+    × (rate_for (pos 4831838208000000000) 10000 ≡ rate (pos 32768000) (pos 11000))
+    × (rate_for (pos 0) 10000 ≡ rate (neg_ℤ (pos 32768000)) (pos 9000))
+far_rates = (refl, refl, refl)

@@ -11,3 +11,4 @@ pub mod Given
 pub mod Offset
 pub mod Modes
 pub mod Reply
+pub mod Rate

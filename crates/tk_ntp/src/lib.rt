@@ -7,6 +7,7 @@
 //! | `Timex` | a request, and the fields of a reply |
 //! | `Reply`, `TimeState` | the reply to a request, and the clock's state in it |
 //! | `Leap` | what REALTIME leaps by as a second begins |
+//! | `Rate` | the frequency and the tick that make a second so long |
 //! | `ADJ_OFFSET` .. | the bits of a request's `modes` |
 //! | `STA_PLL` .. | the bits of a status |
 //!
@@ -22,6 +23,7 @@ mod leap_plan;
 mod length;
 mod loops;
 mod phase;
+mod rate;
 mod reply;
 mod request;
 mod timex;
@@ -33,5 +35,6 @@ pub use bits::{
 };
 pub use discipline::Discipline;
 pub use leap::Leap;
+pub use rate::Rate;
 pub use reply::{Reply, TimeState};
 pub use timex::Timex;

@@ -5,6 +5,9 @@ ghost use Rattle.tk_ntp.specs.Request.{gain_of, clamped_to, error_limit, constan
 
 use tk_counter::FREQUENCY_LIMIT;
 
+/// `2^-16` ppm of a second, as a length in `2^-32` ns (`PPM_SCALE`).
+pub(crate) const FREQUENCY_UNIT: i64 = 65_536_000;
+
 /// The greatest error that is counted, in microseconds (`NTP_PHASE_LIMIT`).
 pub(crate) const ERROR_LIMIT: u32 = 16_000_000;
 
@@ -19,7 +22,7 @@ pub(crate) fn gain_of(freq: i64) -> i64
     ensures value { result ≡ gain_of freq }
     ensures held { unsigned_abs result ≤ max_frequency }
 {
-    freq.clamp(-FREQUENCY_LIMIT, FREQUENCY_LIMIT) * 65_536_000
+    freq.clamp(-FREQUENCY_LIMIT, FREQUENCY_LIMIT) * FREQUENCY_UNIT
 }
 
 /// Returns a given error in its range, in microseconds.

@@ -5,6 +5,7 @@ use tk_ntp::{Discipline, Leap, Reply, TimeState, Timex};
 
 mod leaps;
 mod loops;
+mod rates;
 mod requests;
 
 /// A discipline at a second of REALTIME.
