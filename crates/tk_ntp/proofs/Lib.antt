@@ -4,5 +4,6 @@ pub mod Near
 pub mod Long
 pub mod Kept
 pub mod Reading
+pub mod Saturating
 pub mod Steering
 pub mod Worked

@@ -2,6 +2,7 @@
 -- requests, with HZ 250.
 use Rattle.std.proofs.Common.{◌≡◌, ℕ, List, [], ◌∷◌, refl, true, false}
 use Rattle.std.specs.Prelude.{ℤ, pos, neg_ℤ, Some, None}
+use Rattle.tk_counter.specs.Counter.{Counter}
 use Rattle.tk_clock.specs.declared.timespec.Timespec.{Timespec}
 use Rattle.tk_ntp.specs.declared.timex.Timex.{Timex}
 use Rattle.tk_ntp.specs.declared.reply.Reply.{Reply}
@@ -12,6 +13,7 @@ use Rattle.tk_ntp.specs.declared.rate.Rate.{Rate}
 use Rattle.tk_ntp.specs.Fault.{is_faulty}
 use Rattle.tk_ntp.specs.Rate.{rate_for}
 use Rattle.tk_ntp.specs.Request.{step_of}
+use Rattle.tk_ntp.specs.Lag.{lag_after, made_up}
 use Rattle.tk_ntp.specs.Leap.{tai_after_leap}
 use Rattle.tk_ntp.specs.Ntp.{Ntp, fresh, cleared, second_length}
 use Rattle.tk_ntp.specs.Second.{leap_at}
@@ -381,3 +383,26 @@ far_rates : (rate_for (pos 4299262263296000000) 10000 ≡ rate (pos 0) (pos 1001
     × (rate_for (pos 4831838208000000000) 10000 ≡ rate (pos 32768000) (pos 11000))
     × (rate_for (pos 0) 10000 ≡ rate (neg_ℤ (pos 32768000)) (pos 9000))
 far_rates = (refl, refl, refl)
+
+-- ---- the lag of a counter of 1 GHz after a second at 100 ppm, and the rate that makes up for it
+
+abbrev gigahertz : Counter
+gigahertz = record { bits = 64; mult = 8388608; shift = 23 }
+
+lag : lag_after gigahertz (pos 4295396792729600000) 8389446 999900113 (pos 0)
+    ≡ pos 3696738555385147188838400000
+lag = refl
+
+lag-made_up : made_up gigahertz (pos 3696738555385147188838400000) ≡ pos 440685576842
+lag-made_up = refl
+
+-- the length and what is made up for
+lag-rate : rate_for (pos 4295397233415176842) 10000 ≡ rate (pos 6560324) (pos 10000)
+lag-rate = refl
+
+-- half a second, of which a second makes up for 500 us and two units of the multiplier
+lag-greatest : (lag_after gigahertz (pos 4295396792729600000) 8389446 18446744073709551615 (pos 0)
+    ≡ pos 18014398509481984000000000000000000)
+    × (made_up gigahertz (pos 18014398509481984000000000000000000) ≡ pos 2148507648000000)
+    × (made_up gigahertz (neg_ℤ (pos 1)) ≡ neg_ℤ (pos 1))
+lag-greatest = (refl, refl, refl)

@@ -12,3 +12,4 @@ pub mod Offset
 pub mod Modes
 pub mod Reply
 pub mod Rate
+pub mod Lag

@@ -1,23 +1,22 @@
-//! Steers a clock as adjtimex(2) does: offsets, frequencies and leap seconds change the state of a
-//! discipline, and this state gives the length of each second.
+//! Steers a clock as adjtimex(2) does: requests and seconds change the state of a discipline, which
+//! gives the length of each second.
 //!
 //! | Item | Its meaning |
 //! |---|---|
 //! | `Discipline` | the state, changed by requests and by each second of REALTIME that begins |
-//! | `Timex` | a request, and the fields of a reply |
-//! | `Reply`, `TimeState` | the reply to a request, and the clock's state in it |
+//! | `Timex`, `Reply`, `TimeState` | a request, the reply to it, and the clock's state in it |
 //! | `Leap` | what REALTIME leaps by as a second begins |
 //! | `Rate` | the frequency and the tick that make a second so long |
-//! | `ADJ_OFFSET` .. | the bits of a request's `modes` |
-//! | `STA_PLL` .. | the bits of a status |
+//! | `Lag` | what a clock lags behind the lengths of its seconds |
+//! | `ADJ_OFFSET` .., `STA_PLL` .. | the bits of a request's `modes`, and of a status |
 //!
-//! Units: lengths of seconds in `2^-32` ns; frequencies of requests in `2^-16` ppm; errors and ticks
-//! in microseconds; offsets in nanoseconds or microseconds, as the status says. No call allocates
-//! or waits.
+//! Units: lengths in `2^-32` ns; frequencies in `2^-16` ppm; errors and ticks in microseconds;
+//! offsets in nanoseconds or microseconds, as the status says. No call allocates or waits.
 #![tactic(auto)]
 
 mod bits;
 mod discipline;
+mod lag;
 mod leap;
 mod leap_plan;
 mod length;
@@ -34,6 +33,7 @@ pub use bits::{
     STA_DEL, STA_FLL, STA_FREQHOLD, STA_INS, STA_MODE, STA_NANO, STA_PLL, STA_UNSYNC,
 };
 pub use discipline::Discipline;
+pub use lag::Lag;
 pub use leap::Leap;
 pub use rate::Rate;
 pub use reply::{Reply, TimeState};

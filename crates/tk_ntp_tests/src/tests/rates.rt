@@ -1,5 +1,7 @@
-//! The frequency and the tick for the length of a second.
-use tk_ntp::Rate;
+//! The frequency and the tick for the length of a second, and the lag.
+use std::test::Fail;
+use tk_counter::CounterDesc;
+use tk_ntp::{Lag, Rate};
 
 #[test]
 fn a_rate_makes_a_second_so_long(rt: HostRuntime) {
@@ -20,4 +22,31 @@ fn a_rate_makes_a_second_so_long(rt: HostRuntime) {
         let found = Rate::of_length(length, asked);
         assert_eq!(rt; found, Rate { frequency, tick }, "{length}");
     }
+}
+
+#[test]
+fn a_second_makes_up_for_the_lag(rt: HostRuntime) -> Result<(), Fail> {
+    let desc = CounterDesc::new(64, 8_388_608, 23).or(Err("a counter of 1 GHz"))?;
+    let length = 4_295_396_792_729_600_000;
+    let mut lag = Lag::none();
+    assert_eq!(rt; lag.made_up(desc), 0);
+    // a second at 100 ppm, whose multiplier is rounded down
+    lag.account(desc, length, 8_389_446, 999_900_113);
+    assert_eq!(rt; lag.made_up(desc), 440_685_576_842);
+    let rate = Rate::of_length(length + 440_685_576_842, 10_000);
+    assert_eq!(rt; rate.frequency, 6_560_324);
+    // a second at the same multiplier that was asked to be a nominal one
+    lag.account(desc, 4_294_967_296_000_000_000, 8_389_446, 1_000_000_000);
+    assert_eq!(rt; lag.made_up(desc), -428_615_314_423_158);
+    // any number of cycles leaves at most half a second
+    for (mult, made_up) in [
+        (0, 2_148_507_648_000_000),
+        (u32::MAX, -2_148_507_648_000_000),
+    ] {
+        for _ in 0..3 {
+            lag.account(desc, length, mult, u64::MAX);
+            assert_eq!(rt; lag.made_up(desc), made_up);
+        }
+    }
+    Ok(())
 }
