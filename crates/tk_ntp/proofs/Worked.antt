@@ -10,6 +10,7 @@ use Rattle.tk_ntp.specs.declared.reply.TimeState.{TimeState}
 use Rattle.tk_ntp.specs.declared.reply.TimeState.TheVariants.{Ok, Ins, Del, Oop, Wait, Error}
 use Rattle.tk_ntp.specs.declared.leap.Leap.TheVariants.{None as NoLeap, Insert, Delete}
 use Rattle.tk_ntp.specs.declared.rate.Rate.{Rate}
+use Rattle.tk_ntp.specs.Change.{is_same, change_of}
 use Rattle.tk_ntp.specs.Fault.{is_faulty}
 use Rattle.tk_ntp.specs.Rate.{rate_for}
 use Rattle.tk_ntp.specs.Request.{step_of}
@@ -406,3 +407,14 @@ lag-greatest : (lag_after gigahertz (pos 4295396792729600000) 8389446 1844674407
     × (made_up gigahertz (pos 18014398509481984000000000000000000) ≡ pos 2148507648000000)
     × (made_up gigahertz (neg_ℤ (pos 1)) ≡ neg_ℤ (pos 1))
 lag-greatest = (refl, refl, refl)
+
+-- ---- the commands between two rates: the frequency, the tick, or none for the same multiplier
+
+changes : (change_of gigahertz (rate (pos 0) (pos 10000)) (rate (pos 6553600) (pos 10000))
+    ≡ record { tick = None; frequency = Some (pos 6553600) })
+    × (change_of gigahertz (rate (pos 6553600) (pos 10000)) (rate (pos 0) (pos 10100))
+    ≡ record { tick = Some (pos 10100); frequency = Some (pos 0) })
+    × (change_of gigahertz (rate (pos 0) (pos 10000)) (rate (pos 1) (pos 10000))
+    ≡ record { tick = None; frequency = None })
+unfolding is_same
+changes = (refl, refl, refl)

@@ -13,3 +13,4 @@ pub mod Modes
 pub mod Reply
 pub mod Rate
 pub mod Lag
+pub mod Change

@@ -1,20 +1,19 @@
-//! Steers a clock as adjtimex(2) does: requests and seconds change the state of a discipline, which
-//! gives the length of each second.
+//! Steers a clock as adjtimex(2) does: a discipline gives each second's length. No call allocates.
 //!
 //! | Item | Its meaning |
 //! |---|---|
 //! | `Discipline` | the state, changed by requests and by each second of REALTIME that begins |
 //! | `Timex`, `Reply`, `TimeState` | a request, the reply to it, and the clock's state in it |
 //! | `Leap` | what REALTIME leaps by as a second begins |
-//! | `Rate` | the frequency and the tick that make a second so long |
-//! | `Lag` | what a clock lags behind the lengths of its seconds |
+//! | `Rate`, `Change` | the frequency and the tick for a length, and the commands that set them |
+//! | `Lag` | what a clock lags behind these lengths |
 //! | `ADJ_OFFSET` .., `STA_PLL` .. | the bits of a request's `modes`, and of a status |
 //!
-//! Units: lengths in `2^-32` ns; frequencies in `2^-16` ppm; errors and ticks in microseconds;
-//! offsets in nanoseconds or microseconds, as the status says. No call allocates or waits.
+//! Units: lengths in `2^-32` ns; frequencies in `2^-16` ppm; errors and ticks in microseconds.
 #![tactic(auto)]
 
 mod bits;
+mod change;
 mod discipline;
 mod lag;
 mod leap;
@@ -32,6 +31,7 @@ pub use bits::{
     ADJ_READONLY, ADJ_SETOFFSET, ADJ_STATUS, ADJ_TAI, ADJ_TICK, ADJ_TIMECONST, STA_CLOCKERR,
     STA_DEL, STA_FLL, STA_FREQHOLD, STA_INS, STA_MODE, STA_NANO, STA_PLL, STA_UNSYNC,
 };
+pub use change::Change;
 pub use discipline::Discipline;
 pub use lag::Lag;
 pub use leap::Leap;

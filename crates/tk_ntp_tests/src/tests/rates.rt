@@ -1,7 +1,7 @@
 //! The frequency and the tick for the length of a second, and the lag.
 use std::test::Fail;
 use tk_counter::CounterDesc;
-use tk_ntp::{Lag, Rate};
+use tk_ntp::{Change, Lag, Rate};
 
 #[test]
 fn a_rate_makes_a_second_so_long(rt: HostRuntime) {
@@ -47,6 +47,33 @@ fn a_second_makes_up_for_the_lag(rt: HostRuntime) -> Result<(), Fail> {
             lag.account(desc, length, mult, u64::MAX);
             assert_eq!(rt; lag.made_up(desc), made_up);
         }
+    }
+    Ok(())
+}
+
+#[test]
+fn only_a_new_multiplier_needs_commands(rt: HostRuntime) -> Result<(), Fail> {
+    let desc = CounterDesc::new(64, 8_388_608, 23).or(Err("a counter of 1 GHz"))?;
+    let usual = Rate::of_length(4_294_967_296_000_000_000, 10_000);
+    for (length, tick, set_tick, frequency) in [
+        (4_295_396_792_729_600_000, 10_000, None, Some(6_553_600)),
+        (4_337_916_968_960_000_000, 10_100, Some(10_100), None),
+        (
+            4_337_487_472_230_400_000,
+            10_100,
+            Some(10_100),
+            Some(-6_553_600),
+        ),
+        // a unit of the frequency doesn't change this multiplier
+        (4_294_967_296_065_536_000, 10_000, None, None),
+        (4_294_967_296_000_000_000, 10_000, None, None),
+    ] {
+        let expected = Change {
+            tick: set_tick,
+            frequency,
+        };
+        let wanted = Rate::of_length(length, tick);
+        assert_eq!(rt; Change::between(desc, usual, wanted), expected, "{length}");
     }
     Ok(())
 }
