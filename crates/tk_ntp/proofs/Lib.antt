@@ -4,6 +4,7 @@ pub mod Near
 pub mod Long
 pub mod Kept
 pub mod Reading
+pub mod ReadBack
 pub mod Saturating
 pub mod Steering
 pub mod Worked

@@ -1,9 +1,9 @@
 -- How near the length of a second is to the length at its tick and its frequency.
-use Rattle.std.proofs.Common.{◌≡◌, ◌∙◌, ap, refl, ℕ, zero, suc, ◌+◌, ◌*◌, ◌/◌, ◌<◌, ◌≤◌, ℤ, pos, ◌+ℤ◌, ◌-ℤ◌, ◌*ℤ◌, unsigned_abs, arith}
+use Rattle.std.proofs.Common.{◌≡◌, ◌∙◌, ap, refl, ℕ, zero, suc, ◌+◌, ◌*◌, ◌/◌, ◌<◌, ◌≤◌, ℤ, pos, ◌+ℤ◌, ◌-ℤ◌, ◌*ℤ◌, ◌<ℤ◌, unsigned_abs, arith}
 use Rattle.std.proofs.lemmas.Int.{ints, unsigned_abs-mul}
 use Rattle.std.proofs.Math.IntN.{suc_ℤ-*ℤ, *ℤ_comm, *ℤ-zero, pos-*ℤ-pos}
 use Rattle.std.proofs.Math.Nat.{div-mul-le_self, mul-le-mul_right, lt-div-mul-add}
-use Rattle.tk_ntp.specs.Length.{max_phase, max_frequency}
+use Rattle.tk_ntp.specs.Length.{max_phase, max_frequency, second_of}
 use borrow.Author.Differences.{abs_is}
 
 grow : (z : ℤ) (n : ℕ) → z *ℤ pos (suc n) ≡ z *ℤ pos n +ℤ z
@@ -59,3 +59,10 @@ near w whole phase hz m is some h =
 pub is_whole : (tick : ℕ) (frequency : ℤ) → 9000 ≤ tick → unsigned_abs frequency ≤ max_frequency →
     let whole = pos (tick * 429496729600000) +ℤ frequency in whole ≡ pos (unsigned_abs whole)
 is_whole tick frequency low held = omega (arith, ints, abs_is)
+
+-- a length so near to that of its tick and its frequency is positive
+pub positive_near : (length : ℤ) (tick : ℕ) (frequency : ℤ) (hz : ℕ) → hz ≤ 1024 → 9000 ≤ tick →
+    unsigned_abs frequency ≤ max_frequency →
+    unsigned_abs (length -ℤ second_of tick frequency) ≤ max_phase + max_frequency + hz →
+    pos 0 <ℤ length
+positive_near length tick frequency hz few low held near = omega (arith, ints, abs_is)

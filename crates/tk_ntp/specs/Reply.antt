@@ -1,6 +1,7 @@
 -- The reply to a request (__do_adjtimex, kernel/time/ntp.c).
-use Rattle.std.specs.Prelude.{ℕ, ◌/◌, ◌^◌, ℤ, pos, ◌*ℤ◌, unsigned_abs, if◌then◌else◌}
+use Rattle.std.specs.Prelude.{◌≡◌, true, false, ℕ, ◌/◌, ◌^◌, ℤ, pos, ◌*ℤ◌, unsigned_abs, if◌then◌else◌}
 use Rattle.std.specs.Int.{int_div_euclid}
+use Rattle.tk_counter.specs.Counter.{clamped}
 use Rattle.tk_clock.specs.declared.timespec.Timespec.{Timespec}
 use Rattle.tk_ntp.specs.declared.timex.Timex.{Timex}
 use Rattle.tk_ntp.specs.declared.reply.Reply.{Reply}
@@ -8,7 +9,7 @@ use Rattle.tk_ntp.specs.declared.reply.TimeState.{TimeState}
 use Rattle.tk_ntp.specs.declared.reply.TimeState.TheVariants.{Ok, Ins, Del, Oop, Wait, Error}
 use Rattle.tk_ntp.specs.declared.leap_plan.LeapState.{LeapState}
 use Rattle.tk_ntp.specs.declared.leap_plan.LeapState.TheVariants.{Idle, Inserting, Deleting, InProgress, Over}
-use Rattle.tk_ntp.specs.Bits.{has, sta_nano, adj_adjtime}
+use Rattle.tk_ntp.specs.Bits.{has, sta_nano, adj_offset, adj_frequency, adj_adjtime}
 use Rattle.tk_ntp.specs.Length.{one, toward_zero}
 use Rattle.tk_ntp.specs.Ntp.{Ntp}
 use Rattle.tk_ntp.specs.Modes.{requested, asked, asked_tai}
@@ -75,3 +76,9 @@ reply_to request real tai ntp =
     let now = unsigned_abs real.sec in
     reply_with request.modes (asked_offset request now ntp) real (asked_tai request tai)
     (asked request now ntp)
+
+-- a frequency that is given without an offset reads back exactly, clamped to its limits
+abbrev pub ReadsBack : Timex → Reply → Type 0
+ReadsBack request reply =
+    has request.modes adj_frequency ≡ true → has request.modes adj_offset ≡ false →
+    reply.timex.freq ≡ clamped request.freq

@@ -1,4 +1,4 @@
-ghost use Rattle.std.specs.Prelude.{◌≡◌, ◌+◌, ◌<◌, ◌≤◌, MatchOption, ◌⊎◌, ◌-ℤ◌, unsigned_abs};
+ghost use Rattle.std.specs.Prelude.{◌≡◌, ◌+◌, ◌<◌, ◌≤◌, MatchOption, ◌⊎◌, pos, ◌-ℤ◌, ◌<ℤ◌, unsigned_abs};
 
 mod modes;
 mod replies;
@@ -20,7 +20,7 @@ const HZ_LIMIT: u32 = 1024;
 /// Keeps the state of a discipline, as the variables of kernel/time/ntp.c.
 ///
 /// It has no source of time and knows no counter: its caller says which second of REALTIME begins,
-/// and which time it is at a request. It allocates nothing, and is smaller than 128 bytes.
+/// and which time it is at a request. It allocates nothing, and is at most 128 bytes long.
 #[derive(Clone, Copy, Debug)]
 pub struct Discipline {
     /// Counts the parts of a second that phases are divided into: the kernel's `HZ`.
@@ -157,6 +157,7 @@ impl Discipline {
         ensures value { result ≡ second_length self.now }
         ensures near { unsigned_abs (result -ℤ plain_length self.now)
             ≤ max_phase + max_frequency + self.now.hz }
+        ensures positive { pos 0 <ℤ result }
         ensures ranges { IsNtp self.now }
     {
         second_with_phase(self.hz, self.tick, self.frequency, self.phase)

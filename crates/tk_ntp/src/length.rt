@@ -1,5 +1,5 @@
 //! Computes lengths, in units of `2^-32` ns.
-ghost use Rattle.std.specs.Prelude.{◌≡◌, ℕ, ◌+◌, ◌*◌, ◌/◌, ◌^◌, ◌<◌, ◌≤◌, pos, ◌+ℤ◌, ◌-ℤ◌, ◌*ℤ◌, ◌≤ℤ◌, unsigned_abs};
+ghost use Rattle.std.specs.Prelude.{◌≡◌, ℕ, ◌+◌, ◌*◌, ◌/◌, ◌^◌, ◌<◌, ◌≤◌, pos, ◌+ℤ◌, ◌-ℤ◌, ◌*ℤ◌, ◌≤ℤ◌, ◌<ℤ◌, unsigned_abs};
 ghost use Rattle.tk_ntp.specs.Length.{toward_zero, second_of, base_of, max_frequency, max_phase, longest_second};
 
 /// One nanosecond.
@@ -74,6 +74,7 @@ pub(crate) fn second_with_phase(hz: u32, tick: u32, frequency: i64, phase: i64) 
     ensures value { result ≡ (pos (base_of hz tick frequency) +ℤ phase) *ℤ pos hz }
     ensures near { unsigned_abs (result -ℤ second_of tick frequency)
         ≤ max_phase + max_frequency + hz }
+    ensures positive { hz ≤ 1024 → pos 0 <ℤ result }
 {
     length_of_second(base_of(hz, tick, frequency), phase, hz)
 }

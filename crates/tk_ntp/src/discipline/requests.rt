@@ -2,7 +2,7 @@
 ghost use Rattle.std.specs.Prelude.{◌≡◌, ◌^◌, ◌<◌, false, pos, ◌≤ℤ◌, unsigned_abs};
 ghost use Rattle.tk_ntp.specs.Fault.{is_faulty};
 ghost use Rattle.tk_ntp.specs.Modes.{with_adjust, given_tai, asked, asked_tai};
-ghost use Rattle.tk_ntp.specs.Reply.{asked_offset, reply_to};
+ghost use Rattle.tk_ntp.specs.Reply.{asked_offset, reply_to, ReadsBack};
 
 use super::Discipline;
 use crate::bits::{ADJ_ADJTIME, ADJ_READONLY, ADJ_TAI, has};
@@ -28,6 +28,7 @@ impl Discipline {
         ensures state { self.new ≡ asked request.now (unsigned_abs real.sec) self.old }
         ensures reply { result ≡ reply_to request.now real tai self.old }
         ensures reads { request.now.modes ≡ 0 → self.new ≡ self.old }
+        ensures reads_back { ReadsBack request.now result }
     {
         let (offset, tai) = self.ask(request, real.sec.unsigned_abs(), tai);
         self.reply(request.modes, offset, real, tai)

@@ -1,7 +1,7 @@
 use Rattle.std.proofs.Common.{◌≡◌, ◌∙◌, ap, ◌+◌, ◌/◌, pos, ◌+ℤ◌, ◌*ℤ◌, unsigned_abs, w64}
 use Rattle.std.proofs.lemmas.Int.{to_z-of_z}
 use Rattle.tk_ntp.specs.Length.{second_of, max_phase, max_frequency}
-use Rattle.tk_ntp.proofs.Near.{near, shares, is_whole}
+use Rattle.tk_ntp.proofs.Near.{near, shares, is_whole, positive_near}
 use Rattle.tk_ntp.proofs.length.second_with_phase.Goals as goal
 
 pub returns-clause-near : goal.returns-clause-near
@@ -21,3 +21,8 @@ returns-clause-near c =
     let sum : r ≡ (pos (w / hz) +ℤ p) *ℤ pos hz = stated ∙ ap (λ z. (z +ℤ p) *ℤ pos hz) base in
     let is : whole ≡ pos w = is_whole c.args.tick c.args.frequency c.requires.slowest c.requires.held in
     rw (out, sum) (near w whole p hz (max_phase + max_frequency) is c.requires.some (shares (unsigned_abs p) hz c.requires.phase))
+
+pub returns-clause-positive : goal.returns-clause-positive
+returns-clause-positive c = λ few.
+    positive_near _ c.args.tick c.args.frequency c.args.hz few c.requires.slowest c.requires.held
+    (returns-clause-near c)

@@ -3,7 +3,9 @@ use Rattle.std.proofs.lemmas.Int.{to_z-of_z}
 use Rattle.tk_ntp.specs.Ntp.{Ntp}
 use Rattle.tk_ntp.specs.Modes.{asked, asked_tai}
 use Rattle.tk_ntp.specs.Reply.{reply_with, asked_offset}
+use Rattle.tk_ntp.specs.declared.reply.Reply.{Reply}
 use Rattle.tk_ntp.proofs.Reading.{asked-nothing}
+use Rattle.tk_ntp.proofs.ReadBack.{freq-read_back}
 use Rattle.tk_ntp.proofs.discipline.Discipline.adjtimex.Goals as goal
 
 pub returns-clause-state : goal.returns-clause-state
@@ -38,3 +40,9 @@ pub returns-clause-reads : goal.returns-clause-reads
 returns-clause-reads c = λ is.
     c.ask-offset.ensures.state
     ∙ asked-nothing c.args.request.now c.unsigned_abs.result c.args.self.now is
+
+pub returns-clause-reads_back : goal.returns-clause-reads_back
+returns-clause-reads_back c = λ given none.
+    ap (λ (r : Reply). r.timex.freq) (returns-clause-reply c)
+    ∙ freq-read_back c.args.request.now (unsigned_abs c.args.real.sec) c.args.self.now
+    c.requires.sound given none
