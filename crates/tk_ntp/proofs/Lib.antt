@@ -1,10 +1,11 @@
 pub mod Gains
 pub mod Lengths
 pub mod Near
+pub mod Needed
 pub mod Long
 pub mod Kept
 pub mod Reading
 pub mod ReadBack
 pub mod Saturating
-pub mod Steering
+pub mod Multipliers
 pub mod Worked

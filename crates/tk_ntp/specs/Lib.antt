@@ -14,3 +14,4 @@ pub mod Reply
 pub mod Rate
 pub mod Lag
 pub mod Change
+pub mod Steering

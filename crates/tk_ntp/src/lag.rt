@@ -58,6 +58,7 @@ impl Lag {
     pub fn made_up(&self, desc: CounterDesc) -> i64
         ensures value { result ≡ made_up desc self.now }
         ensures most { unsigned_abs result ≤ most_made_up desc }
+        ensures short { unsigned_abs result ≤ 2 ^ 56 }
     {
         let most = i128::from(most_made_up(desc));
         self.amount

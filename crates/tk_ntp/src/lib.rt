@@ -1,15 +1,14 @@
 //! Steers a clock as adjtimex(2) does: a discipline gives each second's length. No call allocates.
+//! Lengths are in `2^-32` ns, frequencies in `2^-16` ppm, errors and ticks in microseconds.
 //!
 //! | Item | Its meaning |
 //! |---|---|
 //! | `Discipline` | the state, changed by requests and by each second of REALTIME that begins |
 //! | `Timex`, `Reply`, `TimeState` | a request, the reply to it, and the clock's state in it |
 //! | `Leap` | what REALTIME leaps by as a second begins |
+//! | `Steering`, `Lag` | a discipline with what its clock lags behind; the commands of a second |
 //! | `Rate`, `Change` | the frequency and the tick for a length, and the commands that set them |
-//! | `Lag` | what a clock lags behind these lengths |
 //! | `ADJ_OFFSET` .., `STA_PLL` .. | the bits of a request's `modes`, and of a status |
-//!
-//! Units: lengths in `2^-32` ns; frequencies in `2^-16` ppm; errors and ticks in microseconds.
 #![tactic(auto)]
 
 mod bits;
@@ -24,6 +23,7 @@ mod phase;
 mod rate;
 mod reply;
 mod request;
+mod steering;
 mod timex;
 
 pub use bits::{
@@ -37,4 +37,5 @@ pub use lag::Lag;
 pub use leap::Leap;
 pub use rate::Rate;
 pub use reply::{Reply, TimeState};
+pub use steering::Steering;
 pub use timex::Timex;

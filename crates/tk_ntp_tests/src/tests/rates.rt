@@ -1,7 +1,9 @@
 //! The frequency and the tick for the length of a second, and the lag.
+use super::request;
 use std::test::Fail;
+use tk_clock::Timespec;
 use tk_counter::CounterDesc;
-use tk_ntp::{Change, Lag, Rate};
+use tk_ntp::{Change, Discipline, Lag, Leap, Rate, Steering, Timex};
 
 #[test]
 fn a_rate_makes_a_second_so_long(rt: HostRuntime) {
@@ -75,5 +77,48 @@ fn only_a_new_multiplier_needs_commands(rt: HostRuntime) -> Result<(), Fail> {
         let wanted = Rate::of_length(length, tick);
         assert_eq!(rt; Change::between(desc, usual, wanted), expected, "{length}");
     }
+    Ok(())
+}
+
+#[test]
+fn each_second_of_a_pll_gets_a_command(rt: HostRuntime) -> Result<(), Fail> {
+    let desc = CounterDesc::new(64, 8_388_608, 23).or(Err("a counter of 1 GHz"))?;
+    let mut steering = Steering::new(Discipline::new(250).ok_or("250 is in range")?);
+    let pll = Timex {
+        offset: 100_000_000,
+        status: 1,
+        constant: 6,
+        ..request(0x2035)
+    };
+    assert!(rt; !pll.is_faulty());
+    let real = Timespec {
+        sec: 1_700_000_000,
+        nsec: 500_000_000,
+    };
+    let _ = steering.adjtimex(&pll, real, 0);
+    let mut frequency = 0;
+    // the cycles of each second, and the frequency that it needs
+    for (sec, cycles, wanted) in [
+        (1_700_000_001, 500_000_000, 25_600_000),
+        (1_700_000_002, 999_609_623, 25_506_247),
+        (1_700_000_003, 999_611_053, 25_406_638),
+        (1_700_000_004, 999_612_481, 25_301_560),
+    ] {
+        let mult = desc.mult_for(frequency);
+        let leap = steering.begin(desc, mult, cycles, sec);
+        assert_eq!(rt; leap, Leap::None);
+        let in_force = Rate {
+            frequency,
+            tick: 10_000,
+        };
+        let expected = Change {
+            tick: None,
+            frequency: Some(wanted),
+        };
+        assert_eq!(rt; steering.commands(desc, in_force), expected);
+        frequency = wanted;
+    }
+    steering.clear();
+    assert_eq!(rt; steering.rate(desc).frequency, 0);
     Ok(())
 }

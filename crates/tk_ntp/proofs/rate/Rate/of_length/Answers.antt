@@ -1,7 +1,7 @@
 use Rattle.std.proofs.Common.{◌≡◌, ◌∙◌, ap, ◌*◌, ◌/◌, w64}
 use Rattle.std.proofs.lemmas.Int.{to_z-of_z}
 use Rattle.tk_ntp.specs.Rate.{rate_of}
-use Rattle.tk_ntp.proofs.Steering.{rate-steered, rate_of-in_range, is_given, near_usual}
+use Rattle.tk_ntp.proofs.Multipliers.{rate-steered, rate_of-in_range, is_given, near_usual}
 use Rattle.tk_ntp.proofs.rate.Rate.of_length.Goals as goal
 
 -- the multiplier at the two numbers that are returned

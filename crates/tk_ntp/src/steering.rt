@@ -1,0 +1,123 @@
+ghost use Rattle.std.specs.Prelude.{◌≡◌, ◌≤◌, ◌<◌, ◌^◌, pos, ◌+ℤ◌, ◌≤ℤ◌, false, unsigned_abs};
+ghost use Rattle.tk_counter.specs.Counter.{least_tick, greatest_tick};
+
+use crate::change::Change;
+use crate::discipline::Discipline;
+use crate::lag::Lag;
+use crate::leap::Leap;
+use crate::rate::Rate;
+use crate::reply::Reply;
+use crate::timex::Timex;
+use std::marker::Model;
+use tk_clock::Timespec;
+use tk_counter::CounterDesc;
+
+/// Keeps a discipline and the lag of its clock, and says which commands each second needs.
+#[derive(Clone, Copy, Debug)]
+pub struct Steering {
+    ntp: Discipline,
+    lag: Lag,
+}
+
+impl Model for Steering {
+    ghost use Rattle.tk_ntp.specs.Steering.{Steered};
+
+    ghost Value = { Steered };
+
+    ghost view = { λ a. record { ntp = a.ntp; lag = a.lag } };
+
+    ghost inverse = { λ s. record { ntp = s.ntp; lag = s.lag } };
+}
+
+impl Steering {
+    ghost use Rattle.tk_ntp.specs.Steering.{accounted, second_begun, needed, needed_rate, commands};
+    ghost use Rattle.tk_ntp.specs.Fault.{is_faulty};
+    ghost use Rattle.tk_ntp.specs.Modes.{asked};
+    ghost use Rattle.tk_ntp.specs.Ntp.{cleared};
+    ghost use Rattle.tk_ntp.specs.Reply.{reply_to};
+    ghost use Rattle.tk_ntp.specs.Second.{leap_at};
+    ghost use Rattle.tk_ntp.specs.Change.{multiplier_at, changed};
+    ghost use Rattle.tk_ntp.specs.Rate.{IsInRange, IsGiven, IsNearUsual};
+
+    /// Steers by a discipline, without a lag.
+    pub fn new(ntp: Discipline) -> Steering
+        ensures { result ≡ record { ntp = ntp; lag = pos 0 } }
+    {
+        Steering {
+            ntp,
+            lag: Lag::none(),
+        }
+    }
+
+    /// Does what a request without a fault asks the discipline for, and returns the reply, as
+    /// `Discipline::adjtimex`. The lag stays: call `account` first.
+    pub fn adjtimex(&mut self, request: &Timex, real: Timespec, tai: u32) -> Reply
+        requires sound { is_faulty request.now ≡ false }
+        requires since { pos 0 ≤ℤ real.sec }
+        ensures state { self.new ≡ record self.old {
+          ntp = asked request.now (unsigned_abs real.sec) self.old.ntp;
+        } }
+        ensures reply { result ≡ reply_to request.now real tai self.old.ntp }
+    {
+        self.ntp.adjtimex(request, real, tai)
+    }
+
+    /// Forgets what steers the clock, and its lag, after REALTIME was set or stepped.
+    pub fn clear(&mut self)
+        ensures { self.new ≡ record { ntp = cleared self.old.ntp; lag = pos 0 } }
+    {
+        self.ntp.clear();
+        self.lag = Lag::none();
+    }
+
+    /// Accounts for some cycles of a counter at the multiplier `mult`. It must be called before the
+    /// discipline or the multiplier changes, with the cycles since the last account.
+    pub fn account(&mut self, desc: CounterDesc, mult: u32, cycles: u64)
+        ensures { self.new ≡ accounted desc mult cycles self.old }
+    {
+        self.lag
+            .account(desc, self.ntp.second_length(), mult, cycles);
+    }
+
+    /// Lets the second `sec` of REALTIME begin, `cycles` after the last account, and returns what
+    /// REALTIME leaps by then. `sec` is below 2^63.
+    pub fn begin(&mut self, desc: CounterDesc, mult: u32, cycles: u64, sec: u64) -> Leap
+        requires { sec < 2 ^ 63 }
+        ensures state { self.new ≡ second_begun desc mult cycles sec self.old }
+        ensures leap { result ≡ leap_at self.old.ntp sec }
+    {
+        self.account(desc, mult, cycles);
+        self.ntp.overflow(sec)
+    }
+
+    /// Returns the rate that the present second needs: for its length, and for what it makes up for.
+    pub fn rate(&self, desc: CounterDesc) -> Rate
+        ensures value { result ≡ needed_rate desc self.now }
+        ensures slowest { least_tick ≤ℤ result.tick }
+        ensures fastest { result.tick ≤ℤ greatest_tick }
+        // the multiplier gives what is needed, and is never more than 10.05 percent from the usual
+        ensures given { IsInRange (needed desc self.now) →
+            IsGiven desc (needed desc self.now) (multiplier_at desc result) }
+        ensures near { IsNearUsual desc (multiplier_at desc result) }
+    {
+        Rate::of_length(self.needed(desc), self.ntp.tick())
+    }
+
+    /// Returns the length that the present second needs, in `2^-32` ns.
+    fn needed(&self, desc: CounterDesc) -> i64
+        ensures { result ≡ needed desc self.now }
+    {
+        self.ntp.second_length() + self.lag.made_up(desc)
+    }
+
+    /// Returns the commands for the present second, at the rate in force, whose tick is 9,000 to
+    /// 11,000 microseconds.
+    pub fn commands(&self, desc: CounterDesc, in_force: Rate) -> Change
+        requires slowest { least_tick ≤ℤ in_force.tick }
+        requires fastest { in_force.tick ≤ℤ greatest_tick }
+        ensures value { result ≡ commands desc in_force self.now }
+        ensures near { IsNearUsual desc (multiplier_at desc (changed in_force result)) }
+    {
+        Change::between(desc, in_force, self.rate(desc))
+    }
+}
