@@ -1,18 +1,20 @@
 -- The first record of a plain text is its first line that is not empty, cut at its commas.
 use Rattle.std.proofs.Common.{◌≡◌, ◌∙◌, ◌++◌, ◌+◌, ◌<◌, ◌≤◌, ℕ, zero, suc, List, [], ◌∷◌, length, take, drop, Bool, true, false, Option, Some, None, refl, sym, ap, inl, inr, arith, append_assoc, drop-cons, length-drop, add-one}
-use Rattle.std.specs.Prelude.{◌==◌, ◌||◌, ◌-◌, slice_index, is_some, not}
+use Rattle.std.specs.Prelude.{◌==◌, ◌||◌, ◌-◌, get_or, set, slice_index, is_some, not}
+use Rattle.std.specs.Borrow.{Bor}
 use Rattle.std.specs.List.{list_any}
-use Rattle.std.proofs.lemmas.Bool.{cases_Bool, eqb-true}
-use Rattle.std.proofs.lemmas.List.{append-nil, drop_all, length-take, take-append-drop, take_all}
+use Rattle.std.proofs.lemmas.Bool.{cases_Bool, cases_eq, eqb-true}
+use Rattle.std.proofs.lemmas.List.{append-nil, get_or-set_other, get_or-set_same, length-set, length-take, length_push, take-append-drop, take_all}
 use Rattle.std.proofs.Math.Seq.{take-length}
 use Rattle.std.proofs.lemmas.List.Folds.{list_any-append, list_any_more}
 use Rattle.csv.proofs.RoundTrip.{record-same, start-same}
 use Rattle.csv.specs.Machine.{Read, next_record}
 use Rattle.csv.specs.Reading.{default_config, strip_bom}
-use Rattle.csv.specs.declared.parser.State.TheVariants as st
 use Rattle.csv.specs.Records.{field_at}
+use Rattle.csv.specs.declared.parser.State.TheVariants as st
 use Rattle.memchr.specs.Find.{IsFirstByte, is_byte, is_byte2}
-use Rattle.tk_script.specs.Plain.{IsFirstLine, IsPlain, Lacks, cut_at_commas, cut_after}
+use Rattle.tk_script.specs.Plain.{HasFields, IsFirstLine, IsPlain, Lacks, cut_at_commas, cut_after}
+use Rattle.tk_script.specs.declared.plain.Fields.{Fields}
 
 -- the record of a line, and the text after it
 abbrev pub record_of_line : List ℕ → List ℕ → Read
@@ -165,15 +167,65 @@ cut-first field (c ∷ line) rest whole =
     rw parts.0 (cut-first (field ++ c ∷ []) line rest parts.1
     ∙ ap (λ (f : List ℕ). f ∷ cut_at_commas rest) (append_assoc field (c ∷ []) line))
 
--- the number of fields does not depend on the bytes that were read before
-pub cut-length : (field other line : List ℕ) →
-    length (cut_after field line) ≡ length (cut_after other line)
-unfolding cut_after
-cut-length field other [] = refl
-cut-length field other (c ∷ line) = elim (cases_Bool (c == 44)) [
-  | inl comma ↦ rw comma refl
-  | inr no_comma ↦ rw no_comma (cut-length (field ++ c ∷ []) (other ++ c ∷ []) line)
-]
+-- the fields of a line, if the first one is taken to the fields before it
+pub cut-more : (before : List (List ℕ)) (line head rest : List ℕ) → line ≡ head ++ 44 ∷ rest →
+    Lacks (is_byte 44) head →
+    before ++ head ∷ [] ++ cut_at_commas rest ≡ before ++ cut_at_commas line
+cut-more before line head rest split whole =
+    append_assoc before (head ∷ []) (cut_at_commas rest)
+    ∙ ap (λ (fs : List (List ℕ)). before ++ fs) (sym (cut-first [] head rest whole))
+    ∙ ap (λ (text : List ℕ). before ++ cut_at_commas text) (sym split)
+
+-- a field of some fields is at the same place of more fields
+field_at-more : (fields later : List (List ℕ)) (i : ℕ) (field : List ℕ) →
+    field_at fields i ≡ Some field → field_at (fields ++ later) i ≡ Some field
+unfolding field_at
+field_at-more [] later i field found = cc found
+field_at-more (first ∷ fields) later zero field found = found
+field_at-more (first ∷ fields) later (suc i) field found = field_at-more fields later i field found
+
+field_at-last : (fields : List (List ℕ)) (field : List ℕ) (i : ℕ) → i ≡ length fields →
+    field_at (fields ++ field ∷ []) i ≡ Some field
+unfolding field_at
+field_at-last [] field zero same = refl
+field_at-last [] field (suc i) same = absurd (omega (arith, same))
+field_at-last (first ∷ fields) field zero same = absurd (omega (arith, same))
+field_at-last (first ∷ fields) field (suc i) same =
+    field_at-last fields field i (omega (arith, same))
+
+-- one more field, which has a place of its own if it is one of the first seven
+pub HasFields-kept : (fields : List (List ℕ)) (old new : Fields) (field : Bor (List ℕ)) →
+    HasFields fields old → new.count ≡ old.count + 1 → old.count < 7 →
+    new.first ≡ set old.first old.count field → HasFields (fields ++ field.now ∷ []) new
+HasFields-kept fields old new field has count few written = record {
+  count = omega (arith, count, has.count, length_push fields field.now);
+  places = ap length written ∙ length-set old.first old.count field ∙ has.places;
+  first = λ i other inside seven here. elim (cases_eq i old.count) [
+    | inl last ↦
+        let same : other ≡ field = here ∙ ap (λ (fs : List (Bor (List ℕ))). get_or fs i other) written
+        ∙ rw last (get_or-set_same old.first old.count field other (omega (arith, few, has.places))) in
+        field_at-last fields field.now i (last ∙ has.count)
+        ∙ ap (λ (f : Bor (List ℕ)). Some f.now) (sym same)
+    | inr before ↦
+        let same : other ≡ get_or old.first i other = here
+        ∙ ap (λ (fs : List (Bor (List ℕ))). get_or fs i other) written
+        ∙ get_or-set_other old.first old.count i field other before in
+        field_at-more fields (field.now ∷ []) i other.now
+        (has.first i other (omega (arith, inside, count, before)) seven same)
+  ];
+}
+
+pub HasFields-counted : (fields : List (List ℕ)) (old new : Fields) (field : List ℕ) →
+    HasFields fields old → new.count ≡ old.count + 1 → 7 ≤ old.count →
+    new.first ≡ old.first → HasFields (fields ++ field ∷ []) new
+HasFields-counted fields old new field has count many same = record {
+  count = omega (arith, count, has.count, length_push fields field);
+  places = ap length same ∙ has.places;
+  first = λ i other inside seven here.
+      field_at-more fields (field ∷ []) i other.now
+      (has.first i other (omega (arith, seven, many)) seven
+      (here ∙ ap (λ (fs : List (Bor (List ℕ))). get_or fs i other) same));
+}
 
 -- a text that does not begin with 0xEF has no byte order mark
 pub no-mark : (text : List ℕ) → (0 < length text → slice_index text 0 ≡ 0xEF → ⊥) →
@@ -213,57 +265,6 @@ found-none test text none =
     let all : take (length text) text ≡ text = take-length text in
     rw all at (lacks-take test text (length text) (omega arith)
     (λ k less passes. none k (omega arith) less passes))
-
--- the fields after the first comma
-pub field-next : (line head rest : List ℕ) (left : ℕ) → line ≡ head ++ 44 ∷ rest →
-    Lacks (is_byte 44) head → 0 < left →
-    field_at (cut_at_commas line) left ≡ field_at (cut_at_commas rest) (left - 1)
-unfolding field_at
-field-next line head rest zero split whole some = absurd (omega arith)
-field-next line head rest (suc n) split whole some =
-    let less : suc n - 1 ≡ n = omega arith in
-    rw (less, split, cut-first [] head rest whole) refl
-
--- the field before the first comma
-pub field-first : (line head rest : List ℕ) → line ≡ head ++ 44 ∷ rest →
-    Lacks (is_byte 44) head → field_at (cut_at_commas line) 0 ≡ Some head
-unfolding field_at
-field-first line head rest split whole = rw (split, cut-first [] head rest whole) refl
-
--- the one field of a line without commas
-pub field-only : (line : List ℕ) → Lacks (is_byte 44) line →
-    field_at (cut_at_commas line) 0 ≡ Some line
-unfolding field_at
-field-only line whole = rw (cut-whole [] line whole) refl
-
-pub field-past : (line : List ℕ) (left : ℕ) → Lacks (is_byte 44) line → 0 < left →
-    field_at (cut_at_commas line) left ≡ None
-unfolding field_at
-field-past line zero whole some = absurd (omega arith)
-field-past line (suc n) whole some = rw (cut-whole [] line whole) refl
-
--- a comma ends a field, and no other byte does
-pub cut-comma : (line : List ℕ) (i : ℕ) → i < length line → slice_index line i ≡ 44
-    → length (cut_after [] (drop i line)) ≡ 1 + length (cut_after [] (drop (i + 1) line))
-unfolding cut_after
-cut-comma line i inside comma =
-    let rest : drop i line ≡ 44 ∷ drop (i + 1) line = byte-first line i 44 inside comma in
-    rw rest (omega arith)
-
-pub cut-other : (line : List ℕ) (i : ℕ) → i < length line → (slice_index line i ≡ 44 → ⊥)
-    → length (cut_after [] (drop i line)) ≡ length (cut_after [] (drop (i + 1) line))
-unfolding cut_after
-cut-other line i inside other =
-    let byte = slice_index line i in
-    let rest : drop i line ≡ byte ∷ drop (i + 1) line = byte-first line i byte inside refl in
-    let no_comma : (byte == 44) ≡ false = not-true (byte == 44)
-    (λ same. other (eqb-true byte 44 same)) in
-    rw (rest, no_comma) (cut-length (byte ∷ []) [] (drop (i + 1) line))
-
-pub cut-end : (line : List ℕ) (i : ℕ) → length line ≤ i →
-    length (cut_after [] (drop i line)) ≡ 1
-unfolding cut_after
-cut-end line i past = rw (drop_all i line past) refl
 
 -- one more empty line
 pub empty-more : (text : List ℕ) (i : ℕ) → i < length text → slice_index text i ≡ 10 →

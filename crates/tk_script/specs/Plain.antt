@@ -1,7 +1,10 @@
 -- Plain texts: their records are lines that are cut at commas.
-use Rattle.std.specs.Prelude.{◌≡◌, ◌<◌, ◌⊎◌, ℕ, List, [], ◌∷◌, ◌++◌, ◌==◌, length, Bool, false, Result, Ok, if◌then◌else◌}
+use Rattle.std.specs.Prelude.{◌≡◌, ◌<◌, ◌⊎◌, ℕ, List, [], ◌∷◌, ◌++◌, ◌==◌, get_or, length, Bool, false, Some, Result, Ok, if◌then◌else◌}
+use Rattle.std.specs.Borrow.{Bor}
 use Rattle.std.specs.List.{list_any}
+use Rattle.csv.specs.Records.{field_at}
 use Rattle.memchr.specs.Find.{is_byte, is_byte2}
+use Rattle.tk_script.specs.declared.plain.Fields.{Fields}
 use Rattle.tk_script.specs.declared.script_error.ScriptError.{ScriptError}
 
 -- no byte of a text passes a test
@@ -21,6 +24,13 @@ cut_after field (byte ∷ rest) =
 -- a line, cut at its commas
 abbrev pub cut_at_commas : List ℕ → List (List ℕ)
 cut_at_commas line = cut_after [] line
+
+-- the number of these fields, and the first seven of them
+pub record HasFields (fields : List (List ℕ)) (found : Fields) : Type 0 where
+  pub count : found.count ≡ length fields
+  pub places : length found.first ≡ 7
+  pub first : (i : ℕ) (field : Bor (List ℕ)) → i < found.count → i < 7 →
+      field ≡ get_or found.first i field → field_at fields i ≡ Some field.now
 
 -- a line ends at `end`, by a line feed or with the text, and the bytes `rest` follow
 abbrev pub EndsLine : List ℕ → List ℕ → Type 0

@@ -9,6 +9,9 @@ use crate::script_error::ScriptError;
 use tk_clock::{Clock, Timespec};
 use tk_counter::CounterDesc;
 
+/// The number of fields of an opening. No other record has as many.
+pub(crate) const OPENING_FIELDS: usize = 7;
+
 /// Contains the opening of a script: the values with which its clocks are opened.
 #[derive(Clone, Copy)]
 pub struct Start {
@@ -53,7 +56,7 @@ fn read_opening(telling: Telling, fields: &Records<'_>) -> Result<Start, ScriptE
     ensures opens { IfOk result (λ start.
         opening_refusal start.desc start.reading start.real ≡ None) }
 {
-    if fields.len() != 7 {
+    if fields.len() != OPENING_FIELDS {
         return Err(ScriptError::Fields { row: 1 });
     }
     let bits = number32_at(1, fields, 1)?;

@@ -1,24 +1,52 @@
 //! Reads texts without quotes and carriage returns: a record is a line, cut at its commas.
-ghost use Rattle.std.specs.Prelude.{◌≡◌, ◌≢◌, ◌<◌, [], length, option_map, slice_index, None, Some, true, IfSome, IfNone, MatchOption};
+ghost use Rattle.std.specs.Prelude.{◌≡◌, ◌≢◌, ◌<◌, ◌+◌, ◌^◌, ◌++◌, ◌∷◌, ℕ, List, [], length, option_map, slice_index, None, Some, true, IfSome, IfNone, MatchOption};
 ghost use Rattle.csv.specs.Machine.{next_record};
 ghost use Rattle.csv.specs.Reading.{default_config, strip_bom};
 ghost use Rattle.csv.specs.Records.{field_at};
 ghost use Rattle.csv.specs.declared.parser.State.TheVariants.{StartRecord};
-ghost use Rattle.tk_script.specs.Plain.{EndsLine, FirstLineGives, IsPlain, cut_at_commas};
+ghost use Rattle.tk_script.specs.Plain.{EndsLine, FirstLineGives, HasFields, IsPlain, cut_at_commas};
 ghost use Rattle.tk_script.specs.Reading.{Takes};
 ghost use Rattle.tk_script.specs.Records.{records_after};
 ghost use Rattle.tk_script.specs.Rows.{row_of};
 ghost use Rattle.tk_script.specs.Stamps.{stamp_of};
 
 use crate::frequent::{leading_row, leading_stamp};
+use crate::opening::OPENING_FIELDS;
 use crate::row::Row;
 use memchr::{memchr, memchr2};
 
-/// Contains the line of a plain text that was read last, and the text after it.
+/// The fields of a line.
+#[derive(Clone, Copy)]
+struct Fields<'a> {
+    /// The first of them, as many as the longest form of a record has; if there are fewer, then
+    /// empty ones.
+    first: [&'a [u8]; OPENING_FIELDS],
+    /// Their number.
+    count: usize,
+}
+
+impl<'a> Fields<'a> {
+    /// Counts a field, and keeps it if it is one of the first.
+    fn push(&mut self, field: &'a [u8])
+        requires { self.old.count < 2 ^ 63 }
+        ensures fields { (fields : List (List ℕ)) → HasFields fields self.old →
+            HasFields (fields ++ field.now ∷ []) self.new }
+        ensures count { self.new.count ≡ self.old.count + 1 }
+    {
+        if self.count < OPENING_FIELDS {
+            self.first[self.count] = field;
+        }
+        self.count += 1;
+    }
+}
+
+/// Contains the line of a plain text that was read last, its fields, and the text after it.
 #[derive(Clone, Copy)]
 pub(crate) struct Lines<'a> {
     line: &'a [u8],
+    fields: Fields<'a>,
     rest: &'a [u8],
+    ghost split: { HasFields (cut_at_commas line.now) fields },
 }
 
 impl<'a> Lines<'a> {
@@ -28,11 +56,12 @@ impl<'a> Lines<'a> {
     {
         Lines {
             line: &[],
+            fields: split_at_commas(&[]),
             rest: text,
         }
     }
 
-    /// Advances to the next line that isn't empty, if there is one.
+    /// Advances to the next line that isn't empty, if there is one, and splits it at its commas.
     pub(crate) fn advance(&mut self) -> bool
         requires { IsPlain self.old.rest.now }
         ensures plain { result ≡ true → IsPlain self.new.rest.now }
@@ -43,8 +72,11 @@ impl<'a> Lines<'a> {
         let Some((line, rest)) = first_line(self.rest) else {
             return false;
         };
-        self.line = line;
-        self.rest = rest;
+        *self = Lines {
+            line,
+            fields: split_at_commas(line),
+            rest,
+        };
         true
     }
 
@@ -52,14 +84,19 @@ impl<'a> Lines<'a> {
     pub(crate) fn len(&self) -> usize
         ensures { result ≡ length (cut_at_commas self.now.line.now) }
     {
-        field_count(self.line)
+        self.fields.count
     }
 
     /// Returns the field at an index of the line that was read last.
     pub(crate) fn get(&self, i: usize) -> Option<&'a [u8]>
+        requires { i < 7 }
         ensures { option_map (λ s. s.now) result ≡ field_at (cut_at_commas self.now.line.now) i }
     {
-        field_of_line(self.line, i)
+        if i < self.fields.count {
+            Some(self.fields.first[i])
+        } else {
+            None
+        }
     }
 
     /// Takes the row of the next line, if the line has a frequent form and no fault.
@@ -145,28 +182,19 @@ pub(crate) fn after_line(text: &[u8]) -> Option<&[u8]>
     }
 }
 
-/// Returns the number of fields of a line.
-pub(crate) fn field_count(line: &[u8]) -> usize
-    ensures { result ≡ length (cut_at_commas line.now) }
+/// Splits a line at its commas.
+fn split_at_commas(line: &[u8]) -> Fields<'_>
+    ensures { HasFields (cut_at_commas line.now) result }
 {
-    let mut commas = 0;
-    for byte in line {
-        if *byte == b',' {
-            commas += 1;
-        }
-    }
-    commas + 1
-}
-
-/// Returns the field of a line at an index.
-pub(crate) fn field_of_line(line: &[u8], i: usize) -> Option<&[u8]>
-    ensures { option_map (λ s. s.now) result ≡ field_at (cut_at_commas line.now) i }
-{
-    let Some(comma) = memchr(b',', line) else {
-        return if i == 0 { Some(line) } else { None };
+    let mut fields = Fields {
+        first: [&[]; OPENING_FIELDS],
+        count: 0,
     };
-    if i == 0 {
-        return Some(&line[..comma]);
+    let mut rest = line;
+    'commas: while let Some(comma) = memchr(b',', rest) {
+        fields.push(&rest[..comma]);
+        rest = &rest[comma + 1..];
     }
-    field_of_line(&line[comma + 1..], i - 1)
+    fields.push(rest);
+    fields
 }

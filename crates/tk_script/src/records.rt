@@ -1,4 +1,4 @@
-ghost use Rattle.std.specs.Prelude.{◌≡◌, ℕ, List, Some, true, length, option_map, IfOk, IfErr, IfSome, IfNone};
+ghost use Rattle.std.specs.Prelude.{◌≡◌, ◌<◌, ℕ, List, Some, true, length, option_map, IfOk, IfErr, IfSome, IfNone};
 ghost use Rattle.csv.specs.Reading.{error_kind};
 ghost use Rattle.csv.specs.Records as csv_records;
 ghost use Rattle.csv.specs.Records.{field_at};
@@ -75,8 +75,10 @@ impl<'a> Records<'a> {
         }
     }
 
-    /// Returns the field at an index of the record that was read last.
+    /// Returns the field at an index of the record that was read last. No form of a record has a
+    /// field at 7.
     pub(crate) fn get(&self, i: usize) -> Option<&[u8]>
+        requires { i < 7 }
         ensures { option_map (λ s. s.now) result ≡ field_at (fields_of self.now) i }
     {
         match self {
