@@ -49,7 +49,7 @@ strip_bom-shorter (a ∷ b ∷ c ∷ rest) = by (is_bom a b c)
     by false = omega arith
 
 -- a text has at most one record more than it has bytes
-records_of-few : (bytes : List ℕ) → length (records_of bytes) ≤ length bytes + 1
+pub records_of-few : (bytes : List ℕ) → length (records_of bytes) ≤ length bytes + 1
 records_of-few bytes =
     let few = records_from-few default_config (length (strip_bom bytes) + 1) StartRecord
     (strip_bom bytes) in

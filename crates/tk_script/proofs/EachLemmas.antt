@@ -22,6 +22,15 @@ goes-at : {A : Type 0} (parse : Parser A) (whole : Result (List A) ScriptError) 
 goes-at parse whole before n left left' g s = g
     ∙ ap (λ (rs : List (List (List ℕ))). each parse n rs >>= λ rest. Ok (before ++ rest)) s
 
+-- nothing was parsed yet
+pub goes-start : {A : Type 0} (parse : Parser A) (n : ℕ) (left : List (List (List ℕ))) →
+    Goes parse (each parse n left) [] n left
+goes-start {A} parse n left = by (each parse n left)
+  where
+    by : (rest : Result (List A) ScriptError) → rest ≡ (rest >>= λ xs. Ok ([] ++ xs))
+    by (Ok xs) = refl
+    by (Err e) = refl
+
 -- one more record was parsed
 pub goes-more : {A : Type 0} (parse : Parser A) (whole : Result (List A) ScriptError)
     (before before' : List A) (n : ℕ) (left : List (List (List ℕ))) (first : List (List ℕ))

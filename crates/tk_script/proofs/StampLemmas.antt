@@ -1,5 +1,6 @@
 -- The items of a stamp file, read one after the other.
 use Rattle.std.proofs.Common.{◌≡◌, ◌∙◌, ◌+◌, ◌++◌, ℕ, List, [], ◌∷◌, length, map, Ok, Err, inl, inr, refl, sym, ap}
+use Rattle.std.specs.Prelude.{Option, Some, None, IsSome, unwrap_or}
 use Rattle.std.proofs.lemmas.List.{map_push, length_push}
 use Rattle.tk_script.specs.Cursor.{NextFails}
 use Rattle.tk_script.specs.Grammar.{Fails}
@@ -8,6 +9,12 @@ use Rattle.tk_script.specs.Stamps.{Items, items_of, stamp_of, items_in}
 use Rattle.tk_script.specs.declared.script_error.ScriptError.{ScriptError}
 use Rattle.tk_script.proofs.EachLemmas.{Goes, goes-fault}
 use Rattle.tk_script.proofs.GrammarLemmas.{fails-from}
+
+-- the remaining records are known
+pub left-remaining : (left : Option (List (List (List ℕ)))) → IsSome left →
+    left ≡ Some (unwrap_or left [])
+left-remaining (Some records) known = refl
+left-remaining None known = cc known
 
 -- both lists have one more item
 pub paired-more : (xs ys xs' ys' : List ℕ) (x y : ℕ)

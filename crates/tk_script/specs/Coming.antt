@@ -1,6 +1,6 @@
 -- The records of a script that a row reader has not read yet, and their rows.
-use Rattle.std.specs.Prelude.{◌≡◌, ℕ, ◌+◌, ◌<◌, ◌^◌, List, [], ◌∷◌, length, Option, Some, None, IsSome, Result, Ok, Err, unwrap_or}
-use Rattle.tk_script.specs.Cursor.{IsCursor, left_in}
+use Rattle.std.specs.Prelude.{◌≡◌, ℕ, ◌+◌, ◌<◌, ◌^◌, List, [], ◌∷◌, length, Option, Some, None, IsSome, Result, Ok, Err}
+use Rattle.tk_script.specs.Cursor.{IsCursor, left_in, remaining}
 use Rattle.tk_script.specs.Grammar.{Parse}
 use Rattle.tk_script.specs.Rows.{rows_of}
 use Rattle.tk_script.specs.declared.opening.Start.{Start}
@@ -10,11 +10,11 @@ use Rattle.tk_script.specs.declared.script_error.ScriptError.{ScriptError}
 
 -- the number of remaining records
 unfoldable pub records_left : RowReader → ℕ
-records_left reader = length (unwrap_or (left_in reader.records) [])
+records_left reader = length (remaining reader.records)
 
 -- the rows of the remaining records, or their first fault
 unfoldable pub coming : RowReader → Result (List Row) ScriptError
-coming reader = rows_of reader.row (unwrap_or (left_in reader.records) [])
+coming reader = rows_of reader.row (remaining reader.records)
 
 -- the reader has not failed, and each remaining record has a number below 2^32
 pub record IsReady (reader : RowReader) : Type 0 where

@@ -1,5 +1,5 @@
 -- The remaining records of a text, for both ways of reading it: by csv's reader, or as plain lines.
-use Rattle.std.specs.Prelude.{◌≡◌, ◌⊎◌, ℕ, List, [], ◌∷◌, Option, None, Some, true, Result, Ok, Err}
+use Rattle.std.specs.Prelude.{◌≡◌, ◌⊎◌, ℕ, List, [], ◌∷◌, Option, None, Some, true, Result, Ok, Err, unwrap_or}
 use Rattle.csv.specs.Records as csv
 use Rattle.csv.specs.declared.parser.State.TheVariants.{StartRecord}
 use Rattle.tk_script.specs.Plain.{IsPlain, cut_at_commas}
@@ -19,6 +19,10 @@ IsCursor (Plain lines) = IsPlain lines.rest.now
 abbrev pub left_in : Records → Option (List (List (List ℕ)))
 left_in (Quoted quoted) = left_of quoted.reader
 left_in (Plain lines) = Some (records_after StartRecord lines.rest.now)
+
+-- the same records, and none if csv's reader has failed
+abbrev pub remaining : Records → List (List (List ℕ))
+remaining records = unwrap_or (left_in records) []
 
 -- the fields of the record that was read last
 abbrev pub fields_of : Records → List (List ℕ)

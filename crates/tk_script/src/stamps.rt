@@ -1,5 +1,5 @@
-ghost use Rattle.std.specs.Prelude.{◌≡◌, ℕ, List, IfOk, IfErr, OnOk, IsSome, MatchResult, Some, length, ◌++◌, ◌∷◌, []};
-ghost use Rattle.tk_script.specs.Cursor.{IsCursor, NextFails, NextGives, fields_of, left_in};
+ghost use Rattle.std.specs.Prelude.{◌≡◌, ◌<◌, ◌^◌, ℕ, List, IfOk, IfErr, OnOk, IsSome, MatchResult, Some, length, ◌++◌, ◌∷◌, []};
+ghost use Rattle.tk_script.specs.Cursor.{IsCursor, NextFails, NextGives, fields_of, left_in, remaining};
 ghost use Rattle.tk_script.specs.Grammar.{Gives};
 ghost use Rattle.tk_script.specs.Stamps as spec;
 
@@ -52,22 +52,22 @@ impl Stamps {
 
 /// Parses all remaining records. The next one is the first of the file.
 fn read_stamps(alloc: Global, records: &mut Records<'_>) -> Result<Stamps, ScriptError>
-    requires { IsCursor records.old }
-    ensures gives { (rs : List (List (List ℕ))) → left_in records.old ≡ Some rs
-        → Gives spec.items result (spec.items_in 1 rs) }
+    requires reading { IsCursor records.old }
+    requires left { IsSome (left_in records.old) }
+    requires few { length (remaining records.old) < 2 ^ 32 }
+    ensures gives { Gives spec.items result (spec.items_in 1 (remaining records.old)) }
     ensures paired { IfOk result (λ s. length s.fronts.items ≡ length s.stamps.items) }
 {
     let mut stamps = Stamps {
         fronts: Vec::new(alloc),
         stamps: Vec::new(alloc),
     };
-    for row in 1..u64::MAX {
-        let Some((front, stamp)) = next_stamp(row, records)? else {
-            return Ok(stamps);
-        };
+    let mut row = 1;
+    'items: while let Some((front, stamp)) = next_stamp(row, records)? {
         stamps.push(front, stamp)?;
+        row += 1;
     }
-    Err(ScriptError::Memory)
+    Ok(stamps)
 }
 
 /// Parses the record `row`, if there is one.

@@ -1,7 +1,8 @@
-use Rattle.std.proofs.Common.{length, refl}
+use Rattle.std.proofs.Common.{arith, length, refl}
 use Rattle.std.proofs.lemmas.Bool.{lt-ltb, le-ltb}
-use Rattle.tk_script.specs.Records.{records_of, most_bytes}
+use Rattle.tk_script.specs.Records.{most_bytes}
 use Rattle.tk_script.specs.Stamps.{stamps_of}
+use Rattle.tk_script.proofs.ComingLemmas.{records_of-few}
 use Rattle.tk_script.proofs.stamps.Stamps.from_bytes.Goals as goal
 
 pub returns-then-bytes-gt-SIZE_LIMIT-clause-gives : goal.returns-then-bytes-gt-SIZE_LIMIT-clause-gives
@@ -13,4 +14,12 @@ pub returns-clause-gives : goal.returns-clause-gives
 unfolding stamps_of
 returns-clause-gives c =
     rw (le-ltb most_bytes (length c.args.bytes.now) c.if-bytes-gt-SIZE_LIMIT.false)
-    (c.read_stamps.ensures.gives (records_of c.args.bytes.now) c.open.ensures.left)
+    (rw c.open.ensures.left at c.read_stamps.ensures.gives)
+
+pub read_stamps-requires-clause-left : goal.read_stamps-requires-clause-left
+read_stamps-requires-clause-left c = rw c.open.ensures.left refl
+
+pub read_stamps-requires-clause-few : goal.read_stamps-requires-clause-few
+read_stamps-requires-clause-few c =
+    let few = records_of-few c.args.bytes.now in
+    rw c.open.ensures.left (omega (arith, few, c.if-bytes-gt-SIZE_LIMIT.false))
