@@ -1,6 +1,6 @@
 ghost use Rattle.std.specs.Prelude.{◌≡◌, ℕ, ◌++◌, ◌≤◌, List, OnOk, OnErr, IfErr, codes, length};
 ghost use Rattle.tk_script.specs.Line.{HasRoom};
-ghost use Rattle.tk_script.specs.Lines.{IsWritable, IsAtLine, IsUtcLine, at_text};
+ghost use Rattle.tk_script.specs.Lines.{IsWritable, IsAtLine, at_text};
 
 use crate::calendar::{Calendar, day_and_second, time_of_day};
 use crate::line::Line;
@@ -55,33 +55,19 @@ impl<A: Allocator + Copy> Calendar<A> {
         ensures memory { IfErr result (λ e. e ≡ ScriptError.Memory) }
     {
         match clock {
-            ClockId::Realtime | ClockId::RealtimeCoarse => self.line_at_utc(out, clock, time),
+            ClockId::Realtime | ClockId::RealtimeCoarse => {
+                let seconds = time.sec.unsigned_abs();
+                let (day, second) = day_and_second(seconds);
+                let date = self.date_of(day)?;
+                let time_of_day = time_of_day(second, time.nsec);
+                line_at_with(out, clock, time, date.as_bytes(), &time_of_day)
+            }
             ClockId::Monotonic
             | ClockId::Boottime
             | ClockId::Tai
             | ClockId::MonotonicCoarse
             | ClockId::MonotonicRaw => line_at_plain(out, clock, time),
         }
-    }
-
-    /// Appends the line of a clock's time with UTC text.
-    fn line_at_utc(
-        &mut self,
-        out: &mut Vec<u8, A>,
-        clock: ClockId,
-        time: Timespec,
-    ) -> Result<(), ScriptError>
-        requires { IsWritable time }
-        ensures ok { OnOk result ((text : List ℕ) × (out.new.items ≡ out.old.items ++ text)
-            × IsUtcLine clock time text) }
-        ensures err { OnErr result (out.new.items ≡ out.old.items) }
-        ensures memory { IfErr result (λ e. e ≡ ScriptError.Memory) }
-    {
-        let seconds = time.sec.unsigned_abs();
-        let (day, second) = day_and_second(seconds);
-        let date = self.date_of(day)?;
-        let time_of_day = time_of_day(second, time.nsec);
-        line_at_with(out, clock, time, date.as_bytes(), &time_of_day)
     }
 }
 

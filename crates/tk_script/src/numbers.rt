@@ -4,6 +4,9 @@ ghost use Rattle.std.specs.Char.{is_ascii_digit};
 ghost use Rattle.std.specs.Str.Parse.{digits_value};
 ghost use Rattle.tk_script.specs.Number.{is_numeral, number_up_to, number_of, number32_of, signed_of};
 
+/// The most digits that always fit in 64 bits.
+const SURE_DIGITS: usize = 19;
+
 /// Parses a field as an unsigned 64-bit number: one or more ASCII digits. Leading zeros are
 /// allowed.
 ///
@@ -43,12 +46,12 @@ pub(crate) fn signed(field: &[u8]) -> Option<i64>
     }
 }
 
-/// Parses a field as a number of at most `most`. Nineteen digits always fit in 64 bits, so most
-/// fields need no test of the sum.
+/// Parses a field as a number of at most `most`. Most fields are so short that they need no test of
+/// the sum.
 fn number_at_most(field: &[u8], most: u64) -> Option<u64>
     ensures { result ≡ number_up_to most field.now }
 {
-    if field.len() > 19 {
+    if field.len() > SURE_DIGITS {
         return long_number(field, most);
     }
     short_number(field).filter(|value| *value <= most)
@@ -69,7 +72,7 @@ pub(crate) fn leading_number(text: &[u8]) -> Option<(u64, &[u8])>
     ensures { IfSome result (λ found. (digits : List ℕ) × (text.now ≡ digits ++ found.1.now)
         × (number_of digits ≡ Some found.0)) }
 {
-    let (value, len) = leading_digits(&text[..text.len().min(19)]);
+    let (value, len) = leading_digits(&text[..text.len().min(SURE_DIGITS)]);
     if len == 0 {
         return None;
     }
