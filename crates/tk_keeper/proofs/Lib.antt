@@ -2,6 +2,7 @@ pub mod ChangeCounter
 pub mod Folding
 pub mod Items
 pub mod Kept
+pub mod Latest
 pub mod Room
 pub mod Running
 pub mod Runs

@@ -3,6 +3,7 @@ ghost use Rattle.std.specs.Prelude.{◌≡◌, ◌≤◌, MatchResult, Some, Non
 mod applying;
 mod changing;
 mod folding;
+mod latest;
 mod past;
 mod replaying;
 mod running;

@@ -1,5 +1,6 @@
--- After an accepted command, a read of MONOTONIC at its reading is not refused.
-use Rattle.std.proofs.Common.{◌≡◌, ◌∙◌, ℕ, refl, Bool, true, false}
+-- After an accepted command, its reading is the last one, and a read of MONOTONIC at it is not
+-- refused.
+use Rattle.std.proofs.Common.{◌≡◌, ◌∙◌, ℕ, refl, ap, Bool, true, false}
 use Rattle.std.specs.Prelude.{ℤ, Ok, Option, Some, None, not, ◌||◌, nat_lt, int_lt, if◌then◌else◌}
 use Rattle.tk_counter.specs.Counter.{mask}
 use Rattle.tk_clock.specs.declared.clock_id.ClockId.{ClockId}
@@ -9,14 +10,16 @@ use Rattle.tk_clock.specs.declared.command.Command.{Command}
 use Rattle.tk_clock.specs.declared.refusal.Refusal.{Refusal}
 use Rattle.tk_clock.specs.declared.refusal.ReadError.TheVariants.{Invalid as InvalidReading, Range as PastLimit}
 use Rattle.tk_clock.specs.Clocks.{clock_value}
-use Rattle.tk_clock.specs.Journal.{Journal, followed_by}
+use Rattle.tk_clock.specs.Journal.{Journal, followed_by, last_reading}
 use Rattle.tk_clock.specs.Limits.{limit, is_past_limit}
 use Rattle.tk_clock.specs.Refusal.{first_of, clock_refusal}
 use Rattle.tk_clock.specs.Run.{reply_if}
+use Rattle.tk_clock.specs.State.{State}
 use Rattle.tk_clock.specs.Folding.{IsAlike}
 use Rattle.tk_report.specs.Folding.{IsReplied, counting_rule_of}
 use Rattle.tk_report.specs.Report.{reply_by}
 use Rattle.tk_keeper.specs.Read.{read_fault}
+use Rattle.tk_clock.proofs.Stretches.{last_reading-followed_by}
 use Rattle.tk_report.proofs.Alike.{passes_clock, read_fault-alike}
 
 passed : (test : Bool) (refusal : Refusal) (later : Option Refusal) →
@@ -75,3 +78,18 @@ pub read_fault-replied : (keep : Option ℕ) (journal kept : Journal) (entry : E
 read_fault-replied keep journal kept entry number replied =
     answered_after keep journal kept entry number (counting_rule_of keep journal entry) refl replied.0
     replied.1
+
+last_after : (journal kept : Journal) (entry : Entry) (number : ℕ) (found : Option Refusal) →
+    (reply_if journal entry found).answer ≡ Ok number →
+    IsAlike kept (reply_if journal entry found).journal →
+    last_reading kept ≡ entry.reading
+last_after journal kept entry number None answered alike =
+    ap (λ (s : State). s.base.last) alike.state ∙ last_reading-followed_by journal entry
+last_after journal kept entry number (Some refusal) answered alike = cc answered
+
+-- and the kept journal's clocks were last brought forward to its reading
+pub last_reading-replied : (keep : Option ℕ) (journal kept : Journal) (entry : Entry) (number : ℕ) →
+    IsReplied (reply_by (counting_rule_of keep) journal entry) (Ok number) kept →
+    last_reading kept ≡ entry.reading
+last_reading-replied keep journal kept entry number replied =
+    last_after journal kept entry number (counting_rule_of keep journal entry) replied.0 replied.1

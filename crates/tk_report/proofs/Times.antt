@@ -1,19 +1,18 @@
 -- A clock's value has exactly one time in seconds and nanoseconds.
 use Rattle.std.proofs.Common.{◌≡◌, ◌∙◌, ℕ, ◌+◌, ◌*◌, ◌%◌, ◌^◌, ◌<◌, refl, sym, ap, arith, Bool, true, false}
-use Rattle.std.specs.Prelude.{ℤ, pos, negsuc, ◌+ℤ◌, ◌*ℤ◌, ◌≤ℤ◌, ◌<ℤ◌, int_lt, unsigned_abs, not, Some, None, Result, Ok, Err, IsOk, if◌then◌else◌}
+use Rattle.std.specs.Prelude.{ℤ, pos, negsuc, ◌+ℤ◌, ◌*ℤ◌, ◌≤ℤ◌, ◌<ℤ◌, int_lt, unsigned_abs, not, Some, None, if◌then◌else◌}
 use Rattle.std.proofs.lemmas.Int.{ints}
 use Rattle.std.proofs.lemmas.Nat.{div-mul-add, mod-mul-add}
 use Rattle.tk_clock.specs.declared.timespec.Timespec.{Timespec}
 use Rattle.tk_clock.specs.declared.clock_id.ClockId.{ClockId}
 use Rattle.tk_clock.specs.declared.clock_id.ClockId.TheVariants.{Realtime, Monotonic, Boottime, Tai, RealtimeCoarse, MonotonicCoarse, MonotonicRaw}
-use Rattle.tk_clock.specs.declared.refusal.ReadError.{ReadError}
 use Rattle.tk_clock.specs.declared.refusal.ReadError.TheVariants.{Invalid, Range}
 use Rattle.tk_clock.specs.Clocks.{clock_value}
 use Rattle.tk_clock.specs.Journal.{Journal}
 use Rattle.tk_clock.specs.Limits.{limit, clock_end}
 use Rattle.tk_clock.specs.Time.{nanoseconds, timespec_of}
 use Rattle.tk_clock.proofs.Settings.{below-of}
-use Rattle.tk_keeper.specs.Read.{IsRead, IsTimeOf, read_fault}
+use Rattle.tk_keeper.specs.Read.{IsTimeOf, read_fault}
 use Rattle.tk_script.specs.Lines.{IsWritable}
 use Rattle.tk_report.specs.Report.{IsTimeAt}
 
@@ -82,10 +81,3 @@ pub IsTimeAt-read : (journal : Journal) (clock : ClockId) (reading : ℕ) (time 
     IsTimeOf (clock_value journal clock reading) time → IsTimeAt journal clock reading time
 IsTimeAt-read journal clock reading time known =
     IsTimeAt-nanoseconds journal clock reading time known.0 known.1 known.2
-
--- a read without a fault gives a time
-pub IsOk-read : (journal : Journal) (clock : ClockId) (reading : ℕ)
-    (result : Result Timespec ReadError) →
-    IsRead journal clock reading result → read_fault journal clock reading ≡ None → IsOk result
-IsOk-read journal clock reading (Ok time) known free = refl
-IsOk-read journal clock reading (Err error) known free = absurd (cc (sym known ∙ free))

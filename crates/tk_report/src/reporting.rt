@@ -124,8 +124,8 @@ fn add_line<A: Allocator + Copy>(
     }
 }
 
-/// Applies a command and appends its line. An accepted command always gets a line, because
-/// MONOTONIC at its reading is below its limit.
+/// Applies a command and appends its line. The line of an accepted command gives MONOTONIC at the
+/// reading to which the command brought the clocks forward.
 fn add_reply<A: Allocator + Copy>(
     text: &mut Vec<u8, A>,
     keeper: &mut Timekeeper<A>,
@@ -142,10 +142,7 @@ fn add_reply<A: Allocator + Copy>(
     ensures err { IfErr result (λ error. error ≡ ScriptError.Memory) }
 {
     match apply(keeper, keep, reading, cmd) {
-        Ok(number) => {
-            let time = keeper.get(ClockId::Monotonic, reading).unwrap();
-            line_ok(text, number, time)
-        }
+        Ok(number) => line_ok(text, number, keeper.monotonic()),
         Err(Refusal::Memory) => Err(ScriptError::Memory),
         Err(refusal) => line_no(text, refusal),
     }

@@ -46,3 +46,19 @@ fn a_reading_above_the_mask_is_refused_first(rt: HostRuntime) {
     ];
     gives(&rt, &keeper, &values);
 }
+
+#[test]
+fn monotonic_is_read_at_the_last_command(rt: HostRuntime) {
+    let mut keeper = opened(&rt, rt.alloc());
+    assert_same(&rt, &keeper.monotonic(), &time(0, 0));
+    let wake = Command::Resume(time(5, 500_000_000));
+    let steps = [
+        (1_000_000_500, Command::Update, Ok(1)),
+        (2_000_000_700, Command::Suspend, Ok(2)),
+        (5, wake, Ok(3)),
+    ];
+    answers(&rt, &mut keeper, &steps);
+    assert_same(&rt, &keeper.monotonic(), &time(2, 700));
+    assert_same(&rt, &keeper.fold(0), &3);
+    assert_same(&rt, &keeper.monotonic(), &time(2, 700));
+}

@@ -1,0 +1,41 @@
+//! Reads MONOTONIC at the reading to which the clocks were last brought forward.
+ghost use Rattle.std.specs.Prelude.{◌≡◌, ◌*◌, ◌/◌, ◌^◌, ◌<◌, ◌≤◌, pos};
+ghost use Rattle.tk_clock.specs.Clocks.{clock_value};
+ghost use Rattle.tk_clock.specs.Journal.{last_reading};
+ghost use Rattle.tk_clock.specs.Limits.{clock_end};
+ghost use Rattle.tk_keeper.specs.Read.{IsTimeOf};
+
+use super::Timekeeper;
+use std::alloc::Allocator;
+use tk_clock::{ClockId, Timespec};
+
+impl<A: Allocator + Copy> Timekeeper<A> {
+    /// Returns MONOTONIC at the last accepted command's reading, or at the opening: whole seconds
+    /// since opening, and nanoseconds, rounded down.
+    ///
+    /// `get` gives the same time at that reading. This call takes less work, because the clocks
+    /// were already brought forward to it, and it has no error, because every accepted command
+    /// leaves MONOTONIC below its limit.
+    pub fn monotonic(&self) -> Timespec
+        ensures { IsTimeOf (clock_value self.now.journal ClockId.Monotonic
+            (last_reading self.now.journal)) result }
+    {
+        let now = self.snapshot();
+        // BOOTTIME is below its limit, and MONOTONIC isn't ahead of it
+        let _low = (self.clock.tick(), now.boot_offset());
+        time_of(now.sec(), now.frac(), now.desc().shift())
+    }
+}
+
+/// Makes a time of whole seconds and the part below a second, in units of `2^-shift` ns.
+fn time_of(sec: u64, frac: u64, shift: u32) -> Timespec
+    requires whole { sec < clock_end }
+    requires part { frac < 10 ^ 9 * 2 ^ shift }
+    requires shift { shift ≤ 32 }
+    ensures { result ≡ record { sec = pos sec; nsec = frac / 2 ^ shift } }
+{
+    Timespec {
+        sec: sec as i64,
+        nsec: (frac >> shift) as u32,
+    }
+}
