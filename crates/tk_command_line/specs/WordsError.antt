@@ -1,4 +1,5 @@
--- Why arguments aren't accepted.
+-- Why arguments aren't accepted, and the texts of these errors.
+use Rattle.std.specs.Prelude.{ℕ, List, codes}
 use Rattle.clap.specs.declared.error.ErrorKind.{ErrorKind}
 use Rattle.clap.specs.declared.error.ErrorKind.TheVariants.{OutOfMemory}
 use Rattle.std.specs.declared.io.ErrorKind as io
@@ -15,3 +16,8 @@ error_of _ = errors.Refused
 abbrev pub unread_of : io.ErrorKind → WordsError
 unread_of kinds.OutOfMemory = errors.Memory
 unread_of _ = errors.Refused
+
+-- the text of an error
+abbrev pub words_text : WordsError → List ℕ
+words_text errors.Refused = codes "words refused"
+words_text errors.Memory = codes "out of memory"

@@ -1,8 +1,9 @@
 //! Parses the command line.
-ghost use Rattle.std.specs.Prelude.{◌≡◌, ◌≢◌, Some, None, [], false, map, codes, string_bytes, IfErr, IfOk, IfSome, option_map};
+ghost use Rattle.std.specs.Prelude.{◌≡◌, ◌≢◌, Some, None, [], false, map, codes, string_bytes, IfErr, IfOk, IfSome, IsNone, option_map};
 ghost use Rattle.clap.specs.Words.{App, all_of, app_of, fault_of, first_of, found_of, rows_of, rule_of, subcommand_of, subcommand_rows_of, with_subcommand};
 ghost use Rattle.clap.specs.declared.builder.command.Command.TheViews.{out-Command};
 ghost use Rattle.tk_command_line.specs.CommandLine.{Asks, IsAsked, bare_words, files_rule, files_words, keep_rule, one_script_words, program_words, replay_words, task_by, task_found, trace_words, word_rule};
+ghost use Rattle.tk_script.specs.Number.{number_of};
 ghost use Rattle.tk_command_line.specs.Request.{IsAllowed, keep_of, many_by, race_by, replay_by, task_of, trace_by, workers_of};
 
 use crate::request::Request;
@@ -152,16 +153,11 @@ fn many_asked<'a>(
         (option_map (λ names. map (λ t. t.now) names.now) files.entry)) result }
     ensures allowed { IfOk result IsAllowed }
 {
-    let (Some(text), Some(names)) = (workers, files) else {
+    let Some(workers) = workers.and_then(workers_in) else {
         return Err(WordsError::Refused);
     };
-    match workers_in(text) {
-        Some(workers) => {
-            let files = Vec::from_slice(alloc, names)?;
-            Ok(Request::Many { workers, files })
-        }
-        None => Err(WordsError::Refused),
-    }
+    let files = copied_files(alloc, files)?;
+    Ok(Request::Many { workers, files })
 }
 
 /// Parses WORKERS: a number as in scripts, from 1 to 64.
@@ -181,16 +177,30 @@ fn race_asked<'a>(
         (option_map (λ names. map (λ t. t.now) names.now) files.entry)) result }
     ensures allowed { IfOk result IsAllowed }
 {
-    let (Some(text), Some(names)) = (step, files) else {
+    let Some(step) = step.and_then(step_in) else {
         return Err(WordsError::Refused);
     };
-    match number(text.as_bytes()) {
-        Some(step) => {
-            let files = Vec::from_slice(alloc, names)?;
-            Ok(Request::Race { step, files })
-        }
-        None => Err(WordsError::Refused),
-    }
+    let files = copied_files(alloc, files)?;
+    Ok(Request::Race { step, files })
+}
+
+/// Parses STEP: any number as in scripts.
+fn step_in(text: &str) -> Option<u64>
+    ensures { result ≡ number_of text.now }
+{
+    number(text.as_bytes())
+}
+
+/// Copies the texts of FILE.., if they were found.
+fn copied_files<'a>(alloc: Global, files: Option<&[&'a str]>) -> Result<Vec<&'a str>, WordsError>
+    ensures ok { IfOk result (λ copy. option_map (λ names. map (λ t. t.now) names.now) files.entry
+        ≡ Some (map (λ t. t.now) copy.items)) }
+    ensures err { IfErr result (λ error. error ≡ WordsError.Refused → IsNone files.entry) }
+{
+    let Some(names) = files else {
+        return Err(WordsError::Refused);
+    };
+    Ok(Vec::from_slice(alloc, names)?)
 }
 
 /// Makes the grammar of the program's arguments.

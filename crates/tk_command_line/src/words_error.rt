@@ -1,14 +1,15 @@
-ghost use Rattle.std.specs.Prelude.{◌≡◌};
+ghost use Rattle.std.specs.Prelude.{◌≡◌, Some};
 ghost use Rattle.std.specs.IoError.{error_kind};
 ghost use Rattle.clap.specs.Words.{kind_of};
-ghost use Rattle.tk_command_line.specs.WordsError.{error_of, unread_of};
+ghost use Rattle.tk_command_line.specs.WordsError.{error_of, unread_of, words_text};
 ghost use Rattle.tk_command_line.specs.declared.words_error.WordsError.TheVariants.{Memory};
 
 use clap::error::ErrorKind;
 use std::alloc::AllocError;
-use std::io;
+use std::error::Error;
+use std::{fmt, io};
 
-/// Says why arguments aren't accepted.
+/// Says why arguments aren't accepted. `Display` prints the program's text.
 #[derive(Clone, Copy, Debug, PartialEq, Eq)]
 pub enum WordsError {
     /// The arguments aren't in the form that docs/TKCORE.md gives, or one of them isn't UTF-8.
@@ -16,6 +17,19 @@ pub enum WordsError {
     /// An allocation failed.
     Memory,
 }
+
+impl fmt::Display for WordsError {
+    ghost output = { λ error. Some (words_text error) };
+
+    fn fmt<W: fmt::Write>(&self, f: &mut fmt::Formatter<W>) -> fmt::Result {
+        f.write_str(match self {
+            WordsError::Refused => "words refused",
+            WordsError::Memory => "out of memory",
+        })
+    }
+}
+
+impl Error for WordsError {}
 
 impl From<AllocError> for WordsError {
     ghost from_gives = { λ _ error. error ≡ Memory };
