@@ -24,14 +24,7 @@ pub(crate) fn read_files<D: Folder>(
 {
     let mut texts = Vec::with_capacity(alloc, names.len())?;
     'files: for name in names {
-        match read_file(alloc, folder, name) {
-            Ok(text) => {
-                if texts.push(text).is_err() {
-                    return Err(Fault::Memory);
-                }
-            }
-            Err(fault) => return Err(fault),
-        }
+        texts.push_reserved(read_file(alloc, folder, name)?);
     }
     Ok(texts)
 }

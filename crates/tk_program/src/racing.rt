@@ -136,8 +136,7 @@ fn actors_of(alloc: Global, scripts: &[Script]) -> Result<Vec<Vec<Action>>, Allo
 {
     let mut actors = Vec::with_capacity(alloc, scripts.len())?;
     'scripts: for script in scripts {
-        let part = part_in(alloc, script.rows.as_slice())?;
-        actors.push(part)?;
+        actors.push_reserved(part_in(alloc, script.rows.as_slice())?);
     }
     Ok(actors)
 }
@@ -146,13 +145,15 @@ fn actors_of(alloc: Global, scripts: &[Script]) -> Result<Vec<Vec<Action>>, Allo
 fn part_in(alloc: Global, rows: &[Row]) -> Result<Vec<Action>, AllocError>
     ensures { IfOk result (λ actions. actions.items ≡ map action_of rows.now) }
 {
-    let mut actions = Vec::with_capacity(alloc, rows.len())?;
-    'rows: for row in rows {
-        let action = match row {
-            Row::Act { cmd, .. } => Action::Order(*cmd),
-            Row::Look { .. } => Action::Look,
-        };
-        actions.push(action)?;
+    rows.iter().map(|row| action_in(row)).collect(alloc)
+}
+
+/// Returns the action for a row.
+fn action_in(row: &Row) -> Action
+    ensures { result ≡ action_of row.now }
+{
+    match row {
+        Row::Act { cmd, .. } => Action::Order(*cmd),
+        Row::Look { .. } => Action::Look,
     }
-    Ok(actions)
 }

@@ -31,14 +31,7 @@ pub(crate) fn read_scripts<D: Folder>(
         return Err(Ending::Fault(Fault::Memory));
     };
     'files: for (place, name) in names.iter().enumerate() {
-        match read_script(alloc, folder, place, name) {
-            Ok(script) => {
-                if scripts.push(script).is_err() {
-                    return Err(Ending::Fault(Fault::Memory));
-                }
-            }
-            Err(ending) => return Err(ending),
-        }
+        scripts.push_reserved(read_script(alloc, folder, place, name)?);
     }
     Ok(scripts)
 }

@@ -1,4 +1,4 @@
-use Rattle.std.proofs.Common.{◌≡◌, ◌∙◌, ap, inl, inr, map, refl, string_bytes}
+use Rattle.std.proofs.Common.{◌∙◌, ap, inl, inr, map, refl, string_bytes}
 use Rattle.std.specs.Prelude.{Ok, Err}
 use Rattle.tk_program.specs.Ending.{ending_at}
 use Rattle.tk_program.proofs.running.run_and_tell.Goals as goal
