@@ -1,8 +1,9 @@
 -- How the program ends.
-use Rattle.std.specs.Prelude.{◌≡◌, ℕ, List, ◌++◌, Option, IfSome, Result, Ok, Err, codes}
+use Rattle.std.specs.Prelude.{◌≡◌, ℕ, List, ◌++◌, Option, IfSome, Result, Ok, Err, codes, decimal}
 use Rattle.std.specs.Io.KnownBytes.{Appends}
 use Rattle.tk_script.specs.declared.script_error.ScriptError.{ScriptError}
 use Rattle.tk_script.specs.declared.script_error.ScriptError.TheVariants as scripts
+use Rattle.tk_script.specs.ScriptError.{script_text}
 use Rattle.tk_race.specs.RaceError.{error_text}
 use Rattle.tk_report.specs.declared.fault.Fault.{Fault}
 use Rattle.tk_report.specs.declared.fault.Fault.TheVariants as faults
@@ -25,7 +26,7 @@ status_of endings.Openings = 1
 status_of (endings.Race error) = 1
 
 -- the line of an ending, for a writer whose bytes are known: none if all was done or if the output
--- has the faults, and otherwise one; the text of a script's fault is not stated here
+-- has the faults, and otherwise one
 abbrev pub IsErrorLine : {W : Type 0} → (W → Option (List ℕ)) → W → W → Ending → Type 0
 IsErrorLine contents old new endings.Done = new ≡ old
 IsErrorLine contents old new endings.Faulty = new ≡ old
@@ -36,7 +37,9 @@ IsErrorLine contents old new endings.Words =
 IsErrorLine contents old new (endings.Fault fault) =
     IfSome (fault_text fault)
     (λ text. Appends (contents old) (contents new) (codes "tkcore: " ++ text ++ codes "\n"))
-IsErrorLine contents old new (endings.File index error) = Unit {0}
+IsErrorLine contents old new (endings.File index error) =
+    Appends (contents old) (contents new)
+    (codes "tkcore: file " ++ (decimal index ++ (codes ": " ++ (script_text error ++ codes "\n"))))
 IsErrorLine contents old new endings.Openings =
     Appends (contents old) (contents new) (codes "tkcore: " ++ codes "openings differ" ++ codes "\n")
 IsErrorLine contents old new (endings.Race error) =

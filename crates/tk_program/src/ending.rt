@@ -61,7 +61,7 @@ impl Ending {
     {
         match self {
             Ending::Done | Ending::Faulty => Ok(()),
-            Ending::Words => writeln!(out, "tkcore: words refused"),
+            Ending::Words => writeln!(out, "tkcore: {}", WordsError::Refused),
             Ending::Fault(fault) => writeln!(out, "tkcore: {fault}"),
             Ending::Many(error) => writeln!(out, "tkcore: {error}"),
             Ending::File { index, error } => writeln!(out, "tkcore: file {index}: {error}"),

@@ -1,9 +1,8 @@
 //! Makes the text of many scripts' reports.
 ghost use Rattle.std.specs.Prelude.{◌≡◌, ◌++◌, OnOk, MatchResult};
-ghost use Rattle.tk_program.specs.ManyText.{fault_line, heading, outcome_text, text_from};
+ghost use Rattle.tk_program.specs.ManyText.{heading, outcome_text, text_from};
 
 use std::alloc::{AllocError, Allocator};
-use std::io;
 use std::io::Write;
 use tk_report::Fault;
 use tk_script::ScriptError;
@@ -55,7 +54,7 @@ fn add_heading<A: Allocator>(text: &mut Vec<u8, A>, index: usize) -> Result<(), 
     writeln!(text, "file,{index}").map_err(|_| AllocError)
 }
 
-/// Appends a script's report, or a line with its fault.
+/// Appends a script's report, or a line with the text of its fault.
 fn add_outcome<A: Allocator>(
     text: &mut Vec<u8, A>,
     outcome: &Result<Vec<u8>, ScriptError>,
@@ -64,23 +63,6 @@ fn add_outcome<A: Allocator>(
 {
     match outcome {
         Ok(report) => text.extend_from_slice(report.as_slice()),
-        Err(error) => add_fault(text, *error).map_err(|_| AllocError),
-    }
-}
-
-/// Appends a line with a script's fault, in the text that `ScriptError` prints.
-fn add_fault<A: Allocator>(text: &mut Vec<u8, A>, error: ScriptError) -> io::Result<()>
-    ensures { OnOk result (text.new.items ≡ text.old.items ++ fault_line error) }
-{
-    match error {
-        ScriptError::TooLarge => writeln!(text, "fault,larger than 16777216 bytes"),
-        ScriptError::Empty => writeln!(text, "fault,no record"),
-        ScriptError::Opening { row } => writeln!(text, "fault,record {row}: not a valid opening"),
-        ScriptError::Word { row } => writeln!(text, "fault,record {row}: unknown word"),
-        ScriptError::Fields { row } => {
-            writeln!(text, "fault,record {row}: wrong number of fields")
-        }
-        ScriptError::Number { row } => writeln!(text, "fault,record {row}: not a number in range"),
-        ScriptError::Memory => writeln!(text, "fault,out of memory"),
+        Err(error) => writeln!(text, "fault,{error}").map_err(|_| AllocError),
     }
 }

@@ -1,18 +1,19 @@
 -- The texts of faults, and the faults for the errors of a script, a stamp file or an item.
-use Rattle.std.specs.Prelude.{ℕ, List, Option, Some, None, codes}
+use Rattle.std.specs.Prelude.{ℕ, List, ◌++◌, Option, Some, codes}
 use Rattle.tk_script.specs.declared.script_error.ScriptError.{ScriptError}
 use Rattle.tk_script.specs.declared.script_error.ScriptError.TheVariants as errors
 use Rattle.tk_keeper.specs.declared.trace_error.TraceError.{TraceError}
 use Rattle.tk_keeper.specs.declared.trace_error.TraceError.TheVariants as items
 use Rattle.tk_keeper.specs.TraceError.{trace_text}
+use Rattle.tk_script.specs.ScriptError.{script_text}
 use Rattle.tk_report.specs.declared.fault.Fault.{Fault}
 use Rattle.tk_report.specs.declared.fault.Fault.TheVariants as faults
 
--- the text of a fault; `None` leaves the text of a script's or a stamp file's error open
+-- the text of a fault
 abbrev pub fault_text : Fault → Option (List ℕ)
 fault_text faults.Read = Some (codes "cannot read")
-fault_text (faults.Script error) = None
-fault_text (faults.Stamps error) = None
+fault_text (faults.Script error) = Some (codes "script: " ++ script_text error)
+fault_text (faults.Stamps error) = Some (codes "stamps: " ++ script_text error)
 fault_text (faults.Trace error) = trace_text error
 fault_text faults.Memory = Some (codes "out of memory")
 fault_text (faults.Write written) = Some (codes "cannot write")

@@ -4,6 +4,7 @@ pub mod Field
 pub mod Opening
 pub mod Rows
 pub mod Records
+pub mod ScriptError
 pub mod Reading
 pub mod Grammar
 pub mod Script

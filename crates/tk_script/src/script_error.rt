@@ -1,4 +1,9 @@
-use thiserror::Error;
+ghost use Rattle.std.specs.Prelude.{Some};
+ghost use Rattle.tk_script.specs.ScriptError.{script_text};
+
+use crate::records::SIZE_LIMIT;
+use std::error::Error;
+use std::fmt;
 
 /// Names the first fault of a script or a stamp file, or an allocation failure.
 ///
@@ -6,29 +11,40 @@ use thiserror::Error;
 /// keyword, then its number of fields, then its fields from left to right, and last, in the first
 /// record of a script, the opening. `row` counts records from 1. `Display` prints the program's
 /// text.
-#[derive(Clone, Copy, Debug, PartialEq, Eq, Error)]
+#[derive(Clone, Copy, Debug, PartialEq, Eq)]
 pub enum ScriptError {
     /// The text has more than 16,777,216 bytes.
-    #[error("larger than 16777216 bytes")]
     TooLarge,
     /// The script has no record. A stamp file may have none.
-    #[error("no record")]
     Empty,
     /// The first record doesn't begin with `open` or `openhz`, or no clocks can be opened with its
     /// values.
-    #[error("record {row}: not a valid opening")]
     Opening { row: u64 },
     /// The keyword of a later record or the name of a clock is unknown. The keyword of a second
     /// opening counts as unknown.
-    #[error("record {row}: unknown word")]
     Word { row: u64 },
     /// The record has too few or too many fields for its keyword.
-    #[error("record {row}: wrong number of fields")]
     Fields { row: u64 },
     /// A field isn't a number, or the number is out of the range of its type.
-    #[error("record {row}: not a number in range")]
     Number { row: u64 },
     /// An allocation failed. This may replace any other result.
-    #[error("out of memory")]
     Memory,
 }
+
+impl fmt::Display for ScriptError {
+    ghost output = { λ error. Some (script_text error) };
+
+    fn fmt<W: fmt::Write>(&self, f: &mut fmt::Formatter<W>) -> fmt::Result {
+        match self {
+            ScriptError::TooLarge => write!(f, "larger than {SIZE_LIMIT} bytes"),
+            ScriptError::Empty => write!(f, "no record"),
+            ScriptError::Opening { row } => write!(f, "record {row}: not a valid opening"),
+            ScriptError::Word { row } => write!(f, "record {row}: unknown word"),
+            ScriptError::Fields { row } => write!(f, "record {row}: wrong number of fields"),
+            ScriptError::Number { row } => write!(f, "record {row}: not a number in range"),
+            ScriptError::Memory => write!(f, "out of memory"),
+        }
+    }
+}
+
+impl Error for ScriptError {}

@@ -3,6 +3,7 @@
 use super::assert_same;
 use std::io::{Error, ErrorKind};
 use std::process::Abort;
+use std::test::Fail;
 use tk_program::{Ending, WordsError};
 use tk_replay::{Fault, ManyError, RaceError};
 use tk_script::ScriptError;
@@ -22,6 +23,15 @@ fn refuses_words_that_could_not_be_taken(rt: HostRuntime) {
     assert_same(&rt, &refused, &WordsError::Refused);
     let memory = WordsError::from(Error::from(ErrorKind::OutOfMemory));
     assert_same(&rt, &memory, &WordsError::Memory);
+}
+
+#[test]
+fn states_why_words_are_not_taken(rt: HostRuntime) -> Result<(), Fail> {
+    let refused = WordsError::Refused.to_string(rt.alloc())?;
+    assert_same(&rt, &refused.as_str(), &"words refused");
+    let memory = WordsError::Memory.to_string(rt.alloc())?;
+    assert_same(&rt, &memory.as_str(), &"out of memory");
+    Ok(())
 }
 
 #[test]
