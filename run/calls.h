@@ -1,0 +1,83 @@
+/* SPDX-License-Identifier: MIT OR Apache-2.0 */
+/*
+ * calls.h - libtkrun.so: what the calls of a program that tkrun runs have in
+ * common. A process that finds no clocks gets the host's calls.
+ */
+#ifndef CALLS_H
+#define CALLS_H
+
+#include "machine.h"
+
+#include <errno.h>
+
+#define EXPORT __attribute__((visibility("default")))
+
+/* The C library's function of this name. */
+#define REAL(name)                                                         \
+	({                                                                 \
+		static __typeof__(&name) real_##name;                      \
+		if (!real_##name)                                          \
+			real_##name = (__typeof__(&name))real_call(#name); \
+		real_##name;                                               \
+	})
+
+/* Finds a function of the C library, or ends the process. */
+void *real_call(const char *name);
+
+/* Returns the clocks of this process, or NULL. */
+struct machine *machine(void);
+
+/* Sets errno and returns -1. */
+int refuse(int error);
+
+/* Writes a line of --log, and returns the result. errno stays. */
+__attribute__((format(printf, 3, 4))) int logged(const char *call, int result,
+						 const char *form, ...);
+
+/* Returns the number of a clock that the machine answers for, or -1 if the
+ * host does. */
+int machine_clock(clockid_t clock);
+
+/* Returns whether the nanoseconds are none of 0 to 999999999. */
+bool is_bad(const struct timespec *time);
+
+/* The host's MONOTONIC, `left` ns later and at most `most` ns later. */
+struct timespec host_deadline(uint64_t left, uint64_t most);
+
+/*
+ * Returns when a clock's time comes that is `span` later, on the clock.
+ * Returns false if the clock has no time, or the span is no time.
+ */
+bool time_after(struct machine *m, int clock, const struct timespec *span,
+		struct timespec *out);
+
+/* Returns time - now, and 0 if that is negative. */
+struct timespec time_until(struct machine *m, int clock,
+			   const struct timespec *time);
+
+/*
+ * A wait for something that isn't only a time, until a time of a clock. It
+ * waits for slices of the host's time: the clocks may be set, and a counter of
+ * sleeps moves only when all wait.
+ */
+struct wait {
+	struct machine *machine;
+	int clock;
+	struct timespec time;
+	struct waiter *waiter;
+	bool is_reached; /* the time had come before the present slice */
+};
+
+void wait_begin(struct wait *wait, struct machine *m, int clock,
+		const struct timespec *time);
+void wait_end(struct wait *wait);
+
+/* Returns the next slice: its ns, or its end on the host's MONOTONIC. A slice
+ * is 0 if the time has come. */
+uint64_t wait_slice(struct wait *wait);
+struct timespec wait_slice_end(struct wait *wait);
+
+/* Keeps the host's timers at the clocks' times (calls_timer.c). */
+void timers_changed(struct machine *m);
+
+#endif

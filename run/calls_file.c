@@ -1,0 +1,241 @@
+/* SPDX-License-Identifier: MIT OR Apache-2.0 */
+/* The calls that wait for files, messages or signals, for a span or until a
+ * time. */
+#define _GNU_SOURCE
+#include "calls.h"
+
+#include <mqueue.h>
+#include <poll.h>
+#include <signal.h>
+#include <sys/epoll.h>
+#include <sys/select.h>
+
+/* Begins a wait for a span of MONOTONIC. Returns false if the host's call is
+ * to be made once with it: it is no limit, nothing, or no span. */
+static bool wait_span(struct wait *wait, const struct timespec *span)
+{
+	struct machine *m = machine();
+	struct timespec until;
+
+	if (!m || !span || (!span->tv_sec && !span->tv_nsec) ||
+	    !time_after(m, CLOCK_MONOTONIC, span, &until))
+		return false;
+	wait_begin(wait, m, CLOCK_MONOTONIC, &until);
+	return true;
+}
+
+static struct timespec next_slice(struct wait *wait)
+{
+	uint64_t slice = wait_slice(wait);
+
+	return (struct timespec){ (time_t)(slice / NANOS),
+				  (long)(slice % NANOS) };
+}
+
+static struct timespec millis_span(int millis)
+{
+	return (struct timespec){ millis / 1000, millis % 1000 * 1000000L };
+}
+
+EXPORT int ppoll(struct pollfd *files, nfds_t count,
+		 const struct timespec *span, const sigset_t *mask)
+{
+	struct timespec slice;
+	struct wait wait;
+	int ready;
+
+	if (!wait_span(&wait, span))
+		return REAL(ppoll)(files, count, span, mask);
+	do {
+		slice = next_slice(&wait);
+		ready = REAL(ppoll)(files, count, &slice, mask);
+	} while (!ready && !wait.is_reached);
+	wait_end(&wait);
+	return ready;
+}
+
+EXPORT int poll(struct pollfd *files, nfds_t count, int millis)
+{
+	struct timespec span = millis_span(millis);
+
+	if (!machine())
+		return REAL(poll)(files, count, millis);
+	return ppoll(files, count, millis < 0 ? NULL : &span, NULL);
+}
+
+/* The three sets of select, which each slice changes. */
+struct sets {
+	fd_set *sets[3], copies[3];
+};
+
+static void keep_sets(struct sets *sets, fd_set *in, fd_set *out, fd_set *other)
+{
+	fd_set *all[3] = { in, out, other };
+
+	for (int i = 0; i < 3; i++) {
+		sets->sets[i] = all[i];
+		if (all[i])
+			sets->copies[i] = *all[i];
+	}
+}
+
+static void restore_sets(struct sets *sets)
+{
+	for (int i = 0; i < 3; i++) {
+		if (sets->sets[i])
+			*sets->sets[i] = sets->copies[i];
+	}
+}
+
+EXPORT int pselect(int count, fd_set *restrict in, fd_set *restrict out,
+		   fd_set *restrict other, const struct timespec *restrict span,
+		   const sigset_t *restrict mask)
+{
+	struct timespec slice;
+	struct wait wait;
+	struct sets sets;
+	int ready;
+
+	if (!wait_span(&wait, span))
+		return REAL(pselect)(count, in, out, other, span, mask);
+	keep_sets(&sets, in, out, other);
+	for (;;) {
+		slice = next_slice(&wait);
+		ready = REAL(pselect)(count, in, out, other, &slice, mask);
+		if (ready || wait.is_reached)
+			break;
+		restore_sets(&sets);
+	}
+	wait_end(&wait);
+	return ready;
+}
+
+/* As on Linux, the span becomes what is left of it. */
+EXPORT int select(int count, fd_set *restrict in, fd_set *restrict out,
+		  fd_set *restrict other, struct timeval *restrict span)
+{
+	struct timespec wait = { 0 }, until = { 0 };
+	struct machine *m = machine();
+	bool is_span;
+	int ready;
+
+	if (!m)
+		return REAL(select)(count, in, out, other, span);
+	if (span)
+		wait = (struct timespec){ span->tv_sec +
+						  span->tv_usec / 1000000,
+					  span->tv_usec % 1000000 * 1000 };
+	is_span = span && time_after(m, CLOCK_MONOTONIC, &wait, &until);
+	ready = pselect(count, in, out, other, span ? &wait : NULL, NULL);
+	if (is_span) {
+		wait = time_until(m, CLOCK_MONOTONIC, &until);
+		*span = (struct timeval){ wait.tv_sec, wait.tv_nsec / 1000 };
+	}
+	return ready;
+}
+
+EXPORT int epoll_pwait2(int file, struct epoll_event *events, int most,
+			const struct timespec *span, const sigset_t *mask)
+{
+	struct timespec slice;
+	struct wait wait;
+	int ready;
+
+	if (!wait_span(&wait, span))
+		return REAL(epoll_pwait2)(file, events, most, span, mask);
+	do {
+		slice = next_slice(&wait);
+		ready = REAL(epoll_pwait2)(file, events, most, &slice, mask);
+	} while (!ready && !wait.is_reached);
+	wait_end(&wait);
+	return ready;
+}
+
+EXPORT int epoll_pwait(int file, struct epoll_event *events, int most,
+		       int millis, const sigset_t *mask)
+{
+	struct timespec span = millis_span(millis);
+
+	if (!machine() || millis <= 0)
+		return REAL(epoll_pwait)(file, events, most, millis, mask);
+	return epoll_pwait2(file, events, most, &span, mask);
+}
+
+EXPORT int epoll_wait(int file, struct epoll_event *events, int most,
+		      int millis)
+{
+	return epoll_pwait(file, events, most, millis, NULL);
+}
+
+EXPORT int sigtimedwait(const sigset_t *restrict set, siginfo_t *restrict info,
+			const struct timespec *restrict span)
+{
+	struct timespec slice;
+	struct wait wait;
+	int number;
+
+	if (!wait_span(&wait, span))
+		return REAL(sigtimedwait)(set, info, span);
+	do {
+		slice = next_slice(&wait);
+		number = REAL(sigtimedwait)(set, info, &slice);
+	} while (number < 0 && errno == EAGAIN && !wait.is_reached);
+	wait_end(&wait);
+	return number;
+}
+
+/* Begins a wait until a time of REALTIME, whose slices end on the host's. */
+static bool wait_time(struct wait *wait, const struct timespec *time)
+{
+	struct machine *m = machine();
+
+	if (!m || !time || is_bad(time))
+		return false;
+	wait_begin(wait, m, CLOCK_REALTIME, time);
+	return true;
+}
+
+static struct timespec real_slice_end(struct wait *wait)
+{
+	uint64_t until = wait_slice(wait) + host_nanos(CLOCK_REALTIME);
+
+	return (struct timespec){ (time_t)(until / NANOS),
+				  (long)(until % NANOS) };
+}
+
+EXPORT ssize_t mq_timedreceive(mqd_t queue, char *restrict text, size_t size,
+			       unsigned int *restrict priority,
+			       const struct timespec *restrict time)
+{
+	struct timespec until;
+	struct wait wait;
+	ssize_t length;
+
+	if (!wait_time(&wait, time))
+		return REAL(mq_timedreceive)(queue, text, size, priority, time);
+	do {
+		until = real_slice_end(&wait);
+		length = REAL(mq_timedreceive)(queue, text, size, priority,
+					       &until);
+	} while (length < 0 && errno == ETIMEDOUT && !wait.is_reached);
+	wait_end(&wait);
+	return length;
+}
+
+EXPORT int mq_timedsend(mqd_t queue, const char *text, size_t size,
+			unsigned int priority, const struct timespec *time)
+{
+	struct timespec until;
+	struct wait wait;
+	int result;
+
+	if (!wait_time(&wait, time))
+		return REAL(mq_timedsend)(queue, text, size, priority, time);
+	do {
+		until = real_slice_end(&wait);
+		result =
+			REAL(mq_timedsend)(queue, text, size, priority, &until);
+	} while (result < 0 && errno == ETIMEDOUT && !wait.is_reached);
+	wait_end(&wait);
+	return result;
+}

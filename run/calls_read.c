@@ -1,0 +1,83 @@
+/* SPDX-License-Identifier: MIT OR Apache-2.0 */
+/* The calls that read a clock. */
+#define _GNU_SOURCE
+#include "calls.h"
+
+#include <stddef.h>
+#include <sys/time.h>
+#include <sys/timeb.h>
+
+EXPORT int clock_gettime(clockid_t clock, struct timespec *out)
+{
+	struct machine *m = machine();
+	int number = m ? machine_clock(clock) : -1;
+	struct tkc_time now;
+
+	if (number < 0)
+		return host_gettime(clock, out);
+	if (machine_read(m, (uint32_t)number, &now))
+		return refuse(EOVERFLOW);
+	*out = (struct timespec){ now.sec, now.nsec };
+	return 0;
+}
+
+EXPORT int clock_getres(clockid_t clock, struct timespec *out)
+{
+	struct machine *m = machine();
+	bool is_coarse = clock == CLOCK_REALTIME_COARSE ||
+			 clock == CLOCK_MONOTONIC_COARSE;
+
+	if (!m || machine_clock(clock) < 0)
+		return REAL(clock_getres)(clock, out);
+	if (out)
+		*out = (struct timespec){
+			0, is_coarse ? (long)m->shared->update_nanos : 1
+		};
+	return 0;
+}
+
+EXPORT int gettimeofday(struct timeval *restrict out, void *restrict zone)
+{
+	struct machine *m = machine();
+	struct timezone *minutes = zone;
+	struct timespec now;
+
+	if (minutes)
+		*minutes = (struct timezone){ 0 };
+	if (minutes && m && m->control)
+		*minutes = (struct timezone){ m->control->zone[0],
+					      m->control->zone[1] };
+	if (clock_gettime(CLOCK_REALTIME, &now))
+		return -1;
+	*out = (struct timeval){ now.tv_sec, now.tv_nsec / 1000 };
+	return 0;
+}
+
+EXPORT time_t time(time_t *out)
+{
+	struct timespec now = { -1, 0 };
+
+	clock_gettime(CLOCK_REALTIME_COARSE, &now);
+	if (out)
+		*out = now.tv_sec;
+	return now.tv_sec;
+}
+
+EXPORT int timespec_get(struct timespec *out, int base)
+{
+	if (base != TIME_UTC || clock_gettime(CLOCK_REALTIME, out))
+		return 0;
+	return base;
+}
+
+EXPORT int ftime(struct timeb *out)
+{
+	struct timespec now;
+
+	if (clock_gettime(CLOCK_REALTIME, &now))
+		return -1;
+	*out = (struct timeb){ .time = now.tv_sec,
+			       .millitm = (unsigned short)(now.tv_nsec /
+							   1000000) };
+	return 0;
+}

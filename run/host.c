@@ -1,0 +1,60 @@
+/* SPDX-License-Identifier: MIT OR Apache-2.0 */
+#define _GNU_SOURCE
+#include "host.h"
+
+#include <limits.h>
+#include <linux/futex.h>
+#include <pthread.h>
+#include <sys/syscall.h>
+
+int (*host_gettime)(clockid_t, struct timespec *) = clock_gettime;
+
+long host_call(long number, long a, long b, long c, long d, long e, long f)
+{
+	register long r10 __asm__("r10") = d;
+	register long r8 __asm__("r8") = e;
+	register long r9 __asm__("r9") = f;
+	long result;
+
+	__asm__ volatile("syscall"
+			 : "=a"(result)
+			 : "a"(number), "D"(a), "S"(b), "d"(c), "r"(r10),
+			   "r"(r8), "r"(r9)
+			 : "rcx", "r11", "memory");
+	return result;
+}
+
+uint64_t host_nanos(clockid_t clock)
+{
+	struct timespec now;
+
+	host_gettime(clock, &now);
+	return (uint64_t)now.tv_sec * NANOS + (uint64_t)now.tv_nsec;
+}
+
+void host_nap(uint64_t nanos)
+{
+	struct timespec span = { (time_t)(nanos / NANOS),
+				 (long)(nanos % NANOS) };
+
+	host_call(SYS_nanosleep, (long)&span, 0, 0, 0, 0, 0);
+}
+
+int host_futex_wait(_Atomic uint32_t *futex, uint32_t value, uint64_t until)
+{
+	struct timespec time = { (time_t)(until / NANOS),
+				 (long)(until % NANOS) };
+	long result;
+	int type;
+
+	pthread_setcanceltype(PTHREAD_CANCEL_ASYNCHRONOUS, &type);
+	result = host_call(SYS_futex, (long)futex, FUTEX_WAIT_BITSET, value,
+			   (long)&time, 0, FUTEX_BITSET_MATCH_ANY);
+	pthread_setcanceltype(type, NULL);
+	return (int)-result;
+}
+
+void host_futex_wake(_Atomic uint32_t *futex)
+{
+	host_call(SYS_futex, (long)futex, FUTEX_WAKE, INT_MAX, 0, 0, 0);
+}

@@ -1,0 +1,32 @@
+/* SPDX-License-Identifier: MIT OR Apache-2.0 */
+/* The host's own calls, whatever libtkrun.so answers in their place. */
+#ifndef HOST_H
+#define HOST_H
+
+#include <stdint.h>
+#include <sys/types.h>
+#include <time.h>
+
+enum { NANOS = 1000000000 };
+
+/* The host's clock_gettime. libtkrun.so sets it to the C library's. */
+extern int (*host_gettime)(clockid_t, struct timespec *);
+
+/* Makes a system call. Returns its result, or minus an error. */
+long host_call(long number, long a, long b, long c, long d, long e, long f);
+
+/* Returns the host's clock in ns. */
+uint64_t host_nanos(clockid_t clock);
+
+/* Sleeps for so many ns of the host, or until a signal comes. */
+void host_nap(uint64_t nanos);
+
+/*
+ * Waits on a futex that processes share, while it is `value`, until the host's
+ * MONOTONIC is `until` ns. Returns 0 or an error. A thread may be cancelled
+ * here.
+ */
+int host_futex_wait(_Atomic uint32_t *futex, uint32_t value, uint64_t until);
+void host_futex_wake(_Atomic uint32_t *futex);
+
+#endif

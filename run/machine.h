@@ -1,0 +1,153 @@
+/* SPDX-License-Identifier: MIT OR Apache-2.0 */
+/*
+ * machine.h - one set of clocks, which all processes of a tkrun share.
+ *
+ * The clocks are in two files of one folder. `page` contains the counter and a
+ * page of tkcore_page.h; every user may read it. `control` contains the lock of
+ * those who command the clocks, the record's state and the waiting threads;
+ * only its owner has it.
+ */
+#ifndef MACHINE_H
+#define MACHINE_H
+
+#include "host.h"
+
+#include <pthread.h>
+#include <signal.h>
+#include <stdatomic.h>
+#include <stdbool.h>
+#include <stddef.h>
+#include <tkcore_page.h>
+
+enum {
+	MACHINE_LAYOUT = 0x746b7201,
+	WAITERS_MOST = 1024,
+};
+
+#define NEVER UINT64_MAX
+
+enum counter_kind { COUNTER_RAW, COUNTER_TSC, COUNTER_SLEEPS };
+
+/*
+ * What every process reads. A reading of the counter is
+ * (first + ((host - base) * scale >> scale_shift)) & mask, where host is the
+ * host's MONOTONIC_RAW in ns, or the TSC. With COUNTER_SLEEPS it is `cycles`.
+ */
+struct shared_page {
+	uint32_t layout, kind; /* enum counter_kind */
+	uint64_t base, scale, mask, first;
+	uint32_t scale_shift;
+	bool denies_set, has_stamps;
+	double nanos_per_cycle; /* of the host */
+	double speed;		/* ns of the counter in a ns of the host */
+	uint64_t update_nanos;	/* the span between two updates */
+
+	_Alignas(64) struct tkc_page page;
+	_Alignas(64) _Atomic uint64_t cycles;
+	_Alignas(64) _Atomic uint32_t generation; /* sleepers look again */
+};
+
+/* A thread that waits for a time of a clock. It is free if `thread` is 0. */
+struct waiter {
+	_Atomic int32_t thread;
+	uint32_t clock, nsec;
+	int64_t sec;
+};
+
+/* The state of the record, for rows.c. */
+struct rows {
+	_Atomic uint64_t count; /* rows that were asked for */
+	_Atomic uint64_t room;	/* rows that the file has blocks for */
+	_Atomic uint64_t lost;	/* rows that couldn't be written */
+	_Atomic uint32_t wanted;
+	uint64_t every; /* 0: no record */
+	char path[4096];
+};
+
+struct control {
+	_Alignas(64) pthread_mutex_t lock;
+	_Atomic int32_t zone[2]; /* the time zone of settimeofday */
+	_Atomic uint64_t accepted, refused, reads, recovered;
+	_Atomic uint32_t attached;
+	_Alignas(64) struct rows rows;
+	struct waiter waiters[WAITERS_MOST];
+};
+
+struct machine {
+	struct shared_page *shared;
+	struct control *control; /* NULL in a process of another user */
+};
+
+/* A command with its numbers, and the reading at which a script wants it. */
+struct order {
+	uint64_t reading;
+	uint32_t command, nsec;
+	int64_t number;
+};
+
+/* Maps the files of a folder. Returns false if they aren't a machine's. */
+bool machine_attach(struct machine *machine, const char *folder);
+
+/* Makes the lock of a new control file. */
+void machine_init_lock(struct control *control);
+
+/* Returns the counter's reading. */
+uint64_t machine_reading(const struct shared_page *shared);
+
+/* Returns the TSC, or MONOTONIC_RAW in ns. */
+uint64_t machine_host(enum counter_kind kind);
+
+/* Reads a clock now. Returns the codes of tkc_page_now. */
+enum tkc_code machine_read(struct machine *machine, uint32_t clock,
+			   struct tkc_time *out);
+
+/* Counts the reads of this thread that aren't counted yet. */
+void machine_count_rest(struct machine *machine);
+
+/* Takes the lock of the clocks, with all signals blocked, and gives it back. */
+void machine_lock(struct machine *machine, sigset_t *saved);
+void machine_unlock(struct machine *machine, const sigset_t *saved);
+
+/* Applies all orders at one reading, or none of them. The caller has the lock.
+ * Returns the code of the first that is refused. */
+enum tkc_code machine_apply(struct machine *machine, const struct order *orders,
+			    size_t count);
+
+/* Takes the lock and applies one command. */
+enum tkc_code machine_command(struct machine *machine, uint32_t command,
+			      int64_t number, uint32_t nsec);
+
+/* Returns whether the clocks are asleep after a SUSPEND. */
+bool machine_is_asleep(const struct machine *machine);
+
+/* Returns whether a reading is at or past another. */
+bool machine_is_past(const struct machine *machine, uint64_t reading,
+		     uint64_t other);
+
+/*
+ * Returns the cycles until a clock reaches a time: 0 if it has, and NEVER if no
+ * cycles bring it there. If the time is further away than half of the counter's
+ * range, they are fewer, and the caller asks again after them.
+ */
+uint64_t machine_cycles_left(const struct machine *machine, uint32_t clock,
+			     int64_t sec, uint32_t nsec);
+
+/* Returns the same in ns of the host. With COUNTER_SLEEPS, what isn't 0 is
+ * NEVER, since no time of the host brings the clocks there. */
+uint64_t machine_left(const struct machine *machine, uint32_t clock,
+		      int64_t sec, uint32_t nsec);
+
+/* Sleeps until a clock reaches a time. Returns 0 or EINTR. */
+int machine_sleep(struct machine *machine, uint32_t clock, int64_t sec,
+		  uint32_t nsec);
+
+/* Tells those who sleep that the clocks have changed. */
+void machine_wake(struct machine *machine);
+
+/* Lists the thread as waiting for a time, with COUNTER_SLEEPS. Returns NULL if
+ * it can't be listed. */
+struct waiter *waiter_enter(struct machine *machine, uint32_t clock,
+			    int64_t sec, uint32_t nsec);
+void waiter_leave(struct waiter *waiter);
+
+#endif

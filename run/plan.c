@@ -1,0 +1,141 @@
+/* SPDX-License-Identifier: MIT OR Apache-2.0 */
+#define _GNU_SOURCE
+#include "plan.h"
+
+#include "script.h"
+
+#include <math.h>
+#include <stdio.h>
+#include <stdlib.h>
+#include <string.h>
+
+/* Reads a script's bytes, and ends tkrun if it can't. */
+static char *read_file(const char *path, size_t *length)
+{
+	FILE *file = fopen(path, "r");
+	char *text = malloc(SCRIPT_LIMIT + 1);
+
+	if (!file || !text)
+		fail(STATUS_WRONG, "--script: cannot read '%s'", path);
+	*length = fread(text, 1, SCRIPT_LIMIT + 1, file);
+	if (ferror(file))
+		fail(STATUS_WRONG, "--script: cannot read '%s'", path);
+	fclose(file);
+	return text;
+}
+
+static double rate_of(const struct tkc_counter *counter)
+{
+	uint32_t bits, mult, shift;
+
+	tkc_counter_numbers(&bits, &mult, &shift, counter);
+	return ldexp(1e9, (int)shift) / mult;
+}
+
+/* Takes the orders of a script. Its reads are left out. */
+static void take_orders(struct plan *plan, const struct script *script)
+{
+	plan->orders = calloc(script->count + 1, sizeof(*plan->orders));
+	if (!plan->orders)
+		fail(STATUS_FAILED, "out of memory");
+	for (size_t i = 0; i < script->count; i++) {
+		const struct row *row = &script->rows[i];
+
+		if (row->is_read)
+			continue;
+		plan->orders[plan->count++] =
+			(struct order){ row->reading, row->command, row->nsec,
+					row->number };
+	}
+}
+
+static void read_script(struct plan *plan, const char *path)
+{
+	uint64_t words[TKC_WORDS];
+	int64_t frequency, tick;
+	struct script script;
+	struct fault fault;
+	size_t length;
+	char *text = read_file(path, &length);
+
+	if (!script_parse(&script, text, length, &fault))
+		fail(STATUS_WRONG, "--script: record %zu: %s", fault.record,
+		     fault.text);
+	plan->counter = script.counter;
+	plan->clock = script.clock;
+	plan->hz = rate_of(&plan->counter);
+	tkc_clock_words(words, &frequency, &tick, &plan->clock);
+	plan->first = words[1];
+	plan->open_sec = (int64_t)(words[5] / NANOS);
+	plan->open_nsec = (uint32_t)(words[5] % NANOS);
+	take_orders(plan, &script);
+	script_free(&script);
+	free(text);
+}
+
+static bool is_same(const struct tkc_counter *a, const struct tkc_counter *b)
+{
+	uint32_t numbers[2][3];
+
+	tkc_counter_numbers(&numbers[0][0], &numbers[0][1], &numbers[0][2], a);
+	tkc_counter_numbers(&numbers[1][0], &numbers[1][1], &numbers[1][2], b);
+	return !memcmp(numbers[0], numbers[1], sizeof(numbers[0]));
+}
+
+static void set_start(struct plan *plan, const struct options *options)
+{
+	double ahead = floor(options->ahead);
+	uint64_t now = host_nanos(CLOCK_REALTIME) +
+		       (uint64_t)llround((options->ahead - ahead) * 1e9);
+
+	plan->open_sec = (int64_t)(now / NANOS) + (int64_t)ahead;
+	plan->open_nsec = (uint32_t)(now % NANOS);
+	if (options->has_start) {
+		plan->open_sec = options->start_sec;
+		plan->open_nsec = options->start_nsec;
+	}
+}
+
+void plan_make(struct plan *plan, const struct options *options, double hz)
+{
+	struct tkc_counter counter;
+
+	*plan = (struct plan){ .hz = options->hz ? (double)options->hz
+						 : round(hz) };
+	if (tkc_counter_from_hz(&counter, options->bits, (uint64_t)plan->hz,
+				options->maxsec))
+		fail(STATUS_WRONG,
+		     "no counter has %u bits and %.0f Hz with a maxsec of %u",
+		     options->bits, plan->hz, options->maxsec);
+	plan->counter = counter;
+	if (options->script)
+		read_script(plan, options->script);
+	if (options->describes_counter && !is_same(&counter, &plan->counter))
+		fail(STATUS_WRONG,
+		     "--script opens another counter than the options describe");
+	if (options->script)
+		return;
+	set_start(plan, options);
+	if (tkc_clock_open(&plan->clock, &plan->counter, 0, plan->open_sec,
+			   plan->open_nsec))
+		fail(STATUS_WRONG, "the clocks can't start at second %lld",
+		     (long long)plan->open_sec);
+}
+
+uint64_t plan_left(const struct plan *plan, const struct machine *machine)
+{
+	uint64_t reading = machine_reading(machine->shared), due;
+
+	if (plan->next == plan->count)
+		return NEVER;
+	due = plan->orders[plan->next].reading;
+	if (machine_is_past(machine, reading, due))
+		return 0;
+	return (due - reading) & machine->shared->mask;
+}
+
+void plan_run(struct plan *plan, struct machine *machine)
+{
+	while (!plan_left(plan, machine))
+		machine_apply(machine, &plan->orders[plan->next++], 1);
+}

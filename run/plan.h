@@ -1,0 +1,31 @@
+/* SPDX-License-Identifier: MIT OR Apache-2.0 */
+/* plan.h - how the clocks are opened, and the commands of --script. */
+#ifndef PLAN_H
+#define PLAN_H
+
+#include "options.h"
+
+/* The opening of the clocks, and the orders that are still to come. */
+struct plan {
+	struct tkc_counter counter;
+	struct tkc_clock clock;
+	double hz; /* the rate that the counter is described with */
+	uint64_t first;
+	int64_t open_sec;
+	uint32_t open_nsec;
+	struct order *orders;
+	size_t count, next;
+};
+
+/* Makes the plan of the options. `hz` is the counter's own rate. At a wrong
+ * script or counter, ends tkrun with a sentence. */
+void plan_make(struct plan *plan, const struct options *options, double hz);
+
+/* Returns the cycles until the next order is due: 0 if it is, and NEVER if
+ * there is none. */
+uint64_t plan_left(const struct plan *plan, const struct machine *machine);
+
+/* Applies the orders that are due. The caller has the lock. */
+void plan_run(struct plan *plan, struct machine *machine);
+
+#endif

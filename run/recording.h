@@ -1,0 +1,41 @@
+/* SPDX-License-Identifier: MIT OR Apache-2.0 */
+/* recording.h - makes tkcore scripts of the record's rows, and checks them. */
+#ifndef RECORDING_H
+#define RECORDING_H
+
+#include "plan.h"
+#include "rows.h"
+
+/* The record of a run. FILE is the first part, FILE.2 the second, and so on;
+ * PART.values contains what the program saw. */
+struct recording {
+	const char *path;
+	char rows_path[4096];
+	int rows_file;
+	int error;	  /* errno, if rows couldn't be kept */
+	uint64_t missing; /* the first row that is missing then */
+	uint64_t reads, commands;
+	unsigned int parts;
+	pthread_t thread;
+	bool is_over;
+};
+
+/* Creates the file of rows, and starts the thread that makes room in it. Ends
+ * tkrun if the file can't be created. */
+void recording_start(struct recording *recording, struct control *control,
+		     const struct options *options);
+
+/* Writes the scripts and their values, and removes the file of rows. Returns
+ * false if they can't be written. */
+bool recording_write(struct recording *recording, struct machine *machine,
+		     const struct plan *plan);
+
+/* Replays all parts by tkcore. Returns the number of values that differ, and
+ * prints the first of them. */
+uint64_t recording_check(const struct recording *recording);
+
+/* Stores the name of a part, which counts from 1. */
+void recording_part(const struct recording *recording, unsigned int part,
+		    const char *end, char *name, size_t size);
+
+#endif

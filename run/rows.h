@@ -1,0 +1,31 @@
+/* SPDX-License-Identifier: MIT OR Apache-2.0 */
+/* rows.h - the record, while the program runs: a file of rows that all of its
+ * processes map, a chunk at a time. */
+#ifndef ROWS_H
+#define ROWS_H
+
+#include "machine.h"
+
+enum {
+	ROW_READ = 100, /* plus the clock: the kind of a read */
+	ROWS_IN_CHUNK = 1 << 16,
+	CHUNKS_MOST = 1 << 14,
+};
+
+/*
+ * A row. `kind` is a command (enum tkc_command), or ROW_READ plus a clock. A
+ * read has the front of the snapshot that was read, and its time in `number`
+ * and `nsec`. A command that was accepted has its own front, and one that was
+ * refused the front it left. `is_ready` is stored last.
+ */
+struct record_row {
+	_Atomic uint32_t is_ready;
+	uint32_t kind, code, nsec;
+	uint64_t front, reading;
+	int64_t number;
+};
+
+/* Adds a row to the record. If it can't be written, it is counted as lost. */
+void rows_add(struct machine *machine, const struct record_row *row);
+
+#endif

@@ -1,0 +1,249 @@
+/* SPDX-License-Identifier: MIT OR Apache-2.0 */
+#define _GNU_SOURCE
+#include "tree.h"
+
+#include <dirent.h>
+#include <fcntl.h>
+#include <stdio.h>
+#include <stdlib.h>
+#include <string.h>
+#include <sys/stat.h>
+#include <unistd.h>
+
+enum { DEPTH_MOST = 64, PROGRAMS_MOST = 1024 };
+
+/* Reads a file of /proc as text. Returns false if it is gone. */
+static bool read_text(const char *path, char *text, size_t size)
+{
+	int file = open(path, O_RDONLY | O_CLOEXEC);
+	ssize_t length;
+
+	if (file < 0)
+		return false;
+	length = read(file, text, size - 1);
+	close(file);
+	text[length < 0 ? 0 : length] = 0;
+	return length > 0;
+}
+
+/* Makes room for one more element. */
+static bool grow(void **list, size_t count, size_t *room, size_t size)
+{
+	size_t wanted = *room ? 2 * *room : 64;
+	void *larger;
+
+	if (count < *room)
+		return true;
+	larger = realloc(*list, wanted * size);
+	if (!larger)
+		return false;
+	*list = larger;
+	*room = wanted;
+	return true;
+}
+
+static uint64_t number_after(const char *text, const char *word)
+{
+	const char *found = strstr(text, word);
+
+	return found ? strtoull(found + strlen(word), NULL, 10) : 0;
+}
+
+static bool add_thread(struct tree *tree, const char *folder, int32_t thread)
+{
+	char path[128], text[4096];
+	const char *state;
+
+	snprintf(path, sizeof(path), "%s/status", folder);
+	if (!read_text(path, text, sizeof(text)))
+		return true;
+	if (!grow((void **)&tree->threads, tree->count, &tree->room,
+		  sizeof(*tree->threads)))
+		return false;
+	state = strstr(text, "\nState:\t");
+	tree->threads[tree->count++] = (struct thread_state){
+		.thread = thread,
+		.switches =
+			number_after(text, "\nvoluntary_ctxt_switches:\t") +
+			number_after(text, "\nnonvoluntary_ctxt_switches:\t"),
+		.is_waiting = state && strchr("STtZX", state[8]),
+	};
+	return true;
+}
+
+static bool add_process(struct tree *tree, int32_t process, int depth);
+
+static bool add_children(struct tree *tree, const char *folder, int depth)
+{
+	char path[128], text[16384], *next = text, *end;
+	long child;
+
+	snprintf(path, sizeof(path), "%s/children", folder);
+	if (!read_text(path, text, sizeof(text)))
+		return true;
+	while ((child = strtol(next, &end, 10)) > 0) {
+		if (!add_process(tree, (int32_t)child, depth + 1))
+			return false;
+		next = end;
+	}
+	return true;
+}
+
+/* Adds a process with its threads, and all below it. Of tkrun itself, which is
+ * process 0 here, only what is below it. */
+static bool add_process(struct tree *tree, int32_t process, int depth)
+{
+	char name[32], folder[64];
+	struct dirent *entry;
+	bool is_done = true;
+	DIR *tasks;
+
+	snprintf(name, sizeof(name),
+		 process ? "/proc/%d/task" : "/proc/self/task", process);
+	tasks = depth < DEPTH_MOST ? opendir(name) : NULL;
+	if (!tasks)
+		return true;
+	if (process) {
+		is_done = grow((void **)&tree->processes, tree->process_count,
+			       &tree->process_room, sizeof(*tree->processes));
+		if (is_done)
+			tree->processes[tree->process_count++] = process;
+	}
+	while (is_done && (entry = readdir(tasks))) {
+		if (*entry->d_name == '.')
+			continue;
+		snprintf(folder, sizeof(folder), "%s/%.16s", name,
+			 entry->d_name);
+		if (process)
+			is_done = add_thread(tree, folder, atoi(entry->d_name));
+		is_done = is_done && add_children(tree, folder, depth);
+	}
+	closedir(tasks);
+	return is_done;
+}
+
+bool tree_scan(struct tree *tree)
+{
+	tree->count = 0;
+	tree->process_count = 0;
+	return add_process(tree, 0, 0);
+}
+
+static bool all_wait(const struct tree *tree)
+{
+	for (size_t i = 0; i < tree->count; i++) {
+		if (!tree->threads[i].is_waiting)
+			return false;
+	}
+	return true;
+}
+
+/* Returns whether both scans found the same threads, all waiting, and none of
+ * them has run in between. */
+static bool is_unmoved(const struct tree *first, const struct tree *second)
+{
+	if (first->count != second->count || !all_wait(second))
+		return false;
+	for (size_t i = 0; i < first->count; i++) {
+		if (first->threads[i].thread != second->threads[i].thread ||
+		    first->threads[i].switches != second->threads[i].switches)
+			return false;
+	}
+	return true;
+}
+
+bool tree_is_quiet(struct tree *tree)
+{
+	struct tree second = { 0 };
+	bool is_quiet;
+
+	if (!tree_scan(tree) || !all_wait(tree))
+		return false;
+	is_quiet = tree_scan(&second) && is_unmoved(tree, &second);
+	free(second.threads);
+	free(second.processes);
+	return is_quiet;
+}
+
+/* A program that was seen in a process. */
+struct program {
+	int32_t process;
+	dev_t device;
+	ino_t file;
+	bool is_known; /* it has the library, or was warned of */
+};
+
+static bool has_library(int32_t process)
+{
+	char path[64], line[4096];
+	bool is_found = false;
+	FILE *file;
+
+	snprintf(path, sizeof(path), "/proc/%d/maps", process);
+	file = fopen(path, "re");
+	if (!file)
+		return false;
+	while (!is_found && fgets(line, sizeof(line), file))
+		is_found = strstr(line, "/libtkrun.so");
+	fclose(file);
+	return is_found;
+}
+
+static void warn(int32_t process)
+{
+	char path[64], name[64];
+
+	snprintf(path, sizeof(path), "/proc/%d/comm", process);
+	if (!read_text(path, name, sizeof(name)))
+		return;
+	name[strcspn(name, "\n")] = 0;
+	fprintf(stderr,
+		"tkrun: '%s' (process %d) reads the host's clocks: it is static or setuid, or its environment was cleared\n",
+		name, process);
+}
+
+/* Returns the entry of the program that a process runs now, a new one if it
+ * wasn't seen yet, or NULL. */
+static struct program *find_program(int32_t process, bool *is_new)
+{
+	static struct program seen[PROGRAMS_MOST];
+	static size_t next;
+	struct program *program;
+	struct stat status, own;
+	char path[64];
+
+	snprintf(path, sizeof(path), "/proc/%d/exe", process);
+	if (stat(path, &status) || stat("/proc/self/exe", &own) ||
+	    (status.st_ino == own.st_ino && status.st_dev == own.st_dev))
+		return NULL;
+	*is_new = false;
+	for (size_t i = 0; i < PROGRAMS_MOST; i++) {
+		if (seen[i].process == process &&
+		    seen[i].file == status.st_ino &&
+		    seen[i].device == status.st_dev)
+			return &seen[i];
+	}
+	*is_new = true;
+	seen[next] = (struct program){ process, status.st_dev, status.st_ino,
+				       false };
+	program = &seen[next];
+	next = (next + 1) % PROGRAMS_MOST;
+	return program;
+}
+
+void tree_warn(struct tree *tree)
+{
+	struct program *program;
+	bool is_new;
+
+	if (!tree_scan(tree))
+		return;
+	for (size_t i = 0; i < tree->process_count; i++) {
+		program = find_program(tree->processes[i], &is_new);
+		if (!program || is_new || program->is_known)
+			continue;
+		program->is_known = true;
+		if (!has_library(tree->processes[i]))
+			warn(tree->processes[i]);
+	}
+}

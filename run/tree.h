@@ -1,0 +1,38 @@
+/* SPDX-License-Identifier: MIT OR Apache-2.0 */
+/* tree.h - the processes below tkrun, by /proc. */
+#ifndef TREE_H
+#define TREE_H
+
+#include "machine.h"
+
+/* A thread, when it was looked at. `switches` counts how often it has left a
+ * processor. */
+struct thread_state {
+	int32_t thread;
+	uint64_t switches;
+	bool is_waiting; /* for anything: it isn't running or about to */
+};
+
+struct tree {
+	struct thread_state *threads;
+	size_t count, room;
+	int32_t *processes;
+	size_t process_count, process_room;
+};
+
+/* Lists all processes below tkrun and their threads. Returns false if memory
+ * is missing. */
+bool tree_scan(struct tree *tree);
+
+/* Returns whether all threads wait: each did at two scans, and has left no
+ * processor in between. `tree` then contains the threads. */
+bool tree_is_quiet(struct tree *tree);
+
+/*
+ * Looks for processes that have not loaded libtkrun.so, and prints the name of
+ * each program once. A process is looked at twice, since a new one loads its
+ * libraries first.
+ */
+void tree_warn(struct tree *tree);
+
+#endif

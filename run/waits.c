@@ -1,0 +1,118 @@
+/* SPDX-License-Identifier: MIT OR Apache-2.0 */
+/* Until when a thread waits for a time of a clock. */
+#define _GNU_SOURCE
+#include "machine.h"
+
+#include <errno.h>
+#include <sys/syscall.h>
+#include <unistd.h>
+
+/* The longest wait before a sleeper looks again. */
+static const uint64_t LONGEST = 3600 * (uint64_t)NANOS;
+
+bool machine_is_past(const struct machine *machine, uint64_t reading,
+		     uint64_t other)
+{
+	uint64_t mask = machine->shared->mask;
+
+	return ((reading - other) & mask) <= mask / 2;
+}
+
+static uint64_t read_counter(void *context)
+{
+	return machine_reading(context);
+}
+
+uint64_t machine_cycles_left(const struct machine *machine, uint32_t clock,
+			     int64_t sec, uint32_t nsec)
+{
+	uint64_t reading, then, mask = machine->shared->mask;
+	struct tkc_snapshot snapshot;
+	struct tkc_time now;
+
+	if (tkc_page_look(&machine->shared->page, read_counter, machine->shared,
+			  &snapshot, &reading) ||
+	    tkc_snapshot_get(&now, &snapshot, clock, reading))
+		return NEVER;
+	if (now.sec > sec || (now.sec == sec && now.nsec >= nsec))
+		return 0;
+	if (tkc_snapshot_reading(&then, &snapshot, clock, sec, nsec))
+		return machine_is_asleep(machine) ? NEVER : mask / 4;
+	then = (then - reading) & mask;
+	return then > mask / 2 ? 0 : then;
+}
+
+uint64_t machine_left(const struct machine *machine, uint32_t clock,
+		      int64_t sec, uint32_t nsec)
+{
+	uint64_t left = machine_cycles_left(machine, clock, sec, nsec);
+	double nanos = (double)left * machine->shared->nanos_per_cycle;
+
+	if (!left || left == NEVER)
+		return left;
+	if (machine->shared->kind == COUNTER_SLEEPS || nanos > 9e18)
+		return NEVER;
+	return (uint64_t)nanos + 1;
+}
+
+void machine_wake(struct machine *machine)
+{
+	atomic_fetch_add(&machine->shared->generation, 1);
+	host_futex_wake(&machine->shared->generation);
+}
+
+/* A sleeper looks at the generation before it looks at the clocks. So if they
+ * change in between, the futex doesn't let it wait. */
+int machine_sleep(struct machine *machine, uint32_t clock, int64_t sec,
+		  uint32_t nsec)
+{
+	struct waiter *waiter = waiter_enter(machine, clock, sec, nsec);
+	uint32_t generation;
+	uint64_t left;
+	int error = 0;
+
+	while (error != EINTR) {
+		generation = atomic_load(&machine->shared->generation);
+		left = machine_left(machine, clock, sec, nsec);
+		if (!left)
+			break;
+		if (left > LONGEST)
+			left = LONGEST;
+		error = host_futex_wait(&machine->shared->generation,
+					generation,
+					host_nanos(CLOCK_MONOTONIC) + left);
+	}
+	waiter_leave(waiter);
+	return error == EINTR ? EINTR : 0;
+}
+
+struct waiter *waiter_enter(struct machine *machine, uint32_t clock,
+			    int64_t sec, uint32_t nsec)
+{
+	int32_t thread, none;
+	struct waiter *waiter;
+
+	if (machine->shared->kind != COUNTER_SLEEPS || !machine->control)
+		return NULL;
+	thread = (int32_t)host_call(SYS_gettid, 0, 0, 0, 0, 0, 0);
+	for (int i = 0; i < WAITERS_MOST; i++) {
+		waiter = &machine->control->waiters[i];
+		none = 0;
+		/* minus: the time isn't written yet */
+		if (!atomic_compare_exchange_strong(&waiter->thread, &none,
+						    -thread))
+			continue;
+		waiter->clock = clock;
+		waiter->sec = sec;
+		waiter->nsec = nsec;
+		atomic_store(&waiter->thread, thread);
+		return waiter;
+	}
+	return NULL;
+}
+
+void waiter_leave(struct waiter *waiter)
+{
+	if (waiter)
+		atomic_store(&waiter->thread, 0);
+}
