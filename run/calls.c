@@ -136,19 +136,19 @@ struct timespec host_deadline(uint64_t left, uint64_t most)
 bool time_after(struct machine *m, int clock, const struct timespec *span,
 		struct timespec *out)
 {
+	struct timespec after = *span;
 	struct tkc_time now;
 
-	if (span->tv_sec < 0 || is_bad(span) ||
+	if (after.tv_sec < 0 || is_bad(&after) ||
 	    machine_read(m, (uint32_t)clock, &now))
 		return false;
-	out->tv_nsec = now.nsec + span->tv_nsec;
-	out->tv_sec = now.sec + out->tv_nsec / NANOS;
-	out->tv_nsec %= NANOS;
-	/* longer than any clock runs */
-	if (span->tv_sec > INT64_MAX - now.sec - 1)
-		out->tv_sec = INT64_MAX;
-	else
-		out->tv_sec += span->tv_sec;
+	after.tv_nsec += now.nsec;
+	/* no clock runs as long as that */
+	if (after.tv_sec > INT64_MAX - now.sec - 1)
+		after.tv_sec = INT64_MAX - now.sec - 1;
+	after.tv_sec += now.sec + after.tv_nsec / NANOS;
+	after.tv_nsec %= NANOS;
+	*out = after;
 	return true;
 }
 

@@ -12,7 +12,10 @@
 #include <sys/stat.h>
 #include <unistd.h>
 
-enum { READS_IN_COUNT = 256 }; /* a thread's reads that are counted at once */
+enum {
+	READS_IN_COUNT = 256,	/* a thread's reads that are counted at once */
+	LOCK_NAP_NANOS = 20000, /* between two tries to take the lock */
+};
 
 static void *map_file(const char *folder, const char *name, size_t size,
 		      bool is_read_only)
@@ -106,14 +109,25 @@ static void recover(struct machine *machine)
 }
 
 /* A handler that reads a clock while its thread writes would wait forever, so
- * signals are blocked. */
+ * signals are blocked. Nobody waits in the kernel for the lock: if a waiter of
+ * a robust mutex is killed when it is woken, nobody else may be woken. */
 void machine_lock(struct machine *machine, sigset_t *saved)
 {
 	sigset_t all;
+	int error;
 
 	sigfillset(&all);
 	pthread_sigmask(SIG_SETMASK, &all, saved);
-	if (pthread_mutex_lock(&machine->control->lock) == EOWNERDEAD)
+	for (unsigned int turns = 1;; turns++) {
+		error = pthread_mutex_trylock(&machine->control->lock);
+		if (error != EBUSY)
+			break;
+		if (turns % 128)
+			__builtin_ia32_pause();
+		else
+			host_nap(LOCK_NAP_NANOS);
+	}
+	if (error == EOWNERDEAD)
 		recover(machine);
 }
 

@@ -116,8 +116,10 @@ static void remove_files(void)
 	rmdir(run.folder);
 	if (*run.recording.rows_path)
 		unlink(run.recording.rows_path);
-	if (*run.scratch)
+	if (*run.scratch) {
+		unlink(run.recording.path);
 		rmdir(run.scratch);
+	}
 }
 
 /* Makes the folder of the clocks: in /dev/shm, or else in TMPDIR or /tmp. */
