@@ -60,6 +60,7 @@ struct rows {
 	_Atomic uint64_t room;	/* rows that the file has blocks for */
 	_Atomic uint64_t lost;	/* rows that couldn't be written */
 	_Atomic uint32_t wanted;
+	atomic_bool is_full;	/* no room will be made */
 	uint64_t every; /* 0: no record */
 	char path[4096];
 };

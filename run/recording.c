@@ -35,6 +35,7 @@ static void make_room(struct recording *recording, struct rows *rows)
 			posix_fallocate(recording->rows_file, start, size);
 		if (recording->error) {
 			recording->missing = room;
+			atomic_store(&rows->is_full, true);
 			return;
 		}
 		room += ROWS_IN_CHUNK;

@@ -36,7 +36,7 @@ static bool wait_room(struct rows *rows, uint64_t index)
 	uint64_t now;
 
 	while (index >= atomic_load(&rows->room)) {
-		if (atomic_load(&rows->lost))
+		if (atomic_load(&rows->is_full))
 			return false;
 		now = host_nanos(CLOCK_MONOTONIC);
 		if (now >= until)

@@ -387,13 +387,6 @@ static uint64_t step_clocks(struct run *run)
 						    : shared->update_nanos;
 }
 
-static volatile sig_atomic_t asked_to_end;
-
-static void ask_to_end(int number)
-{
-	asked_to_end = number;
-}
-
 static void warn_now_and_then(struct run *run)
 {
 	uint64_t now = host_nanos(CLOCK_MONOTONIC);
@@ -404,13 +397,14 @@ static void warn_now_and_then(struct run *run)
 	tree_warn(&run->tree);
 }
 
-/* Waits for all processes. The program's status is tkrun's. */
-static void drive(struct run *run, const sigset_t *ends)
+/* Waits for all processes, and passes SIGTERM and SIGHUP on. The program's
+ * status is tkrun's. */
+static void drive(struct run *run, const sigset_t *signals)
 {
 	struct timespec wait;
 	uint64_t left;
+	int status, number;
 	pid_t ended;
-	int status;
 
 	for (;;) {
 		left = step_clocks(run);
@@ -422,13 +416,12 @@ static void drive(struct run *run, const sigset_t *ends)
 		}
 		if (ended < 0 && errno == ECHILD)
 			return;
-		if (asked_to_end)
-			kill(run->child, asked_to_end);
-		asked_to_end = 0;
 		warn_now_and_then(run);
 		wait = (struct timespec){ (time_t)(left / NANOS),
 					  (long)(left % NANOS) };
-		sigtimedwait(ends, NULL, &wait);
+		number = sigtimedwait(signals, NULL, &wait);
+		if (number == SIGTERM || number == SIGHUP)
+			kill(run->child, number);
 	}
 }
 
@@ -559,7 +552,7 @@ static void start_log(struct options *options)
 
 int main(int count, char **words)
 {
-	sigset_t ends, before;
+	sigset_t signals, before;
 	char library[PATH_MAX];
 	bool is_recorded;
 
@@ -574,16 +567,16 @@ int main(int count, char **words)
 		start_record(&run);
 	set_preload(library);
 	prctl(PR_SET_CHILD_SUBREAPER, 1, 0, 0, 0);
-	sigemptyset(&ends);
-	sigaddset(&ends, SIGCHLD);
-	sigprocmask(SIG_BLOCK, &ends, &before);
+	sigemptyset(&signals);
+	sigaddset(&signals, SIGCHLD);
+	sigaddset(&signals, SIGTERM);
+	sigaddset(&signals, SIGHUP);
+	sigprocmask(SIG_BLOCK, &signals, &before);
 	run.started = host_nanos(CLOCK_MONOTONIC);
 	start_program(&run, &before);
 	signal(SIGINT, SIG_IGN);
 	signal(SIGQUIT, SIG_IGN);
-	signal(SIGTERM, ask_to_end);
-	signal(SIGHUP, ask_to_end);
-	drive(&run, &ends);
+	drive(&run, &signals);
 	end_run(&run, is_recorded);
 	return run.status;
 }

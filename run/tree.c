@@ -49,6 +49,18 @@ static uint64_t number_after(const char *text, const char *word)
 	return found ? strtoull(found + strlen(word), NULL, 10) : 0;
 }
 
+/* Returns whether a thread that is said to wait still runs: it may be about to
+ * wait, or be woken, or reap a child (do_wait in kernel/exit.c). The kernel
+ * makes sure of it only for this file (task_current_syscall). */
+static bool is_running(const char *folder)
+{
+	char path[128], text[256];
+
+	snprintf(path, sizeof(path), "%s/syscall", folder);
+	return read_text(path, text, sizeof(text)) &&
+	       !strncmp(text, "running", 7);
+}
+
 static bool add_thread(struct tree *tree, const char *folder, int32_t thread)
 {
 	char path[128], text[4096];
@@ -66,7 +78,8 @@ static bool add_thread(struct tree *tree, const char *folder, int32_t thread)
 		.switches =
 			number_after(text, "\nvoluntary_ctxt_switches:\t") +
 			number_after(text, "\nnonvoluntary_ctxt_switches:\t"),
-		.is_waiting = state && strchr("STtZX", state[8]),
+		.is_waiting = state && strchr("STtZX", state[8]) &&
+			      !is_running(folder),
 	};
 	return true;
 }

@@ -1,0 +1,87 @@
+"""Wrong arguments, and programs that can't be run: nothing is started."""
+import pathlib
+
+from runs import RunTest
+
+
+class Arguments(RunTest):
+    def refuse(self, *arguments, status=2):
+        made = self.folder / "made"
+        run = self.start(*arguments, "--", "touch", made)
+        self.assertEqual((run.returncode, run.stdout), (status, ""))
+        lines = run.stderr.splitlines()
+        self.assertEqual(len(lines), 1, lines)
+        self.assertFalse(made.exists())
+        return lines[0]
+
+    def test_each_option_refuses_wrong_values(self):
+        wrong = {
+            "counter": ["", "RAW", "tsc2"],
+            "hz": ["", "0", "-1", "x", "1e9", "4294967296", "99999999999999999999"],
+            "bits": ["7", "65", "x"],
+            "maxsec": ["0", "601"],
+            "error-ppm": ["x", "nan", "1000001", "-500001", ""],
+            "speed": ["0", "-1", "x", "100001", "inf"],
+            "start": ["", "x", "-1", "1.5.5", "2038-01-19", "2038-01-19T03:14:00", "8277292036",
+                      "2038-13-19T03:14:00Z", "99999999999999999999"],
+            "ahead": ["x", "", "1e10"],
+            "every": ["0", "-1", "x"],
+        }
+        for option, values in wrong.items():
+            for value in values:
+                with self.subTest(option=option, value=value):
+                    self.assertIn(f"--{option}", self.refuse(f"--{option}", value))
+
+    def test_unknown_options_and_missing_values(self):
+        self.assertIn("unrecognized option", self.refuse("--nothing"))
+        self.assertEqual(self.start("--hz").returncode, 2)
+        self.assertEqual(self.start().returncode, 2)
+        self.assertEqual(self.start("--").returncode, 2)
+
+    def test_options_that_contradict_each_other(self):
+        script = self.file("s", "openhz,64,1000000000,1,0,5,0\n")
+        self.refuse("--start", "1", "--ahead", "1")
+        self.refuse("--script", script, "--start", "1")
+        self.refuse("--script", script, "--ahead", "1")
+        self.refuse("--counter", "sleeps", "--speed", "2")
+        self.refuse("--counter", "sleeps", "--error-ppm", "1")
+        self.refuse("--every", "2")
+
+    def test_a_script_of_another_counter(self):
+        script = self.file("s", "openhz,64,1000000000,1,0,5,0\n")
+        self.assertIn("another counter", self.refuse("--script", script, "--hz", "1000"))
+        self.assertIn("another counter", self.refuse("--script", script, "--bits", "32"))
+        run = self.start("--script", script, "--hz", "1000000000", "--", "true")
+        self.assertEqual(run.returncode, 0)
+
+    def test_faulty_scripts(self):
+        for text in ["", "x\n", "open,64,1,1\n", "openhz,64,1000000000,1,0,5,0\nstep,1\n",
+                     "openhz,64,1000000000,1,0,5,0\nboth,1\n"]:
+            self.assertIn("--script", self.refuse("--script", self.file("s", text)))
+        self.assertIn("cannot read", self.refuse("--script", self.folder / "none"))
+        self.assertIn("cannot read", self.refuse("--script", self.folder))
+
+    def test_a_counter_that_wraps_too_fast(self):
+        self.assertIn("wraps", self.refuse("--bits", "8"))
+        self.assertIn("wraps", self.refuse("--bits", "20"))
+        self.assertEqual(self.start("--bits", "24", "--", "true").returncode, 0)
+
+    def test_files_that_cannot_be_written(self):
+        self.assertIn("--record", self.refuse("--record", self.folder / "none" / "r"))
+        self.assertIn("--log", self.refuse("--log", self.folder / "none" / "l"))
+        self.assertEqual(list(self.folder.iterdir()), [])
+
+    def test_programs_that_cannot_be_run(self):
+        for name, status in [("/nowhere/program", 127), ("no-such-program", 127),
+                             ("/etc/passwd", 126), ("/", 126)]:
+            record = self.folder / "r"
+            run = self.start("--record", record, "--check", "--", name)
+            self.assertEqual((run.returncode, len(run.stderr.splitlines())), (status, 1))
+            self.assertFalse((self.folder / "r.rows").exists())
+
+    def test_nothing_is_left(self):
+        before = set(pathlib.Path("/dev/shm").glob("tkrun.*"))
+        self.start("--check", "--", "true")
+        self.start("--check", "--", "/nowhere/program")
+        self.start("--record", "/nowhere/r", "--", "true")
+        self.assertEqual(set(pathlib.Path("/dev/shm").glob("tkrun.*")) - before, set())
