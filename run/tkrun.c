@@ -204,6 +204,17 @@ static void open_machine(struct run *run)
 	shared->layout = MACHINE_LAYOUT;
 }
 
+/* Applies the script's orders at the opening's reading, so that the program
+ * finds them done. */
+static void run_first_orders(struct run *run)
+{
+	sigset_t saved;
+
+	machine_lock(&run->machine, &saved);
+	plan_run(&run->plan, &run->machine);
+	machine_unlock(&run->machine, &saved);
+}
+
 /* The library, which tools/build_run puts next to the folder of tkrun. */
 static void find_library(char *path, size_t size)
 {
@@ -351,7 +362,7 @@ static bool move_counter(struct run *run)
 	cycles = first_waiter(run);
 	order = plan_left(&run->plan, machine);
 	cycles = order < cycles ? order : cycles;
-	if (!cycles || cycles == NEVER)
+	if (order && (!cycles || cycles == NEVER))
 		return false;
 	machine_lock(machine, &saved);
 	atomic_fetch_add(&machine->shared->cycles, cycles);
@@ -565,6 +576,7 @@ int main(int count, char **words)
 	open_machine(&run);
 	if (is_recorded)
 		start_record(&run);
+	run_first_orders(&run);
 	set_preload(library);
 	prctl(PR_SET_CHILD_SUBREAPER, 1, 0, 0, 0);
 	sigemptyset(&signals);

@@ -10,7 +10,7 @@ from runs import ROOT, TKRUN, RunTest, needs, program
 
 # at 23:59:58 a second is inserted: REALTIME goes back by one, and TAI goes on
 LEAP = """openhz,64,1000000000,1,0,1483228798,0
-tai,1,36
+tai,0,36
 step,2000000000,-1,0
 tai,2000000000,37
 """

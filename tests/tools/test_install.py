@@ -5,6 +5,7 @@ LIBRARY = ["include/tkcore.h", "lib/libtkcore.a", "lib/libtkcore.so", "lib/libtk
            "lib/pkgconfig/tkcore.pc", "share/doc/tkcore/C.md", "share/man/man3/tkcore.3"]
 LICENCES = ["share/doc/tkcore/LICENSE-APACHE", "share/doc/tkcore/LICENSE-MIT"]
 PROGRAM = ["bin/tkcore", "share/man/man1/tkcore.1"]
+RUN = ["bin/tkrun", "lib/libtkrun.so", "share/doc/tkcore/RUN.md", "share/man/man1/tkrun.1"]
 
 
 class Install(Case):
@@ -47,6 +48,17 @@ class Install(Case):
         self.build_library()
         self.check(PROGRAM + LIBRARY + LICENCES)
         self.assertEqual(0o755, (self.prefix / "bin/tkcore").stat().st_mode & 0o777)
+
+    def test_tkrun_too(self):
+        self.build(["bin/tkcore"])
+        self.build_library()
+        self.build(["bin/tkrun", "lib/libtkrun.so", "share/man/man1/tkrun.1"])
+        self.check(PROGRAM + LIBRARY + RUN + LICENCES)
+
+    def test_the_library_without_tkrun(self):
+        self.build_library()
+        self.build(["bin/tkrun", "lib/libtkrun.so", "share/man/man1/tkrun.1"])
+        self.check(LIBRARY + LICENCES, "--library")
 
     def test_nothing_is_installed_before_it_is_built(self):
         for words in [], ["--library"]:
