@@ -77,7 +77,4 @@ void wait_end(struct wait *wait);
 uint64_t wait_slice(struct wait *wait);
 struct timespec wait_slice_end(struct wait *wait);
 
-/* Keeps the host's timers at the clocks' times (calls_timer.c). */
-void timers_changed(struct machine *m);
-
 #endif

@@ -54,10 +54,10 @@ static bool is_timed_wait(const long *a)
 	return (command == FUTEX_WAIT || command == FUTEX_WAIT_BITSET) && a[3];
 }
 
-/* Makes the C library's call for a system call's number. Returns false if the
- * system call has nothing to do with the clocks. */
-static bool make_call(struct machine *m, long number, const long *a,
-		      long *result)
+/* Each of these makes the C library's call for a system call's number. They
+ * return false if it is none of theirs. */
+
+static bool make_read(long number, const long *a, long *result)
 {
 	switch (number) {
 	case SYS_clock_gettime:
@@ -74,6 +74,14 @@ static bool make_call(struct machine *m, long number, const long *a,
 	case SYS_time:
 		*result = time((time_t *)a[0]);
 		return true;
+	default:
+		return false;
+	}
+}
+
+static bool make_set(long number, const long *a, long *result)
+{
+	switch (number) {
 	case SYS_clock_settime:
 		*result = clock_settime((clockid_t)a[0],
 					(const struct timespec *)a[1]);
@@ -88,6 +96,15 @@ static bool make_call(struct machine *m, long number, const long *a,
 	case SYS_clock_adjtime:
 		*result = clock_adjtime((clockid_t)a[0], (struct timex *)a[1]);
 		return true;
+	default:
+		return false;
+	}
+}
+
+static bool make_wait(struct machine *m, long number, const long *a,
+		      long *result)
+{
+	switch (number) {
 	case SYS_nanosleep:
 		*result = nanosleep((const struct timespec *)a[0],
 				    (struct timespec *)a[1]);
@@ -98,11 +115,24 @@ static bool make_call(struct machine *m, long number, const long *a,
 					 (const struct timespec *)a[2],
 					 (struct timespec *)a[3]));
 		return true;
-	case SYS_alarm:
-		*result = alarm((unsigned int)a[0]);
-		return true;
 	case SYS_poll:
 		*result = poll((struct pollfd *)a[0], (nfds_t)a[1], (int)a[2]);
+		return true;
+	case SYS_futex:
+		if (!is_timed_wait(a))
+			return false;
+		*result = wait_futex(m, a);
+		return true;
+	default:
+		return false;
+	}
+}
+
+static bool make_timer(long number, const long *a, long *result)
+{
+	switch (number) {
+	case SYS_alarm:
+		*result = alarm((unsigned int)a[0]);
 		return true;
 	case SYS_timerfd_create:
 		*result = timerfd_create((int)a[0], (int)a[1]);
@@ -114,11 +144,6 @@ static bool make_call(struct machine *m, long number, const long *a,
 		return true;
 	case SYS_timerfd_gettime:
 		*result = timerfd_gettime((int)a[0], (struct itimerspec *)a[1]);
-		return true;
-	case SYS_futex:
-		if (!is_timed_wait(a))
-			return false;
-		*result = wait_futex(m, a);
 		return true;
 	default:
 		return false;
@@ -135,7 +160,10 @@ EXPORT long syscall(long number, ...)
 	for (int i = 0; i < 6; i++)
 		a[i] = va_arg(list, long);
 	va_end(list);
-	if (m && make_call(m, number, a, &result))
+	if (m &&
+	    (make_read(number, a, &result) || make_set(number, a, &result) ||
+	     make_wait(m, number, a, &result) ||
+	     make_timer(number, a, &result)))
 		return result;
 	return result_of(host_call(number, a[0], a[1], a[2], a[3], a[4], a[5]));
 }

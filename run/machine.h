@@ -60,8 +60,8 @@ struct rows {
 	_Atomic uint64_t room;	/* rows that the file has blocks for */
 	_Atomic uint64_t lost;	/* rows that couldn't be written */
 	_Atomic uint32_t wanted;
-	atomic_bool is_full;	/* no room will be made */
-	uint64_t every; /* 0: no record */
+	atomic_bool is_full; /* no room will be made */
+	uint64_t every;	     /* 0: no record */
 	char path[4096];
 };
 
@@ -108,6 +108,9 @@ void machine_count_rest(struct machine *machine);
 /* Takes the lock of the clocks, with all signals blocked, and gives it back. */
 void machine_lock(struct machine *machine, sigset_t *saved);
 void machine_unlock(struct machine *machine, const sigset_t *saved);
+
+/* Takes over from a process that died amid a command, if one did. */
+void machine_try_recover(struct machine *machine);
 
 /* Applies all orders at one reading, or none of them. The caller has the lock.
  * Returns the code of the first that is refused. */

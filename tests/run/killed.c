@@ -58,8 +58,8 @@ static void read_all(void)
 
 		if (now < last)
 			shared->back++;
-		while (now > last && !atomic_compare_exchange_weak(
-					     &shared->last, &last, now))
+		while (now > last &&
+		       !atomic_compare_exchange_weak(&shared->last, &last, now))
 			;
 		check_real();
 		shared->reads++;

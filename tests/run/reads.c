@@ -77,8 +77,7 @@ static void check_monotonic(void)
 		CHECK(!clock_gettime(CLOCKS[i], &time) &&
 		      is_after(time.tv_sec, 0));
 	CHECK(!clock_getres(CLOCK_MONOTONIC, &time) && time.tv_nsec == 1);
-	CHECK(!clock_getres(CLOCK_MONOTONIC_COARSE, &time) &&
-	      time.tv_nsec > 1);
+	CHECK(!clock_getres(CLOCK_MONOTONIC_COARSE, &time) && time.tv_nsec > 1);
 	CHECK(!clock_gettime(CLOCK_PROCESS_CPUTIME_ID, &time));
 	CHECK(clock_gettime(77, &time) && errno == EINVAL);
 	CHECK(syscall(SYS_clock_gettime, 77, &time) == -1 && errno == EINVAL);
@@ -158,8 +157,7 @@ static void check_steering(int error)
 	CHECK(ntp_gettime(&all) == -1 && errno == EOPNOTSUPP);
 	tx.modes = 0;
 	CHECK(adjtimex(&tx) == -1 && errno == EOPNOTSUPP);
-	CHECK(clock_adjtime(CLOCK_MONOTONIC, &tx) == -1 &&
-	      errno == EOPNOTSUPP);
+	CHECK(clock_adjtime(CLOCK_MONOTONIC, &tx) == -1 && errno == EOPNOTSUPP);
 }
 
 int main(int count, char **words)

@@ -182,12 +182,11 @@ static bool wait_rwlock(bool is_read, bool is_monotonic)
 	time = until(clock);
 	if (is_monotonic)
 		return (is_read ? pthread_rwlock_clockrdlock(&rwlock, clock,
-							     &time) :
-				  pthread_rwlock_clockwrlock(&rwlock, clock,
-							     &time)) ==
-		       ETIMEDOUT;
-	return (is_read ? pthread_rwlock_timedrdlock(&rwlock, &time) :
-			  pthread_rwlock_timedwrlock(&rwlock, &time)) ==
+							     &time)
+				: pthread_rwlock_clockwrlock(
+					  &rwlock, clock, &time)) == ETIMEDOUT;
+	return (is_read ? pthread_rwlock_timedrdlock(&rwlock, &time)
+			: pthread_rwlock_timedwrlock(&rwlock, &time)) ==
 	       ETIMEDOUT;
 }
 

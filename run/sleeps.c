@@ -1,0 +1,64 @@
+/* SPDX-License-Identifier: MIT OR Apache-2.0 */
+/* Moves a counter of sleeps. */
+#define _GNU_SOURCE
+#include "tkrun.h"
+
+#include <stdlib.h>
+
+static bool is_alive(const struct tree *tree, int32_t thread)
+{
+	for (size_t i = 0; i < tree->count; i++) {
+		if (tree->threads[i].thread == thread)
+			return true;
+	}
+	return false;
+}
+
+/* Returns the cycles until the first of the waiting threads' times, and NEVER
+ * if none waits. Frees the entries of threads that are gone. */
+static uint64_t first_waiter(struct run *run)
+{
+	uint64_t least = NEVER, left;
+
+	for (int i = 0; i < WAITERS_MOST; i++) {
+		struct waiter *waiter = &run->machine.control->waiters[i];
+		int32_t thread = atomic_load(&waiter->thread);
+
+		if (!thread)
+			continue;
+		if (!is_alive(&run->tree, abs(thread))) {
+			atomic_store(&waiter->thread, 0);
+			continue;
+		}
+		if (thread < 0)
+			return 0; /* it is about to wait */
+		left = machine_cycles_left(&run->machine, waiter->clock,
+					   waiter->sec, waiter->nsec);
+		least = left < least ? left : least;
+	}
+	return least;
+}
+
+bool move_counter(struct run *run)
+{
+	static const struct order update = { .command = TKC_CMD_UPDATE };
+	struct machine *machine = &run->machine;
+	uint64_t cycles, order;
+	sigset_t saved;
+
+	if (!tree_is_quiet(&run->tree))
+		return false;
+	cycles = first_waiter(run);
+	order = plan_left(&run->plan, machine);
+	cycles = order < cycles ? order : cycles;
+	if (order && (!cycles || cycles == NEVER))
+		return false;
+	machine_lock(machine, &saved);
+	atomic_fetch_add(&machine->shared->cycles, cycles);
+	plan_run(&run->plan, machine);
+	if (!machine_is_asleep(machine))
+		machine_apply(machine, &update, 1);
+	machine_unlock(machine, &saved);
+	machine_wake(machine);
+	return true;
+}

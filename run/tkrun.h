@@ -1,0 +1,42 @@
+/* SPDX-License-Identifier: MIT OR Apache-2.0 */
+/* tkrun.h - a run of a program. */
+#ifndef TKRUN_H
+#define TKRUN_H
+
+#include "recording.h"
+#include "tree.h"
+
+#include <limits.h>
+
+struct run {
+	struct options options;
+	struct plan plan;
+	struct machine machine;
+	struct recording recording;
+	struct tree tree;
+	char folder[PATH_MAX - 64];
+	char scratch[PATH_MAX]; /* the folder of a record that isn't kept */
+	uint64_t started, warned;
+	pid_t child;
+	int status;
+};
+
+/* Makes the clocks of the options. Ends tkrun if it can't. */
+void open_machine(struct run *run);
+
+/* Removes the files that were made for the run, however it ends. */
+void remove_files(const struct run *run);
+
+/* Finds the library, and puts it in front of LD_PRELOAD. Ends tkrun if it can't
+ * be preloaded. */
+void preload_library(void);
+
+/* Starts the program, with these signals blocked. If it can't be run, ends
+ * tkrun as env(1) ends. */
+void start_program(struct run *run, const sigset_t *signals);
+
+/* If all threads wait, moves a counter of sleeps to the first of their times,
+ * or to the next order. Returns whether it moved. */
+bool move_counter(struct run *run);
+
+#endif
