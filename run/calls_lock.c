@@ -5,6 +5,7 @@
 
 #include <pthread.h>
 #include <semaphore.h>
+#include <threads.h>
 
 static bool is_ours(struct machine *m, clockid_t clock,
 		    const struct timespec *time)
@@ -155,4 +156,32 @@ EXPORT int pthread_timedjoin_np(pthread_t thread, void **result,
 	if (!machine())
 		return REAL(pthread_timedjoin_np)(thread, result, time);
 	return pthread_clockjoin_np(thread, result, CLOCK_REALTIME, time);
+}
+
+/* glibc's types of C11 are those of POSIX under another name. */
+
+static int c11_result(int error)
+{
+	return !error		    ? thrd_success
+	       : error == ETIMEDOUT ? thrd_timedout
+				    : thrd_error;
+}
+
+EXPORT int cnd_timedwait(cnd_t *restrict cond, mtx_t *restrict mutex,
+			 const struct timespec *restrict time)
+{
+	if (!machine())
+		return REAL(cnd_timedwait)(cond, mutex, time);
+	return c11_result(pthread_cond_clockwait((pthread_cond_t *)cond,
+						 (pthread_mutex_t *)mutex,
+						 CLOCK_REALTIME, time));
+}
+
+EXPORT int mtx_timedlock(mtx_t *restrict mutex,
+			 const struct timespec *restrict time)
+{
+	if (!machine())
+		return REAL(mtx_timedlock)(mutex, time);
+	return c11_result(pthread_mutex_clocklock((pthread_mutex_t *)mutex,
+						  CLOCK_REALTIME, time));
 }

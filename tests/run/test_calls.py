@@ -25,7 +25,7 @@ class Calls(RunTest):
 
     def waits(self, output):
         lines = [line.split() for line in output.splitlines()]
-        self.assertGreaterEqual(len(lines), 38)
+        self.assertGreaterEqual(len(lines), 42)
         return {name: value for name, value in lines}
 
     def test_waits_on_a_counter_of_sleeps(self):

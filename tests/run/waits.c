@@ -162,6 +162,31 @@ static bool by_mutex_clocklock(void)
 	       ETIMEDOUT;
 }
 
+static bool by_cnd_timedwait(void)
+{
+	struct timespec time = until(CLOCK_REALTIME);
+	int result = thrd_success;
+	mtx_t lock;
+	cnd_t own;
+
+	mtx_init(&lock, mtx_plain);
+	cnd_init(&own);
+	mtx_lock(&lock);
+	while (result == thrd_success)
+		result = cnd_timedwait(&own, &lock, &time);
+	return result == thrd_timedout;
+}
+
+static bool by_mtx_timedlock(void)
+{
+	struct timespec time = until(CLOCK_REALTIME);
+	mtx_t taken;
+
+	mtx_init(&taken, mtx_timed);
+	mtx_lock(&taken);
+	return mtx_timedlock(&taken, &time) == thrd_timedout;
+}
+
 static pthread_rwlock_t rwlock = PTHREAD_RWLOCK_INITIALIZER;
 
 static void *take_rwlock(void *unused)
@@ -453,6 +478,38 @@ static bool by_setitimer(void)
 	       wait_signal();
 }
 
+/* A signal after two of ten seconds. */
+static bool by_interrupted_sleep(void)
+{
+	struct timespec span = { 10, 0 }, rest = { 0, 0 };
+	sigset_t none;
+
+	expect(SIGALRM);
+	sigemptyset(&none);
+	alarm(2);
+	sigprocmask(SIG_SETMASK, &none, NULL);
+	return nanosleep(&span, &rest) && errno == EINTR && is_signalled &&
+	       (rest.tv_sec == 7 || rest.tv_sec == 8);
+}
+
+static void *sleep_long(void *unused)
+{
+	sleep(1000);
+	return unused;
+}
+
+/* A thread that sleeps is cancelled after two seconds. */
+static bool by_cancelled_sleep(void)
+{
+	pthread_t thread;
+	void *result;
+
+	pthread_create(&thread, NULL, sleep_long, NULL);
+	sleep(2);
+	return !pthread_cancel(thread) && !pthread_join(thread, &result) &&
+	       result == PTHREAD_CANCELED;
+}
+
 static const struct {
 	const char *name;
 	bool (*wait)(void);
@@ -470,6 +527,8 @@ static const struct {
 	{ "cond_clockwait", by_cond_clockwait },
 	{ "mutex_timedlock", by_mutex_timedlock },
 	{ "mutex_clocklock", by_mutex_clocklock },
+	{ "cnd_timedwait", by_cnd_timedwait },
+	{ "mtx_timedlock", by_mtx_timedlock },
 	{ "timedrdlock", by_timedrdlock },
 	{ "timedwrlock", by_timedwrlock },
 	{ "clockrdlock", by_clockrdlock },
@@ -495,6 +554,8 @@ static const struct {
 	{ "timer", by_timer },
 	{ "alarm", by_alarm },
 	{ "setitimer", by_setitimer },
+	{ "interrupted_sleep", by_interrupted_sleep },
+	{ "cancelled_sleep", by_cancelled_sleep },
 };
 
 static int64_t nanos(struct timespec time)
