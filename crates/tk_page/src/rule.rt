@@ -65,10 +65,12 @@ impl<E: NamesEntry> Outcome<Words, View> for Publishes<E> {
     ghost then = { Published E.entry };
 }
 
-/// The load that is a viewer's read.
-pub struct Reads;
+/// The load that is a viewer's read, at the place in the program that `P` names.
+pub struct Reads<P> {
+    place: PhantomData<P>,
+}
 
-impl Outcome<Words, View> for Reads {
+impl<P> Outcome<Words, View> for Reads<P> {
     ghost use Rattle.tk_page.specs.Views.{Seen};
 
     ghost then = { Seen };

@@ -26,6 +26,9 @@ use tk_latch::{LatchReader, Moved};
 use tk_now::NoticeWriter;
 use tk_page::Viewer;
 
+/// Names the place in the program where `read` reads the page.
+struct AtRead;
+
 /// Shares a timekeeper among callers in many threads.
 ///
 /// Commands and folds take its lock; reads don't. Contracts see it as the number of its callers.
@@ -151,7 +154,7 @@ impl<L: Named, C: Counter> SharedKeeper<L, C> {
             × (caller.new.learnt ≡ caller.old.learnt)
             × (caller.new.noticed ≡ caller.old.noticed) }
     {
-        caller.viewer.read(rt, &self.shared.page)
+        caller.viewer.read_at::<AtRead, R>(rt, &self.shared.page)
     }
 
     /// Returns the latest publication of the latch, which is no earlier than any that this caller
