@@ -47,11 +47,8 @@ use crate::writer::LatchWriter;
 use std::alloc::{AllocError, Allocator, Global};
 use std::marker::Model;
 use std::mem;
-use tk_clock::Snapshot;
+use tk_clock::{SNAPSHOT_WORDS, Snapshot};
 use tk_counter::CounterDesc;
-
-/// The number of words of a snapshot.
-pub(crate) const SNAPSHOT_WORDS: usize = 10;
 
 /// The positions of the sequence and of the copies among the words, and the number of words.
 pub(crate) const SEQUENCE: usize = 0;

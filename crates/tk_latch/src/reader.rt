@@ -4,12 +4,12 @@ ghost use Rattle.tk_latch.specs.Attempt.{IsAttempt, Gathered};
 ghost use Rattle.tk_latch.specs.Views.{resting, reading, found_by};
 
 use crate::errors::Moved;
-use crate::latch::{COPY_0, COPY_1, Latch, SEQUENCE, SNAPSHOT_WORDS};
+use crate::latch::{COPY_0, COPY_1, Latch, SEQUENCE};
 use crate::rule::{Begins, Ends, Loads, View};
 use atomic_table::Seat;
 use std::alloc::Allocator;
 use std::marker::Model;
-use tk_clock::Snapshot;
+use tk_clock::{SNAPSHOT_WORDS, Snapshot};
 
 /// Reads a latch, and stores a mark: the number of the latest publication that it knows of.
 ///

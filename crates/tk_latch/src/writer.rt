@@ -3,12 +3,12 @@ ghost use Rattle.tk_latch.specs.Publications.{IsNext, pushed_words};
 ghost use Rattle.tk_latch.specs.Views.{making, copying};
 
 use crate::errors::PageFull;
-use crate::latch::{COPY_0, COPY_1, Latch, SEQUENCE, SNAPSHOT_WORDS};
+use crate::latch::{COPY_0, COPY_1, Latch, SEQUENCE};
 use crate::rule::{ChecksWord, Commits, CopiesWord, FindsWord, Opens, ReplacesWord, View};
 use atomic_table::Seat;
 use std::alloc::Allocator;
 use std::marker::Model;
-use tk_clock::Snapshot;
+use tk_clock::{SNAPSHOT_WORDS, Snapshot};
 
 /// The greatest even sequence: the sequence of the last publication.
 const SEQUENCE_LIMIT: u64 = u64::MAX - 1;

@@ -7,6 +7,7 @@ use std::alloc::{AllocError, Allocator};
 use std::io;
 use std::sync::atomic::{AtomicU64, Ordering};
 use std::time::{Clock, Duration, Instant};
+use tk_counter::NANOS_PER_SECOND;
 
 /// Shows that a load of a notice, or an announcement, was made. A read of a counter follows it.
 ///
@@ -155,6 +156,6 @@ fn reading_at(elapsed: io::Result<Duration>) -> u64
 fn nanos_of(time: Duration) -> u64
     ensures { result ≡ as_nanos time % 2 ^ 64 }
 {
-    let seconds = time.as_secs().wrapping_mul(1_000_000_000);
+    let seconds = time.as_secs().wrapping_mul(NANOS_PER_SECOND);
     seconds.wrapping_add(u64::from(time.subsec_nanos()))
 }

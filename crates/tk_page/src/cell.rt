@@ -15,12 +15,13 @@ use crossbeam_utils::atomic::seq_cell;
 use crossbeam_utils::atomic::seq_cell::RuledSeqCell;
 use crossbeam_utils::rule::Outcome;
 use std::sync::Wait;
+use tk_clock::SNAPSHOT_WORDS;
 
 /// The words of a snapshot.
-pub type Words = [u64; 10];
+pub type Words = [u64; SNAPSHOT_WORDS];
 
-/// The page's cell: ten words and a version word.
-pub type Cell = RuledSeqCell<Words, View, Law, 10>;
+/// The page's cell: the words of a snapshot and a version word.
+pub type Cell = RuledSeqCell<Words, View, Law, SNAPSHOT_WORDS>;
 
 /// The access to the cell that a publisher or a viewer holds. It has no bytes.
 pub type Pass = seq_cell::Pass<Words, View>;

@@ -7,9 +7,9 @@ ghost use Rattle.tk_clock.specs.Legal.{IsLegal, IsStart, folded_opening};
 ghost use Rattle.tk_clock.specs.Limits.{counted_most};
 ghost use Rattle.tk_keeper.specs.ChangeCounter.{changed_by, counter_refusal, AgreesOver, RisesOver};
 
-use super::{COUNTED_LIMIT, Timekeeper};
+use super::Timekeeper;
 use std::alloc::Allocator;
-use tk_clock::{Clock, Refusal};
+use tk_clock::{COUNTED_LIMIT, Clock, Refusal};
 use tk_counter::CounterDesc;
 
 impl<A: Allocator + Copy> Timekeeper<A> {
