@@ -87,7 +87,8 @@ uint64_t machine_reading(const struct shared_page *shared)
 		return (shared->first + atomic_load(&shared->cycles)) &
 		       shared->mask;
 	moved = machine_host(shared->kind) - shared->base;
-	moved = moved * shared->scale >> shared->scale_shift;
+	if (shared->scale != 1)
+		moved = moved * shared->scale >> shared->scale_shift;
 	return (shared->first + (uint64_t)moved) & shared->mask;
 }
 

@@ -20,11 +20,18 @@ static void wait_writer(struct machine *machine, unsigned int *turns)
 		machine_try_recover(machine);
 }
 
+/* A coarse clock's time, which stays until the next command. */
+struct coarse {
+	enum tkc_code code;
+	struct tkc_time time;
+};
+
 /* A snapshot that is kept as long as the page's sequence stays. An odd sequence
  * is none. */
 struct kept {
 	uint64_t sequence, front;
 	struct tkc_snapshot snapshot;
+	struct coarse real, monotonic;
 };
 
 static _Thread_local struct kept own_kept = { .sequence = 1 };
@@ -41,6 +48,11 @@ static enum tkc_code keep(struct kept *kept, const struct tkc_page *page,
 	if (code)
 		return code;
 	kept->front = words[0];
+	kept->real.code = tkc_snapshot_get(&kept->real.time, &kept->snapshot,
+					   TKC_CLOCK_REALTIME_COARSE, 0);
+	kept->monotonic.code =
+		tkc_snapshot_get(&kept->monotonic.time, &kept->snapshot,
+				 TKC_CLOCK_MONOTONIC_COARSE, 0);
 	kept->sequence = sequence;
 	return TKC_OK;
 }
@@ -104,34 +116,55 @@ static bool count_read(struct machine *machine)
 	return control->rows.every && own_reads % control->rows.every == 0;
 }
 
-static bool is_coarse(uint32_t clock)
+/* Returns a coarse clock's time, or NULL for another clock. */
+static const struct coarse *coarse_of(const struct kept *kept, uint32_t clock)
 {
-	return clock == TKC_CLOCK_REALTIME_COARSE ||
-	       clock == TKC_CLOCK_MONOTONIC_COARSE;
+	switch (clock) {
+	case TKC_CLOCK_REALTIME_COARSE:
+		return &kept->real;
+	case TKC_CLOCK_MONOTONIC_COARSE:
+		return &kept->monotonic;
+	default:
+		return NULL;
+	}
 }
 
 static enum tkc_code read_from(struct machine *machine, struct kept *kept,
 			       uint32_t clock, struct tkc_time *out)
 {
+	const struct coarse *coarse = coarse_of(kept, clock);
 	uint64_t reading;
-	enum tkc_code code = look(machine, kept, &reading, is_coarse(clock));
+	enum tkc_code code = look(machine, kept, &reading, coarse);
 
 	if (code)
 		return code;
-	code = tkc_snapshot_get(out, &kept->snapshot, clock, reading);
+	if (coarse) {
+		code = coarse->code;
+		*out = coarse->time;
+	} else {
+		code = tkc_snapshot_get(out, &kept->snapshot, clock, reading);
+	}
 	if (count_read(machine))
 		record_read(machine, clock, code, kept, reading, out);
 	return code;
 }
 
+/* Reads in a signal handler that interrupted a read of its thread. */
+__attribute__((noinline)) static enum tkc_code
+read_in_handler(struct machine *machine, uint32_t clock, struct tkc_time *out)
+{
+	struct kept kept = { .sequence = 1 };
+
+	return read_from(machine, &kept, clock, out);
+}
+
 enum tkc_code machine_read(struct machine *machine, uint32_t clock,
 			   struct tkc_time *out)
 {
-	struct kept kept = { .sequence = 1 };
 	enum tkc_code code;
 
-	if (is_kept_busy) /* a signal handler amid a read */
-		return read_from(machine, &kept, clock, out);
+	if (is_kept_busy)
+		return read_in_handler(machine, clock, out);
 	is_kept_busy = 1;
 	atomic_signal_fence(memory_order_seq_cst);
 	code = read_from(machine, &own_kept, clock, out);
