@@ -15,25 +15,45 @@
 
 enum { SHOWN_MOST = 5, LINE_MOST = 256 };
 
-/* Runs tkcore: the one in tkrun's own folder, or else the one in PATH. */
+static char tkcore[2 * PATH_MAX];
+
+/* Looks for tkcore in a folder. */
+static bool is_in(const char *folder, size_t length)
+{
+	snprintf(tkcore, sizeof(tkcore), "%.*s/tkcore", (int)length, folder);
+	return !access(tkcore, X_OK);
+}
+
+void find_tkcore(void)
+{
+	const char *next = getenv("PATH");
+	char self[PATH_MAX];
+	ssize_t length = readlink("/proc/self/exe", self, sizeof(self) - 1);
+
+	self[length < 0 ? 0 : length] = 0;
+	if (strrchr(self, '/') &&
+	    is_in(self, (size_t)(strrchr(self, '/') - self)))
+		return;
+	while (next && *next) {
+		size_t part = strcspn(next, ":");
+
+		if (part && is_in(next, part))
+			return;
+		next += part + (next[part] == ':');
+	}
+	fail(STATUS_FAILED,
+	     "--check: tkcore is neither in tkrun's folder nor in PATH");
+}
+
 static void run_tkcore(const char *script, int output)
 {
-	char path[PATH_MAX + 16], folder[PATH_MAX];
-	ssize_t length = readlink("/proc/self/exe", folder, sizeof(folder) - 1);
 	int input = open(script, O_RDONLY);
-	char *end;
 
 	if (input < 0)
 		_exit(STATUS_FAILED);
 	dup2(input, 0);
 	dup2(output, 1);
-	folder[length < 0 ? 0 : length] = 0;
-	end = strrchr(folder, '/');
-	if (end)
-		*end = 0;
-	snprintf(path, sizeof(path), "%s/tkcore", folder);
-	execl(path, "tkcore", "replay", "--keep", "1000", NULL);
-	execlp("tkcore", "tkcore", "replay", "--keep", "1000", NULL);
+	execl(tkcore, "tkcore", "replay", "--keep", "1000", NULL);
 	_exit(STATUS_NOT_FOUND);
 }
 
@@ -121,10 +141,7 @@ static uint64_t check_part(const struct recording *recording, unsigned int part,
 		fclose(report);
 	if (child > 0)
 		waitpid(child, &status, 0);
-	if (WIFEXITED(status) && WEXITSTATUS(status) == STATUS_NOT_FOUND)
-		fputs("tkrun: --check: tkcore is neither in tkrun's folder nor in PATH\n",
-		      stderr);
-	else if (status)
+	if (status)
 		fprintf(stderr, "tkrun: --check: tkcore refuses %s\n", script);
 	return differ;
 }

@@ -30,6 +30,9 @@ void recording_start(struct recording *recording, struct control *control,
 bool recording_write(struct recording *recording, struct machine *machine,
 		     const struct plan *plan);
 
+/* Finds tkcore in tkrun's folder or in PATH, and ends tkrun if there is none. */
+void find_tkcore(void);
+
 /* Replays all parts by tkcore. Returns the number of values that differ, and
  * prints the first of them. */
 uint64_t recording_check(const struct recording *recording);

@@ -236,6 +236,8 @@ int main(int count, char **words)
 	parse_options(count, words, &run.options);
 	is_recorded = run.options.record || run.options.is_checked;
 	preload_library();
+	if (run.options.is_checked)
+		find_tkcore();
 	if (run.options.log)
 		start_log(&run.options);
 	atexit(remove_all);

@@ -3,6 +3,7 @@
 #include "tree.h"
 
 #include <dirent.h>
+#include <errno.h>
 #include <fcntl.h>
 #include <stdio.h>
 #include <stdlib.h>
@@ -202,7 +203,7 @@ static bool has_library(int32_t process)
 	return is_found;
 }
 
-static void warn(int32_t process)
+static void warn(int32_t process, bool is_readable)
 {
 	char path[64], name[64];
 
@@ -210,9 +211,14 @@ static void warn(int32_t process)
 	if (!read_text(path, name, sizeof(name)))
 		return;
 	name[strcspn(name, "\n")] = 0;
-	fprintf(stderr,
-		"tkrun: '%s' (process %d) reads the host's clocks: it is static or setuid, or its environment was cleared\n",
-		name, process);
+	if (is_readable)
+		fprintf(stderr,
+			"tkrun: '%s' (process %d) reads the host's clocks: it is static or setuid, or its environment was cleared\n",
+			name, process);
+	else
+		fprintf(stderr,
+			"tkrun: '%s' (process %d) may not be looked at: if it is setuid, it reads the host's clocks\n",
+			name, process);
 }
 
 /* Returns the entry of the program that a process runs now, a new one if it
@@ -226,7 +232,12 @@ static struct program *find_program(int32_t process, bool *is_new)
 	char path[64];
 
 	snprintf(path, sizeof(path), "/proc/%d/exe", process);
-	if (stat(path, &status) || stat("/proc/self/exe", &own) ||
+	if (stat(path, &status)) {
+		if (errno != EACCES)
+			return NULL; /* it is gone */
+		status = (struct stat){ 0 };
+	}
+	if (stat("/proc/self/exe", &own) ||
 	    (status.st_ino == own.st_ino && status.st_dev == own.st_dev))
 		return NULL;
 	*is_new = false;
@@ -257,6 +268,6 @@ void tree_warn(struct tree *tree)
 			continue;
 		program->is_known = true;
 		if (!has_library(tree->processes[i]))
-			warn(tree->processes[i]);
+			warn(tree->processes[i], program->file);
 	}
 }

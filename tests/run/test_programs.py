@@ -22,8 +22,8 @@ class Programs(RunTest):
         self.assertEqual(self.run_on("--start", "2001-09-09T01:46:40Z", "--", "date", "+%s"),
                          "1000000000\n")
         self.assertEqual(
-            self.run_on("--start", "2038-01-19T03:14:07.5Z", "--counter", "sleeps", "--", "bash", "-c",
-                        "date -u +%FT%T; sleep 1; date -u +%FT%T"),
+            self.run_on("--start", "2038-01-19T03:14:07.5Z", "--counter", "sleeps", "--",
+                        "bash", "-c", "date -u +%FT%T; sleep 1; date -u +%FT%T"),
             "2038-01-19T03:14:07\n2038-01-19T03:14:08\n")
 
     def test_bash_sets_the_date_for_all_that_follow(self):
@@ -41,8 +41,8 @@ class Programs(RunTest):
     def test_a_suspension(self):
         script = self.file("s", "openhz,64,1000000000,1,0,0,0\nsuspend,1000000000\n"
                                 "resume,2000000000,3600,0\n")
-        run = self.run_on("--script", script, "--counter", "sleeps", "--check", "--", "/usr/bin/perl",
-                          "-MTime::HiRes=clock_gettime,sleep,CLOCK_MONOTONIC,CLOCK_REALTIME", "-e",
+        run = self.run_on("--script", script, "--counter", "sleeps", "--check", "--",
+                          "/usr/bin/perl", "-MTime::HiRes=clock_gettime,sleep,CLOCK_MONOTONIC,CLOCK_REALTIME", "-e",
                           "sleep 2; printf '%.6f %.6f', clock_gettime(CLOCK_MONOTONIC), "
                           "clock_gettime(CLOCK_REALTIME)")
         self.assertEqual(run, "2.000000 3602.000000")
@@ -94,7 +94,7 @@ class Programs(RunTest):
     @needs("node")
     def test_node(self):
         self.sleeps("node", "-e", "const a = performance.now();"
-                                  "setTimeout(() => console.log((performance.now() - a) / 1e3), 2001)")
+                    "setTimeout(() => console.log((performance.now() - a) / 1e3), 2001)")
 
     @needs("java")
     def test_java(self):
@@ -117,9 +117,9 @@ class Programs(RunTest):
     @needs("openssl")
     def test_openssl_makes_a_certificate_of_2038(self):
         key = self.folder / "key"
-        certificate = self.start("--quiet", "--start", "2038-01-19T03:14:08Z", "--", "openssl", "req",
-                                 "-x509", "-newkey", "rsa:2048", "-nodes", "-subj", "/CN=a", "-days",
-                                 "1", "-keyout", key).stdout
+        certificate = self.start("--quiet", "--start", "2038-01-19T03:14:08Z", "--", "openssl",
+                                 "req", "-x509", "-newkey", "rsa:2048", "-nodes", "-subj", "/CN=a",
+                                 "-days", "1", "-keyout", key).stdout
         dates = subprocess.run(["openssl", "x509", "-noout", "-startdate"], input=certificate,
                                text=True, stdout=subprocess.PIPE, check=True).stdout
         self.assertEqual(dates, "notBefore=Jan 19 03:14:08 2038 GMT\n")
@@ -128,8 +128,8 @@ class Programs(RunTest):
 class Records(RunTest):
     def test_a_record_in_parts(self):
         record = self.folder / "r"
-        run = self.start("--counter", "sleeps", "--record", record, "--check", "--", "/usr/bin/perl",
-                         "-MTime::HiRes=time", "-e", "for (1..200) { sleep 60; time for 1..500 }",
+        run = self.start("--counter", "sleeps", "--record", record, "--check", "--",
+                         "/usr/bin/perl", "-MTime::HiRes=time", "-e", "for (1..200) { sleep 60; time for 1..500 }",
                          env={"TKRUN_PART_BYTES": "1000000"})
         self.assertEqual(run.returncode, 0, run.stderr)
         self.assertTrue((self.folder / "r.2.values").exists())
@@ -151,8 +151,8 @@ class Records(RunTest):
 
     @unittest.skipUnless(IS_ROOT, "mounts a small disk")
     def test_a_full_disk(self):
-        command = ("mount -t tmpfs -o size=20m tmpfs $1 && exec $2 --start 1000000000 --record $1/r "
-                   "-- $3 10")
+        command = ("mount -t tmpfs -o size=20m tmpfs $1 && "
+                   "exec $2 --start 1000000000 --record $1/r -- $3 10")
         run = subprocess.run(["unshare", "-m", "sh", "-c", command, "sh", self.folder, TKRUN,
                               program("killed")], stdout=subprocess.PIPE, stderr=subprocess.PIPE,
                              text=True, check=False, timeout=60)
@@ -167,18 +167,11 @@ class Records(RunTest):
         run = subprocess.run(["unshare", "-m", "sh", "-c", command, "sh", TKRUN],
                              stdout=subprocess.PIPE, stderr=subprocess.PIPE, text=True, check=False)
         self.assertEqual((run.returncode, run.stdout, run.stderr), (0, "5\n", ""))
-        run = subprocess.run(["unshare", "-m", "sh", "-c", "export TMPDIR=/nowhere; " + command, "sh",
-                              TKRUN], stdout=subprocess.PIPE, stderr=subprocess.PIPE, text=True,
+        run = subprocess.run(["unshare", "-m", "sh", "-c", "export TMPDIR=/nowhere; " + command,
+                              "sh", TKRUN], stdout=subprocess.PIPE, stderr=subprocess.PIPE, text=True,
                              check=False)
         self.assertEqual((run.returncode, run.stdout), (125, ""))
         self.assertRegex(run.stderr, "^tkrun: cannot make the shared clocks: .*\n$")
-
-    def test_no_process_may_be_started(self):
-        if IS_ROOT:
-            self.skipTest("root has no limit of processes")
-        run = subprocess.run(["bash", "-c", f"ulimit -u 1; exec {TKRUN} -- date"],
-                             stderr=subprocess.PIPE, text=True, check=False)
-        self.assertEqual(run.returncode, 125)
 
 
 class Around(RunTest):
@@ -213,13 +206,66 @@ class Around(RunTest):
         run = self.start("--", "sleep", "0.5")
         self.assertNotIn("reads the host's clocks", run.stderr)
 
-    @unittest.skipUnless(IS_ROOT, "becomes another user")
-    def test_another_user_reads_and_does_not_set(self):
+    def share(self):
+        """A copy of tkrun that other users may read."""
         shared = self.folder / "dist"
         shutil.copytree(ROOT / "dist/lib", shared / "lib")
         (shared / "bin").mkdir()
         shutil.copy(TKRUN, shared / "bin")
+        shutil.copy(shutil.which("tkcore"), shared / "bin")
         self.folder.chmod(0o755)
+        return shared
+
+    @unittest.skipUnless(IS_ROOT, "becomes another user")
+    def test_a_setuid_program_of_another_user(self):
+        shared = self.share()
+        program_of_root = shared / "slept"
+        shutil.copy("/bin/sleep", program_of_root)
+        program_of_root.chmod(0o4755)
+        run = subprocess.run(["setpriv", "--reuid", "65534", "--regid", "65534", "--clear-groups",
+                              shared / "bin/tkrun", "--", program_of_root, "0.5"],
+                             stderr=subprocess.PIPE, text=True, check=False)
+        self.assertEqual(run.returncode, 0)
+        self.assertRegex(run.stderr, "tkrun: 'slept' .process [0-9]+. (may not be looked at|reads)")
+
+    @unittest.skipUnless(IS_ROOT, "becomes another user")
+    def test_another_user_runs_and_checks(self):
+        run = subprocess.run(["setpriv", "--reuid", "65534", "--regid", "65534", "--clear-groups",
+                              self.share() / "bin/tkrun", "--quiet", "--start", "5", "--record",
+                              "/dev/null/r", "--", "date"], stderr=subprocess.PIPE, text=True,
+                             check=False)
+        self.assertEqual((run.returncode, len(run.stderr.splitlines())), (2, 1))
+        run = subprocess.run(["setpriv", "--reuid", "65534", "--regid", "65534", "--clear-groups",
+                              self.folder / "dist/bin/tkrun", "--start", "5", "--check", "--",
+                              "date", "+%s"], stdout=subprocess.PIPE, stderr=subprocess.PIPE, text=True,
+                             check=False, cwd="/")
+        self.assertEqual((run.returncode, run.stdout), (0, "5\n"), run.stderr)
+
+    @unittest.skipUnless(IS_ROOT, "becomes another user, since root has no limit of processes")
+    def test_no_process_may_be_started(self):
+        command = f"ulimit -u 1; exec {self.share()}/bin/tkrun -- touch {self.folder}/made"
+        run = subprocess.run(["setpriv", "--reuid", "65531", "--regid", "65531", "--clear-groups",
+                              "bash", "-c", command], stderr=subprocess.PIPE, text=True, check=False)
+        self.assertEqual((run.returncode, len(run.stderr.splitlines())), (125, 1))
+        self.assertIn("cannot run", run.stderr)
+
+    def test_no_tkcore(self):
+        shared = self.share()
+        (shared / "bin/tkcore").unlink()
+        run = subprocess.run([shared / "bin/tkrun", "--check", "--", "/bin/date"],
+                             env={"PATH": "/:/x"}, stdout=subprocess.PIPE, stderr=subprocess.PIPE,
+                             text=True, check=False)
+        self.assertEqual((run.returncode, run.stdout), (125, ""))
+        self.assertIn("tkcore is neither in", run.stderr)
+
+    def test_too_little_memory(self):
+        run = subprocess.run(["bash", "-c", f"ulimit -v 8000; exec {TKRUN} --check -- date"],
+                             stdout=subprocess.PIPE, stderr=subprocess.PIPE, text=True, check=False)
+        self.assertEqual((run.returncode, run.stdout, len(run.stderr.splitlines())), (125, "", 1))
+
+    @unittest.skipUnless(IS_ROOT, "becomes another user")
+    def test_another_user_reads_and_does_not_set(self):
+        shared = self.share()
         other = "setpriv --reuid 65534 --regid 65534 --clear-groups"
         run = subprocess.run([shared / "bin/tkrun", "--quiet", "--start", "1000000000", "--", "bash",
                               "-c", f"{other} date +%s; {other} date -s @5; date +%s"],
