@@ -12,6 +12,16 @@ PROGRAMS = os.environ.get("TKRUN_TESTS", str(ROOT / "dist/tests"))  # tools/chec
 SECONDS = 60  # the longest that a run may take
 
 
+OTHER = ["setpriv", "--reuid", "65531", "--regid", "65531", "--clear-groups"]  # another user
+IS_ROOT = os.geteuid() == 0
+
+
+def call(command, **options):
+    """Runs a command, and returns its status and its texts."""
+    return subprocess.run(command, stdout=subprocess.PIPE, stderr=subprocess.PIPE, text=True,
+                          check=False, timeout=SECONDS, **options)
+
+
 def program(name):
     """The path of a program of tests/run."""
     return f"{PROGRAMS}/{name}"
@@ -24,9 +34,7 @@ class RunTest(unittest.TestCase):
 
     def start(self, *arguments, env=None):
         """Runs tkrun with these arguments."""
-        return subprocess.run([TKRUN, *map(str, arguments)], stdout=subprocess.PIPE,
-                              stderr=subprocess.PIPE, text=True, timeout=SECONDS,
-                              env={**os.environ, **(env or {})}, check=False)
+        return call([TKRUN, *map(str, arguments)], env={**os.environ, **(env or {})})
 
     def run_on(self, *arguments, status=0):
         """Runs tkrun quietly, and returns the program's output."""
@@ -34,10 +42,25 @@ class RunTest(unittest.TestCase):
         self.assertEqual((run.returncode, run.stderr), (status, ""))
         return run.stdout
 
+    def share(self):
+        """Copies tkrun into the test's folder, so that other users may run it."""
+        shared = self.folder / "dist"
+        shutil.copytree(ROOT / "dist/lib", shared / "lib")
+        (shared / "bin").mkdir()
+        shutil.copy(TKRUN, shared / "bin")
+        shutil.copy(shutil.which("tkcore"), shared / "bin")
+        self.folder.chmod(0o755)
+        return shared
+
     def file(self, name, text):
         path = self.folder / name
         path.write_text(text)
         return path
+
+
+def needs_root(reason):
+    """Skips a test if it isn't run by root."""
+    return unittest.skipUnless(IS_ROOT, f"only root {reason}")
 
 
 def needs(name):

@@ -1,12 +1,9 @@
 """Programs that know nothing of tkrun: at chosen dates, through a leap second, and on counters that
 are faster than the host's time or move only with sleeps. Dates are by the proleptic Gregorian
 calendar, and the leap second is that of 2016."""
-import os
-import shutil
 import subprocess
-import unittest
 
-from runs import ROOT, TKRUN, RunTest, needs, program
+from runs import RunTest, needs
 
 # at 23:59:58 a second is inserted: REALTIME goes back by one, and TAI goes on
 LEAP = """openhz,64,1000000000,1,0,1483228798,0
@@ -14,7 +11,6 @@ tai,0,36
 step,2000000000,-1,0
 tai,2000000000,37
 """
-IS_ROOT = os.geteuid() == 0
 
 
 class Programs(RunTest):
@@ -42,7 +38,8 @@ class Programs(RunTest):
         script = self.file("s", "openhz,64,1000000000,1,0,0,0\nsuspend,1000000000\n"
                                 "resume,2000000000,3600,0\n")
         run = self.run_on("--script", script, "--counter", "sleeps", "--check", "--",
-                          "/usr/bin/perl", "-MTime::HiRes=clock_gettime,sleep,CLOCK_MONOTONIC,CLOCK_REALTIME", "-e",
+                          "/usr/bin/perl",
+                          "-MTime::HiRes=clock_gettime,sleep,CLOCK_MONOTONIC,CLOCK_REALTIME", "-e",
                           "sleep 2; printf '%.6f %.6f', clock_gettime(CLOCK_MONOTONIC), "
                           "clock_gettime(CLOCK_REALTIME)")
         self.assertEqual(run, "2.000000 3602.000000")
@@ -123,159 +120,3 @@ class Programs(RunTest):
         dates = subprocess.run(["openssl", "x509", "-noout", "-startdate"], input=certificate,
                                text=True, stdout=subprocess.PIPE, check=True).stdout
         self.assertEqual(dates, "notBefore=Jan 19 03:14:08 2038 GMT\n")
-
-
-class Records(RunTest):
-    def test_a_record_in_parts(self):
-        record = self.folder / "r"
-        run = self.start("--counter", "sleeps", "--record", record, "--check", "--",
-                         "/usr/bin/perl", "-MTime::HiRes=time", "-e", "for (1..200) { sleep 60; time for 1..500 }",
-                         env={"TKRUN_PART_BYTES": "1000000"})
-        self.assertEqual(run.returncode, 0, run.stderr)
-        self.assertTrue((self.folder / "r.2.values").exists())
-        self.assertIn("check: tkcore gives each of the", run.stderr)
-
-    def test_a_value_that_differs(self):
-        record = self.folder / "r"
-        fake = self.file("tkcore", "#!/bin/sh\nsed 's/^get.*/at,realtime,1.000000000/'\n")
-        fake.chmod(0o755)
-        copy = self.folder / "bin"
-        shutil.copytree(ROOT / "dist/lib", self.folder / "lib")
-        copy.mkdir()
-        shutil.copy(TKRUN, copy / "tkrun")
-        shutil.copy(fake, copy / "tkcore")
-        run = subprocess.run([copy / "tkrun", "--record", record, "--check", "--", "date"],
-                             stdout=subprocess.PIPE, stderr=subprocess.PIPE, text=True, check=False)
-        self.assertEqual(run.returncode, 3)
-        self.assertIn("and tkcore gives 'at,realtime,1.000000000'", run.stderr)
-
-    @unittest.skipUnless(IS_ROOT, "mounts a small disk")
-    def test_a_full_disk(self):
-        command = ("mount -t tmpfs -o size=20m tmpfs $1 && "
-                   "exec $2 --start 1000000000 --record $1/r -- $3 10")
-        run = subprocess.run(["unshare", "-m", "sh", "-c", command, "sh", self.folder, TKRUN,
-                              program("killed")], stdout=subprocess.PIPE, stderr=subprocess.PIPE,
-                             text=True, check=False, timeout=60)
-        self.assertEqual(run.returncode, 0, run.stderr)
-        self.assertIn("back 0, errors 0", run.stdout)
-        self.assertRegex(run.stderr, "the record ends before row [0-9]+: No space left on device|"
-                                     "cannot write the record '.*': No space left on device")
-
-    @unittest.skipUnless(IS_ROOT, "hides /dev/shm")
-    def test_no_shared_memory_folder(self):
-        command = "mount -t tmpfs -o ro tmpfs /dev/shm && exec $1 --quiet --start 5 -- date -u +%s"
-        run = subprocess.run(["unshare", "-m", "sh", "-c", command, "sh", TKRUN],
-                             stdout=subprocess.PIPE, stderr=subprocess.PIPE, text=True, check=False)
-        self.assertEqual((run.returncode, run.stdout, run.stderr), (0, "5\n", ""))
-        run = subprocess.run(["unshare", "-m", "sh", "-c", "export TMPDIR=/nowhere; " + command,
-                              "sh", TKRUN], stdout=subprocess.PIPE, stderr=subprocess.PIPE, text=True,
-                             check=False)
-        self.assertEqual((run.returncode, run.stdout), (125, ""))
-        self.assertRegex(run.stderr, "^tkrun: cannot make the shared clocks: .*\n$")
-
-
-class Around(RunTest):
-    def test_two_at_once(self):
-        first = subprocess.Popen([TKRUN, "--quiet", "--start", "1000000000", "--", "bash", "-c",
-                                  "sleep 0.3; date +%s"], stdout=subprocess.PIPE, text=True)
-        self.assertEqual(self.run_on("--start", 2000000000, "--", "date", "+%s"), "2000000000\n")
-        self.assertEqual(first.communicate()[0], "1000000000\n")
-
-    def test_one_inside_the_other(self):
-        self.assertEqual(self.run_on("--start", 1000000000, "--", "bash", "-c",
-                                     f"{TKRUN} --quiet --start 2000000000 -- date +%s; date +%s"),
-                         "2000000000\n1000000000\n")
-
-    def test_the_status_is_the_programs(self):
-        self.assertEqual(self.start("--", "bash", "-c", "exit 7").returncode, 7)
-        self.assertEqual(self.start("--", "bash", "-c", "kill -KILL $$").returncode, 137)
-
-    def test_a_signal_is_passed_on(self):
-        run = subprocess.Popen([TKRUN, "--quiet", "--", "bash", "-c", "echo up; exec sleep 100"],
-                               stdout=subprocess.PIPE, text=True)
-        self.assertEqual(run.stdout.readline(), "up\n")
-        run.terminate()
-        self.assertEqual(run.wait(20), 143)
-        run.stdout.close()
-
-    def test_warnings_of_programs_without_the_library(self):
-        run = self.start("--", program("static"), "nanosleep")
-        self.assertRegex(run.stderr, "tkrun: 'static' .process [0-9]+. reads the host's clocks")
-        run = self.start("--", "env", "-i", "/bin/sleep", "0.5")
-        self.assertRegex(run.stderr, "tkrun: 'sleep' .process [0-9]+. reads the host's clocks")
-        run = self.start("--", "sleep", "0.5")
-        self.assertNotIn("reads the host's clocks", run.stderr)
-
-    def share(self):
-        """A copy of tkrun that other users may read."""
-        shared = self.folder / "dist"
-        shutil.copytree(ROOT / "dist/lib", shared / "lib")
-        (shared / "bin").mkdir()
-        shutil.copy(TKRUN, shared / "bin")
-        shutil.copy(shutil.which("tkcore"), shared / "bin")
-        self.folder.chmod(0o755)
-        return shared
-
-    @unittest.skipUnless(IS_ROOT, "becomes another user")
-    def test_a_setuid_program_of_another_user(self):
-        shared = self.share()
-        program_of_root = shared / "slept"
-        shutil.copy("/bin/sleep", program_of_root)
-        program_of_root.chmod(0o4755)
-        run = subprocess.run(["setpriv", "--reuid", "65534", "--regid", "65534", "--clear-groups",
-                              shared / "bin/tkrun", "--", program_of_root, "0.5"],
-                             stderr=subprocess.PIPE, text=True, check=False)
-        self.assertEqual(run.returncode, 0)
-        self.assertRegex(run.stderr, "tkrun: 'slept' .process [0-9]+. (may not be looked at|reads)")
-
-    @unittest.skipUnless(IS_ROOT, "becomes another user")
-    def test_another_user_runs_and_checks(self):
-        run = subprocess.run(["setpriv", "--reuid", "65534", "--regid", "65534", "--clear-groups",
-                              self.share() / "bin/tkrun", "--quiet", "--start", "5", "--record",
-                              "/dev/null/r", "--", "date"], stderr=subprocess.PIPE, text=True,
-                             check=False)
-        self.assertEqual((run.returncode, len(run.stderr.splitlines())), (2, 1))
-        run = subprocess.run(["setpriv", "--reuid", "65534", "--regid", "65534", "--clear-groups",
-                              self.folder / "dist/bin/tkrun", "--start", "5", "--check", "--",
-                              "date", "+%s"], stdout=subprocess.PIPE, stderr=subprocess.PIPE, text=True,
-                             check=False, cwd="/")
-        self.assertEqual((run.returncode, run.stdout), (0, "5\n"), run.stderr)
-
-    @unittest.skipUnless(IS_ROOT, "becomes another user, since root has no limit of processes")
-    def test_no_process_may_be_started(self):
-        command = f"ulimit -u 1; exec {self.share()}/bin/tkrun -- touch {self.folder}/made"
-        run = subprocess.run(["setpriv", "--reuid", "65531", "--regid", "65531", "--clear-groups",
-                              "bash", "-c", command], stderr=subprocess.PIPE, text=True, check=False)
-        self.assertEqual((run.returncode, len(run.stderr.splitlines())), (125, 1))
-        self.assertIn("cannot run", run.stderr)
-
-    def test_no_tkcore(self):
-        shared = self.share()
-        (shared / "bin/tkcore").unlink()
-        run = subprocess.run([shared / "bin/tkrun", "--check", "--", "/bin/date"],
-                             env={"PATH": "/:/x"}, stdout=subprocess.PIPE, stderr=subprocess.PIPE,
-                             text=True, check=False)
-        self.assertEqual((run.returncode, run.stdout), (125, ""))
-        self.assertIn("tkcore is neither in", run.stderr)
-
-    def test_too_little_memory(self):
-        run = subprocess.run(["bash", "-c", f"ulimit -v 8000; exec {TKRUN} --check -- date"],
-                             stdout=subprocess.PIPE, stderr=subprocess.PIPE, text=True, check=False)
-        self.assertEqual((run.returncode, run.stdout, len(run.stderr.splitlines())), (125, "", 1))
-
-    @unittest.skipUnless(IS_ROOT, "becomes another user")
-    def test_another_user_reads_and_does_not_set(self):
-        shared = self.share()
-        other = "setpriv --reuid 65534 --regid 65534 --clear-groups"
-        run = subprocess.run([shared / "bin/tkrun", "--quiet", "--start", "1000000000", "--", "bash",
-                              "-c", f"{other} date +%s; {other} date -s @5; date +%s"],
-                             stdout=subprocess.PIPE, stderr=subprocess.PIPE, text=True, check=False)
-        self.assertEqual(run.stdout.splitlines()[0], "1000000000")
-        self.assertIn("Operation not permitted", run.stderr)
-        self.assertEqual(run.stdout.splitlines()[-1], "1000000000")
-
-    def test_no_program_has_the_capability_to_set_the_hosts_clock(self):
-        status = self.run_on("--", "grep", "Cap", "/proc/self/status")
-        for line in status.splitlines():
-            name, value = line.split()
-            self.assertEqual(int(value, 16) >> 25 & 1, 0, name)

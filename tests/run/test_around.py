@@ -1,0 +1,92 @@
+"""Runs side by side and inside of each other, signals, other users, and programs without the
+library."""
+import shutil
+import subprocess
+
+from runs import OTHER, TKRUN, RunTest, call, needs_root, program
+
+
+class Around(RunTest):
+    def test_two_at_once(self):
+        first = subprocess.Popen([TKRUN, "--quiet", "--start", "1000000000", "--", "bash", "-c",
+                                  "sleep 0.3; date +%s"], stdout=subprocess.PIPE, text=True)
+        self.assertEqual(self.run_on("--start", 2000000000, "--", "date", "+%s"), "2000000000\n")
+        self.assertEqual(first.communicate()[0], "1000000000\n")
+
+    def test_one_inside_the_other(self):
+        self.assertEqual(self.run_on("--start", 1000000000, "--", "bash", "-c",
+                                     f"{TKRUN} --quiet --start 2000000000 -- date +%s; date +%s"),
+                         "2000000000\n1000000000\n")
+
+    def test_the_status_is_the_programs(self):
+        self.assertEqual(self.start("--", "bash", "-c", "exit 7").returncode, 7)
+        self.assertEqual(self.start("--", "bash", "-c", "kill -KILL $$").returncode, 137)
+
+    def test_a_signal_is_passed_on(self):
+        run = subprocess.Popen([TKRUN, "--quiet", "--", "bash", "-c", "echo up; exec sleep 100"],
+                               stdout=subprocess.PIPE, text=True)
+        self.assertEqual(run.stdout.readline(), "up\n")
+        run.terminate()
+        self.assertEqual(run.wait(20), 143)
+        run.stdout.close()
+
+    def test_warnings_of_programs_without_the_library(self):
+        run = self.start("--", program("static"), "nanosleep")
+        self.assertRegex(run.stderr, "tkrun: 'static' .process [0-9]+. reads the host's clocks")
+        run = self.start("--", "env", "-i", "/bin/sleep", "0.5")
+        self.assertRegex(run.stderr, "tkrun: 'sleep' .process [0-9]+. reads the host's clocks")
+        run = self.start("--", "sleep", "0.5")
+        self.assertNotIn("reads the host's clocks", run.stderr)
+
+    @needs_root("becomes another user")
+    def test_a_setuid_program_of_another_user(self):
+        shared = self.share()
+        program_of_root = shared / "slept"
+        shutil.copy("/bin/sleep", program_of_root)
+        program_of_root.chmod(0o4755)
+        run = call([*OTHER, shared / "bin/tkrun", "--", program_of_root, "0.5"])
+        self.assertEqual(run.returncode, 0)
+        self.assertRegex(run.stderr, "tkrun: 'slept' .process [0-9]+. (may not be looked at|reads)")
+
+    @needs_root("becomes another user")
+    def test_another_user_runs_and_checks(self):
+        run = call([*OTHER, self.share() / "bin/tkrun", "--quiet", "--start", "5", "--record",
+                    "/dev/null/r", "--", "date"])
+        self.assertEqual((run.returncode, len(run.stderr.splitlines())), (2, 1))
+        run = call([*OTHER, self.folder / "dist/bin/tkrun", "--start", "5", "--check", "--",
+                    "date", "+%s"], cwd="/")
+        self.assertEqual((run.returncode, run.stdout), (0, "5\n"), run.stderr)
+
+    @needs_root("has no limit of processes, and becomes another user")
+    def test_no_process_may_be_started(self):
+        command = f"ulimit -u 1; exec {self.share()}/bin/tkrun -- touch {self.folder}/made"
+        run = call([*OTHER, "bash", "-c", command])
+        self.assertEqual((run.returncode, len(run.stderr.splitlines())), (125, 1))
+        self.assertIn("cannot run", run.stderr)
+
+    def test_no_tkcore(self):
+        shared = self.share()
+        (shared / "bin/tkcore").unlink()
+        run = call([shared / "bin/tkrun", "--check", "--", "/bin/date"], env={"PATH": "/:/x"})
+        self.assertEqual((run.returncode, run.stdout), (125, ""))
+        self.assertIn("tkcore is neither in", run.stderr)
+
+    def test_too_little_memory(self):
+        run = call(["bash", "-c", f"ulimit -v 8000; exec {TKRUN} --check -- date"])
+        self.assertEqual((run.returncode, run.stdout, len(run.stderr.splitlines())), (125, "", 1))
+
+    @needs_root("becomes another user")
+    def test_another_user_reads_and_does_not_set(self):
+        shared = self.share()
+        other = " ".join(OTHER)
+        run = call([shared / "bin/tkrun", "--quiet", "--start", "1000000000", "--", "bash",
+                    "-c", f"{other} date +%s; {other} date -s @5; date +%s"])
+        self.assertEqual(run.stdout.splitlines()[0], "1000000000")
+        self.assertIn("Operation not permitted", run.stderr)
+        self.assertEqual(run.stdout.splitlines()[-1], "1000000000")
+
+    def test_no_program_has_the_capability_to_set_the_hosts_clock(self):
+        status = self.run_on("--", "grep", "Cap", "/proc/self/status")
+        for line in status.splitlines():
+            name, value = line.split()
+            self.assertEqual(int(value, 16) >> 25 & 1, 0, name)

@@ -1,0 +1,47 @@
+"""Records, --check, and the files of the clocks, also where there is no room for them."""
+import shutil
+
+from runs import TKRUN, RunTest, call, needs_root, program
+
+
+class Records(RunTest):
+    def test_a_record_in_parts(self):
+        record = self.folder / "r"
+        run = self.start("--counter", "sleeps", "--record", record, "--check", "--",
+                         "/usr/bin/perl", "-MTime::HiRes=time", "-e",
+                         "for (1..200) { sleep 60; time for 1..500 }",
+                         env={"TKRUN_PART_BYTES": "1000000"})
+        self.assertEqual(run.returncode, 0, run.stderr)
+        self.assertTrue((self.folder / "r.2.values").exists())
+        self.assertIn("check: tkcore gives each of the", run.stderr)
+
+    def test_a_value_that_differs(self):
+        record = self.folder / "r"
+        fake = self.file("tkcore", "#!/bin/sh\nsed 's/^get.*/at,realtime,1.000000000/'\n")
+        fake.chmod(0o755)
+        copy = self.share() / "bin"
+        shutil.copy(fake, copy / "tkcore")
+        run = call([copy / "tkrun", "--record", record, "--check", "--", "date"])
+        self.assertEqual(run.returncode, 3)
+        self.assertIn("and tkcore gives 'at,realtime,1.000000000'", run.stderr)
+
+    @needs_root("mounts a small disk")
+    def test_a_full_disk(self):
+        command = ("mount -t tmpfs -o size=20m tmpfs $1 && "
+                   "exec $2 --start 1000000000 --record $1/r -- $3 10")
+        run = call(["unshare", "-m", "sh", "-c", command, "sh", self.folder, TKRUN,
+                    program("killed")])
+        self.assertEqual(run.returncode, 0, run.stderr)
+        self.assertIn("back 0, errors 0", run.stdout)
+        self.assertRegex(run.stderr, "the record ends before row [0-9]+: No space left on device|"
+                                     "cannot write the record '.*': No space left on device")
+
+    @needs_root("hides /dev/shm")
+    def test_no_shared_memory_folder(self):
+        command = "mount -t tmpfs -o ro tmpfs /dev/shm && exec $1 --quiet --start 5 -- date -u +%s"
+        run = call(["unshare", "-m", "sh", "-c", command, "sh", TKRUN])
+        self.assertEqual((run.returncode, run.stdout, run.stderr), (0, "5\n", ""))
+        run = call(["unshare", "-m", "sh", "-c", "export TMPDIR=/nowhere; " + command,
+                    "sh", TKRUN])
+        self.assertEqual((run.returncode, run.stdout), (125, ""))
+        self.assertRegex(run.stderr, "^tkrun: cannot make the shared clocks: .*\n$")
