@@ -1,0 +1,33 @@
+"""Waits on counters that wrap, are slow, or run at another rate than the clocks believe."""
+from runs import RunTest
+
+CODE = """use Time::HiRes qw(clock_gettime sleep CLOCK_MONOTONIC);
+$a = clock_gettime(CLOCK_MONOTONIC); sleep $ARGV[0];
+printf '%.6f', clock_gettime(CLOCK_MONOTONIC) - $a"""
+
+
+class Counters(RunTest):
+    def slept(self, span, *options):
+        """By how much MONOTONIC moves on during a sleep. The record is checked."""
+        return float(self.run_on(*options, "--check", "--", "/usr/bin/perl", "-e", CODE, span))
+
+    def test_counters_of_sleeps(self):
+        for bits, hz, span in [(8, 1000, 10), (16, 32768, 1000), (64, 1, 100), (32, 10**9, 3600)]:
+            with self.subTest(bits=bits, hz=hz):
+                self.assertEqual(self.slept(span, "--counter", "sleeps", "--bits", bits,
+                                            "--hz", hz), span)
+
+    def test_counters_that_run(self):
+        for span, *options in [(12, "--bits", 32, "--speed", 10),  # wraps after 4.3 s
+                               (50, "--bits", 24, "--hz", 10**6, "--speed", 50, "--counter", "tsc"),
+                               (1, "--hz", 32768, "--error-ppm", 500),
+                               (0.5, "--speed", 0.5)]:
+            with self.subTest(options=options):
+                slept = self.slept(span, *options)
+                self.assertGreaterEqual(slept, span)
+                self.assertLess(slept, span + 25)
+
+    def test_a_frequency_and_a_tick(self):
+        script = self.file("s", "openhz,64,1000000000,1,0,0,0\nfreq,0,32768000\n"
+                                "tick,1000000000,11000\n")
+        self.assertEqual(self.slept(100, "--script", script, "--counter", "sleeps"), 100)
