@@ -59,7 +59,9 @@ void preload_library(void)
 }
 
 /* A call that the library doesn't answer must not set the host's clock. So
- * neither the program nor a file that it runs may get CAP_SYS_TIME. */
+ * neither the program nor a file that it runs may get CAP_SYS_TIME. Who may not
+ * bound the capabilities of these files lets none of them get more rights than
+ * the caller has: sudo doesn't work then. */
 static void drop_sys_time(void)
 {
 	struct __user_cap_header_struct header = {
@@ -67,7 +69,8 @@ static void drop_sys_time(void)
 	};
 	struct __user_cap_data_struct data[2];
 
-	prctl(PR_CAPBSET_DROP, CAP_SYS_TIME, 0, 0, 0);
+	if (prctl(PR_CAPBSET_DROP, CAP_SYS_TIME, 0, 0, 0))
+		prctl(PR_SET_NO_NEW_PRIVS, 1, 0, 0, 0);
 	prctl(PR_CAP_AMBIENT, PR_CAP_AMBIENT_LOWER, CAP_SYS_TIME, 0, 0);
 	if (syscall(SYS_capget, &header, data))
 		return;

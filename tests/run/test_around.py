@@ -38,15 +38,26 @@ class Around(RunTest):
         run = self.start("--", "sleep", "0.5")
         self.assertNotIn("reads the host's clocks", run.stderr)
 
-    @needs_root("becomes another user")
-    def test_a_setuid_program_of_another_user(self):
-        shared = self.share()
-        program_of_root = shared / "slept"
-        shutil.copy("/bin/sleep", program_of_root)
-        program_of_root.chmod(0o4755)
-        run = call([*OTHER, shared / "bin/tkrun", "--", program_of_root, "0.5"])
+    def setuid(self, name, user):
+        """Copies a program, and makes the copy setuid to a user."""
+        copied = self.folder / name
+        shutil.copy(shutil.which(name), copied)
+        shutil.chown(copied, user)
+        copied.chmod(0o4755)
+        self.folder.chmod(0o755)
+        return copied
+
+    @needs_root("makes a setuid program")
+    def test_a_setuid_program_reads_the_hosts_clocks(self):
+        run = self.start("--", self.setuid("sleep", "nobody"), "0.5")
         self.assertEqual(run.returncode, 0)
-        self.assertRegex(run.stderr, "tkrun: 'slept' .process [0-9]+. (may not be looked at|reads)")
+        self.assertRegex(run.stderr, "tkrun: 'sleep' .process [0-9]+. (may not be looked at|reads)")
+
+    @needs_root("becomes another user")
+    def test_a_setuid_program_gives_another_user_no_rights(self):
+        tkrun = self.share() / "bin/tkrun"
+        run = call([*OTHER, tkrun, "--quiet", "--", self.setuid("id", "root"), "-u"])
+        self.assertEqual((run.returncode, run.stdout), (0, call([*OTHER, "id", "-u"]).stdout))
 
     @needs_root("becomes another user")
     def test_another_user_runs_and_checks(self):
