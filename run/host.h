@@ -18,7 +18,7 @@ long host_call(long number, long a, long b, long c, long d, long e, long f);
 /* Returns the host's clock in ns. */
 uint64_t host_nanos(clockid_t clock);
 
-/* Sleeps for so many ns of the host, or until a signal comes. */
+/* Sleeps for `nanos` ns of the host's time, or until a signal comes. */
 void host_nap(uint64_t nanos);
 
 /*

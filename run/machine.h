@@ -145,7 +145,7 @@ uint64_t machine_left(const struct machine *machine, uint32_t clock,
 int machine_sleep(struct machine *machine, uint32_t clock, int64_t sec,
 		  uint32_t nsec);
 
-/* Tells those who sleep that the clocks have changed. */
+/* Wakes all sleepers, because the clocks have changed. */
 void machine_wake(struct machine *machine);
 
 /* Lists the thread as waiting for a time, with COUNTER_SLEEPS. Returns NULL if

@@ -1,9 +1,9 @@
 /* SPDX-License-Identifier: MIT OR Apache-2.0 */
 /*
  * timers.h - the timers of a process. Each is a timer of the host's MONOTONIC,
- * which is armed for the time that is left. A thread of its own arms all of
- * them again when the clocks have been commanded. With a counter of sleeps,
- * that thread waits for the timers, and lets them expire.
+ * which is armed for the time that is left. A separate thread arms all of them
+ * again after each command to the clocks. With a counter of sleeps, that thread
+ * waits for the timers, and lets them expire.
  */
 #ifndef TIMERS_H
 #define TIMERS_H

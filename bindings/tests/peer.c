@@ -27,7 +27,7 @@
 
 enum { SIZE = 4096, STEP = 1000000, MULT = 8388608, PAUSE = 256, SEEN = 100, MOST = 100 };
 
-/* The name of the file by which a reader tells the writer that it has seen enough. */
+/* The name of the file that a reader makes to stop the writer. */
 static char seen[4096];
 
 struct shared {

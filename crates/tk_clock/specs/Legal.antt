@@ -1,4 +1,4 @@
--- Which journals can exist: clocks can have come to the opening, and all entries were accepted.
+-- Which journals can exist: clocks can have the opening's state, and all entries were accepted.
 use Rattle.std.specs.Prelude.{◌≡◌, ℕ, ◌+◌, slice_get, Some, None}
 use Rattle.tk_counter.specs.Counter.{Counter, IsCounter}
 use Rattle.tk_clock.specs.declared.timespec.Timespec.{Timespec}

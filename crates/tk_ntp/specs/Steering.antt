@@ -20,7 +20,7 @@ accounted counter mult cycles steered = record steered {
   lag = lag_after counter (second_length steered.ntp) mult cycles steered.lag;
 }
 
--- after the second `sec` of REALTIME has begun, so many cycles after the last account
+-- after the second `sec` of REALTIME has begun, `cycles` cycles after the last account
 abbrev pub second_begun : Counter → ℕ → ℕ → ℕ → Steered → Steered
 second_begun counter mult cycles sec steered = record (accounted counter mult cycles steered) {
   ntp = begun steered.ntp sec;

@@ -193,7 +193,7 @@ field_at-last (first ∷ fields) field zero same = absurd (omega (arith, same))
 field_at-last (first ∷ fields) field (suc i) same =
     field_at-last fields field i (omega (arith, same))
 
--- one more field, which has a place of its own if it is one of the first seven
+-- one more field, which is kept if it is one of the first seven
 pub HasFields-kept : (fields : List (List ℕ)) (old new : Fields) (field : Bor (List ℕ)) →
     HasFields fields old → new.count ≡ old.count + 1 → old.count < 7 →
     new.first ≡ set old.first old.count field → HasFields (fields ++ field.now ∷ []) new

@@ -132,7 +132,7 @@ fn adjtime_gives_500_us_in_a_second(rt: HostRuntime) -> Result<(), Fail> {
         ..request(0x8001)
     };
     assert_eq!(rt; clock.reply(500_000_000, &shot)?.timex.offset, 0);
-    // of 10^9 * 2^32 and so many us: 0, then 500, 500, 200 and 0
+    // a second of 10^9 ns, and longer by 0, then by 500, 500, 200 and 0 us
     for (sec, left, length) in [
         (1_700_000_000, 1200, 4_294_967_296_000_000_000),
         (1_700_000_001, 700, 4_297_114_779_648_000_000),
