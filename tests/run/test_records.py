@@ -27,7 +27,7 @@ class Records(RunTest):
 
     @needs_root("mounts a small disk")
     def test_a_full_disk(self):
-        command = ("mount -t tmpfs -o size=20m tmpfs $1 && "
+        command = ("mount -t tmpfs -o size=100k tmpfs $1 && "
                    "exec $2 --start 1000000000 --record $1/r -- $3 10")
         run = call(["unshare", "-m", "sh", "-c", command, "sh", self.folder, TKRUN,
                     program("killed")])
