@@ -34,11 +34,23 @@ pub extern "C" fn tkc_snapshot_get(
 ) -> u32
     ensures { IsReadBy snapshot.now.base clock reading out.old out.new result }
 {
+    // `get_named` does the other reads, so that no call returns to here and no register is saved
+    if !is_ahead(snapshot, reading) {
+        return get_named(out, snapshot, clock, reading);
+    }
     match clock {
         0 => get_known(out, snapshot, ClockId::Realtime, reading),
         1 => get_known(out, snapshot, ClockId::Monotonic, reading),
         _ => get_named(out, snapshot, clock, reading),
     }
+}
+
+/// Returns whether the clocks are awake and count up to a reading, as in almost every read.
+#[inline(always)]
+fn is_ahead(snapshot: &Snapshot, reading: u64) -> bool {
+    let desc = snapshot.desc();
+    let gap = desc.gap(snapshot.last(), reading);
+    reading <= desc.mask() && !snapshot.asleep() && !desc.is_behind(gap)
 }
 
 /// Writes the time of the clock with a number, as `tkc_snapshot_get` does for any number.

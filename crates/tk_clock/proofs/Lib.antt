@@ -13,7 +13,6 @@ pub mod Start
 pub mod Folding
 pub mod Honest
 pub mod Units
-pub mod LongUnits
 pub mod Forwarding
 pub mod Rates
 pub mod Ranges

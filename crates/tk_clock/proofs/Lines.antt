@@ -8,9 +8,9 @@ use Rattle.tk_counter.specs.Counter.{Counter, half, gap}
 use Rattle.tk_clock.specs.declared.clock_id.ClockId.{ClockId}
 use Rattle.tk_clock.specs.declared.clock_id.ClockId.TheVariants.{Realtime, Monotonic, Boottime, Tai, RealtimeCoarse, MonotonicCoarse, MonotonicRaw}
 use Rattle.tk_clock.specs.Monotonic.{cycles_since}
-use Rattle.tk_clock.specs.State.{ReadBase, base_value}
+use Rattle.tk_clock.specs.State.{ReadBase, base_cycles, base_value}
 use Rattle.tk_clock.specs.declared.origin.Origin.{Origin}
-use Rattle.tk_clock.specs.Origin.{is_coarse, units_at_last, running_mult, mult_of, offset_of, value_after, line_after, IsOrigin, awake, counted_cycles}
+use Rattle.tk_clock.specs.Origin.{is_coarse, units_at_last, running_mult, mult_of, offset_of, value_after, line_after, IsOrigin, awake}
 use Rattle.tk_clock.specs.Reach.{distance}
 use Rattle.tk_clock.proofs.Offsets.{cycles_since-self}
 use Rattle.tk_clock.proofs.Reaching.{nanos-rise}
@@ -44,7 +44,7 @@ value_is base MonotonicRaw stamp = omega (arith, ints)
 
 -- a coarse clock gains no units
 coarse_units : (asleep coarse : Bool) (counter : Counter) (last stamp u : ℕ) →
-    (if coarse then 0 else cycles_since counter asleep last stamp) * (if coarse then 0 else u)
+    cycles_since counter asleep last stamp * (if coarse then 0 else u)
     ≡ cycles_since counter asleep last (if coarse then last else stamp) * u
 coarse_units asleep true counter last stamp u =
     let none = cycles_since-self counter asleep last in rw none (omega arith)
@@ -54,9 +54,9 @@ coarse_units asleep false counter last stamp u = refl
 pub line_reads : (base : ReadBase) (clock : ClockId) (line : Origin) (reading : ℕ) →
     IsOrigin (awake base) clock line →
     base_value base clock reading
-    ≡ pos (line_after base.counter line (counted_cycles base clock reading))
+    ≡ pos (line_after base.counter line (base_cycles base reading))
 line_reads base clock line reading given =
-    let gained = ap (λ m. counted_cycles base clock reading * m) given.slope
+    let gained = ap (λ m. base_cycles base reading * m) given.slope
     ∙ coarse_units base.asleep (is_coarse clock) base.counter base.last reading
     (running_mult base clock) in
     let counted_is = ap₂ (λ u n. (u + n) / 2 ^ base.counter.shift) given.units gained in

@@ -9,17 +9,17 @@ use Rattle.tk_clock.specs.declared.refusal.ReadError.{ReadError}
 use Rattle.tk_clock.specs.declared.refusal.ReadError.TheVariants.{Range as PastLimit}
 use Rattle.tk_clock.specs.Amount.{IsNanos}
 use Rattle.tk_clock.specs.Limits.{limit, clock_end}
-use Rattle.tk_clock.specs.Origin.{line_after, IsOrigin, awake, counted_cycles}
+use Rattle.tk_clock.specs.Origin.{line_after, IsOrigin, awake}
 use Rattle.tk_clock.specs.Read.{read_of, unless_refused}
 use Rattle.tk_clock.specs.Refusal.{read_refusal}
-use Rattle.tk_clock.specs.State.{ReadBase, base_value}
+use Rattle.tk_clock.specs.State.{ReadBase, base_cycles, base_value}
 use Rattle.tk_clock.proofs.Lines.{line_reads}
 
 module _ (base : ReadBase) (clock : ClockId) (line : Origin) (reading nanos : ℕ)
     (given : IsOrigin (awake base) clock line) (read : reading ≤ mask base.counter)
-    (stated : IsNanos nanos (line_after base.counter line (counted_cycles base clock reading))) where
+    (stated : IsNanos nanos (line_after base.counter line (base_cycles base reading))) where
   abbrev there : ℕ
-  there = line_after base.counter line (counted_cycles base clock reading)
+  there = line_after base.counter line (base_cycles base reading)
 
   value : base_value base clock reading ≡ pos there
   value = line_reads base clock line reading given

@@ -5,7 +5,7 @@ use Rattle.tk_clock.specs.declared.clock_id.ClockId.TheVariants.{Realtime, Monot
 use Rattle.tk_counter.specs.Counter.{Counter, second}
 use Rattle.tk_clock.specs.declared.origin.Origin.{Origin}
 use Rattle.tk_clock.specs.Limits.{limit, clock_end, raw_end}
-use Rattle.tk_clock.specs.State.{ReadBase, base_cycles}
+use Rattle.tk_clock.specs.State.{ReadBase}
 
 -- whether a clock changes only at commands
 abbrev pub is_coarse : ClockId → Bool
@@ -49,10 +49,6 @@ value_after base clock cycles =
 -- the base as it would be while awake
 abbrev pub awake : ReadBase → ReadBase
 awake base = record base { asleep = false }
-
--- the cycles that a clock counts up to a reading
-abbrev pub counted_cycles : ReadBase → ClockId → ℕ → ℕ
-counted_cycles base clock reading = if is_coarse clock then 0 else base_cycles base reading
 
 -- the value of a line a number of cycles after its beginning, in nanoseconds
 abbrev pub line_after : Counter → Origin → ℕ → ℕ

@@ -8,15 +8,12 @@ mod rescaling;
 use tk_counter::{CounterDesc, NANOS_PER_SECOND};
 
 /// Replaces an amount of ns that doesn't fit in 63 bits. All such amounts are beyond every clock's
-/// limit.
-const TOO_MANY_NANOS: u64 = 1 << 63;
+/// limit. It is not 2^63, because LLVM would keep that in a register and compute the limits from it.
+const TOO_MANY_NANOS: u64 = 3 << 62;
 
 /// Bounds the cycles whose units fit in 64 bits at any multiplier: fewer cycles add less than 2^63
 /// units.
 pub(crate) const NARROW_CYCLES: u64 = 1 << 31;
-
-/// Counts the values of 32 bits.
-pub(crate) const HALF_WORD: u64 = 1 << 32;
 
 /// Represents an amount of time: whole seconds, and the part below a second in units of `2^-shift`
 /// ns.
@@ -132,24 +129,13 @@ fn gained_nanos(frac: u64, cycles: u64, mult: u32, shift: u32) -> u64
     if cycles < NARROW_CYCLES {
         return few_units(frac, cycles, mult) >> shift;
     }
-    if shift < 32 && cycles >> shift < NARROW_CYCLES {
-        return far_nanos(frac, cycles, mult, shift);
+    // one product of 128 bits takes fewer instructions than two of 64 bits
+    let units = u128::from(cycles) * u128::from(mult) + u128::from(frac);
+    if ((units >> 63) as u64) >> shift != 0 {
+        return TOO_MANY_NANOS;
     }
-    long_nanos(frac, cycles, mult, shift)
-}
-
-/// Computes `gained_nanos` if `cycles / 2^shift` is below 2^31. `2^shift` cycles last exactly
-/// `mult` nanoseconds, so only the remaining cycles need a shift.
-fn far_nanos(frac: u64, cycles: u64, mult: u32, shift: u32) -> u64
-    requires rest { frac < 2 ^ 62 }
-    requires shift { shift < 32 }
-    requires few { cycles / 2 ^ shift < 2 ^ 31 }
-    ensures value { result ≡ (frac + cycles * mult) / 2 ^ shift }
-    ensures most { result ≤ 139 * 10 ^ 17 }
-{
-    let full = cycles >> shift;
-    let rest = cycles % (1 << shift);
-    full * u64::from(mult) + (few_units(frac, rest, mult) >> shift)
+    // `% 64` lets LLVM leave out the test for greater shifts
+    (units >> (shift % 64)) as u64
 }
 
 /// Returns `frac` plus `cycles` at `mult`, in units. For fewer than 2^31 cycles the result fits in
@@ -161,34 +147,4 @@ fn few_units(frac: u64, cycles: u64, mult: u32) -> u64
     ensures low { result < 2 ^ 62 + 2 ^ 63 }
 {
     frac + cycles * u64::from(mult)
-}
-
-/// Computes `gained_nanos` if the units may not fit in 64 bits.
-///
-/// `2^32` units are `2^(32 - shift)` ns, a whole number, so no division is needed.
-#[cold]
-#[inline(never)]
-fn long_nanos(frac: u64, cycles: u64, mult: u32, shift: u32) -> u64
-    requires rest { frac < 2 ^ 62 }
-    requires shift { shift ≤ 32 }
-    ensures stated { IsNanos result ((frac + cycles * mult) / 2 ^ shift) }
-    ensures most { result ≤ 139 * 10 ^ 17 }
-{
-    let (upper, rest) = halves(frac, cycles, mult);
-    if upper >> (31 + shift) != 0 {
-        return TOO_MANY_NANOS;
-    }
-    (upper << (32 - shift)) + (rest >> shift)
-}
-
-/// Splits `frac` plus `cycles` at `mult` into multiples of `2^32` units and the remaining units.
-fn halves(frac: u64, cycles: u64, mult: u32) -> (u64, u64)
-    requires { frac < 2 ^ 62 }
-    ensures value { 2 ^ 32 * result.0 + result.1 ≡ frac + cycles * mult }
-    ensures low { result.1 < 2 ^ 62 + 2 ^ 32 }
-{
-    let mult = u64::from(mult);
-    let lower = cycles % HALF_WORD * mult;
-    let upper = cycles / HALF_WORD * mult + lower / HALF_WORD;
-    (upper, lower % HALF_WORD + frac)
 }

@@ -1,4 +1,4 @@
-ghost use Rattle.std.specs.Prelude.{◌≡◌, ◌*◌, ◌/◌, ◌^◌, ◌<◌, ◌≤◌, MatchResult, Some, None, pos, ◌≤ℤ◌, ◌*ℤ◌, nat_lt, IsTrue, ◌↔◌};
+ghost use Rattle.std.specs.Prelude.{◌≡◌, ◌*◌, ◌/◌, ◌^◌, ◌<◌, ◌≤◌, MatchOption, MatchResult, Some, None, pos, ◌≤ℤ◌, ◌*ℤ◌, nat_lt, IsTrue, ◌↔◌};
 
 mod carrying;
 mod changes;
@@ -102,17 +102,19 @@ impl ReadBase {
         self.desc.is_behind(self.desc.gap(self.last, reading))
     }
 
-    /// Returns the cycles from the last reading to another one: 0 while the clocks are asleep, or
-    /// if the other one is behind.
-    fn cycles_since(&self, reading: u64) -> u64
-        ensures { result ≡ base_cycles self.now reading }
+    /// Returns the cycles from the last reading to another one, or `None` if the clocks count none
+    /// up to it: while they are asleep, and if the other one is behind.
+    #[inline(always)]
+    fn cycles_ahead(&self, reading: u64) -> Option<u64>
+        ensures { MatchOption result
+            (base_cycles self.now reading ≡ 0)
+            (λ cycles. base_cycles self.now reading ≡ cycles) }
     {
         let gap = self.desc.gap(self.last, reading);
         if self.asleep || self.desc.is_behind(gap) {
-            0
-        } else {
-            gap
+            return None;
         }
+        Some(gap)
     }
 
     /// Returns MONOTONIC at the last reading.

@@ -1,10 +1,12 @@
 //! Lists the clocks: each is a line over the cycles since the last command.
 ghost use Rattle.std.specs.Prelude.{◌≡◌, ◌*◌, ◌^◌, ◌<◌, pos, MatchResult, Some, None};
+ghost use Rattle.tk_clock.specs.Amount.{IsNanos};
 ghost use Rattle.tk_clock.specs.Limits.{clock_end};
-ghost use Rattle.tk_clock.specs.Origin.{IsOrigin, awake, counted_cycles};
+ghost use Rattle.tk_clock.specs.declared.origin.Origin.{Origin};
+ghost use Rattle.tk_clock.specs.Origin.{IsOrigin, awake, line_after};
 ghost use Rattle.tk_clock.specs.Refusal.{read_refusal};
 ghost use Rattle.tk_clock.specs.Running.{IsWithin};
-ghost use Rattle.tk_clock.specs.State.{base_value};
+ghost use Rattle.tk_clock.specs.State.{base_cycles, base_value};
 
 use super::ReadBase;
 use crate::clock_id::ClockId;
@@ -91,23 +93,36 @@ impl ReadBase {
         if reading > self.desc.mask() {
             return Err(ReadError::Invalid);
         }
-        let line = self.awake_origin(clock);
-        let cycles = self.counted_cycles(clock, reading);
-        let nanos = line.nanos_after(&self.desc, cycles);
-        if nanos >= line.limit {
+        let nanos = self.nanos_at(clock, reading);
+        if nanos >= self.awake_origin(clock).limit {
             return Err(ReadError::Range);
         }
         Ok(nanos)
     }
 
-    /// Returns the cycles that a clock counts up to a reading.
+    /// Returns a clock's time at a reading, in ns, also at or beyond its limit. If that is 2^63 ns
+    /// or more, the result may be a different number of at least 2^63.
     #[inline(always)]
-    fn counted_cycles(&self, clock: ClockId, reading: u64) -> u64
-        ensures { result ≡ counted_cycles self.now clock reading }
+    fn nanos_at(&self, clock: ClockId, reading: u64) -> u64
+        requires { IsWithin self.now }
+        ensures { (line : Origin) → IsOrigin (awake self.now) clock line →
+            IsNanos result (line_after self.now.counter line (base_cycles self.now reading)) }
     {
-        match clock {
-            ClockId::RealtimeCoarse | ClockId::MonotonicCoarse => 0,
-            _ => self.cycles_since(reading),
+        match self.cycles_ahead(reading) {
+            Some(cycles) => self.awake_origin(clock).nanos_after(&self.desc, cycles),
+            None => self.nanos_at_last(clock),
         }
+    }
+
+    /// Returns a clock's time at the last reading, in ns. It is out of line, so that a read ahead of
+    /// the last reading saves no register for it.
+    #[cold]
+    #[inline(never)]
+    fn nanos_at_last(&self, clock: ClockId) -> u64
+        requires { IsWithin self.now }
+        ensures { (line : Origin) → IsOrigin (awake self.now) clock line →
+            IsNanos result (line_after self.now.counter line 0) }
+    {
+        self.awake_origin(clock).nanos_after(&self.desc, 0)
     }
 }

@@ -2,12 +2,14 @@
 ghost use Rattle.std.specs.Prelude.{◌≡◌, ℕ, ◌+◌, ◌*◌, ◌^◌, ◌<◌, ◌≤◌, ◌≤ℤ◌, ◌<ℤ◌, ◌/◌, MatchOption};
 
 use super::ReadBase;
-use crate::amount::HALF_WORD;
 use crate::clock_id::ClockId;
 use crate::timespec::{Timespec, nanos_from_zero};
 
 /// Counts the values of 64 bits.
 const WORD: u128 = 1 << 64;
+
+/// Counts the values of 32 bits.
+const HALF_WORD: u64 = 1 << 32;
 
 impl ReadBase {
     ghost use Rattle.tk_counter.specs.Counter.{mask, half, gap};

@@ -1,5 +1,5 @@
 use Rattle.std.proofs.Common.{◌≡◌, ℕ, ◌+◌, ◌*◌, ◌/◌, ◌^◌, ◌≤◌, ◌⊎◌, inl, inr, ap, ◌∙◌, arith}
-use Rattle.tk_clock.proofs.LongUnits.{more_nanos}
+use Rattle.tk_clock.proofs.Units.{more_nanos}
 use Rattle.tk_clock.proofs.amount.Amount.nanos_after.Goals as goal
 
 -- nanoseconds that are exact, or past 63 bits, are still so after whole seconds are added
