@@ -79,7 +79,7 @@ impl Clock {
     {
         if !self.base.asleep {
             self.check(reading, Command::Update)?;
-            return self.effect(reading, Command::Update);
+            return self.update(self.forwarded(reading, Command::Update)?);
         }
         if reading > self.base.desc.mask() {
             return Err(Refusal::Invalid);

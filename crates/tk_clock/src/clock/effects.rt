@@ -53,7 +53,8 @@ impl Clock {
 
     /// Returns the base advanced to the reading of a command other than `Resume`. The error is
     /// `Range` if MONOTONIC would be at its limit.
-    fn forwarded(&self, reading: u64, cmd: Command) -> Result<ReadBase, Refusal>
+    #[inline(always)]
+    pub(super) fn forwarded(&self, reading: u64, cmd: Command) -> Result<ReadBase, Refusal>
         requires early { IsEarly self.now reading cmd }
         requires awake { is_resume cmd ≡ false }
         ensures { MatchResult result
@@ -67,7 +68,8 @@ impl Clock {
     }
 
     /// Returns the advanced clocks, with no other change.
-    fn update(&self, now: ReadBase) -> Result<Clock, Refusal>
+    #[inline(always)]
+    pub(super) fn update(&self, now: ReadBase) -> Result<Clock, Refusal>
         requires forwarded { IsForwarded self.now now }
         ensures { IsEffect self.now now.last Command.Update result }
     {

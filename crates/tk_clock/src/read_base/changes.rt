@@ -15,6 +15,7 @@ use crate::limits::{CLOCK_LIMIT, MONOTONIC_END, sets_real};
 impl ReadBase {
     /// Returns the base with its amounts advanced to a reading (`timekeeping_forward_now`). Nothing
     /// below a nanosecond is lost. Returns `None` if MONOTONIC would be at its limit.
+    #[inline(always)]
     pub fn forwarded(&self, reading: u64) -> Option<ReadBase>
         requires reading { reading ≤ mask self.now.counter }
         requires steered { slowest self.now.counter ≤ self.now.mult }
