@@ -39,9 +39,10 @@
  *   - MONOTONIC stays below 946080000 s, 30 years (TIME_UPTIME_SEC_MAX).
  *   - REALTIME can be set to times below 8277292036 s (TIME_SETTOD_SEC_MAX). These three constants
  *     are in include/linux/time64.h and ktime.h.
- *   - The front of clocks is the number of commands that they have accepted. It is 0 after
- *     tkc_clock_open. Clocks whose front is 2^63 - 1 or more refuse every command with TKC_FULL.
- *     Only tkc_clock_from_words can make a front above 2^63 - 1.
+ *   - The front of clocks is the number of commands that they have accepted. A change of counter is
+ *     one of them. The front is 0 after tkc_clock_open. Clocks whose front is 2^63 - 1 or more
+ *     refuse every command with TKC_FULL. Only tkc_clock_from_words can make a front above
+ *     2^63 - 1.
  *   - A reading is behind the last command's reading if it is more than half of 2^bits - 1 cycles
  *     ahead of it (clocksource_delta in kernel/time/timekeeping_internal.h). So apply at least one
  *     command, usually an UPDATE, in each half of the counter's range.
@@ -161,7 +162,8 @@ enum tkc_code {
 	TKC_BEHIND = 5,
 	/* A clock would be at or past its limit. For a command: MONOTONIC or BOOTTIME after it, or
 	 * REALTIME or TAI after it unless it is SET_TIME or STEP. For a read: the clock that is
-	 * read. */
+	 * read. A change of counter also returns it if MONOTONIC_RAW is too far ahead of MONOTONIC
+	 * for the new counter. */
 	TKC_RANGE = 6,
 	/* The clock doesn't reach the time at any reading that tkc_snapshot_reading searches. */
 	TKC_NOT_REACHED = 8,
@@ -354,6 +356,40 @@ enum tkc_code tkc_clock_open(struct tkc_clock *out, const struct tkc_counter *co
 TKC_MUST_CHECK
 enum tkc_code tkc_clock_apply(struct tkc_clock *clock, uint64_t reading, uint32_t command,
 			      int64_t number, uint32_t nsec);
+
+/*
+ * Lets the clocks go on over another counter, and adds 1 to their front if the change is accepted
+ * (change_clocksource, tk_setup_internals). A refused change leaves the clocks unchanged, byte for
+ * byte.
+ *
+ * `reading` is a reading of the present counter, and `first` one of `counter`, the new one. Take
+ * both at the same moment, because the time between them doesn't count. The call brings the clocks
+ * forward to `reading`, as an UPDATE does. Then they count the cycles of the new counter, starting
+ * at `first`:
+ *   - Every clock has the same time, in nanoseconds, at `first` as at `reading`, and MONOTONIC
+ *     doesn't go back. The coarse clocks have the times to which the clocks were brought forward.
+ *   - The frequency, the tick, the offsets and the TAI offset stay. The new multiplier follows from
+ *     the frequency and the tick.
+ *   - If the new shift is smaller, the parts of MONOTONIC and MONOTONIC_RAW below a nanosecond are
+ *     rounded down to 2^-shift ns. Otherwise nothing is lost.
+ *   - Clocks that are asleep aren't brought forward, and stay asleep. `reading` may then be behind.
+ *     RESUME takes a reading of the new counter.
+ * All later readings are readings of the new counter. Snapshots and words that were made before
+ * keep the old one, and words that are made later need the new one. The counter of a page or a
+ * latch of tkcore_page.h doesn't change: publish the clocks on a new one.
+ *
+ * Returns, in this order:
+ *   TKC_FULL     the front is 2^63 - 1 or more
+ *   TKC_INVALID  first is above 2^bits - 1 of the new counter, or reading above 2^bits - 1 of the
+ *                present one
+ *   TKC_BEHIND   the clocks are awake, and the reading is behind the last command's
+ *   TKC_RANGE    the clocks are awake, and MONOTONIC, BOOTTIME, REALTIME or TAI would be at or past
+ *                its limit; or MONOTONIC_RAW would be further ahead of MONOTONIC than the slowest
+ *                rate of the new counter can bring it (tkc_clock_from_words has the formula)
+ */
+TKC_MUST_CHECK
+enum tkc_code tkc_clock_change_counter(struct tkc_clock *clock, uint64_t reading,
+				       const struct tkc_counter *counter, uint64_t first);
 
 /*
  * Makes a snapshot of the clocks for readers (update_vsyscall in kernel/time/vsyscall.c,

@@ -128,7 +128,8 @@ typedef _Atomic uint64_t tkc_word;
  * the tick (tkc_clock_words). A tick of 0 means that only a snapshot was published. */
 #define TKC_PAGE_WORDS (TKC_WORDS + 2)
 
-/* The numbers of the counter (tkc_counter_numbers). They don't change. */
+/* The numbers of the counter (tkc_counter_numbers). They don't change: after
+ * tkc_clock_change_counter, publish the clocks on a new page or latch. */
 struct tkc_page_counter {
 	uint32_t bits, mult, shift, padding;
 };

@@ -1,5 +1,5 @@
 /* SPDX-License-Identifier: MIT OR Apache-2.0 */
-/* Opens clocks and applies random commands to them. */
+/* Opens clocks, applies random commands to them, and changes their counter. */
 #include "any_bytes.h"
 
 #include <string.h>
@@ -64,6 +64,36 @@ static void try_command(struct tkc_clock *of)
 	*of = *clock;
 }
 
+/* Changes the counter, and stores the new one if the change is accepted. */
+static void try_change(struct tkc_clock *of, struct tkc_counter *counter)
+{
+	uint64_t before[TKC_WORDS], after[TKC_WORDS], reading, first = some();
+	struct tkc_counter other;
+	const struct tkc_counter *to;
+	struct tkc_clock *clock;
+	int64_t frequency, tick;
+	uint32_t code;
+
+	some_counter(&other);
+	to = put(rooms.counter, &other, sizeof(other));
+	clock = put(rooms.clock, of, sizeof(*of));
+	tkc_clock_words(before, &frequency, &tick, clock);
+	reading = one_in(8) ? some() : before[1] + (any() >> below(64));
+	code = saw(tkc_clock_change_counter(clock, reading, to, first));
+	check(code == TKC_FULL || code == TKC_INVALID || code == TKC_BEHIND ||
+	      code == TKC_RANGE || code == TKC_OK);
+	check((code == TKC_FULL) == (before[0] >= INT64_MAX));
+	check(!memcmp(to, &other, sizeof(other)));
+	tkc_clock_words(after, &frequency, &tick, clock);
+	if (code) {
+		check(!memcmp(clock, of, sizeof(*of)));
+	} else {
+		check(after[0] == before[0] + 1 && after[1] == first);
+		*counter = other;
+	}
+	*of = *clock;
+}
+
 static void snapshot_of(struct tkc_snapshot *snapshot, const struct tkc_clock *of)
 {
 	const struct tkc_clock *clock = put(rooms.clock, of, sizeof(*of));
@@ -92,14 +122,17 @@ static uint32_t try_open(struct tkc_clock *clock, const struct tkc_counter *of)
 	return code;
 }
 
-void try_clocks(struct tkc_clock *clock, const struct tkc_counter *counter,
+void try_clocks(struct tkc_clock *clock, struct tkc_counter *counter,
 		struct tkc_snapshot *snapshot)
 {
 	if (try_open(clock, counter))
 		check(!tkc_clock_open(clock, counter, 0, 1700000000, 0));
 	if (one_in(16))
 		fill_count(clock, counter);
-	for (int i = 0; i < COMMANDS; i++)
+	for (int i = 0; i < COMMANDS; i++) {
+		if (one_in(8))
+			try_change(clock, counter);
 		try_command(clock);
+	}
 	snapshot_of(snapshot, clock);
 }

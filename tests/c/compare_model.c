@@ -1,7 +1,7 @@
 /* SPDX-License-Identifier: MIT OR Apache-2.0 */
 /*
- * Compares each call of the library with the model of model.h, for random counters, commands, reads
- * and words.
+ * Compares each call of the library with the model of model.h, for random counters, commands,
+ * changes of counter, reads and words.
  *
  *     compare_model CALLS [SEED]
  */
@@ -111,6 +111,29 @@ static void try_command(struct tkc_clock *clock, struct model *model)
 		number = (int64_t)below(8277292037);
 	CHECK(tkc_clock_apply(clock, reading, command, number, nsec) ==
 	      model_apply(model, reading, command, number, nsec));
+	compare(clock, model);
+}
+
+/* Changes the counter to one of random numbers, which is stored if the change is accepted. */
+static void try_change(struct tkc_clock *clock, struct model *model, struct tkc_counter *counter)
+{
+	uint64_t reading = reading_near(model), first = some();
+	struct tkc_clock before = *clock;
+	struct tkc_counter other;
+	struct numbers numbers;
+	struct model over;
+	uint32_t code;
+
+	if (!make_counter(&other, &numbers, below(2)))
+		return;
+	model_open(&over, numbers.bits, numbers.mult, numbers.shift);
+	first = below(8) ? first & over.mask : first;
+	code = tkc_clock_change_counter(clock, reading, &other, first);
+	CHECK(code == model_change_counter(model, reading, &over, first));
+	if (code)
+		CHECK(!memcmp(clock, &before, sizeof(before)));
+	else
+		*counter = other;
 	compare(clock, model);
 }
 
@@ -235,6 +258,8 @@ static void round_of_calls(void)
 	compare(&clock, &model);
 	for (int i = 0; i < 30; i++) {
 		try_command(&clock, &model);
+		if (!below(4))
+			try_change(&clock, &model, &counter);
 		try_reads(&clock, &model);
 		try_readings(&clock, &model);
 		try_words(&counter, &clock, &model);

@@ -57,6 +57,9 @@ static void commands(struct tkc_clock *clock, const struct tkc_counter *counter)
 	MEET(TKC_AWAKE, tkc_clock_apply(clock, 1000, TKC_CMD_RESUME, 0, 0));
 	MEET(TKC_BEHIND, tkc_clock_apply(clock, 999, TKC_CMD_UPDATE, 0, 0));
 	MEET(TKC_INVALID, tkc_clock_apply(clock, 1000, TKC_CMD_TICK, 8999, 0));
+	MEET(TKC_INVALID, tkc_clock_change_counter(clock, 1000, counter, 1ULL << 32));
+	MEET(TKC_BEHIND, tkc_clock_change_counter(clock, 999, counter, 1000));
+	MEET(TKC_OK, tkc_clock_change_counter(clock, 1000, counter, 1000));
 	MEET(TKC_OK, tkc_clock_apply(clock, 1000, TKC_CMD_SUSPEND, 0, 0));
 	MEET(TKC_ASLEEP, tkc_clock_apply(clock, 1000, TKC_CMD_UPDATE, 0, 0));
 	MEET(TKC_RANGE,
@@ -78,6 +81,7 @@ static void ends(struct tkc_clock *clock, const struct tkc_counter *counter)
 	MEET(TKC_OK, tkc_clock_from_words(&full, counter, words, frequency,
 					  tick));
 	MEET(TKC_FULL, tkc_clock_apply(&full, words[1], TKC_CMD_UPDATE, 0, 0));
+	MEET(TKC_FULL, tkc_clock_change_counter(&full, words[1], counter, 0));
 	MEET(TKC_BAD_WORDS, tkc_clock_from_words(&full, counter, words,
 						 frequency, 11001));
 	words[2]++;

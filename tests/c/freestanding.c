@@ -89,6 +89,20 @@ static void restore(const struct tkc_clock *clock,
 		check(same[i] == words[i]);
 }
 
+/* Changes to a counter of two nanoseconds a cycle, at its reading 7. */
+static void change(struct tkc_clock *clock)
+{
+	struct tkc_snapshot snapshot;
+	struct tkc_counter counter;
+	struct tkc_time time;
+
+	check(tkc_counter_new(&counter, 64, 2 << 24, 24) == TKC_OK);
+	check(tkc_clock_change_counter(clock, 1000000105, &counter, 7) == TKC_OK);
+	tkc_clock_snapshot(&snapshot, clock);
+	check(tkc_snapshot_get(&time, &snapshot, TKC_CLOCK_REALTIME, 57) == TKC_OK);
+	check(time.sec == 1700000001 && time.nsec == 200);
+}
+
 void start(void)
 {
 	struct tkc_counter counter;
@@ -96,6 +110,7 @@ void start(void)
 
 	open(&clock, &counter);
 	restore(&clock, &counter);
+	change(&clock);
 	leave(0);
 }
 

@@ -172,6 +172,46 @@ uint32_t model_apply(struct model *model, uint64_t reading, uint32_t command, in
 	return TKC_OK;
 }
 
+/* Returns whether MONOTONIC_RAW is no further ahead of MONOTONIC than the slowest rate can bring
+ * it. */
+static bool is_rated(const struct model *model)
+{
+	return model->raw * multiplier(model, -FASTEST, 9000) <= model->mono * model->mult;
+}
+
+static u128 rescaled(u128 units, uint32_t from, uint32_t to)
+{
+	return from <= to ? units << (to - from) : units >> (from - to);
+}
+
+uint32_t model_change_counter(struct model *model, uint64_t reading, const struct model *other,
+			      uint64_t first)
+{
+	struct model next = *model;
+	uint32_t code = TKC_OK;
+
+	if (model->front >= INT64_MAX)
+		return TKC_FULL;
+	if (first > other->mask || reading > model->mask)
+		return TKC_INVALID;
+	if (model->asleep)
+		next.front++;
+	else
+		code = model_apply(&next, reading, TKC_CMD_UPDATE, 0, 0);
+	if (code)
+		return code;
+	next.mask = other->mask;
+	next.mult = other->mult;
+	next.shift = other->shift;
+	next.last = first;
+	next.mono = rescaled(next.mono, model->shift, next.shift);
+	next.raw = rescaled(next.raw, model->shift, next.shift);
+	if (!is_rated(&next))
+		return TKC_RANGE;
+	*model = next;
+	return TKC_OK;
+}
+
 uint32_t model_get(const struct model *model, uint32_t clock, uint64_t reading, i128 *time)
 {
 	struct model at = *model;
@@ -281,6 +321,5 @@ bool model_from_words(struct model *model, const uint64_t words[TKC_WORDS])
 bool model_is_running(const struct model *model, const uint64_t words[TKC_WORDS])
 {
 	return model->tick >= 9000 && model->tick <= 11000 &&
-	       words[2] == multiplier(model, model->frequency, model->tick) &&
-	       model->raw * multiplier(model, -FASTEST, 9000) <= model->mono * model->mult;
+	       words[2] == multiplier(model, model->frequency, model->tick) && is_rated(model);
 }

@@ -40,6 +40,11 @@ void model_open(struct model *model, uint32_t bits, uint32_t mult, uint32_t shif
 uint32_t model_apply(struct model *model, uint64_t reading, uint32_t command, int64_t number,
 		     uint32_t nsec);
 
+/* Changes the counter to that of other clocks, at its reading `first`. Returns the code, and leaves
+ * the model unchanged at a refusal. */
+uint32_t model_change_counter(struct model *model, uint64_t reading, const struct model *other,
+			      uint64_t first);
+
 /* Reads a clock. Returns the read's code, and at TKC_OK stores the time in ns. At another code the
  * stored number means nothing. */
 uint32_t model_get(const struct model *model, uint32_t clock, uint64_t reading, i128 *time);

@@ -159,7 +159,7 @@ void check_snapshot(const struct tkc_snapshot *snapshot,
 	check_counter(snapshot, words[1]);
 }
 
-void check_clock(const struct tkc_clock *clock, const struct stored *wanted)
+void check_stored(const struct tkc_clock *clock, const struct stored *wanted)
 {
 	struct tkc_snapshot snapshot = snapshot_of(*clock);
 	struct stored found;
@@ -168,6 +168,14 @@ void check_clock(const struct tkc_clock *clock, const struct stored *wanted)
 	tkc_clock_words(found.words, &found.frequency, &found.tick, clock);
 	check(!memcmp(found.words, wanted->words, sizeof(found.words)));
 	check(found.frequency == wanted->frequency && found.tick == wanted->tick);
+	check(is_same_snapshot(&snapshot, wanted->words));
+}
+
+void check_clock(const struct tkc_clock *clock, const struct stored *wanted)
+{
+	struct tkc_snapshot snapshot = snapshot_of(*clock);
+
+	check_stored(clock, wanted);
 	check_snapshot(&snapshot, wanted->words);
 }
 
@@ -176,6 +184,8 @@ int main(void)
 	check(tkc_version() == 0x000200);
 	try_counters();
 	try_commands();
+	try_changes();
+	try_refused_changes();
 	try_reads();
 	try_lists();
 	try_far_lists();

@@ -63,7 +63,10 @@ struct tkc_clock commanded(void);
 
 struct tkc_snapshot snapshot_of(struct tkc_clock clock);
 
-/* Checks the words of clocks, and their snapshot. */
+/* Checks the words of clocks, and the words of their snapshot. */
+void check_stored(const struct tkc_clock *clock, const struct stored *wanted);
+
+/* Checks the same, and that their counter is the one of a nanosecond a cycle. */
 void check_clock(const struct tkc_clock *clock, const struct stored *wanted);
 
 /* Checks the words of a snapshot, and that its counter is the one of a
@@ -78,6 +81,8 @@ struct tkc_time read_at(const struct tkc_snapshot *snapshot, uint32_t clock,
 /* The tests, one file each. */
 void try_counters(void);
 void try_commands(void);
+void try_changes(void);
+void try_refused_changes(void);
 void try_reads(void);
 void try_lists(void);
 void try_far_lists(void);

@@ -2,6 +2,7 @@ pub mod Codes
 pub mod Named
 pub mod Storage
 pub mod Counted
+pub mod ChangeCounter
 pub mod Converted
 pub mod Rate
 pub mod Read

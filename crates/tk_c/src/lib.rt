@@ -4,7 +4,7 @@
 //! | Item | Its meaning |
 //! |---|---|
 //! | `tkc_counter_*` | make counters from numbers or from a rate, and store a counter's numbers |
-//! | `tkc_clock_*` | open the running clocks, apply commands, convert clocks to and from words |
+//! | `tkc_clock_*` | open the running clocks, apply commands, change the counter, convert clocks to and from words |
 //! | `tkc_snapshot_*` | read one time or a list of times, find the reading of a time, convert snapshots to and from words |
 //! | `tkc_version` | returns the archive's version |
 //! | `CountedClock` | the clocks with their count of commands, `struct tkc_clock` in C |
@@ -15,6 +15,7 @@
 //! waits.
 #![tactic(auto)]
 
+mod change_counter;
 mod clocks;
 mod code;
 mod counted;
@@ -27,6 +28,7 @@ mod storage;
 mod version;
 mod words;
 
+pub use change_counter::tkc_clock_change_counter;
 pub use clocks::{tkc_clock_apply, tkc_clock_open, tkc_clock_snapshot};
 pub use code::Code;
 pub use counted::CountedClock;
