@@ -107,21 +107,41 @@ enum tkc_code tkc_clock_open(struct tkc_clock *out, const struct tkc_counter *co
 	return TKC_OK;
 }
 
-enum tkc_code tkc_clock_apply(struct tkc_clock *clock, uint64_t reading, uint32_t command,
-			      int64_t number, uint32_t nsec)
+/* Returns the model that clocks contain. */
+static struct model model_of(const struct tkc_clock *clock)
 {
 	struct clock_of of;
 	struct model model;
-	uint32_t code;
 
 	memcpy(&of, clock, sizeof(of));
 	model_open(&model, of.bits, of.mult, of.shift);
 	model_from_words(&model, of.words);
 	model.frequency = of.frequency;
 	model.tick = of.tick;
-	code = model_apply(&model, reading, command, number, nsec);
+	return model;
+}
+
+enum tkc_code tkc_clock_apply(struct tkc_clock *clock, uint64_t reading, uint32_t command,
+			      int64_t number, uint32_t nsec)
+{
+	struct model model = model_of(clock);
+	uint32_t code = model_apply(&model, reading, command, number, nsec);
+	struct clock_of of;
+
+	memcpy(&of, clock, sizeof(of));
 	if (!code)
 		put(clock, &model, of.bits);
+	return code;
+}
+
+enum tkc_code tkc_clock_change_counter(struct tkc_clock *clock, uint64_t reading,
+				       const struct tkc_counter *counter, uint64_t first)
+{
+	struct model model = model_of(clock), other = open_model(counter);
+	uint32_t code = model_change_counter(&model, reading, &other, first);
+
+	if (!code)
+		put(clock, &model, counter->tkc_private[0]);
 	return code;
 }
 

@@ -14,8 +14,8 @@ ROOT = Path(__file__).resolve().parents[3]
 sys.path.insert(0, str(ROOT / "tests" / "model"))
 
 INT64_MIN, INT64_MAX, UINT32_MAX = -2**63, 2**63 - 1, 2**32 - 1
-NAMES = {"INT64_MIN": INT64_MIN, "INT64_MAX": INT64_MAX, "UINT32_MAX": UINT32_MAX, "false": False,
-         "true": True}
+NAMES = {"INT64_MIN": INT64_MIN, "INT64_MAX": INT64_MAX, "UINT32_MAX": UINT32_MAX,
+         "UINT64_MAX": 2**64 - 1, "false": False, "true": True}
 CALLS = int(os.environ.get("TKCORE_CALLS", "20000"))  # how many random calls a test makes
 
 

@@ -81,6 +81,30 @@ impl Clock {
         sys::clock_apply(&mut self.value, reading, command.arguments()).map_err(Refusal::of_code)
     }
 
+    /// Lets the clocks go on over another counter, starting at its reading `first`. `reading` is a
+    /// reading of the present counter; take both at the same moment.
+    ///
+    /// Every clock keeps its time, and the frequency, the tick, the offsets and the sleep stay.
+    /// Clocks that are asleep aren't brought forward to `reading`, which may then be behind. All
+    /// later readings are of the new counter. A `Snapshot` keeps its own.
+    ///
+    /// # Errors
+    ///
+    /// In this order: `Full`; `Invalid` if `first` or `reading` is above 2^bits - 1 of its counter;
+    /// `Behind`; `Range`, also if MONOTONIC_RAW would be too far ahead of MONOTONIC for the new
+    /// counter. A refused change changes nothing.
+    pub fn change_counter(
+        &mut self,
+        reading: u64,
+        counter: &Counter,
+        first: u64,
+    ) -> Result<(), Refusal> {
+        sys::clock_change_counter(&mut self.value, reading, &counter.value, first)
+            .map_err(Refusal::of_code)?;
+        self.counter = *counter;
+        Ok(())
+    }
+
     /// Returns a snapshot of the clocks, for reads.
     #[inline]
     #[must_use]

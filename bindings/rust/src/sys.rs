@@ -57,6 +57,12 @@ extern "C" {
         number: i64,
         nsec: u32,
     ) -> u32;
+    fn tkc_clock_change_counter(
+        clock: *mut ClockValue,
+        reading: u64,
+        counter: *const CounterValue,
+        first: u64,
+    ) -> u32;
     fn tkc_clock_snapshot(out: *mut SnapshotValue, clock: *const ClockValue);
     fn tkc_snapshot_get(
         out: *mut Timespec,
@@ -160,6 +166,19 @@ pub(crate) fn clock_apply(
 ) -> Result<(), u32> {
     // SAFETY: the clock is a value, and nobody else has it.
     match unsafe { tkc_clock_apply(clock, reading, command, number, nsec) } {
+        0 => Ok(()),
+        code => Err(code),
+    }
+}
+
+pub(crate) fn clock_change_counter(
+    clock: &mut ClockValue,
+    reading: u64,
+    counter: &CounterValue,
+    first: u64,
+) -> Result<(), u32> {
+    // SAFETY: the clock is a value that nobody else has, and the counter is a value.
+    match unsafe { tkc_clock_change_counter(clock, reading, counter, first) } {
         0 => Ok(()),
         code => Err(code),
     }

@@ -63,6 +63,7 @@ _CALLS = {
     "tkc_counter_numbers": (None, [_NUMBER, _NUMBER, _NUMBER, _COUNTER]),
     "tkc_clock_open": (c_uint32, [_CLOCK, _COUNTER, c_uint64, c_int64, c_uint32]),
     "tkc_clock_apply": (c_uint32, [_CLOCK, c_uint64, c_uint32, c_int64, c_uint32]),
+    "tkc_clock_change_counter": (c_uint32, [_CLOCK, c_uint64, _COUNTER, c_uint64]),
     "tkc_clock_snapshot": (None, [_SNAPSHOT, _CLOCK]),
     "tkc_snapshot_get": (c_uint32, [POINTER(TimeValue), _SNAPSHOT, c_uint32, c_uint64]),
     "tkc_snapshot_reading": (c_uint32, [_WORDS, _SNAPSHOT, c_uint32, c_int64, c_uint32]),

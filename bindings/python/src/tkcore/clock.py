@@ -156,22 +156,50 @@ class Clock:
         """
         self.apply(reading, Command.RESUME, *_split(slept, _NUMBERS[Command.RESUME][0], "slept"))
 
+    def change_counter(self, reading: int, counter: Counter, first: int) -> None:
+        """Lets the clocks go on over another counter, starting at its reading `first`. `reading` is
+        a reading of the present counter; take both at the same moment.
+
+        Every clock keeps its time, and the frequency, the tick, the offsets and the sleep stay.
+        Clocks that are asleep aren't brought forward to `reading`, which may then be behind. All
+        later readings are of the new counter. A Snapshot keeps its own.
+
+        Raises, in this order: Full, Invalid if `first` or `reading` is above the greatest reading
+        of its counter, Behind, and Range, also if MONOTONIC_RAW would be too far ahead of MONOTONIC
+        for the new counter.
+        """
+        readings, firsts = (0, self.counter.max_reading), (0, counter.max_reading)
+        code = CALLS.tkc_clock_change_counter(
+            byref(self._value), fit(reading, U64, Invalid, "reading", readings),
+            byref(counter._value), fit(first, U64, Invalid, "first", firsts))
+        if code == Invalid.code:
+            fit(first, firsts, Invalid, "first")
+        if code:
+            self._refuse_reading(code, reading, "the change of counter")
+        self.counter = counter
+
     def _refuse(self, code: int, reading: int, command: int, number: int, nsec: int) -> NoReturn:
-        """Raises the exception of a code, with the argument that it is for."""
-        words, last = self.words()[0], self.counter.max_reading
+        """Raises the exception of a command's code, with the argument that it is for."""
         if code == BadCommand.code:
             raise BadCommand("command", command, (0, 7))
-        if code == Full.code:
-            raise Full("the number of accepted commands", words[0], (0, 2**63 - 2))
         if code == Invalid.code:
-            fit(reading, (0, last), Invalid, "reading")
+            fit(reading, (0, self.counter.max_reading), Invalid, "reading")
             within, has_nsec = _NUMBERS.get(Command(command), (I64, False))
             fit(number, within, Invalid, "number")
             fit(nsec, _NSECS if has_nsec else U32, Invalid, "nsec")
             raise Invalid("REALTIME may not be set to this time, or moved to it")
+        self._refuse_reading(code, reading, Command(command).name)
+
+    def _refuse_reading(self, code: int, reading: int, what: str) -> NoReturn:
+        """Raises the exception of a code that isn't for an argument other than the reading."""
+        words, last = self.words()[0], self.counter.max_reading
+        if code == Full.code:
+            raise Full("the number of accepted commands", words[0], (0, 2**63 - 2))
+        if code == Invalid.code:
+            raise Invalid("reading", reading, (0, last))
         if code == Behind.code:
             raise Behind("reading", reading, (words[1], (words[1] + last // 2) & last))
-        raise BY_CODE[code](f"{Command(command).name} is refused")
+        raise BY_CODE[code](f"{what} is refused")
 
     def __repr__(self) -> str:
         words, frequency, tick = self.words()

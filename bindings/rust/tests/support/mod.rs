@@ -132,6 +132,7 @@ fn item(word: &str) -> Item {
         "INT64_MIN" => Some(i128::from(i64::MIN)),
         "INT64_MAX" => Some(i128::from(i64::MAX)),
         "UINT32_MAX" => Some(i128::from(u32::MAX)),
+        "UINT64_MAX" => Some(i128::from(u64::MAX)),
         _ => word.split('*').map(|part| part.trim().parse::<i128>().ok()).product(),
     };
     match known {
