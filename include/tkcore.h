@@ -59,9 +59,9 @@
  *   no pointer, may be copied by assignment or memcpy, and need no call to release them. C code
  *   must not write into them. As with any opaque type, a value that is passed to a call must be,
  *   byte for byte, a value that a call of this header made. All other arguments may be any numbers.
- *   A value can be stored as ten 64-bit words, for a shared page or a file.
- *   tkc_snapshot_from_words and tkc_clock_from_words validate such words, so later calls need no
- *   test.
+ *   A value can be stored as ten 64-bit words, for a shared page or a file. These words are
+ *   meaningless without their counter; tkc_clock_save stores both. tkc_snapshot_from_words,
+ *   tkc_clock_from_words and tkc_clock_load validate words, so later calls need no test.
  *
  * Pointers
  *   - No pointer may be NULL, except for an empty list of tkc_snapshot_convert: if `room` is 0,
@@ -135,6 +135,9 @@ extern "C" {
 
 /* The number of 64-bit words that a snapshot is stored as. */
 #define TKC_WORDS 10
+
+/* The number of 64-bit words that clocks are saved as, with their counter. */
+#define TKC_SAVED_WORDS 15
 
 /* The codes that calls return. The numbers 48 to 63 are kept for tkcore_page.h. */
 enum tkc_code {
@@ -328,6 +331,13 @@ void tkc_counter_numbers(uint32_t *bits, uint32_t *mult, uint32_t *shift,
 			 const struct tkc_counter *counter);
 
 /*
+ * Stores the counter whose readings a snapshot converts: the counter that its clocks had when it was
+ * made.
+ */
+TKC_NONNULL
+void tkc_snapshot_counter(struct tkc_counter *out, const struct tkc_snapshot *snapshot);
+
+/*
  * Opens clocks at this reading, awake and at their usual rate, with no command accepted. At the
  * reading, MONOTONIC, MONOTONIC_RAW and BOOTTIME are 0, and REALTIME and TAI are sec s, 0 to
  * 8277292035, plus nsec ns, 0 to 999999999 (timekeeping_init). Returns TKC_INVALID if the reading,
@@ -375,8 +385,8 @@ enum tkc_code tkc_clock_apply(struct tkc_clock *clock, uint64_t reading, uint32_
  *   - Clocks that are asleep aren't brought forward, and stay asleep. `reading` may then be behind.
  *     RESUME takes a reading of the new counter.
  * All later readings are readings of the new counter. Snapshots and words that were made before
- * keep the old one, and words that are made later need the new one. The counter of a page or a
- * latch of tkcore_page.h doesn't change: publish the clocks on a new one.
+ * keep the old one, and words that are made later need the new one. tkc_clock_save stores clocks
+ * with their counter. A page and a latch of tkcore_page.h publish it with the clocks.
  *
  * Returns, in this order:
  *   TKC_FULL     the front is 2^63 - 1 or more
@@ -499,6 +509,25 @@ TKC_MUST_CHECK
 enum tkc_code tkc_clock_from_words(struct tkc_clock *out, const struct tkc_counter *counter,
 				   const uint64_t words[TKC_WORDS], int64_t frequency,
 				   int64_t tick);
+
+/*
+ * Stores clocks with their counter as 15 64-bit words, from which tkc_clock_load makes the same
+ * clocks. For a file, another process, or another machine (tkc_clock_change_counter):
+ *   0 to 9    the words of their snapshot (tkc_snapshot_words)
+ *   10 to 12  bits, mult and shift of their counter (tkc_counter_numbers)
+ *   13        the frequency in 2^-16 ppm as it was set, as an int64_t
+ *   14        the tick in us, as an int64_t
+ */
+TKC_NONNULL
+void tkc_clock_save(uint64_t words[TKC_SAVED_WORDS], const struct tkc_clock *clock);
+
+/*
+ * Makes the clocks that 15 words represent. The words may have any values. Returns TKC_BAD_WORDS if
+ * words 10 to 12 are the numbers of no counter (tkc_counter_new), or if tkc_clock_from_words refuses
+ * words 0 to 9, the frequency and the tick for this counter.
+ */
+TKC_MUST_CHECK
+enum tkc_code tkc_clock_load(struct tkc_clock *out, const uint64_t words[TKC_SAVED_WORDS]);
 
 /* A parser that reads only declarations, such as cffi's, is given TKC_NO_INLINE. */
 #ifndef TKC_NO_INLINE

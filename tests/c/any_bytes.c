@@ -48,6 +48,7 @@ static void do_round(void)
 	try_clocks(&clock, &counter, &snapshot);
 	try_reads(&snapshot);
 	try_words(&clock, &counter);
+	try_saved(&clock);
 }
 
 /* Prints the codes that were met. */

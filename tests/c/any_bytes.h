@@ -32,6 +32,9 @@ uint32_t try_clock_words(struct tkc_clock *clock, const struct tkc_counter *of,
 /* Checks that the words of a clock give it back, and tries changed words. */
 void try_words(const struct tkc_clock *of, const struct tkc_counter *counter);
 
+/* Checks that saved clocks are loaded, and tries changed words. */
+void try_saved(const struct tkc_clock *of);
+
 /* Opens clocks, applies commands to them, changes their counter, and takes a
  * snapshot of them. */
 void try_clocks(struct tkc_clock *clock, struct tkc_counter *counter,

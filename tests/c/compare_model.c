@@ -196,6 +196,32 @@ static void try_readings(const struct tkc_clock *clock, const struct model *mode
 	}
 }
 
+/* Loads clocks from words and their counter, whose numbers may have more bits. */
+static void try_load(const struct tkc_counter *counter, const uint64_t words[TKC_WORDS],
+		     const struct model *restored, bool is_running)
+{
+	uint64_t saved[TKC_SAVED_WORDS], found[TKC_SAVED_WORDS];
+	uint32_t bits, mult, shift;
+	struct tkc_clock other;
+
+	tkc_counter_numbers(&bits, &mult, &shift, counter);
+	memcpy(saved, words, TKC_WORDS * sizeof(*words));
+	saved[10] = bits;
+	saved[11] = mult;
+	saved[12] = shift;
+	saved[13] = (uint64_t)restored->frequency;
+	saved[14] = (uint64_t)restored->tick;
+	if (!below(8)) {
+		saved[10 + below(3)] += (1 + below(5)) << 32;
+		is_running = false;
+	}
+	CHECK(tkc_clock_load(&other, saved) == (is_running ? TKC_OK : TKC_BAD_WORDS));
+	if (is_running) {
+		tkc_clock_save(found, &other);
+		CHECK(!memcmp(found, saved, sizeof(saved)));
+	}
+}
+
 /* Restores clocks from their words, some of which are changed. */
 static void try_words(const struct tkc_counter *counter, const struct tkc_clock *clock,
 		      const struct model *model)
@@ -225,6 +251,7 @@ static void try_words(const struct tkc_counter *counter, const struct tkc_clock 
 	is_snapshot = is_snapshot && model_is_running(&restored, words);
 	CHECK(tkc_clock_from_words(&other, counter, words, restored.frequency, restored.tick) ==
 	      (is_snapshot ? TKC_OK : TKC_BAD_WORDS));
+	try_load(counter, words, &restored, is_snapshot);
 	if (is_snapshot) {
 		compare(&other, &restored);
 		try_command(&other, &restored);

@@ -72,7 +72,7 @@ static void commands(struct tkc_clock *clock, const struct tkc_counter *counter)
  * the frequency and the tick. */
 static void ends(struct tkc_clock *clock, const struct tkc_counter *counter)
 {
-	uint64_t words[TKC_WORDS];
+	uint64_t words[TKC_WORDS], saved[TKC_SAVED_WORDS];
 	struct tkc_clock full;
 	int64_t frequency, tick;
 
@@ -84,6 +84,10 @@ static void ends(struct tkc_clock *clock, const struct tkc_counter *counter)
 	MEET(TKC_FULL, tkc_clock_change_counter(&full, words[1], counter, 0));
 	MEET(TKC_BAD_WORDS, tkc_clock_from_words(&full, counter, words,
 						 frequency, 11001));
+	tkc_clock_save(saved, &full);
+	MEET(TKC_OK, tkc_clock_load(&full, saved));
+	saved[10] = 7;
+	MEET(TKC_BAD_WORDS, tkc_clock_load(&full, saved));
 	words[2]++;
 	MEET(TKC_BAD_WORDS, tkc_clock_from_words(&full, counter, words,
 						 frequency, tick));

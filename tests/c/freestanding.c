@@ -89,6 +89,24 @@ static void restore(const struct tkc_clock *clock,
 		check(same[i] == words[i]);
 }
 
+/* Checks that saved clocks are loaded with their counter. */
+static void load(const struct tkc_clock *clock)
+{
+	uint64_t words[TKC_SAVED_WORDS];
+	struct tkc_snapshot snapshot;
+	struct tkc_counter counter;
+	struct tkc_clock other;
+	uint32_t bits, mult, shift;
+
+	tkc_clock_save(words, clock);
+	check(tkc_clock_load(&other, words) == TKC_OK);
+	tkc_clock_snapshot(&snapshot, &other);
+	read(&snapshot);
+	tkc_snapshot_counter(&counter, &snapshot);
+	tkc_counter_numbers(&bits, &mult, &shift, &counter);
+	check(words[10] == bits && words[11] == mult && words[12] == shift);
+}
+
 /* Changes to a counter of two nanoseconds a cycle, at its reading 7. */
 static void change(struct tkc_clock *clock)
 {
@@ -110,6 +128,7 @@ void start(void)
 
 	open(&clock, &counter);
 	restore(&clock, &counter);
+	load(&clock);
 	change(&clock);
 	leave(0);
 }

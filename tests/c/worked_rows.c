@@ -191,6 +191,7 @@ int main(void)
 	try_far_lists();
 	try_readings();
 	try_words();
+	try_saved();
 	puts("worked_rows: each row has its code and its values");
 	return EXIT_SUCCESS;
 }

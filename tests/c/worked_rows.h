@@ -88,5 +88,6 @@ void try_lists(void);
 void try_far_lists(void);
 void try_readings(void);
 void try_words(void);
+void try_saved(void);
 
 #endif

@@ -8,5 +8,6 @@ pub mod Rate
 pub mod Read
 pub mod Reached
 pub mod Restored
+pub mod Saved
 pub mod Version
 pub mod Lists

@@ -9,6 +9,7 @@ ghost use Rattle.tk_c.specs.Storage.{counter_storage};
 
 use crate::code::Code;
 use crate::storage::CounterStorage;
+use tk_clock::Snapshot;
 use tk_counter::{CounterDesc, DescError};
 
 /// Writes the counter with these numbers to `out` (`CounterDesc::new`).
@@ -106,6 +107,14 @@ pub extern "C" fn tkc_counter_numbers(
     *bits = counter.bits();
     *mult = counter.mult();
     *shift = counter.shift();
+}
+
+/// Writes the counter whose readings a snapshot converts to `out` (`Snapshot::desc`).
+#[unsafe(no_mangle)]
+pub extern "C" fn tkc_snapshot_counter(out: &mut CounterStorage, snapshot: &Snapshot)
+    ensures { out.new ≡ counter_storage snapshot.now.base.counter }
+{
+    *out = CounterStorage::from(snapshot.desc());
 }
 
 /// Returns a rate as `CounterDesc` takes it, in 32 bits. A rate above 2^32 - 1 becomes 0, which is

@@ -7,9 +7,10 @@
 //!
 //! `tests/c/sse_calls` prints the calls of a library that use SSE registers. `tools/check_c` fails
 //! if the rattle backend's library has others than include/tkcore.h says.
-ghost use Rattle.std.specs.Prelude.{◌≡◌};
+ghost use Rattle.std.specs.Prelude.{◌≡◌, ◌++◌, take};
 ghost use Rattle.tk_c.specs.Storage.{snapshot_storage};
 
+use crate::saved::SAVED_WORDS;
 use crate::storage::{CounterStorage, SnapshotStorage};
 use tk_clock::{SNAPSHOT_WORDS, Snapshot};
 
@@ -52,6 +53,15 @@ pub(crate) fn loaded(words: &[u64; SNAPSHOT_WORDS]) -> [u64; SNAPSHOT_WORDS]
     ]
 }
 
+/// Loads the first ten of the words of saved clocks.
+#[inline(always)]
+pub(crate) fn first_ten(words: &[u64; SAVED_WORDS]) -> [u64; SNAPSHOT_WORDS]
+    ensures { result ≡ take 10 words.now }
+{
+    let &[t0, t1, t2, t3, t4, t5, t6, t7, t8, t9, ..] = words;
+    loaded(&[t0, t1, t2, t3, t4, t5, t6, t7, t8, t9])
+}
+
 /// Returns the number, computed as twice its half plus the remainder.
 #[inline(always)]
 fn computed(number: u64) -> u64
@@ -75,4 +85,31 @@ pub(crate) fn store(words: &mut [u64; SNAPSHOT_WORDS], source: &[u64; SNAPSHOT_W
     words[5] = t5;
     words[7] = t7;
     words[9] = t9;
+}
+
+/// Stores the ten words of a snapshot and five more, without neighbours in a row.
+pub(crate) fn store_saved(
+    words: &mut [u64; SAVED_WORDS],
+    first: &[u64; SNAPSHOT_WORDS],
+    rest: &[u64; SAVED_WORDS - SNAPSHOT_WORDS],
+)
+    ensures { words.new ≡ first.now ++ rest.now }
+{
+    let &[t0, t1, t2, t3, t4, t5, t6, t7, t8, t9] = first;
+    let &[t10, t11, t12, t13, t14] = rest;
+    words[0] = t0;
+    words[2] = t2;
+    words[4] = t4;
+    words[6] = t6;
+    words[8] = t8;
+    words[10] = t10;
+    words[12] = t12;
+    words[14] = t14;
+    words[1] = t1;
+    words[3] = t3;
+    words[5] = t5;
+    words[7] = t7;
+    words[9] = t9;
+    words[11] = t11;
+    words[13] = t13;
 }

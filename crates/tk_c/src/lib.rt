@@ -4,7 +4,7 @@
 //! | Item | Its meaning |
 //! |---|---|
 //! | `tkc_counter_*` | make counters from numbers or from a rate, and store a counter's numbers |
-//! | `tkc_clock_*` | open the running clocks, apply commands, change the counter, convert clocks to and from words |
+//! | `tkc_clock_*` | open the running clocks, apply commands, change the counter, convert clocks to and from words, with their counter or without |
 //! | `tkc_snapshot_*` | read one time or a list of times, find the reading of a time, convert snapshots to and from words |
 //! | `tkc_version` | returns the archive's version |
 //! | `CountedClock` | the clocks with their count of commands, `struct tkc_clock` in C |
@@ -23,6 +23,7 @@ mod counters;
 mod general_registers;
 mod named;
 mod reached;
+mod saved;
 mod snapshots;
 mod storage;
 mod version;
@@ -34,8 +35,10 @@ pub use code::Code;
 pub use counted::CountedClock;
 pub use counters::{
     tkc_counter_from_hz, tkc_counter_from_khz, tkc_counter_new, tkc_counter_numbers,
+    tkc_snapshot_counter,
 };
 pub use reached::tkc_snapshot_reading;
+pub use saved::{SAVED_WORDS, tkc_clock_load, tkc_clock_save};
 pub use snapshots::{tkc_snapshot_convert, tkc_snapshot_get};
 pub use storage::{BaseStorage, ClockStorage, CounterStorage, SnapshotStorage, TimeStorage};
 pub use version::tkc_version;

@@ -90,7 +90,23 @@ pub extern "C" fn tkc_clock_from_words(
         ((result ≡ number_of BadWords) × (out.new ≡ out.old))
         (λ snapshot. IsClockRestored snapshot frequency tick out.old out.new result) }
 {
-    let Some(snapshot) = Snapshot::from_words(*counter, loaded(words)) else {
+    restore(out, *counter, words, frequency, tick)
+}
+
+/// Writes the clocks that ten words of a counter, a frequency and a tick represent to `out`, as
+/// `tkc_clock_from_words` does.
+pub(crate) fn restore(
+    out: &mut ClockStorage,
+    counter: CounterDesc,
+    words: &[u64; SNAPSHOT_WORDS],
+    frequency: i64,
+    tick: i64,
+) -> u32
+    ensures { MatchOption (restored counter words.now)
+        ((result ≡ number_of BadWords) × (out.new ≡ out.old))
+        (λ snapshot. IsClockRestored snapshot frequency tick out.old out.new result) }
+{
+    let Some(snapshot) = Snapshot::from_words(counter, loaded(words)) else {
         return Code::BadWords.number();
     };
     let Some(clock) = Clock::from_snapshot(snapshot, frequency, tick) else {

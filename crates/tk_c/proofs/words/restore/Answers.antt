@@ -1,6 +1,6 @@
 use Rattle.std.proofs.Common.{inl, inr, refl, w64}
 use Rattle.std.proofs.lemmas.Int.{to_z-of_z}
-use Rattle.tk_c.proofs.words.tkc_clock_from_words.Goals as goal
+use Rattle.tk_c.proofs.words.restore.Goals as goal
 
 pub returns-in_default-from_snapshot : goal.returns-in_default-from_snapshot
 returns-in_default-from_snapshot c =
