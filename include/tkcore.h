@@ -330,10 +330,7 @@ TKC_NONNULL
 void tkc_counter_numbers(uint32_t *bits, uint32_t *mult, uint32_t *shift,
 			 const struct tkc_counter *counter);
 
-/*
- * Stores the counter whose readings a snapshot converts: the counter that its clocks had when it was
- * made.
- */
+/* Stores the counter whose readings a snapshot converts: its clocks had it when it was made. */
 TKC_NONNULL
 void tkc_snapshot_counter(struct tkc_counter *out, const struct tkc_snapshot *snapshot);
 
@@ -522,9 +519,9 @@ TKC_NONNULL
 void tkc_clock_save(uint64_t words[TKC_SAVED_WORDS], const struct tkc_clock *clock);
 
 /*
- * Makes the clocks that 15 words represent. The words may have any values. Returns TKC_BAD_WORDS if
- * words 10 to 12 are the numbers of no counter (tkc_counter_new), or if tkc_clock_from_words refuses
- * words 0 to 9, the frequency and the tick for this counter.
+ * Makes the clocks that 15 words represent. The words may have any values. Returns TKC_BAD_WORDS
+ * if words 10 to 12 are the numbers of no counter (tkc_counter_new), or if tkc_clock_from_words
+ * refuses words 0 to 9, the frequency and the tick for this counter.
  */
 TKC_MUST_CHECK
 enum tkc_code tkc_clock_load(struct tkc_clock *out, const uint64_t words[TKC_SAVED_WORDS]);

@@ -6,7 +6,7 @@
  * of readers read; a reader needs only read access. The header needs C11 or C++11, whose atomics
  * have the same layout. It isn't for kernels, which have their own (seqcount_t, seqcount_latch_t).
  *
- *     tkc_page_init_clock(&page, &counter, &clock);        before any reader has the page
+ *     tkc_page_init_clock(&page, &clock);                  before any reader has the page
  *
  *     tkc_page_begin(&page);                               the writer, for each command
  *     code = tkc_clock_update(&clock, read_counter(NULL));
@@ -76,6 +76,29 @@
  *     all processors. The last lfence keeps the second look from running before the reading.
  *   - A device: a load that the device orders with memory.
  *
+ * Another counter
+ *   Each copy of a page or a latch contains the numbers of the counter next to the words of the
+ *   snapshot. So after tkc_clock_change_counter the writer publishes the clocks as after a command,
+ *   on the same page and latch:
+ *
+ *     tkc_page_begin(&page);
+ *     code = tkc_clock_change_counter(&clock, read_old(NULL), &new_counter, read_new(NULL));
+ *     tkc_page_publish_clock(&page, &clock);               also if the change was refused
+ *
+ *   Every reader then gets the snapshot with its own counter, in other processes too, and also if
+ *   it attached before. No reader gets words of one counter with numbers of the other one.
+ *   tkc_snapshot_counter returns the counter of a snapshot.
+ *
+ *   read_counter must return a reading of the snapshot's counter:
+ *   - If both counters are the same register, nothing changes for a reader. An example is the TSC
+ *     of a virtual machine that was moved.
+ *   - Otherwise a reader reads both counters in one call of read_counter, and keeps both readings
+ *     in its context. tkc_page_look or tkc_latch_look gives the snapshot, and tkc_snapshot_get
+ *     takes the reading of its counter. The numbers of the two counters must differ, or the reader
+ *     can't tell which one the snapshot is of.
+ *   MONOTONIC doesn't go back over a change for readers of a page. tests/c/page_changes.c is an
+ *   example.
+ *
  * Codes
  *   TKC_BUSY and TKC_BAD_LAYOUT aren't in enum tkc_code, because no call of the library returns
  *   them. A call that may return one of them returns a uint32_t, and otherwise an enum tkc_code.
@@ -113,9 +136,10 @@ typedef _Atomic uint64_t tkc_word;
 #endif
 
 /* The layouts of this header: the bytes of "tkcpage" or "tkclatc", and a number that rises when the
- * struct or the meaning of its words changes. */
-#define TKC_PAGE_LAYOUT UINT64_C(0x746b637061676501)
-#define TKC_LATCH_LAYOUT UINT64_C(0x746b636c61746301)
+ * struct or the meaning of its words changes. Number 2 publishes the counter with the words; number
+ * 1 had one counter for good. */
+#define TKC_PAGE_LAYOUT UINT64_C(0x746b637061676502)
+#define TKC_LATCH_LAYOUT UINT64_C(0x746b636c61746302)
 
 /* The codes of this header. enum tkc_code keeps the numbers 48 to 63 free for them. */
 
@@ -124,15 +148,13 @@ typedef _Atomic uint64_t tkc_word;
 /* The memory contains no page, or no latch, of this layout. */
 #define TKC_BAD_LAYOUT 49
 
-/* The 64-bit words of a page's copy: those of a snapshot (tkc_snapshot_words), the frequency, and
- * the tick (tkc_clock_words). A tick of 0 means that only a snapshot was published. */
-#define TKC_PAGE_WORDS (TKC_WORDS + 2)
+/* The 64-bit words of a latch's copy: those of a snapshot (tkc_snapshot_words), and the numbers of
+ * its counter: bits, mult and shift (tkc_counter_numbers). */
+#define TKC_LATCH_WORDS (TKC_WORDS + 3)
 
-/* The numbers of the counter (tkc_counter_numbers). They don't change: after
- * tkc_clock_change_counter, publish the clocks on a new page or latch. */
-struct tkc_page_counter {
-	uint32_t bits, mult, shift, padding;
-};
+/* The 64-bit words of a page's copy: those of a latch, the frequency, and the tick, as
+ * tkc_clock_save stores them. A tick of 0 means that only a snapshot was published. */
+#define TKC_PAGE_WORDS TKC_SAVED_WORDS
 
 /*
  * A page. The sequence is even at rest, and odd while a writer is inside. The copy to read is
@@ -144,12 +166,12 @@ struct tkc_page_counter {
  *   Reader: 5. loads the sequence: the first look. Starts again if it is odd.
  *           6. loads the words of the copy that the sequence selects, and reads the counter.
  *           7. loads the sequence again: the second look. Starts again if it has changed.
+ * It is 256 bytes, aligned to 8 bytes.
  */
 struct tkc_page {
 	tkc_word layout; /* TKC_PAGE_LAYOUT */
 	tkc_word sequence;
 	tkc_word copies[2][TKC_PAGE_WORDS];
-	struct tkc_page_counter counter;
 };
 
 /*
@@ -161,12 +183,12 @@ struct tkc_page {
  *   Reader: 5. loads the sequence: the first look.
  *           6. loads the words of the copy that the sequence selects, and reads the counter.
  *           7. loads the sequence again: the second look. Starts again if it has changed.
+ * It is 224 bytes, aligned to 8 bytes.
  */
 struct tkc_latch {
 	tkc_word layout; /* TKC_LATCH_LAYOUT */
 	tkc_word sequence;
-	tkc_word copies[2][TKC_WORDS];
-	struct tkc_page_counter counter;
+	tkc_word copies[2][TKC_LATCH_WORDS];
 };
 
 /* Returns a counter's reading (see "The counter" above). */
@@ -188,48 +210,47 @@ static inline void tkc_words_load(const tkc_word *copy, uint64_t *words, int cou
 		words[i] = TKC_LOAD(&copy[i], relaxed);
 }
 
-/* Makes the snapshot that loaded words and a stored counter represent. */
-static inline enum tkc_code tkc_words_checked(struct tkc_snapshot *out,
-					      const struct tkc_page_counter *stored,
-					      const uint64_t *words)
+/* Makes the snapshot that the words of a latch's copy, or the first of a page's, represent. */
+static inline enum tkc_code tkc_words_checked(struct tkc_snapshot *out, const uint64_t *words)
 {
+	const uint64_t *numbers = words + TKC_WORDS;
 	struct tkc_counter counter;
-	enum tkc_code code = tkc_counter_new(&counter, stored->bits, stored->mult, stored->shift);
+	enum tkc_code code;
 
+	if ((numbers[0] | numbers[1] | numbers[2]) >> 32)
+		return TKC_BAD_WORDS;
+	code = tkc_counter_new(&counter, (uint32_t)numbers[0], (uint32_t)numbers[1],
+			       (uint32_t)numbers[2]);
 	return code != TKC_OK ? code : tkc_snapshot_from_words(out, &counter, words);
 }
 
-static inline void tkc_page_counter_store(struct tkc_page_counter *stored,
-					  const struct tkc_counter *counter)
+/* Stores the words of a latch's copy. */
+static inline void tkc_latch_snapshot_words(uint64_t *words, const struct tkc_snapshot *snapshot)
 {
-	tkc_counter_numbers(&stored->bits, &stored->mult, &stored->shift, counter);
-	stored->padding = 0;
+	struct tkc_counter counter;
+	uint32_t bits, mult, shift;
+
+	tkc_snapshot_words(words, snapshot);
+	tkc_snapshot_counter(&counter, snapshot);
+	tkc_counter_numbers(&bits, &mult, &shift, &counter);
+	words[TKC_WORDS] = bits;
+	words[TKC_WORDS + 1] = mult;
+	words[TKC_WORDS + 2] = shift;
 }
 
-/* Stores the words of a page's copy, from clocks or from a snapshot only. */
-static inline void tkc_page_clock_words(uint64_t *words, const struct tkc_clock *clock)
-{
-	int64_t frequency, tick;
-
-	tkc_clock_words(words, &frequency, &tick, clock);
-	words[TKC_WORDS] = (uint64_t)frequency;
-	words[TKC_WORDS + 1] = (uint64_t)tick;
-}
-
+/* Stores the words of a page's copy, from a snapshot only. */
 static inline void tkc_page_snapshot_words(uint64_t *words, const struct tkc_snapshot *snapshot)
 {
-	tkc_snapshot_words(words, snapshot);
-	words[TKC_WORDS] = 0;
-	words[TKC_WORDS + 1] = 0;
+	tkc_latch_snapshot_words(words, snapshot);
+	words[TKC_LATCH_WORDS] = 0;
+	words[TKC_LATCH_WORDS + 1] = 0;
 }
 
 /* Makes a page. Its layout is 0 until all else is stored. */
-static inline void tkc_page_init_words(struct tkc_page *page, const struct tkc_counter *counter,
-				       const uint64_t *words)
+static inline void tkc_page_init_words(struct tkc_page *page, const uint64_t *words)
 {
 	TKC_STORE(&page->layout, 0, relaxed);
 	TKC_FENCE(release);
-	tkc_page_counter_store(&page->counter, counter);
 	tkc_words_store(page->copies[0], words, TKC_PAGE_WORDS);
 	TKC_STORE(&page->sequence, 0, relaxed);
 	TKC_STORE(&page->layout, TKC_PAGE_LAYOUT, release);
@@ -240,23 +261,21 @@ static inline void tkc_page_init_words(struct tkc_page *page, const struct tkc_c
  * except by tkc_page_attach. Pass the page to other threads by a call that orders memory, such as
  * pthread_create or an atomic store.
  */
-static inline void tkc_page_init(struct tkc_page *page, const struct tkc_counter *counter,
-				 const struct tkc_snapshot *snapshot)
+static inline void tkc_page_init(struct tkc_page *page, const struct tkc_snapshot *snapshot)
 {
 	uint64_t words[TKC_PAGE_WORDS];
 
 	tkc_page_snapshot_words(words, snapshot);
-	tkc_page_init_words(page, counter, words);
+	tkc_page_init_words(page, words);
 }
 
-/* Does the same with clocks of the counter, which tkc_page_clock can then rebuild. */
-static inline void tkc_page_init_clock(struct tkc_page *page, const struct tkc_counter *counter,
-				       const struct tkc_clock *clock)
+/* Does the same with clocks, which tkc_page_clock can then rebuild. */
+static inline void tkc_page_init_clock(struct tkc_page *page, const struct tkc_clock *clock)
 {
 	uint64_t words[TKC_PAGE_WORDS];
 
-	tkc_page_clock_words(words, clock);
-	tkc_page_init_words(page, counter, words);
+	tkc_clock_save(words, clock);
+	tkc_page_init_words(page, words);
 }
 
 /*
@@ -313,13 +332,13 @@ static inline void tkc_page_publish(struct tkc_page *page, const struct tkc_snap
 	tkc_page_publish_words(page, words);
 }
 
-/* Publishes the snapshot of clocks, which tkc_page_clock can then rebuild. They must be clocks of
- * the page's counter. After a refused command, publish the same clocks again. */
+/* Publishes the snapshot of clocks, which tkc_page_clock can then rebuild. After a refused command,
+ * publish the same clocks again. */
 static inline void tkc_page_publish_clock(struct tkc_page *page, const struct tkc_clock *clock)
 {
 	uint64_t words[TKC_PAGE_WORDS];
 
-	tkc_page_clock_words(words, clock);
+	tkc_clock_save(words, clock);
 	tkc_page_publish_words(page, words);
 }
 
@@ -335,16 +354,13 @@ static inline int tkc_page_moved(const tkc_word *sequence, uint64_t first)
  * (see "If the writer dies"). Returns, in this order:
  *   TKC_BAD_LAYOUT  the memory contains no page of this layout
  *   TKC_BUSY        a writer has published during the call: the former one isn't dead
- *   TKC_BAD_BITS to TKC_BAD_ADJUST
- *                   something else than these calls wrote the page
- *   TKC_BAD_WORDS   the same; or tkc_page_init or tkc_page_publish wrote the last publication, and
- *                   not tkc_page_init_clock, tkc_page_publish_clock or tkc_page_recover
+ *   TKC_BAD_WORDS   something else than these calls wrote the page; or tkc_page_init or
+ *                   tkc_page_publish wrote the last publication, and not tkc_page_init_clock,
+ *                   tkc_page_publish_clock or tkc_page_recover
  */
 static inline uint32_t tkc_page_clock(const struct tkc_page *page, struct tkc_clock *out)
 {
 	uint64_t words[TKC_PAGE_WORDS], sequence;
-	struct tkc_counter counter;
-	enum tkc_code code;
 
 	if (tkc_page_attach(page) != TKC_OK)
 		return TKC_BAD_LAYOUT;
@@ -352,17 +368,12 @@ static inline uint32_t tkc_page_clock(const struct tkc_page *page, struct tkc_cl
 	tkc_words_load(page->copies[sequence / 2 % 2], words, TKC_PAGE_WORDS);
 	if (tkc_page_moved(&page->sequence, sequence))
 		return TKC_BUSY;
-	code = tkc_counter_new(&counter, page->counter.bits, page->counter.mult,
-			       page->counter.shift);
-	if (code != TKC_OK)
-		return code;
-	return tkc_clock_from_words(out, &counter, words, (int64_t)words[TKC_WORDS],
-				    (int64_t)words[TKC_WORDS + 1]);
+	return tkc_clock_load(out, words);
 }
 
 /*
- * Makes a page whole from a new writer's clocks, wherever the former writer died. They must be
- * clocks of the page's counter. Readers that waited go on.
+ * Makes a page whole from a new writer's clocks, wherever the former writer died. Readers that
+ * waited go on.
  */
 static inline void tkc_page_recover(struct tkc_page *page, const struct tkc_clock *clock)
 {
@@ -370,7 +381,8 @@ static inline void tkc_page_recover(struct tkc_page *page, const struct tkc_cloc
 	tkc_page_publish_clock(page, clock);
 }
 
-/* Does the reader's steps once, for the words of a snapshot. Returns 0 if a writer was inside. */
+/* Does the reader's steps once, for the words of a snapshot and the numbers of its counter. Returns
+ * 0 if a writer was inside. */
 static inline int tkc_page_try(const struct tkc_page *page, tkc_read_counter *read_counter,
 			       void *context, uint64_t *words, uint64_t *reading)
 {
@@ -380,7 +392,7 @@ static inline int tkc_page_try(const struct tkc_page *page, tkc_read_counter *re
 		TKC_PAUSE();
 		return 0;
 	}
-	tkc_words_load(page->copies[sequence / 2 % 2], words, TKC_WORDS);
+	tkc_words_load(page->copies[sequence / 2 % 2], words, TKC_LATCH_WORDS);
 	*reading = read_counter(context);
 	return !tkc_page_moved(&page->sequence, sequence);
 }
@@ -400,11 +412,11 @@ static inline uint64_t tkc_no_reading(void *context)
  */
 static inline enum tkc_code tkc_page_read(const struct tkc_page *page, struct tkc_snapshot *out)
 {
-	uint64_t words[TKC_WORDS], reading;
+	uint64_t words[TKC_LATCH_WORDS], reading;
 
 	while (!tkc_page_try(page, tkc_no_reading, NULL, words, &reading))
 		;
-	return tkc_words_checked(out, &page->counter, words);
+	return tkc_words_checked(out, words);
 }
 
 /*
@@ -416,11 +428,11 @@ static inline enum tkc_code tkc_page_look(const struct tkc_page *page,
 					  tkc_read_counter *read_counter, void *context,
 					  struct tkc_snapshot *out, uint64_t *reading)
 {
-	uint64_t words[TKC_WORDS];
+	uint64_t words[TKC_LATCH_WORDS];
 
 	while (!tkc_page_try(page, read_counter, context, words, reading))
 		;
-	return tkc_words_checked(out, &page->counter, words);
+	return tkc_words_checked(out, words);
 }
 
 /*
@@ -446,31 +458,29 @@ static inline uint32_t tkc_page_try_now(const struct tkc_page *page, uint32_t tr
 					tkc_read_counter *read_counter, void *context,
 					struct tkc_time *out)
 {
-	uint64_t words[TKC_WORDS], reading;
+	uint64_t words[TKC_LATCH_WORDS], reading;
 	struct tkc_snapshot snapshot;
 	enum tkc_code code;
 
 	for (; tries; tries--) {
 		if (!tkc_page_try(page, read_counter, context, words, &reading))
 			continue;
-		code = tkc_words_checked(&snapshot, &page->counter, words);
+		code = tkc_words_checked(&snapshot, words);
 		return code != TKC_OK ? code : tkc_snapshot_get(out, &snapshot, clock, reading);
 	}
 	return TKC_BUSY;
 }
 
 /* Makes a latch with its first snapshot, as tkc_page_init makes a page. */
-static inline void tkc_latch_init(struct tkc_latch *latch, const struct tkc_counter *counter,
-				  const struct tkc_snapshot *snapshot)
+static inline void tkc_latch_init(struct tkc_latch *latch, const struct tkc_snapshot *snapshot)
 {
-	uint64_t words[TKC_WORDS];
+	uint64_t words[TKC_LATCH_WORDS];
 
-	tkc_snapshot_words(words, snapshot);
+	tkc_latch_snapshot_words(words, snapshot);
 	TKC_STORE(&latch->layout, 0, relaxed);
 	TKC_FENCE(release);
-	tkc_page_counter_store(&latch->counter, counter);
-	tkc_words_store(latch->copies[0], words, TKC_WORDS);
-	tkc_words_store(latch->copies[1], words, TKC_WORDS);
+	tkc_words_store(latch->copies[0], words, TKC_LATCH_WORDS);
+	tkc_words_store(latch->copies[1], words, TKC_LATCH_WORDS);
 	TKC_STORE(&latch->sequence, 0, relaxed);
 	TKC_STORE(&latch->layout, TKC_LATCH_LAYOUT, release);
 }
@@ -491,32 +501,32 @@ static inline uint32_t tkc_latch_attach(const struct tkc_latch *latch)
 static inline void tkc_latch_publish(struct tkc_latch *latch, const struct tkc_snapshot *snapshot)
 {
 	uint64_t sequence = (TKC_LOAD(&latch->sequence, relaxed) + 1) | 1;
-	uint64_t words[TKC_WORDS];
+	uint64_t words[TKC_LATCH_WORDS];
 	uint64_t i;
 
-	tkc_snapshot_words(words, snapshot);
+	tkc_latch_snapshot_words(words, snapshot);
 	for (i = 0; i < 2; i++) {
 		TKC_STORE(&latch->sequence, sequence + i, release);
 		TKC_FENCE(release);
-		tkc_words_store(latch->copies[i], words, TKC_WORDS);
+		tkc_words_store(latch->copies[i], words, TKC_LATCH_WORDS);
 	}
 }
 
 /*
  * Makes a latch whole and publishes the snapshot of a new writer's clocks, wherever the former
- * writer died. They must be clocks of the latch's counter. The copy that the sequence selects is
- * whole, and is copied to the other one first. The fence is for a reader that still reads the other
- * copy: it must be able to see the present sequence before that copy changes.
+ * writer died. The copy that the sequence selects is whole, and is copied to the other one first.
+ * The fence is for a reader that still reads the other copy: it must be able to see the present
+ * sequence before that copy changes.
  */
 static inline void tkc_latch_recover(struct tkc_latch *latch, const struct tkc_clock *clock)
 {
 	uint64_t whole = TKC_LOAD(&latch->sequence, acquire) & 1;
 	struct tkc_snapshot snapshot;
-	uint64_t words[TKC_WORDS];
+	uint64_t words[TKC_LATCH_WORDS];
 
-	tkc_words_load(latch->copies[whole], words, TKC_WORDS);
+	tkc_words_load(latch->copies[whole], words, TKC_LATCH_WORDS);
 	TKC_FENCE(release);
-	tkc_words_store(latch->copies[!whole], words, TKC_WORDS);
+	tkc_words_store(latch->copies[!whole], words, TKC_LATCH_WORDS);
 	tkc_clock_snapshot(&snapshot, clock);
 	tkc_latch_publish(latch, &snapshot);
 }
@@ -527,7 +537,7 @@ static inline int tkc_latch_try(const struct tkc_latch *latch, tkc_read_counter 
 {
 	uint64_t sequence = TKC_LOAD(&latch->sequence, acquire);
 
-	tkc_words_load(latch->copies[sequence & 1], words, TKC_WORDS);
+	tkc_words_load(latch->copies[sequence & 1], words, TKC_LATCH_WORDS);
 	*reading = read_counter(context);
 	return !tkc_page_moved(&latch->sequence, sequence);
 }
@@ -535,11 +545,11 @@ static inline int tkc_latch_try(const struct tkc_latch *latch, tkc_read_counter 
 /* Reads the latest whole snapshot. Returns the codes of tkc_page_read. */
 static inline enum tkc_code tkc_latch_read(const struct tkc_latch *latch, struct tkc_snapshot *out)
 {
-	uint64_t words[TKC_WORDS], reading;
+	uint64_t words[TKC_LATCH_WORDS], reading;
 
 	while (!tkc_latch_try(latch, tkc_no_reading, NULL, words, &reading))
 		;
-	return tkc_words_checked(out, &latch->counter, words);
+	return tkc_words_checked(out, words);
 }
 
 /* Reads the latest whole snapshot and the counter, as tkc_page_look does. Returns the codes of
@@ -548,11 +558,11 @@ static inline enum tkc_code tkc_latch_look(const struct tkc_latch *latch,
 					   tkc_read_counter *read_counter, void *context,
 					   struct tkc_snapshot *out, uint64_t *reading)
 {
-	uint64_t words[TKC_WORDS];
+	uint64_t words[TKC_LATCH_WORDS];
 
 	while (!tkc_latch_try(latch, read_counter, context, words, reading))
 		;
-	return tkc_words_checked(out, &latch->counter, words);
+	return tkc_words_checked(out, words);
 }
 
 /* Reads a clock now, from the latest whole snapshot. Returns the codes of tkc_page_now. */

@@ -38,13 +38,13 @@ static _Thread_local struct kept own_kept = { .sequence = 1 };
 static _Thread_local volatile sig_atomic_t is_kept_busy;
 static _Thread_local uint64_t own_reads;
 
-static enum tkc_code keep(struct kept *kept, const struct tkc_page *page,
-			  uint64_t sequence, const uint64_t *words)
+static enum tkc_code keep(struct kept *kept, uint64_t sequence,
+			  const uint64_t *words)
 {
 	enum tkc_code code;
 
 	kept->sequence = 1;
-	code = tkc_words_checked(&kept->snapshot, &page->counter, words);
+	code = tkc_words_checked(&kept->snapshot, words);
 	if (code)
 		return code;
 	kept->front = words[0];
@@ -63,7 +63,7 @@ static enum tkc_code look(struct machine *machine, struct kept *kept,
 {
 	struct shared_page *shared = machine->shared;
 	const struct tkc_page *page = &shared->page;
-	uint64_t words[TKC_WORDS], sequence;
+	uint64_t words[TKC_LATCH_WORDS], sequence;
 	unsigned int turns = 0;
 
 	for (;;) {
@@ -75,13 +75,13 @@ static enum tkc_code look(struct machine *machine, struct kept *kept,
 		}
 		if (sequence != kept->sequence)
 			tkc_words_load(page->copies[sequence / 2 % 2], words,
-				       TKC_WORDS);
+				       TKC_LATCH_WORDS);
 		*reading = is_coarse ? 0 : machine_reading(shared);
 		if (tkc_page_moved(&page->sequence, sequence))
 			continue;
 		return sequence == kept->sequence
 			       ? TKC_OK
-			       : keep(kept, page, sequence, words);
+			       : keep(kept, sequence, words);
 	}
 }
 

@@ -291,3 +291,35 @@ enum tkc_code tkc_clock_from_words(struct tkc_clock *out, const struct tkc_count
 	put(out, &model, counter->tkc_private[0]);
 	return TKC_OK;
 }
+
+void tkc_clock_save(uint64_t words[TKC_SAVED_WORDS], const struct tkc_clock *clock)
+{
+	struct clock_of of;
+
+	memcpy(&of, clock, sizeof(of));
+	memcpy(words, of.words, sizeof(of.words));
+	words[10] = of.bits;
+	words[11] = of.mult;
+	words[12] = of.shift;
+	words[13] = (uint64_t)of.frequency;
+	words[14] = (uint64_t)of.tick;
+}
+
+enum tkc_code tkc_clock_load(struct tkc_clock *out, const uint64_t words[TKC_SAVED_WORDS])
+{
+	struct tkc_counter counter;
+
+	if ((words[10] | words[11] | words[12]) >> 32 ||
+	    tkc_counter_new(&counter, (uint32_t)words[10], (uint32_t)words[11],
+			    (uint32_t)words[12]))
+		return TKC_BAD_WORDS;
+	return tkc_clock_from_words(out, &counter, words, (int64_t)words[13], (int64_t)words[14]);
+}
+
+void tkc_snapshot_counter(struct tkc_counter *out, const struct tkc_snapshot *snapshot)
+{
+	struct snapshot_of of;
+
+	memcpy(&of, snapshot, sizeof(of));
+	*out = (struct tkc_counter){ { of.bits, of.mult, of.shift } };
+}

@@ -32,7 +32,6 @@ static char seen[4096];
 
 struct shared {
 	struct tkc_page page;
-	char room[256 - sizeof(struct tkc_page)];
 	struct tkc_latch latch;
 	char more[256 - sizeof(struct tkc_latch)];
 	tkc_word cycles, ended;
@@ -100,8 +99,8 @@ static void write_all(struct shared *shared, uint64_t commands)
 	need(!tkc_counter_from_hz(&counter, 64, 1000000000, 600) &&
 	     !tkc_clock_open(&clock, &counter, 0, 1700000000, 0), "no clocks");
 	tkc_clock_snapshot(&snapshot, &clock);
-	tkc_latch_init(&shared->latch, &counter, &snapshot);
-	tkc_page_init_clock(&shared->page, &counter, &clock);
+	tkc_latch_init(&shared->latch, &snapshot);
+	tkc_page_init_clock(&shared->page, &clock);
 	for (n = 1; n <= commands || (n <= commands * MOST && access(seen, F_OK)); n++) {
 		command(shared, &clock, n);
 		if (n % PAUSE == 0)

@@ -142,7 +142,7 @@ static uint32_t open_machine(struct machine *machine)
 			      read_counter(&machine->cycles), 1700000000, 0);
 	if (code)
 		return code;
-	tkc_page_init_clock(&machine->page, &machine->counter, &machine->clock);
+	tkc_page_init_clock(&machine->page, &machine->clock);
 	return TKC_OK;
 }
 

@@ -1,8 +1,7 @@
 /* SPDX-License-Identifier: MIT OR Apache-2.0 */
-/* Saves running clocks to a file and loads them again. The file has a line for each number: bits,
- * mult and shift of the counter, the ten words, the frequency and the tick. Words are meaningless
- * without their counter, so both are saved. The file is replaced by a rename, so a crash leaves the
- * former one or the new one. Any contents give sound clocks or an error.
+/* Saves running clocks to a file and loads them again. The file has a line for each of the 15 words
+ * of tkc_clock_save, the numbers of the counter among them. The file is replaced by a rename, so a
+ * crash leaves the former one or the new one. Any contents give sound clocks or an error.
  *
  *     save FILE
  */
@@ -13,23 +12,18 @@
 #include <tkcore.h>
 #include <unistd.h>
 
-static int print(FILE *file, const struct tkc_counter *counter, const struct tkc_clock *clock)
+static int print(FILE *file, const struct tkc_clock *clock)
 {
-	uint32_t bits, mult, shift;
-	uint64_t words[TKC_WORDS];
-	int64_t frequency, tick;
+	uint64_t words[TKC_SAVED_WORDS];
 
-	tkc_counter_numbers(&bits, &mult, &shift, counter);
-	tkc_clock_words(words, &frequency, &tick, clock);
-	fprintf(file, "%" PRIu32 "\n%" PRIu32 "\n%" PRIu32 "\n", bits, mult, shift);
-	for (int k = 0; k < TKC_WORDS; k++)
+	tkc_clock_save(words, clock);
+	for (int k = 0; k < TKC_SAVED_WORDS; k++)
 		fprintf(file, "%" PRIu64 "\n", words[k]);
-	fprintf(file, "%" PRId64 "\n%" PRId64 "\n", frequency, tick);
 	return ferror(file);
 }
 
 /* Returns 0, or -1 if the file isn't written: then the former one is as it was. */
-static int save(const char *name, const struct tkc_counter *counter, const struct tkc_clock *clock)
+static int save(const char *name, const struct tkc_clock *clock)
 {
 	char beside[4096];
 	FILE *file;
@@ -40,7 +34,7 @@ static int save(const char *name, const struct tkc_counter *counter, const struc
 	file = fopen(beside, "w");
 	if (!file)
 		return -1;
-	failed = print(file, counter, clock) || fflush(file) || fsync(fileno(file));
+	failed = print(file, clock) || fflush(file) || fsync(fileno(file));
 	failed |= fclose(file);
 	if (failed || rename(beside, name)) {
 		remove(beside);
@@ -49,31 +43,24 @@ static int save(const char *name, const struct tkc_counter *counter, const struc
 	return 0;
 }
 
-/* Returns TKC_OK, the code of the first number that is refused, or TKC_BAD_WORDS if one is missing. */
-static enum tkc_code load(const char *name, struct tkc_counter *counter, struct tkc_clock *clock)
+/* Returns TKC_OK, or TKC_BAD_WORDS if the file hasn't the words of any clocks. */
+static enum tkc_code load(const char *name, struct tkc_clock *clock)
 {
-	uint32_t bits, mult, shift;
-	uint64_t words[TKC_WORDS];
-	int64_t frequency, tick;
-	enum tkc_code code = TKC_BAD_WORDS;
+	uint64_t words[TKC_SAVED_WORDS];
 	FILE *file = fopen(name, "r");
-	int count;
+	int count = 0;
 
 	if (!file)
-		return code;
-	count = fscanf(file, "%" SCNu32 "%" SCNu32 "%" SCNu32, &bits, &mult, &shift);
-	for (int k = 0; k < TKC_WORDS; k++)
+		return TKC_BAD_WORDS;
+	for (int k = 0; k < TKC_SAVED_WORDS; k++)
 		count += fscanf(file, "%" SCNu64, &words[k]) == 1;
-	count += fscanf(file, "%" SCNd64 "%" SCNd64, &frequency, &tick);
 	fclose(file);
-	if (count == 3 + TKC_WORDS + 2)
-		code = tkc_counter_new(counter, bits, mult, shift);
-	return code ? code : tkc_clock_from_words(clock, counter, words, frequency, tick);
+	return count == TKC_SAVED_WORDS ? tkc_clock_load(clock, words) : TKC_BAD_WORDS;
 }
 
 int main(int argc, char **argv)
 {
-	struct tkc_counter counter, loaded_counter;
+	struct tkc_counter counter;
 	struct tkc_clock clock, loaded;
 	struct tkc_snapshot snapshot;
 	struct tkc_time time;
@@ -87,11 +74,11 @@ int main(int argc, char **argv)
 	    tkc_clock_set_frequency(&clock, 1000000, 3276800) ||
 	    tkc_clock_suspend(&clock, 3000001))
 		return 1;
-	if (save(argv[1], &counter, &clock)) {
+	if (save(argv[1], &clock)) {
 		perror(argv[1]);
 		return 1;
 	}
-	if (load(argv[1], &loaded_counter, &loaded) || memcmp(&clock, &loaded, sizeof(clock)))
+	if (load(argv[1], &loaded) || memcmp(&clock, &loaded, sizeof(clock)))
 		return 1;
 	/* the machine was off for an hour, and its counter began at 0 again */
 	if (tkc_clock_resume(&loaded, 0, 3600, 0))

@@ -92,7 +92,7 @@ static const char *check_words(const uint64_t words[TKC_WORDS])
 		return "words of two publications";
 #ifdef AT_EACH_STORE
 	/* Copy 0 is whole after the first sequence, its words and the second sequence. */
-	if ((front == begun) != (stores >= 2 + TKC_WORDS))
+	if ((front == begun) != (stores >= 2 + TKC_LATCH_WORDS))
 		return "not the publication that is whole";
 #endif
 	return NULL;
@@ -176,7 +176,7 @@ static uint32_t open_latch(void)
 		return code;
 	tkc_clock_snapshot(&snapshot, &clocks);
 	tkc_snapshot_words(words_of[0], &snapshot);
-	tkc_latch_init(&latch, &counter, &snapshot);
+	tkc_latch_init(&latch, &snapshot);
 	return TKC_OK;
 }
 

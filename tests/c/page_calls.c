@@ -147,11 +147,31 @@ static void check_clock(void)
 	      "tkc_page_recover left other clocks");
 }
 
+/* The layouts before the counter was published with the words: "tkcpage" and "tkclatc", 1. */
+static void check_former_layouts(void)
+{
+	static struct tkc_page former;
+	static struct tkc_latch former_latch;
+
+	memcpy(&former, &page, sizeof(page));
+	memcpy(&former.layout, "\x01" "egapckt", 8);
+	check(tkc_page_attach(&former) == TKC_BAD_LAYOUT, "the former layout is a page");
+	memcpy(&former_latch, &latch, sizeof(latch));
+	memcpy(&former_latch.layout, "\x01" "ctalckt", 8);
+	check(tkc_latch_attach(&former_latch) == TKC_BAD_LAYOUT, "the former layout is a latch");
+	memcpy(&former.layout, "\x02" "egapckt", 8);
+	check(tkc_page_attach(&former) == TKC_OK, "this layout is no page");
+	memcpy(&former_latch.layout, "\x02" "ctalckt", 8);
+	check(tkc_latch_attach(&former_latch) == TKC_OK, "this layout is no latch");
+	check(sizeof(former) == 256 && sizeof(former_latch) == 224, "another size of this layout");
+}
+
 /* Memory that isn't a page, or not one of this layout. */
 static void check_layout(void)
 {
 	static struct tkc_page no_page;
 	static struct tkc_latch no_latch;
+	struct tkc_snapshot snapshot_found;
 	struct tkc_clock found;
 
 	check(tkc_page_attach(&page) == TKC_OK, "the page isn't one");
@@ -163,9 +183,13 @@ static void check_layout(void)
 	check(tkc_latch_attach(&no_latch) == TKC_BAD_LAYOUT, "a page is a latch");
 	memcpy(&no_page, &latch, sizeof(latch));
 	check(tkc_page_attach(&no_page) == TKC_BAD_LAYOUT, "a latch is a page");
+	check_former_layouts();
 	memcpy(&no_page, &page, sizeof(page));
-	memset(&no_page.counter, 0, sizeof(no_page.counter));
-	check(tkc_page_clock(&no_page, &found) == TKC_BAD_BITS, "a counter of no bits");
+	memset(&no_page.copies[0][TKC_WORDS], 0, sizeof(no_page.copies[0][0]));
+	check(tkc_page_clock(&no_page, &found) == TKC_BAD_WORDS, "clocks of no bits");
+	check(tkc_page_read(&no_page, &snapshot_found) == TKC_BAD_BITS, "a counter of no bits");
+	memset(&no_page.copies[0][TKC_WORDS], 1, sizeof(no_page.copies[0][0]));
+	check(tkc_page_read(&no_page, &snapshot_found) == TKC_BAD_WORDS, "a counter of many bits");
 }
 
 static uint32_t open_all(void)
@@ -178,8 +202,8 @@ static uint32_t open_all(void)
 	if (code)
 		return code;
 	tkc_clock_snapshot(&snapshot, &clocks);
-	tkc_page_init_clock(&page, &counter, &clocks);
-	tkc_latch_init(&latch, &counter, &snapshot);
+	tkc_page_init_clock(&page, &clocks);
+	tkc_latch_init(&latch, &snapshot);
 	return TKC_OK;
 }
 

@@ -5,9 +5,10 @@
  * the whole time. No reader may get a mixture of two snapshots or wait forever, and neither fronts
  * nor the page's MONOTONIC may go back.
  *
- * A life is one writer's process, which takes over and applies a command. Lives die in turn in the
- * takeover and in the command, before each store of these. Before each store a life also reads the
- * page and the latch itself, and must find what the steps of the header say.
+ * A life is one writer's process, which takes over and applies a command or changes the counter.
+ * Lives die in turn in the takeover and in the command, before each store of these. Before each
+ * store a life also reads the page and the latch itself, and must find what the steps of the header
+ * say.
  *
  * tests/c/death_controls shows that this finds wrong headers.
  */
@@ -38,21 +39,24 @@ static void store(_Atomic uint64_t *word, uint64_t value, memory_order order)
 #define atomic_store_explicit(word, value, order) store(word, value, order)
 #include <tkcore_page.h>
 
+#include "two_counters.h"
+
 enum {
 	/* The stores of each call, and of a command and a takeover. */
 	BEGIN = 1,
 	PUBLISH = TKC_PAGE_WORDS + 1,
-	LATCH = 2 * (1 + TKC_WORDS),
+	LATCH = 2 * (1 + TKC_LATCH_WORDS),
 	COMMAND = BEGIN + PUBLISH + LATCH,
-	TAKEOVER = BEGIN + PUBLISH + TKC_WORDS + LATCH,
+	TAKEOVER = BEGIN + PUBLISH + TKC_LATCH_WORDS + LATCH,
 	PAGE_INIT = 1 + TKC_PAGE_WORDS + 2,
-	LATCH_INIT = 1 + 2 * TKC_WORDS + 2,
+	LATCH_INIT = 1 + 2 * TKC_LATCH_WORDS + 2,
 
 	READERS = 3, /* the last one reads the latch, the others the page */
-	PAIRS = (COMMAND + 1) * TAKEOVER, /* the numbers have no common factor */
+	PAIRS = (COMMAND + 1) * TAKEOVER,
 	COMMANDS = 300, /* of the life after these */
 	FRONTS = PAIRS + COMMANDS + 1,
 	CYCLES = 1000000007, /* from one command to the next; a cycle is a nanosecond */
+	CHANGE = 100, /* the number of a change of counter, which is no command's */
 	LIMIT_SEC = 20, /* for the readers to end */
 	LIMIT_ALL_SEC = 200, /* for all, which takes a few seconds */
 };
@@ -64,10 +68,12 @@ struct shared {
 	_Atomic uint64_t cycles; /* what the counter shows */
 	_Atomic int is_done;
 	_Atomic uint64_t last_front; /* known when the lives are done */
-	_Atomic uint64_t words_of[FRONTS][TKC_WORDS]; /* of the snapshot with this front */
+	/* of the snapshot with this front, with its counter */
+	_Atomic uint64_t words_of[FRONTS][TKC_LATCH_WORDS];
 };
 
 static struct shared *shared;
+static struct tkc_counter counters[COUNTERS];
 
 /* Of a life: where it is. */
 static struct {
@@ -96,17 +102,21 @@ static uint64_t advance_counter(void)
 	return CYCLES + atomic_fetch_add(&shared->cycles, CYCLES);
 }
 
-/* Returns the front of a snapshot, whose words must be those of one publication. */
+/* Returns the front of a snapshot, whose words and counter must be those of one publication. */
 static uint64_t front_of(const struct tkc_snapshot *snapshot)
 {
 	uint64_t words[TKC_WORDS];
+	int which = counter_of(snapshot);
 
 	tkc_snapshot_words(words, snapshot);
-	if (words[0] >= FRONTS)
-		fail("a front that no command made");
+	if (words[0] >= FRONTS || which == COUNTERS)
+		fail("a snapshot that no command made");
 	for (int i = 0; i < TKC_WORDS; i++)
 		if (words[i] != shared->words_of[words[0]][i])
 			fail("a mixture of two snapshots");
+	for (int i = 0; i < 3; i++)
+		if (counter_numbers[which][i] != shared->words_of[words[0]][TKC_WORDS + i])
+			fail("the numbers of another counter");
 	return words[0];
 }
 
@@ -147,7 +157,7 @@ static void check_latch(void)
 {
 	int done = life.stores - life.latch;
 
-	if (latch_front() != (done < 2 + TKC_WORDS ? life.latch_front : life.front))
+	if (latch_front() != (done < 2 + TKC_LATCH_WORDS ? life.latch_front : life.front))
 		fail("the latch's snapshot isn't the last one");
 }
 
@@ -167,13 +177,27 @@ static void at_store(void)
 /* Notes the words of a snapshot before it is published. */
 static void note(const struct tkc_clock *clock)
 {
-	uint64_t words[TKC_WORDS];
-	int64_t frequency, tick;
+	uint64_t words[TKC_SAVED_WORDS];
 
-	tkc_clock_words(words, &frequency, &tick, clock);
-	for (int i = 0; i < TKC_WORDS; i++)
+	tkc_clock_save(words, clock);
+	for (int i = 0; i < TKC_LATCH_WORDS; i++)
 		shared->words_of[words[0]][i] = words[i];
 	life.front = words[0];
+}
+
+/* Changes the counter, or applies a command at the reading of the present counter. */
+static uint32_t apply_step(struct tkc_clock *clock, uint32_t command, int64_t number)
+{
+	struct readings now = readings_at(advance_counter());
+	struct tkc_snapshot snapshot;
+	int which;
+
+	tkc_clock_snapshot(&snapshot, clock);
+	which = counter_of(&snapshot);
+	if (command == CHANGE)
+		return tkc_clock_change_counter(clock, now.of[which], &counters[!which],
+						now.of[!which]);
+	return tkc_clock_apply(clock, now.of[which], command, number, 1);
 }
 
 /* Applies a command that depends on the front and on the life. */
@@ -187,15 +211,17 @@ static void apply(struct tkc_clock *clock, int number)
 		{ TKC_CMD_FREQ, 32768000 - number },
 		{ TKC_CMD_STEP, 1 + number },
 		{ TKC_CMD_TICK, 9000 + part },
+		{ CHANGE, 0 },
 		{ TKC_CMD_TAI_OFFSET, number },
 		{ TKC_CMD_SUSPEND, 0 },
+		{ CHANGE, 0 },
 		{ TKC_CMD_RESUME, 1 + number },
 		{ TKC_CMD_FREQ, number - 32768000 },
 		{ TKC_CMD_TICK, 11000 - part },
 	};
 	uint64_t step = life.front % (sizeof(steps) / sizeof(steps[0]));
 
-	if (tkc_clock_apply(clock, advance_counter(), steps[step].command, steps[step].number, 1))
+	if (apply_step(clock, steps[step].command, steps[step].number))
 		fail("a command was refused");
 }
 
@@ -232,7 +258,7 @@ static void live(int number, int place, uint64_t front, int commands)
 	life.stores = life.page = 0;
 	life.front = life.page_front = front;
 	life.latch_front = latch_front();
-	life.latch = BEGIN + PUBLISH + TKC_WORDS;
+	life.latch = BEGIN + PUBLISH + TKC_LATCH_WORDS;
 	tkc_page_recover(&shared->page, &clock);
 	tkc_latch_recover(&shared->latch, &clock);
 	while (commands--)
@@ -282,7 +308,7 @@ static uint64_t run_lives(void)
 	for (int i = 0; i < PAIRS; i++) {
 		int place = i % (COMMAND + 1);
 
-		run_life(2 * i, i % TAKEOVER, front, 0);
+		run_life(2 * i, i / (COMMAND + 1), front, 0);
 		run_life(2 * i + 1, TAKEOVER + place, front, 2);
 		front += place >= BEGIN + PUBLISH;
 	}
@@ -301,7 +327,8 @@ static void read_page(void)
 	do {
 		is_last = shared->is_done;
 		if (tkc_page_look(&shared->page, read_counter, NULL, &snapshot, &reading) ||
-		    tkc_snapshot_get(&time, &snapshot, TKC_CLOCK_MONOTONIC, reading))
+		    tkc_snapshot_get(&time, &snapshot, TKC_CLOCK_MONOTONIC,
+				     readings_at(reading).of[counter_of(&snapshot)]))
 			fail("a reader of the page has no time");
 		if (front_of(&snapshot) < front)
 			fail("the page's front went back");
@@ -364,40 +391,39 @@ static void await_readers(const pid_t readers[READERS])
 	}
 }
 
-static void open_all(struct tkc_counter *counter, struct tkc_clock *clock)
+static void open_all(struct tkc_clock *clock)
 {
-	if (tkc_counter_from_hz(counter, 64, 1000000000, 10) ||
-	    tkc_clock_open(clock, counter, read_counter(NULL), 1700000000, 0))
+	if (make_counters(counters) ||
+	    tkc_clock_open(clock, &counters[0], read_counter(NULL), 1700000000, 0))
 		fail("no clocks were opened");
 	note(clock);
 }
 
-static void init(const struct tkc_counter *counter, const struct tkc_clock *clock, int is_latch)
+static void init(const struct tkc_clock *clock, int is_latch)
 {
 	struct tkc_snapshot snapshot;
 
 	tkc_clock_snapshot(&snapshot, clock);
 	if (is_latch)
-		tkc_latch_init(&shared->latch, counter, &snapshot);
+		tkc_latch_init(&shared->latch, &snapshot);
 	else
-		tkc_page_init_clock(&shared->page, counter, clock);
+		tkc_page_init_clock(&shared->page, clock);
 }
 
 /* Kills a writer that makes the page or the latch, which is one already. It must be none then. */
-static void check_init(const struct tkc_counter *counter, const struct tkc_clock *clock,
-		       int is_latch, int stores)
+static void check_init(const struct tkc_clock *clock, int is_latch, int stores)
 {
 	for (int place = 1; place < stores; place++) {
 		pid_t child;
 
-		init(counter, clock, is_latch);
+		init(clock, is_latch);
 		if (is_latch ? tkc_latch_attach(&shared->latch) : tkc_page_attach(&shared->page))
 			fail("a page or a latch isn't one");
 		child = start();
 		if (!child) {
 			life.stores = 0;
 			life.place = place;
-			init(counter, clock, is_latch);
+			init(clock, is_latch);
 			_exit(EXIT_SUCCESS);
 		}
 		await(child, place);
@@ -406,7 +432,7 @@ static void check_init(const struct tkc_counter *counter, const struct tkc_clock
 			fail("a page or a latch that was never made is one");
 	}
 	life.stores = 0;
-	init(counter, clock, is_latch);
+	init(clock, is_latch);
 	if (life.stores != stores)
 		fail("the header has another number of stores than this file");
 }
@@ -414,7 +440,6 @@ static void check_init(const struct tkc_counter *counter, const struct tkc_clock
 int main(void)
 {
 	pid_t readers[READERS];
-	struct tkc_counter counter;
 	struct tkc_clock clock;
 
 	alarm(LIMIT_ALL_SEC);
@@ -422,9 +447,9 @@ int main(void)
 		      0);
 	if (shared == MAP_FAILED)
 		fail("no memory can be shared");
-	open_all(&counter, &clock);
-	check_init(&counter, &clock, 0, PAGE_INIT);
-	check_init(&counter, &clock, 1, LATCH_INIT);
+	open_all(&clock);
+	check_init(&clock, 0, PAGE_INIT);
+	check_init(&clock, 1, LATCH_INIT);
 	start_readers(readers);
 	shared->last_front = run_lives();
 	shared->is_done = 1;

@@ -182,8 +182,8 @@ static uint32_t open_machine(struct machine *machine)
 	if (code)
 		return code;
 	tkc_clock_snapshot(&snapshot, &machine->clock);
-	tkc_page_init(&machine->page, &machine->counter, &snapshot);
-	tkc_latch_init(&machine->latch, &machine->counter, &snapshot);
+	tkc_page_init(&machine->page, &snapshot);
+	tkc_latch_init(&machine->latch, &snapshot);
 	return TKC_OK;
 }
 

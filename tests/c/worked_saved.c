@@ -27,11 +27,11 @@ static const struct saved_word saved_words[] = {
 	{ 12, UINT64_MAX, TKC_BAD_WORDS },
 	/* another frequency has another multiplier, and some have the same */
 	{ 13, 32768000, TKC_BAD_WORDS },
-	{ 13, (uint64_t)-32768000, TKC_BAD_WORDS },
+	{ 13, UINT64_MAX, TKC_BAD_WORDS },
 	{ 13, 1, TKC_OK },
 	{ 14, 8999, TKC_BAD_WORDS },
 	{ 14, 11001, TKC_BAD_WORDS },
-	{ 14, (uint64_t)-10000, TKC_BAD_WORDS },
+	{ 14, UINT64_MAX, TKC_BAD_WORDS },
 	{ 14, 4294977296, TKC_BAD_WORDS },
 };
 

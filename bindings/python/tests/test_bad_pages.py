@@ -31,19 +31,22 @@ class Pages(unittest.TestCase):
         tkcore.Page.create(opened(), memory).close()
         with self.assertRaises(tkcore.BadLayout):
             tkcore.Latch.attach(memory)
-        memory[0] += 1  # the number of the layout
-        with self.assertRaises(tkcore.BadLayout):
-            tkcore.Page.attach(memory)
+        for number in (1, 3):  # the former layout, and a later one
+            memory[0] = number
+            with self.assertRaises(tkcore.BadLayout):
+                tkcore.Page.attach(memory)
 
     def test_words_of_no_writer(self):
         memory = mmap.mmap(-1, 512)
         page = tkcore.Page.create(opened(), memory)
-        memory[16:16 + 80] = b"\xff" * 80
+        memory[16:16 + 80] = b"\xff" * 80  # the words of the snapshot
         with self.assertRaises(tkcore.BadWords):
             page.read()
-        memory[208:212] = bytes(4)  # the bits of the counter
+        memory[96:104] = bytes(8)  # the bits of the counter
         with self.assertRaises(tkcore.BadBits):
-            tkcore.Page.attach(memory)
+            page.read()
+        with self.assertRaises(tkcore.BadWords):
+            page.clock()
 
     def test_random_memory(self):
         rng = seeded()
@@ -57,13 +60,6 @@ class Pages(unittest.TestCase):
                     call()
                 except tkcore.Error:
                     pass
-
-    def test_clocks_of_another_counter(self):
-        page = tkcore.Page.create(opened())
-        other = tkcore.Clock(tkcore.Counter(33, 16_777_216, 24), 0, 0)
-        for call in (page.publish, page.recover):
-            with self.assertRaises(tkcore.OtherCounter):
-                call(other)
 
     def test_a_closed_page(self):
         with tkcore.Page.create(opened()) as page:

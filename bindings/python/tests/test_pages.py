@@ -47,11 +47,19 @@ class Reads(unittest.TestCase):
             with self.page.writing(self.clock):
                 self.clock.update(-1)
         self.assertEqual(self.page.read(timeout=0), self.clock.snapshot())
-        other = tkcore.Clock(tkcore.Counter(33, 16_777_216, 24), 0, 0)
-        with self.assertRaises(tkcore.OtherCounter):
-            with self.page.writing(other):
-                pass
-        self.assertEqual(self.page.read(timeout=0), self.clock.snapshot())
+
+    def test_a_change_of_counter(self):
+        """Readers that attached before get the new counter with the new snapshot."""
+        reader, other = tkcore.Page.attach(self.page._memory.view), tkcore.Counter(56, 2 << 24, 24)
+        with self.page.writing(self.clock):
+            self.clock.change_counter(CYCLES, other, 9)
+        self.latch.publish(self.clock.snapshot())
+        for shared in (self.page, self.latch, reader):
+            self.assertEqual(shared.read(), self.clock.snapshot())
+            self.assertEqual(shared.read().counter, other)
+            self.assertEqual(shared.now(ClockId.MONOTONIC, lambda: 13), CYCLES + 8)
+        found = self.page.clock()
+        self.assertEqual((found.counter, found.save()), (other, self.clock.save()))
 
     def test_a_new_writer(self):
         self.command()
@@ -86,7 +94,8 @@ class Reads(unittest.TestCase):
         memory = mmap.mmap(-1, 512)
         writer = tkcore.Page.create(self.clock, memory)
         reader = tkcore.Page.attach(memoryview(memory).toreadonly())
-        self.assertEqual((reader.counter, reader.read()), (self.clock.counter, writer.read()))
+        self.assertEqual((reader.read(), reader.read().counter),
+                         (writer.read(), self.clock.counter))
         for call in (reader.begin, lambda: reader.publish(self.clock)):
             with self.assertRaisesRegex(tkcore.BadBuffer, "read-only"):
                 call()

@@ -159,6 +159,23 @@ class Changes(unittest.TestCase):
         self.assertEqual(clock.words()[0][0], 2**63 - 1)
 
 
+class Saved(unittest.TestCase):
+    """The saved clocks of worked_saved.c."""
+
+    def test_saved_words(self):
+        words, frequency, tick = commanded().words()
+        saved = commanded().save()
+        self.assertEqual(saved, (*words, 32, 16_777_216, 24, frequency % 2**64, tick))
+        self.assertEqual(tkcore.Clock.load(saved).counter, nanosecond_counter())
+        for place, word, code in rows("worked_saved.c", "saved_words"):
+            changed = (*saved[:place], word, *saved[place + 1:])
+            clock = raises(self, code, lambda: tkcore.Clock.load(changed))
+            if code == "OK":
+                self.assertEqual(clock.save(), changed)
+        with self.assertRaises(tkcore.BadWords):
+            tkcore.Clock.load(words)
+
+
 class Reads(unittest.TestCase):
     def test_reads(self):
         snapshot = commanded().snapshot()

@@ -16,7 +16,7 @@ fn get_once(snapshot: &Snapshot, reading: u64) -> Result<Timespec, Refusal> {
     snapshot.get(ClockId::Realtime, reading)
 }
 
-/// Makes two calls of the library.
+/// Makes three calls of the library.
 #[inline(never)]
 fn page_once(page: &Page, reading: u64) -> Result<Timespec, Refusal> {
     page.now(ClockId::Realtime, || reading)

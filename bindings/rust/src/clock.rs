@@ -4,6 +4,9 @@ use core::fmt;
 
 use crate::{sys, Command, Counter, Refusal, Snapshot, Timespec, WORDS};
 
+/// The number of 64-bit words that represent clocks with their counter.
+pub const SAVED_WORDS: usize = 15;
+
 /// The numbers that represent running clocks, for files and other processes.
 #[derive(Clone, Copy, Debug, PartialEq, Eq, Hash)]
 pub struct ClockWords {
@@ -61,6 +64,25 @@ impl Clock {
     #[must_use]
     pub fn words(&self) -> ClockWords {
         sys::clock_words(&self.value)
+    }
+
+    /// Makes the clocks that the result of [`save`](Clock::save) represents.
+    ///
+    /// # Errors
+    ///
+    /// `OtherVersion`, and then `BadWords` if no running clocks of any counter have these words.
+    pub fn load(words: &[u64; SAVED_WORDS]) -> Result<Clock, Refusal> {
+        sys::check_version()?;
+        let value = sys::clock_load(words).map_err(Refusal::of_code)?;
+        Ok(Clock { value, counter: Counter::of_snapshot(&sys::clock_snapshot(&value)) })
+    }
+
+    /// Returns the words that represent the clocks with their counter: the words of the snapshot;
+    /// bits, mult and shift of the counter; the frequency and the tick, in two's complement.
+    #[inline]
+    #[must_use]
+    pub fn save(&self) -> [u64; SAVED_WORDS] {
+        sys::clock_save(&self.value)
     }
 
     /// Returns the counter of the clocks.

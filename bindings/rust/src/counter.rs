@@ -3,7 +3,7 @@
 use core::fmt;
 use core::hash::{Hash, Hasher};
 
-use crate::{sys, ClockId, Refusal, Timespec, WORDS};
+use crate::{sys, Refusal};
 
 /// A cycle counter: a reading has `bits` bits, and a cycle lasts `mult / 2^shift` ns.
 #[derive(Clone, Copy)]
@@ -43,25 +43,18 @@ impl Counter {
         Counter::of_value(|| sys::counter_from_khz(bits, khz, maxsec))
     }
 
-    /// Makes a counter, if the linked library has the values that this crate declares. All other
-    /// values are made from a counter.
+    /// Makes a counter, if the linked library has the values that this crate declares. Values that
+    /// aren't made from a counter need the same test.
     fn of_value(make: impl FnOnce() -> Result<sys::CounterValue, u32>) -> Result<Counter, Refusal> {
-        if sys::version() >> 8 != sys::DECLARED_VERSION >> 8 {
-            return Err(Refusal::OtherVersion);
-        }
+        sys::check_version()?;
         let value = make().map_err(Refusal::of_code)?;
         Ok(Counter { value, numbers: sys::counter_numbers(&value) })
     }
 
-    /// Returns a clock's time at a reading by the snapshot of these words.
-    #[inline]
-    pub(crate) fn get_by_words(
-        &self,
-        words: &[u64; WORDS],
-        clock: ClockId,
-        reading: u64,
-    ) -> Result<Timespec, Refusal> {
-        sys::get_by_words(&self.value, words, clock as u32, reading).map_err(Refusal::of_code)
+    /// Returns the counter of a snapshot.
+    pub(crate) fn of_snapshot(snapshot: &sys::SnapshotValue) -> Counter {
+        let value = sys::snapshot_counter(snapshot);
+        Counter { value, numbers: sys::counter_numbers(&value) }
     }
 
     /// Returns the number of bits of a reading.

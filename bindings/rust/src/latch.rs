@@ -3,14 +3,16 @@
 use core::sync::atomic::Ordering::Release;
 use core::sync::atomic::{fence, AtomicU64};
 
+use crate::page::get_by_copy;
 use crate::shared::{size_in_words, Shared};
-use crate::{Clock, ClockId, Counter, Refusal, Snapshot, Timespec, WORDS};
+use crate::snapshot::COPY;
+use crate::{Clock, ClockId, Refusal, Snapshot, Timespec};
 
 /// The layout of `struct tkc_latch`: "tkclatc" and a number.
-const LAYOUT: u64 = 0x746b_636c_6174_6301;
+const LAYOUT: u64 = 0x746b_636c_6174_6302;
 
 /// The number of 64-bit words of a latch.
-pub const LATCH_WORDS: usize = size_in_words(WORDS);
+pub const LATCH_WORDS: usize = size_in_words(COPY);
 
 /// A latch: two copies of a snapshot, one of which is always whole (`struct tkc_latch` of
 /// tkcore_page.h).
@@ -36,13 +38,12 @@ pub const LATCH_WORDS: usize = size_in_words(WORDS);
 /// let counter = Counter::from_hz(64, 1_000_000_000, 600)?;
 /// let clock = Clock::open(&counter, 0, Timespec::default())?;
 /// let mut latch = Latch::create(&memory, &clock.snapshot())?;
-/// latch.publish(&clock.snapshot())?;
+/// latch.publish(&clock.snapshot());
 /// assert_eq!(latch.now(ClockId::Monotonic, || 7)?, Timespec { sec: 0, nsec: 7 });
 /// # Ok::<(), Refusal>(())
 /// ```
 pub struct Latch<'a> {
-    shared: Shared<'a, WORDS>,
-    counter: Counter,
+    shared: Shared<'a, COPY>,
 }
 
 impl<'a> Latch<'a> {
@@ -53,12 +54,12 @@ impl<'a> Latch<'a> {
     /// `BadMemory` if there are fewer words.
     pub fn create(memory: &'a [AtomicU64], first: &Snapshot) -> Result<Latch<'a>, Refusal> {
         let shared = Shared::over(memory)?;
-        let (counter, words) = (first.counter, first.words());
-        shared.init(LAYOUT, &counter, || {
-            shared.store(0, &words);
-            shared.store(1, &words);
+        let copy = first.copy();
+        shared.init(LAYOUT, || {
+            shared.store(0, &copy);
+            shared.store(1, &copy);
         });
-        Ok(Latch { shared, counter })
+        Ok(Latch { shared })
     }
 
     /// Returns the latch that this memory contains.
@@ -68,54 +69,34 @@ impl<'a> Latch<'a> {
     /// Those of [`Page::attach`](crate::Page::attach), for a latch.
     pub fn attach(memory: &'a [AtomicU64]) -> Result<Latch<'a>, Refusal> {
         let shared = Shared::over(memory)?;
-        let counter = shared.attach(LAYOUT)?;
-        Ok(Latch { shared, counter })
+        shared.attach(LAYOUT)?;
+        Ok(Latch { shared })
     }
 
-    /// Returns the latch's counter.
-    #[must_use]
-    pub fn counter(&self) -> &Counter {
-        &self.counter
-    }
-
-    /// Publishes a snapshot: steps 1 to 4. The caller's lock must exclude other writers.
-    ///
-    /// # Errors
-    ///
-    /// `OtherCounter` if it is of another counter than the latch.
+    /// Publishes a snapshot with its counter: steps 1 to 4. The caller's lock must exclude other
+    /// writers.
     #[inline]
-    pub fn publish(&mut self, snapshot: &Snapshot) -> Result<(), Refusal> {
-        if snapshot.counter != self.counter {
-            return Err(Refusal::OtherCounter);
-        }
+    pub fn publish(&mut self, snapshot: &Snapshot) {
         // (the sequence is odd at first only in `recover`)
         let sequence = self.shared.sequence().wrapping_add(1) | 1;
-        let words = snapshot.words();
+        let words = snapshot.copy();
         for copy in 0..2 {
             self.shared.set_sequence(sequence.wrapping_add(copy), Release);
             fence(Release);
             self.shared.store(copy, &words);
         }
-        Ok(())
     }
 
     /// Makes the latch whole and publishes a new writer's clocks, wherever the former writer died.
-    ///
-    /// # Errors
-    ///
-    /// `OtherCounter` if they are of another counter than the latch.
-    pub fn recover(&mut self, clock: &Clock) -> Result<(), Refusal> {
-        if clock.counter != self.counter {
-            return Err(Refusal::OtherCounter);
-        }
+    pub fn recover(&mut self, clock: &Clock) {
         let whole = self.shared.sequence() & 1;
-        let mut words = [0; WORDS];
+        let mut words = [0; COPY];
         self.shared.load(whole, &mut words);
         // A reader that still reads the other copy must be able to see the present sequence before
         // that copy changes.
         fence(Release);
         self.shared.store(whole ^ 1, &words);
-        self.publish(&clock.snapshot())
+        self.publish(&clock.snapshot());
     }
 
     /// Does the reader's steps once: 5, 6 and 7. Returns the reading if the words are whole.
@@ -123,10 +104,10 @@ impl<'a> Latch<'a> {
     fn try_once(
         &self,
         read_counter: &mut impl FnMut() -> u64,
-        words: &mut [u64; WORDS],
+        copy: &mut [u64; COPY],
     ) -> Option<u64> {
         let sequence = self.shared.sequence();
-        self.shared.load(sequence, words);
+        self.shared.load(sequence, copy);
         let reading = read_counter();
         (!self.shared.is_moved(sequence)).then_some(reading)
     }
@@ -135,7 +116,7 @@ impl<'a> Latch<'a> {
     ///
     /// # Errors
     ///
-    /// `BadWords` if something else than a writer wrote the latch.
+    /// `BadWords`, or `BadBits` to `BadAdjust`, if something else than a writer wrote the latch.
     #[inline]
     pub fn read(&self) -> Result<Snapshot, Refusal> {
         self.look(|| 0).map(|(snapshot, _)| snapshot)
@@ -146,13 +127,13 @@ impl<'a> Latch<'a> {
     ///
     /// # Errors
     ///
-    /// `BadWords` if something else than a writer wrote the latch.
+    /// `BadWords`, or `BadBits` to `BadAdjust`, if something else than a writer wrote the latch.
     #[inline]
     pub fn look(&self, mut read_counter: impl FnMut() -> u64) -> Result<(Snapshot, u64), Refusal> {
-        let mut words = [0; WORDS];
+        let mut copy = [0; COPY];
         loop {
-            if let Some(reading) = self.try_once(&mut read_counter, &mut words) {
-                return Ok((Snapshot::from_words(&self.counter, &words)?, reading));
+            if let Some(reading) = self.try_once(&mut read_counter, &mut copy) {
+                return Ok((Snapshot::of_copy(&copy)?, reading));
             }
         }
     }
@@ -168,10 +149,10 @@ impl<'a> Latch<'a> {
         clock: ClockId,
         mut read_counter: impl FnMut() -> u64,
     ) -> Result<Timespec, Refusal> {
-        let mut words = [0; WORDS];
+        let mut copy = [0; COPY];
         loop {
-            if let Some(reading) = self.try_once(&mut read_counter, &mut words) {
-                return self.counter.get_by_words(&words, clock, reading);
+            if let Some(reading) = self.try_once(&mut read_counter, &mut copy) {
+                return get_by_copy(&copy, clock, reading);
             }
         }
     }

@@ -36,7 +36,7 @@ mod snapshot;
 mod sys;
 mod timespec;
 
-pub use clock::{Clock, ClockWords};
+pub use clock::{Clock, ClockWords, SAVED_WORDS};
 pub use command::Command;
 pub use counter::Counter;
 pub use latch::{Latch, LATCH_WORDS};

@@ -5,16 +5,14 @@ use core::sync::atomic::Ordering::{Relaxed, Release, SeqCst};
 use core::sync::atomic::{fence, AtomicU64};
 
 use crate::shared::{size_in_words, Shared};
-use crate::{Clock, ClockId, ClockWords, Counter, Refusal, Snapshot, Timespec, WORDS};
-
-/// The words of a page's copy: those of a snapshot, the frequency, and the tick.
-const COPY: usize = WORDS + 2;
+use crate::snapshot::COPY;
+use crate::{sys, Clock, ClockId, Refusal, Snapshot, Timespec, SAVED_WORDS};
 
 /// The layout of `struct tkc_page`: "tkcpage" and a number.
-const LAYOUT: u64 = 0x746b_6370_6167_6501;
+const LAYOUT: u64 = 0x746b_6370_6167_6502;
 
 /// The number of 64-bit words of a page.
-pub const PAGE_WORDS: usize = size_in_words(COPY);
+pub const PAGE_WORDS: usize = size_in_words(SAVED_WORDS);
 
 mod sealed {
     pub trait Sealed {}
@@ -24,39 +22,25 @@ mod sealed {
 
 /// What a page publishes: clocks, or a snapshot only.
 pub trait Publish: sealed::Sealed {
-    /// Returns the counter of the clocks.
-    fn counter(&self) -> &Counter;
-    /// Returns the words of the snapshot, the frequency and the tick, or 0 and 0.
-    fn page_words(&self) -> [u64; WORDS + 2];
+    /// Returns the words of the snapshot, the numbers of its counter, and the frequency and the
+    /// tick, or 0 and 0.
+    fn page_words(&self) -> [u64; SAVED_WORDS];
 }
 
 impl Publish for Clock {
-    fn counter(&self) -> &Counter {
-        &self.counter
-    }
-
-    fn page_words(&self) -> [u64; COPY] {
-        let ClockWords { words, frequency, tick } = self.words();
-        with_rate(&words, frequency, tick)
+    #[inline]
+    fn page_words(&self) -> [u64; SAVED_WORDS] {
+        self.save()
     }
 }
 
 impl Publish for Snapshot {
-    fn counter(&self) -> &Counter {
-        &self.counter
+    #[inline]
+    fn page_words(&self) -> [u64; SAVED_WORDS] {
+        let mut words = [0; SAVED_WORDS];
+        words[..COPY].copy_from_slice(&self.copy());
+        words
     }
-
-    fn page_words(&self) -> [u64; COPY] {
-        with_rate(&self.words(), 0, 0)
-    }
-}
-
-fn with_rate(words: &[u64; WORDS], frequency: i64, tick: i64) -> [u64; COPY] {
-    let mut copy = [0; COPY];
-    copy[..WORDS].copy_from_slice(words);
-    copy[WORDS] = frequency as u64;
-    copy[WORDS + 1] = tick as u64;
-    copy
 }
 
 /// A page, which publishes snapshots to readers without a lock (`struct tkc_page` of
@@ -88,7 +72,7 @@ fn with_rate(words: &[u64; WORDS], frequency: i64, tick: i64) -> [u64; COPY] {
 ///
 /// page.begin();
 /// let applied = clock.apply(5, Command::Update);
-/// page.publish(&clock)?; // also after a refused command
+/// page.publish(&clock); // also after a refused command
 /// applied?;
 ///
 /// let reader = Page::attach(&memory)?;
@@ -96,8 +80,7 @@ fn with_rate(words: &[u64; WORDS], frequency: i64, tick: i64) -> [u64; COPY] {
 /// # Ok::<(), Refusal>(())
 /// ```
 pub struct Page<'a> {
-    shared: Shared<'a, COPY>,
-    counter: Counter,
+    shared: Shared<'a, SAVED_WORDS>,
 }
 
 impl<'a> Page<'a> {
@@ -109,9 +92,8 @@ impl<'a> Page<'a> {
     /// `BadMemory` if there are fewer words.
     pub fn create(memory: &'a [AtomicU64], first: &impl Publish) -> Result<Page<'a>, Refusal> {
         let shared = Shared::over(memory)?;
-        let counter = *first.counter();
-        shared.init(LAYOUT, &counter, || shared.store(0, &first.page_words()));
-        Ok(Page { shared, counter })
+        shared.init(LAYOUT, || shared.store(0, &first.page_words()));
+        Ok(Page { shared })
     }
 
     /// Returns the page that this memory contains. See [`shared_words`](crate::shared_words) for
@@ -119,18 +101,12 @@ impl<'a> Page<'a> {
     ///
     /// # Errors
     ///
-    /// `BadMemory` if there are fewer words than [`PAGE_WORDS`]; `BadLayout` if they contain no
-    /// page of this layout; `BadBits` to `BadAdjust` if its counter is none.
+    /// `BadMemory` if there are fewer words than [`PAGE_WORDS`]; `OtherVersion`; `BadLayout` if
+    /// they contain no page of this layout.
     pub fn attach(memory: &'a [AtomicU64]) -> Result<Page<'a>, Refusal> {
         let shared = Shared::over(memory)?;
-        let counter = shared.attach(LAYOUT)?;
-        Ok(Page { shared, counter })
-    }
-
-    /// Returns the page's counter.
-    #[must_use]
-    pub fn counter(&self) -> &Counter {
-        &self.counter
+        shared.attach(LAYOUT)?;
+        Ok(Page { shared })
     }
 
     /// Lets readers wait until [`publish`](Page::publish): step 1. Read the counter for the command
@@ -143,22 +119,15 @@ impl<'a> Page<'a> {
         fence(SeqCst);
     }
 
-    /// Publishes clocks or a snapshot, also after a refused command: steps 3 and 4.
-    ///
-    /// # Errors
-    ///
-    /// `OtherCounter` if they are of another counter than the page.
+    /// Publishes clocks or a snapshot with their counter, also after a refused command: steps 3 and
+    /// 4. After [`Clock::change_counter`] readers get the new counter with the new snapshot.
     #[inline]
-    pub fn publish(&mut self, what: &impl Publish) -> Result<(), Refusal> {
-        if *what.counter() != self.counter {
-            return Err(Refusal::OtherCounter);
-        }
+    pub fn publish(&mut self, what: &impl Publish) {
         let sequence = self.shared.sequence() | 1;
         // Readers must be able to see the former sequence before the words, also without a `begin`.
         fence(Release);
         self.shared.store(sequence.wrapping_add(1) / 2, &what.page_words());
         self.shared.set_sequence(sequence.wrapping_add(1), Release);
-        Ok(())
     }
 
     /// Rebuilds the clocks of the last publication, for a new writer after the former one died.
@@ -169,25 +138,18 @@ impl<'a> Page<'a> {
     /// published, or something else than a writer wrote the page.
     pub fn clock(&self) -> Result<Clock, Refusal> {
         let sequence = self.shared.sequence();
-        let mut copy = [0; COPY];
-        self.shared.load(sequence / 2, &mut copy);
+        let mut words = [0; SAVED_WORDS];
+        self.shared.load(sequence / 2, &mut words);
         if self.shared.is_moved(sequence) {
             return Err(Refusal::Busy);
         }
-        let mut words = [0; WORDS];
-        words.copy_from_slice(&copy[..WORDS]);
-        let (frequency, tick) = (copy[WORDS] as i64, copy[WORDS + 1] as i64);
-        Clock::from_words(&self.counter, &ClockWords { words, frequency, tick })
+        Clock::load(&words)
     }
 
     /// Makes the page whole from a new writer's clocks, wherever the former writer died.
-    ///
-    /// # Errors
-    ///
-    /// `OtherCounter` if they are of another counter than the page.
-    pub fn recover(&mut self, clock: &Clock) -> Result<(), Refusal> {
+    pub fn recover(&mut self, clock: &Clock) {
         self.begin();
-        self.publish(clock)
+        self.publish(clock);
     }
 
     /// Does the reader's steps once: 5, 6 and 7. Returns the reading if the words are whole.
@@ -195,14 +157,14 @@ impl<'a> Page<'a> {
     fn try_once(
         &self,
         read_counter: &mut impl FnMut() -> u64,
-        words: &mut [u64; WORDS],
+        copy: &mut [u64; COPY],
     ) -> Option<u64> {
         let sequence = self.shared.sequence();
         if sequence % 2 == 1 {
             spin_loop();
             return None;
         }
-        self.shared.load(sequence / 2, words);
+        self.shared.load(sequence / 2, copy);
         let reading = read_counter();
         (!self.shared.is_moved(sequence)).then_some(reading)
     }
@@ -212,7 +174,7 @@ impl<'a> Page<'a> {
     ///
     /// # Errors
     ///
-    /// `BadWords` if something else than a writer wrote the page.
+    /// `BadWords`, or `BadBits` to `BadAdjust`, if something else than a writer wrote the page.
     #[inline]
     pub fn read(&self) -> Result<Snapshot, Refusal> {
         self.look(|| 0).map(|(snapshot, _)| snapshot)
@@ -225,13 +187,13 @@ impl<'a> Page<'a> {
     ///
     /// # Errors
     ///
-    /// `BadWords` if something else than a writer wrote the page.
+    /// `BadWords`, or `BadBits` to `BadAdjust`, if something else than a writer wrote the page.
     #[inline]
     pub fn look(&self, mut read_counter: impl FnMut() -> u64) -> Result<(Snapshot, u64), Refusal> {
-        let mut words = [0; WORDS];
+        let mut copy = [0; COPY];
         loop {
-            if let Some(reading) = self.try_once(&mut read_counter, &mut words) {
-                return Ok((Snapshot::from_words(&self.counter, &words)?, reading));
+            if let Some(reading) = self.try_once(&mut read_counter, &mut copy) {
+                return Ok((Snapshot::of_copy(&copy)?, reading));
             }
         }
     }
@@ -247,10 +209,10 @@ impl<'a> Page<'a> {
         clock: ClockId,
         mut read_counter: impl FnMut() -> u64,
     ) -> Result<Timespec, Refusal> {
-        let mut words = [0; WORDS];
+        let mut copy = [0; COPY];
         loop {
-            if let Some(reading) = self.try_once(&mut read_counter, &mut words) {
-                return self.counter.get_by_words(&words, clock, reading);
+            if let Some(reading) = self.try_once(&mut read_counter, &mut copy) {
+                return get_by_copy(&copy, clock, reading);
             }
         }
     }
@@ -267,12 +229,22 @@ impl<'a> Page<'a> {
         clock: ClockId,
         mut read_counter: impl FnMut() -> u64,
     ) -> Result<Timespec, Refusal> {
-        let mut words = [0; WORDS];
+        let mut copy = [0; COPY];
         for _ in 0..tries {
-            if let Some(reading) = self.try_once(&mut read_counter, &mut words) {
-                return self.counter.get_by_words(&words, clock, reading);
+            if let Some(reading) = self.try_once(&mut read_counter, &mut copy) {
+                return get_by_copy(&copy, clock, reading);
             }
         }
         Err(Refusal::Busy)
     }
+}
+
+/// Returns a clock's time at a reading by the snapshot in a copy.
+#[inline]
+pub(crate) fn get_by_copy(
+    copy: &[u64; COPY],
+    clock: ClockId,
+    reading: u64,
+) -> Result<Timespec, Refusal> {
+    sys::get_by_copy(copy, clock as u32, reading).map_err(Refusal::of_code)
 }

@@ -42,8 +42,6 @@ pub enum Refusal {
     BadLayout,
     /// The memory is smaller than a page or a latch, or isn't aligned to 8 bytes.
     BadMemory,
-    /// The clocks or the snapshot are of another counter than the page or the latch.
-    OtherCounter,
     /// The linked library is of another version than this crate.
     OtherVersion,
 }
@@ -91,7 +89,6 @@ impl Refusal {
             Refusal::Busy => "a writer was inside at each try",
             Refusal::BadLayout => "the memory contains none of this layout",
             Refusal::BadMemory => "the memory is too small, or not aligned to 8 bytes",
-            Refusal::OtherCounter => "these are clocks of another counter",
             Refusal::OtherVersion => "the library is of another version",
         }
     }

@@ -1,12 +1,12 @@
 // SPDX-License-Identifier: MIT OR Apache-2.0
-//! The words that a page and a latch have in common: the layout, the sequence, two copies of words,
-//! and the numbers of the counter. Loads are relaxed, followed by a fence where tkcore_page.h has
+//! The words that a page and a latch have in common: the layout, the sequence, and two copies of
+//! words, which contain the numbers of the counter. Loads are relaxed, followed by a fence where tkcore_page.h has
 //! an acquire load, because read-only memory may be loaded only so.
 
 use core::sync::atomic::Ordering::{Acquire, Relaxed, Release};
 use core::sync::atomic::{fence, AtomicU64, Ordering};
 
-use crate::{Counter, Refusal};
+use crate::{sys, Refusal};
 
 /// A page or a latch with copies of `N` words, in the order of its memory.
 #[derive(Clone, Copy)]
@@ -14,13 +14,11 @@ pub(crate) struct Shared<'a, const N: usize> {
     layout: &'a AtomicU64,
     sequence: &'a AtomicU64,
     copies: [&'a [AtomicU64; N]; 2],
-    /// The bits and the mult, and the shift.
-    numbers: &'a [AtomicU64; 2],
 }
 
 /// Returns the number of words of a page or a latch with copies of `n` words.
 pub(crate) const fn size_in_words(n: usize) -> usize {
-    2 + 2 * n + 2
+    2 + 2 * n
 }
 
 impl<'a, const N: usize> Shared<'a, N> {
@@ -33,30 +31,27 @@ impl<'a, const N: usize> Shared<'a, N> {
         let (layout, rest) = memory.split_first()?;
         let (sequence, rest) = rest.split_first()?;
         let (first, rest) = rest.split_first_chunk()?;
-        let (second, rest) = rest.split_first_chunk()?;
-        let numbers = rest.first_chunk()?;
-        Some(Shared { layout, sequence, copies: [first, second], numbers })
+        let second = rest.first_chunk()?;
+        Some(Shared { layout, sequence, copies: [first, second] })
     }
 
-    /// Returns the counter, or `BadLayout`, or the refusal of a counter of these numbers.
-    pub(crate) fn attach(&self, layout: u64) -> Result<Counter, Refusal> {
+    /// Returns `OtherVersion` if the library is of another version than this crate, and `BadLayout`
+    /// if the memory has another layout.
+    pub(crate) fn attach(&self, layout: u64) -> Result<(), Refusal> {
+        sys::check_version()?;
         let found = self.layout.load(Relaxed);
         fence(Acquire);
-        if found != layout {
-            return Err(Refusal::BadLayout);
+        if found == layout {
+            Ok(())
+        } else {
+            Err(Refusal::BadLayout)
         }
-        let [first, second] = self.numbers;
-        let (first, second) = (first.load(Relaxed), second.load(Relaxed));
-        Counter::new(first as u32, (first >> 32) as u32, second as u32)
     }
 
     /// Writes everything but the copies, which `write_copies` writes, and the layout last.
-    pub(crate) fn init(&self, layout: u64, counter: &Counter, write_copies: impl FnOnce()) {
+    pub(crate) fn init(&self, layout: u64, write_copies: impl FnOnce()) {
         self.layout.store(0, Relaxed);
         fence(Release);
-        let [first, second] = self.numbers;
-        first.store(u64::from(counter.bits()) | u64::from(counter.mult()) << 32, Relaxed);
-        second.store(u64::from(counter.shift()), Relaxed);
         write_copies();
         self.sequence.store(0, Relaxed);
         self.layout.store(layout, Release);

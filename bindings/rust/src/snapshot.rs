@@ -7,6 +7,9 @@ use crate::{sys, Counter, Refusal, Timespec, Unconverted};
 /// The number of 64-bit words that represent a snapshot.
 pub const WORDS: usize = 10;
 
+/// The number of words of a snapshot with its counter, in a page and in a latch.
+pub(crate) const COPY: usize = WORDS + 3;
+
 /// Names a clock, with the number of clock_gettime(2).
 #[derive(Clone, Copy, Debug, PartialEq, Eq, Hash)]
 pub enum ClockId {
@@ -52,6 +55,24 @@ impl Snapshot {
     #[must_use]
     pub fn words(&self) -> [u64; WORDS] {
         sys::snapshot_words(&self.value)
+    }
+
+    /// Returns the words of the snapshot, and bits, mult and shift of its counter.
+    #[inline]
+    pub(crate) fn copy(&self) -> [u64; COPY] {
+        let mut copy = [0; COPY];
+        copy[..WORDS].copy_from_slice(&self.words());
+        copy[WORDS] = u64::from(self.counter.bits());
+        copy[WORDS + 1] = u64::from(self.counter.mult());
+        copy[WORDS + 2] = u64::from(self.counter.shift());
+        copy
+    }
+
+    /// Makes the snapshot that `copy` returned.
+    #[inline]
+    pub(crate) fn of_copy(copy: &[u64; COPY]) -> Result<Snapshot, Refusal> {
+        let value = sys::snapshot_of_copy(copy).map_err(Refusal::of_code)?;
+        Ok(Snapshot { value, counter: Counter::of_snapshot(&value) })
     }
 
     /// Returns the counter whose readings the snapshot converts.

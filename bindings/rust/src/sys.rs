@@ -9,10 +9,14 @@ use core::mem::MaybeUninit;
 use core::slice;
 use core::sync::atomic::AtomicU64;
 
-use crate::{ClockWords, Refusal, Timespec, WORDS};
+use crate::snapshot::COPY;
+use crate::{ClockWords, Refusal, Timespec, SAVED_WORDS, WORDS};
 
 /// The version of the header that these declarations follow, as `TKC_VERSION`.
-pub(crate) const DECLARED_VERSION: u32 = 0x0000_0200; // 0.2.0
+const DECLARED_VERSION: u32 = 0x0000_0200; // 0.2.0
+
+/// `TKC_BAD_WORDS`
+const BAD_WORDS: u32 = 18;
 
 /// `struct tkc_counter`
 #[repr(C)]
@@ -64,6 +68,9 @@ extern "C" {
         first: u64,
     ) -> u32;
     fn tkc_clock_snapshot(out: *mut SnapshotValue, clock: *const ClockValue);
+    fn tkc_snapshot_counter(out: *mut CounterValue, snapshot: *const SnapshotValue);
+    fn tkc_clock_save(words: *mut u64, clock: *const ClockValue);
+    fn tkc_clock_load(out: *mut ClockValue, words: *const u64) -> u32;
     fn tkc_snapshot_get(
         out: *mut Timespec,
         snapshot: *const SnapshotValue,
@@ -124,6 +131,16 @@ fn made<T>(call: impl FnOnce(*mut T) -> u32) -> Result<T, u32> {
 pub fn version() -> u32 {
     // SAFETY: the call has no argument.
     unsafe { tkc_version() }
+}
+
+/// Returns `OtherVersion` unless the linked library has the values that this crate declares.
+#[inline]
+pub(crate) fn check_version() -> Result<(), Refusal> {
+    if version() >> 8 == DECLARED_VERSION >> 8 {
+        Ok(())
+    } else {
+        Err(Refusal::OtherVersion)
+    }
 }
 
 pub(crate) fn counter_new(bits: u32, mult: u32, shift: u32) -> Result<CounterValue, u32> {
@@ -258,21 +275,65 @@ pub(crate) fn snapshot_from_words(
     made(|out| unsafe { tkc_snapshot_from_words(out, counter, words.as_ptr()) })
 }
 
-/// Reads a clock by the snapshot that words represent, without moving the snapshot.
+/// Makes the snapshot that the words of a copy represent in `out`. Returns the code.
 #[inline]
-pub(crate) fn get_by_words(
-    counter: &CounterValue,
-    words: &[u64; WORDS],
-    clock: u32,
-    reading: u64,
-) -> Result<Timespec, u32> {
+fn make_of_copy(out: &mut MaybeUninit<SnapshotValue>, copy: &[u64; COPY]) -> u32 {
+    let [.., bits, mult, shift] = *copy;
+    let mut counter = MaybeUninit::uninit();
+    if (bits | mult | shift) >> 32 != 0 {
+        return BAD_WORDS;
+    }
+    let made = counter.as_mut_ptr();
+    // SAFETY: `counter` is valid for a write.
+    match unsafe { tkc_counter_new(made, bits as u32, mult as u32, shift as u32) } {
+        // SAFETY: the library has written the counter, `out` is valid for a write, and a copy begins
+        // with ten words.
+        0 => unsafe { tkc_snapshot_from_words(out.as_mut_ptr(), made, copy.as_ptr()) },
+        code => code,
+    }
+}
+
+#[inline]
+pub(crate) fn snapshot_of_copy(copy: &[u64; COPY]) -> Result<SnapshotValue, u32> {
     let mut snapshot = MaybeUninit::uninit();
-    // SAFETY: `snapshot` is valid for a write, the counter is a value, and there are ten words.
-    match unsafe { tkc_snapshot_from_words(snapshot.as_mut_ptr(), counter, words.as_ptr()) } {
+    match make_of_copy(&mut snapshot, copy) {
+        // SAFETY: the library has written the whole snapshot.
+        0 => Ok(unsafe { snapshot.assume_init() }),
+        code => Err(code),
+    }
+}
+
+/// Reads a clock by the snapshot that the words of a copy represent, without moving the snapshot.
+#[inline]
+pub(crate) fn get_by_copy(copy: &[u64; COPY], clock: u32, reading: u64) -> Result<Timespec, u32> {
+    let mut snapshot = MaybeUninit::uninit();
+    match make_of_copy(&mut snapshot, copy) {
         // SAFETY: the library has written the whole snapshot.
         0 => snapshot_get(unsafe { snapshot.assume_init_ref() }, clock, reading),
         code => Err(code),
     }
+}
+
+pub(crate) fn snapshot_counter(snapshot: &SnapshotValue) -> CounterValue {
+    let mut out = MaybeUninit::uninit();
+    // SAFETY: `out` is valid for a write, which the call does, and the snapshot is a value.
+    unsafe {
+        tkc_snapshot_counter(out.as_mut_ptr(), snapshot);
+        out.assume_init()
+    }
+}
+
+#[inline]
+pub(crate) fn clock_save(clock: &ClockValue) -> [u64; SAVED_WORDS] {
+    let mut words = [0; SAVED_WORDS];
+    // SAFETY: the call writes 15 words, and the clock is a value.
+    unsafe { tkc_clock_save(words.as_mut_ptr(), clock) };
+    words
+}
+
+pub(crate) fn clock_load(words: &[u64; SAVED_WORDS]) -> Result<ClockValue, u32> {
+    // SAFETY: `out` is valid for a write, and there are 15 words.
+    made(|out| unsafe { tkc_clock_load(out, words.as_ptr()) })
 }
 
 pub(crate) fn clock_words(clock: &ClockValue) -> ClockWords {

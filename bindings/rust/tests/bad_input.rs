@@ -9,7 +9,7 @@ use std::sync::atomic::AtomicU64;
 use std::sync::atomic::Ordering::Relaxed;
 
 use support::{opened, Random};
-use tkcore::{shared_words, ClockId, Timespec, LATCH_WORDS, PAGE_WORDS, WORDS};
+use tkcore::{shared_words, ClockId, LATCH_WORDS, PAGE_WORDS, SAVED_WORDS, WORDS};
 use tkcore::{Clock, ClockWords, Command, Counter, Latch, Page, Refusal, Snapshot};
 
 fn calls() -> u64 {
@@ -143,8 +143,13 @@ fn memory_without_a_page() {
     memory[0].fetch_add(1, Relaxed); // the number of the layout
     assert_eq!(Page::attach(&memory).err(), Some(Refusal::BadLayout));
     memory[0].fetch_sub(1, Relaxed);
-    memory[PAGE_WORDS - 2].store(0, Relaxed); // the bits of the counter
-    assert_eq!(Page::attach(&memory).err(), Some(Refusal::BadBits));
+    let page = Page::attach(&memory).unwrap();
+    memory[12].store(1 << 32 | 32, Relaxed); // the bits of the counter
+    assert_eq!(page.read(), Err(Refusal::BadWords));
+    memory[12].store(0, Relaxed);
+    assert_eq!(page.read(), Err(Refusal::BadBits));
+    assert_eq!(page.now(ClockId::Tai, || 0), Err(Refusal::BadBits));
+    assert_eq!(page.clock(), Err(Refusal::BadWords));
 }
 
 #[test]
@@ -161,15 +166,24 @@ fn memory_that_is_not_aligned() {
 }
 
 #[test]
-fn clocks_of_another_counter() {
-    let memory = [const { AtomicU64::new(0) }; PAGE_WORDS];
-    let other = Counter::new(33, 16_777_216, 24).unwrap();
-    let other = Clock::open(&other, 0, Timespec::default()).unwrap();
-    let mut page = Page::create(&memory, &opened()).unwrap();
-    assert_eq!(page.publish(&other), Err(Refusal::OtherCounter));
-    let mut latch = Latch::create(&memory, &opened().snapshot()).unwrap();
-    assert_eq!(latch.publish(&other.snapshot()), Err(Refusal::OtherCounter));
-    assert_eq!(latch.recover(&other), Err(Refusal::OtherCounter));
+fn saved_words_of_no_clocks() {
+    let saved = opened().save();
+    for (place, word) in [
+        (10, 7),
+        (10, saved[10] + (1 << 32)),
+        (11, 255),
+        (11, saved[11] + (1 << 32)),
+        (12, 33),
+        (12, u64::MAX),
+        (13, 32_768_000),
+        (14, 8_999),
+    ] {
+        let mut words = saved;
+        words[place] = word;
+        assert_eq!(Clock::load(&words), Err(Refusal::BadWords));
+    }
+    assert_eq!(Clock::load(&[0; SAVED_WORDS]), Err(Refusal::BadWords));
+    assert_eq!(Clock::load(&saved), Ok(opened()));
 }
 
 #[test]

@@ -34,8 +34,8 @@ fn reads_of_the_latest_snapshot() {
         assert_eq!(page.clock().as_ref(), Ok(&clock));
         page.begin();
         clock.apply(CYCLES, Command::Tai(offset)).unwrap();
-        page.publish(&clock).unwrap();
-        latch.publish(&clock.snapshot()).unwrap();
+        page.publish(&clock);
+        latch.publish(&clock.snapshot());
     }
 }
 
@@ -52,12 +52,44 @@ fn a_writer_inside_and_a_new_writer() {
     let mut found = page.clock().unwrap();
     assert_eq!(found, clock);
     found.apply(CYCLES, Command::Update).unwrap();
-    page.recover(&found).unwrap();
-    latch.recover(&found).unwrap();
+    page.recover(&found);
+    latch.recover(&found);
     assert_eq!((page.read(), latch.read()), (Ok(found.snapshot()), Ok(found.snapshot())));
-    page.publish(&found.snapshot()).unwrap();
+    page.publish(&found.snapshot());
     assert_eq!(page.read(), Ok(found.snapshot()));
     assert_eq!(page.clock(), Err(Refusal::BadWords));
+}
+
+#[test]
+fn a_change_of_counter_is_published_with_the_clocks() {
+    let (memory, fast) =
+        ([const { AtomicU64::new(0) }; PAGE_WORDS], [const { AtomicU64::new(0) }; LATCH_WORDS]);
+    let mut clock = opened();
+    let other = Counter::new(56, 33_554_432, 24).unwrap(); // 2 ns a cycle
+    let mut page = Page::create(&memory, &clock).unwrap();
+    let mut latch = Latch::create(&fast, &clock.snapshot()).unwrap();
+    let (reader, fast_reader) = (Page::attach(&memory).unwrap(), Latch::attach(&fast).unwrap());
+    page.begin();
+    clock.change_counter(CYCLES, &other, 9).unwrap();
+    page.publish(&clock);
+    latch.publish(&clock.snapshot());
+    let read = Ok(Timespec { sec: 0, nsec: CYCLES as u32 + 8 });
+    assert_eq!(reader.now(ClockId::Monotonic, || 13), read);
+    assert_eq!(fast_reader.now(ClockId::Monotonic, || 13), read);
+    assert_eq!(reader.read().unwrap().counter(), &other);
+    assert_eq!(fast_reader.read(), Ok(clock.snapshot()));
+    assert_eq!(page.clock(), Ok(clock));
+}
+
+#[test]
+fn the_former_layout_is_refused() {
+    let memory = [const { AtomicU64::new(0) }; PAGE_WORDS];
+    Page::create(&memory, &opened()).unwrap();
+    memory[0].store(0x746b_6370_6167_6501, Relaxed); // "tkcpage", 1
+    assert_eq!(Page::attach(&memory).err(), Some(Refusal::BadLayout));
+    Latch::create(&memory, &opened().snapshot()).unwrap();
+    memory[0].store(0x746b_636c_6174_6301, Relaxed); // "tkclatc", 1
+    assert_eq!(Latch::attach(&memory).err(), Some(Refusal::BadLayout));
 }
 
 #[test]
@@ -86,7 +118,7 @@ fn monotonic_never_goes_back_for_readers_in_threads() {
             let reading = cycles.fetch_add(1_000, Release);
             let frequency = if number % 2 == 0 { -32_768_000 } else { 32_768_000 };
             clock.apply(reading, Command::Freq(frequency)).unwrap();
-            page.publish(&clock).unwrap();
+            page.publish(&clock);
         }
     });
     assert!(cycles.load(Relaxed) >= COMMANDS * 1_000);

@@ -14,7 +14,7 @@ from .clock import Clock, Command
 from .counter import Counter
 from .errors import (Asleep, Awake, BadAdjust, BadBits, BadBuffer, BadClock, BadCommand, BadLayout,
                      BadMult, BadRate, BadRoom, BadShift, BadWords, Behind, Busy, Error, Full,
-                     Invalid, NotReached, OtherCounter, OtherVersion, Range, Refused)
+                     Invalid, NotReached, OtherVersion, Range, Refused)
 from .journal import Journal
 from .page import Latch, Page
 from .snapshot import ClockId, Snapshot
@@ -25,5 +25,5 @@ __all__ = [
     "Asleep", "Awake", "BadAdjust", "BadBits", "BadBuffer", "BadClock", "BadCommand", "BadLayout",
     "BadMult", "BadRate", "BadRoom", "BadShift", "BadWords", "Behind", "Busy", "Clock", "ClockId",
     "Command", "Counter", "Error", "Full", "Invalid", "Journal", "Latch", "NANOS", "NotReached",
-    "OtherCounter", "OtherVersion", "Page", "Range", "Refused", "Snapshot",
+    "OtherVersion", "Page", "Range", "Refused", "Snapshot",
 ]

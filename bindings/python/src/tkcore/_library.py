@@ -14,7 +14,7 @@ from typing import Any, Optional, Tuple, Type
 from .errors import BY_CODE, Error, OtherVersion
 
 VERSION = "0.2.0"
-WORDS = 10
+WORDS, SAVED_WORDS = 10, 15
 NANOS = 10**9
 U32 = (0, 2**32 - 1)
 U64 = (0, 2**64 - 1)
@@ -45,9 +45,10 @@ class TimeValue(ctypes.Structure):
     _fields_ = [("sec", c_int64), ("nsec", c_uint32), ("padding", c_uint32)]
 
 
-PAGE_SIZE = 8 * (2 + 2 * (WORDS + 2) + 2)
-LATCH_SIZE = 8 * (2 + 2 * WORDS + 2)
+PAGE_SIZE = 8 * (2 + 2 * SAVED_WORDS)
+LATCH_SIZE = 8 * (2 + 2 * (WORDS + 3))
 Words = c_uint64 * WORDS
+SavedWords = c_uint64 * SAVED_WORDS
 ReadCounter = ctypes.CFUNCTYPE(c_uint64, c_void_p)
 
 _COUNTER, _CLOCK, _SNAPSHOT = map(POINTER, (CounterValue, ClockValue, SnapshotValue))
@@ -71,17 +72,20 @@ _CALLS = {
     "tkc_snapshot_from_words": (c_uint32, [_SNAPSHOT, _COUNTER, _WORDS]),
     "tkc_clock_words": (None, [_WORDS, POINTER(c_int64), POINTER(c_int64), _CLOCK]),
     "tkc_clock_from_words": (c_uint32, [_CLOCK, _COUNTER, _WORDS, c_int64, c_int64]),
+    "tkc_clock_save": (None, [_WORDS, _CLOCK]),
+    "tkc_clock_load": (c_uint32, [_CLOCK, _WORDS]),
+    "tkc_snapshot_counter": (None, [_COUNTER, _SNAPSHOT]),
     "tkcp_layout": (None, [_WORDS]),
-    "tkcp_page_init": (None, [c_void_p, _COUNTER, _SNAPSHOT]),
-    "tkcp_page_init_clock": (None, [c_void_p, _COUNTER, _CLOCK]),
-    "tkcp_page_attach": (c_uint32, [c_void_p, _COUNTER]),
+    "tkcp_page_init": (None, [c_void_p, _SNAPSHOT]),
+    "tkcp_page_init_clock": (None, [c_void_p, _CLOCK]),
+    "tkcp_page_attach": (c_uint32, [c_void_p]),
     "tkcp_page_begin": (None, [c_void_p]),
     "tkcp_page_publish": (None, [c_void_p, _SNAPSHOT]),
     "tkcp_page_publish_clock": (None, [c_void_p, _CLOCK]),
     "tkcp_page_clock": (c_uint32, [c_void_p, _CLOCK]),
     "tkcp_page_recover": (None, [c_void_p, _CLOCK]),
-    "tkcp_latch_init": (None, [c_void_p, _COUNTER, _SNAPSHOT]),
-    "tkcp_latch_attach": (c_uint32, [c_void_p, _COUNTER]),
+    "tkcp_latch_init": (None, [c_void_p, _SNAPSHOT]),
+    "tkcp_latch_attach": (c_uint32, [c_void_p]),
     "tkcp_latch_publish": (None, [c_void_p, _SNAPSHOT]),
     "tkcp_latch_recover": (None, [c_void_p, _CLOCK]),
 }

@@ -16,24 +16,19 @@ void tkcp_layout(uint64_t layout[6])
 	layout[5] = sizeof(struct tkc_latch);
 }
 
-void tkcp_page_init(struct tkc_page *page, const struct tkc_counter *counter,
-		    const struct tkc_snapshot *snapshot)
+void tkcp_page_init(struct tkc_page *page, const struct tkc_snapshot *snapshot)
 {
-	tkc_page_init(page, counter, snapshot);
+	tkc_page_init(page, snapshot);
 }
 
-void tkcp_page_init_clock(struct tkc_page *page, const struct tkc_counter *counter,
-			  const struct tkc_clock *clock)
+void tkcp_page_init_clock(struct tkc_page *page, const struct tkc_clock *clock)
 {
-	tkc_page_init_clock(page, counter, clock);
+	tkc_page_init_clock(page, clock);
 }
 
-uint32_t tkcp_page_attach(const struct tkc_page *page, struct tkc_counter *counter)
+uint32_t tkcp_page_attach(const struct tkc_page *page)
 {
-	if (tkc_page_attach(page) != TKC_OK)
-		return TKC_BAD_LAYOUT;
-	return tkc_counter_new(counter, page->counter.bits, page->counter.mult,
-			       page->counter.shift);
+	return tkc_page_attach(page);
 }
 
 void tkcp_page_begin(struct tkc_page *page)
@@ -64,27 +59,23 @@ void tkcp_page_recover(struct tkc_page *page, const struct tkc_clock *clock)
 uint32_t tkcp_page_look(const struct tkc_page *page, uint32_t tries, tkc_read_counter *read_counter,
 			struct tkc_snapshot *out, uint64_t *reading)
 {
-	uint64_t words[TKC_WORDS];
+	uint64_t words[TKC_LATCH_WORDS];
 
 	for (; tries; tries--)
 		if (tkc_page_try(page, read_counter ? read_counter : tkc_no_reading, NULL, words,
 				 reading))
-			return tkc_words_checked(out, &page->counter, words);
+			return tkc_words_checked(out, words);
 	return TKC_BUSY;
 }
 
-void tkcp_latch_init(struct tkc_latch *latch, const struct tkc_counter *counter,
-		     const struct tkc_snapshot *snapshot)
+void tkcp_latch_init(struct tkc_latch *latch, const struct tkc_snapshot *snapshot)
 {
-	tkc_latch_init(latch, counter, snapshot);
+	tkc_latch_init(latch, snapshot);
 }
 
-uint32_t tkcp_latch_attach(const struct tkc_latch *latch, struct tkc_counter *counter)
+uint32_t tkcp_latch_attach(const struct tkc_latch *latch)
 {
-	if (tkc_latch_attach(latch) != TKC_OK)
-		return TKC_BAD_LAYOUT;
-	return tkc_counter_new(counter, latch->counter.bits, latch->counter.mult,
-			       latch->counter.shift);
+	return tkc_latch_attach(latch);
 }
 
 void tkcp_latch_publish(struct tkc_latch *latch, const struct tkc_snapshot *snapshot)
@@ -101,11 +92,11 @@ uint32_t tkcp_latch_look(const struct tkc_latch *latch, uint32_t tries,
 			 tkc_read_counter *read_counter, struct tkc_snapshot *out,
 			 uint64_t *reading)
 {
-	uint64_t words[TKC_WORDS];
+	uint64_t words[TKC_LATCH_WORDS];
 
 	for (; tries; tries--)
 		if (tkc_latch_try(latch, read_counter ? read_counter : tkc_no_reading, NULL, words,
 				  reading))
-			return tkc_words_checked(out, &latch->counter, words);
+			return tkc_words_checked(out, words);
 	return TKC_BUSY;
 }

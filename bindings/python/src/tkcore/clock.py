@@ -6,7 +6,7 @@ import enum
 from ctypes import byref, c_int64
 from typing import Any, Iterable, NoReturn, Tuple
 
-from ._library import (CALLS, I64, NANOS, U32, U64, ClockValue, SnapshotValue, Words, fit,
+from ._library import (CALLS, I64, NANOS, U32, U64, ClockValue, SavedWords, SnapshotValue, Words, fit,
                        raise_code)
 from .counter import Counter
 from .errors import BY_CODE, BadCommand, BadWords, Behind, Full, Invalid
@@ -81,12 +81,36 @@ class Clock:
         clock._value, clock.counter = value, counter
         return clock
 
+    @classmethod
+    def _with_counter(cls, value: ClockValue) -> Clock:
+        snapshot = SnapshotValue()
+        CALLS.tkc_clock_snapshot(byref(snapshot), byref(value))
+        return cls._of_value(value, Counter._of_snapshot(snapshot))
+
     def words(self) -> Tuple[Tuple[int, ...], int, int]:
         """Returns the ten numbers of the clocks' snapshot, the frequency in 2^-16 ppm as it was
         set, and the tick in us."""
         words, frequency, tick = Words(), c_int64(), c_int64()
         CALLS.tkc_clock_words(words, byref(frequency), byref(tick), byref(self._value))
         return tuple(words), frequency.value, tick.value
+
+    @classmethod
+    def load(cls, words: Iterable[int]) -> Clock:
+        """Returns the clocks that the result of `save` represents.
+
+        Raises BadWords if no running clocks of any counter have these words.
+        """
+        value = ClockValue()
+        code = CALLS.tkc_clock_load(byref(value), words_of(words, SavedWords))
+        raise_code(code, "the words represent no clocks")
+        return cls._with_counter(value)
+
+    def save(self) -> Tuple[int, ...]:
+        """Returns the 15 numbers that represent the clocks with their counter: those of their
+        snapshot; bits, mult and shift of the counter; the frequency and the tick, modulo 2^64."""
+        words = SavedWords()
+        CALLS.tkc_clock_save(words, byref(self._value))
+        return tuple(words)
 
     def snapshot(self) -> Snapshot:
         """Returns a snapshot of the clocks, for reads."""

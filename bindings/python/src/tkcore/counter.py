@@ -5,7 +5,7 @@ from __future__ import annotations
 from ctypes import byref, c_uint32
 from typing import Any
 
-from ._library import CALLS, U32, U64, CounterValue, fit
+from ._library import CALLS, U32, U64, CounterValue, SnapshotValue, fit
 from .errors import BY_CODE, BadBits, BadMult, BadRate, BadShift
 
 _BITS, _SHIFTS, _MULTS = (8, 64), (0, 32), (256, 3_869_339_906)
@@ -49,6 +49,12 @@ class Counter:
         counter = cls.__new__(cls)
         counter._set(value)
         return counter
+
+    @classmethod
+    def _of_snapshot(cls, snapshot: SnapshotValue) -> Counter:
+        value = CounterValue()
+        CALLS.tkc_snapshot_counter(byref(value), byref(snapshot))
+        return cls._of_value(value)
 
     @classmethod
     def _from_rate(cls, call: Any, bits: int, rate: int, maxsec: int, what: str) -> Counter:

@@ -157,10 +157,6 @@ class BadBuffer(Error, TypeError):
     """A buffer has another type, order, size or alignment, is read-only, or overlaps another."""
 
 
-class OtherCounter(Error, ValueError):
-    """The clocks or the snapshot are of another counter than the page or the latch."""
-
-
 class OtherVersion(Error, ImportError):
     """The shared object is of another version than this package."""
 

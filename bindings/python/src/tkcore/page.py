@@ -12,11 +12,11 @@ from ctypes import byref, c_uint64
 from typing import Any, Callable, Iterator, List, Optional, Tuple, Type, TypeVar, Union
 
 from ._buffers import Memory
-from ._library import (CALLS, LATCH_SIZE, PAGE_SIZE, U64, ClockValue, CounterValue, ReadCounter,
+from ._library import (CALLS, LATCH_SIZE, PAGE_SIZE, U64, ClockValue, ReadCounter,
                        SnapshotValue, fit, raise_code)
 from .clock import Clock
 from .counter import Counter
-from .errors import BadBuffer, Busy, Error, OtherCounter
+from .errors import BadBuffer, Busy, Error
 from .snapshot import Snapshot
 
 _TRIES = 1_000  # a call in C makes at most this many, so that signals are handled
@@ -30,7 +30,6 @@ class _Shared:
 
     SIZE = 0
     _calls: Tuple[Any, Any]
-    counter: Counter
 
     def __init__(self) -> None:
         name = type(self).__name__
@@ -56,14 +55,11 @@ class _Shared:
         The buffer is at least SIZE bytes, aligned to 8 bytes: an mmap, or the `buf` of a
         SharedMemory. It can't be closed before `close`. No process may shorten a mapped file.
 
-        Raises BadBuffer; BadLayout if the buffer contains none of this layout; and BadBits to
-        BadAdjust if its counter is none.
+        Raises BadBuffer, and BadLayout if the buffer contains none of this layout.
         """
         shared = cls._over(buffer, False)
-        value = CounterValue()
-        raise_code(cls._calls[0](shared._at, byref(value)),
+        raise_code(cls._calls[0](shared._at),
                    f"the memory contains no {cls.__name__.lower()} of this layout")
-        shared.counter = Counter._of_value(value)
         return shared
 
     def close(self) -> None:
@@ -128,7 +124,7 @@ class _Shared:
                     raise Busy("a writer was inside at each try")
                 _time.sleep(0)
         raise_code(code, "something else than a writer wrote this memory")
-        return Snapshot._of_value(value, self.counter), reading.value
+        return Snapshot._of_value(value, Counter._of_snapshot(value)), reading.value
 
     def __reduce__(self) -> Any:
         name = type(self).__name__.lower()
@@ -139,13 +135,8 @@ class _Shared:
             raise ValueError(f"this {type(self).__name__.lower()} is closed")
         return self._at
 
-    def _written(self, what: Union[Clock, Snapshot]) -> int:
-        """Returns the address for a writer of these clocks."""
-        if what.counter != self.counter:
-            raise OtherCounter("the counter", what.counter)
-        return self._written_by_any()
-
-    def _written_by_any(self) -> int:
+    def _written(self) -> int:
+        """Returns the address for a writer."""
         if not self.is_writable:
             raise BadBuffer("the buffer is read-only")
         return self._there()
@@ -176,29 +167,27 @@ class Page(_Shared):
         Raises BadBuffer if it has another size or alignment, or is read-only.
         """
         page = cls._over(mmap.mmap(-1, cls.SIZE) if buffer is None else buffer, True)
-        page.counter = what.counter
         init = CALLS.tkcp_page_init_clock if isinstance(what, Clock) else CALLS.tkcp_page_init
-        init(page._at, byref(what.counter._value), byref(what._value))
+        init(page._at, byref(what._value))
         return page
 
     def begin(self) -> None:
         """Lets readers wait until `publish`. Read the counter for the command after this call."""
-        CALLS.tkcp_page_begin(self._written_by_any())
+        CALLS.tkcp_page_begin(self._written())
 
     def publish(self, what: Union[Clock, Snapshot]) -> None:
-        """Publishes clocks or a snapshot, also after a refused command.
+        """Publishes clocks or a snapshot with their counter, also after a refused command. After
+        `Clock.change_counter` readers get the new counter with the new snapshot.
 
-        Raises OtherCounter if they are of another counter than the page, and BadBuffer if its
-        memory is read-only.
+        Raises BadBuffer if the memory is read-only.
         """
         call = CALLS.tkcp_page_publish_clock if isinstance(what, Clock) else CALLS.tkcp_page_publish
-        call(self._written(what), byref(what._value))
+        call(self._written(), byref(what._value))
 
     @contextmanager
     def writing(self, clock: Clock) -> Iterator[None]:
         """Calls `begin`, and publishes the clocks at the end, also after an exception. It raises
         what `publish` does."""
-        self._written(clock)
         self.begin()
         try:
             yield
@@ -214,12 +203,12 @@ class Page(_Shared):
         value = ClockValue()
         raise_code(CALLS.tkcp_page_clock(self._there(), byref(value)),
                    "no clocks can be rebuilt from this page")
-        return Clock._of_value(value, self.counter)
+        return Clock._with_counter(value)
 
     def recover(self, clock: Clock) -> None:
         """Makes the page whole from a new writer's clocks, wherever the former writer died. It
         raises what `publish` does."""
-        CALLS.tkcp_page_recover(self._written(clock), byref(clock._value))
+        CALLS.tkcp_page_recover(self._written(), byref(clock._value))
 
 
 class Latch(_Shared):
@@ -234,15 +223,14 @@ class Latch(_Shared):
         """Makes a latch with its first snapshot. `buffer` and the exceptions are those of
         `Page.create`."""
         latch = cls._over(mmap.mmap(-1, cls.SIZE) if buffer is None else buffer, True)
-        latch.counter = snapshot.counter
-        CALLS.tkcp_latch_init(latch._at, byref(snapshot.counter._value), byref(snapshot._value))
+        CALLS.tkcp_latch_init(latch._at, byref(snapshot._value))
         return latch
 
     def publish(self, snapshot: Snapshot) -> None:
         """Publishes a snapshot. It raises what `Page.publish` does."""
-        CALLS.tkcp_latch_publish(self._written(snapshot), byref(snapshot._value))
+        CALLS.tkcp_latch_publish(self._written(), byref(snapshot._value))
 
     def recover(self, clock: Clock) -> None:
         """Makes the latch whole and publishes the clocks of a new writer, wherever the former one
         died. It raises what `publish` does."""
-        CALLS.tkcp_latch_recover(self._written(clock), byref(clock._value))
+        CALLS.tkcp_latch_recover(self._written(), byref(clock._value))

@@ -187,9 +187,9 @@ class Snapshot:
         return Snapshot.from_words, (self.counter, self.words())
 
 
-def words_of(words: Iterable[int]) -> Any:
-    """Returns ten numbers as an array of C."""
-    found = tuple(words)
-    if len(found) != WORDS:
-        raise BadWords("the number of words", len(found), (WORDS, WORDS))
-    return Words(*(fit(word, U64, BadWords, f"word {place}") for place, word in enumerate(found)))
+def words_of(words: Iterable[int], kind: Any = Words) -> Any:
+    """Returns the numbers as an array of C of this type."""
+    found, count = tuple(words), kind._length_
+    if len(found) != count:
+        raise BadWords("the number of words", len(found), (count, count))
+    return kind(*(fit(word, U64, BadWords, f"word {place}") for place, word in enumerate(found)))
