@@ -10,11 +10,12 @@
  *
  * The file contains the page at 0, the latch at 256, the counter at 512, and at 520 the word 1 once
  * the writer has ended. The counter has 1 ns a cycle, and moves by 10^6 cycles four times for each
- * command. Command n sets the TAI offset to n mod 100001 s if n is odd, and otherwise the frequency
- * to n * 997 mod 32768000, negative if n is a multiple of 4. So a reader can compute the words of
- * each snapshot. MONOTONIC of the page must never go back. The writer pauses after each 256
- * commands, so that the reader runs on a busy machine too, and ends in any case after 100 times
- * COMMANDS.
+ * command. A second counter is the same one scaled by 3 / 7. Command n sets the TAI offset to
+ * n mod 100001 s if n is odd, and changes to the other counter if n is a multiple of 8. Otherwise
+ * it sets the frequency to n * 997 mod 32768000, negative if n is a multiple of 4. So a reader can
+ * compute the words and the counter of each snapshot. MONOTONIC of the page must never go back. The
+ * writer pauses after each 256 commands, so that the reader runs on a busy machine too, and ends in
+ * any case after 100 times COMMANDS.
  */
 #include <fcntl.h>
 #include <inttypes.h>
@@ -25,7 +26,10 @@
 #include <tkcore_page.h>
 #include <unistd.h>
 
-enum { SIZE = 4096, STEP = 1000000, MULT = 8388608, PAUSE = 256, SEEN = 100, MOST = 100 };
+enum { SIZE = 4096, STEP = 1000000, PAUSE = 256, SEEN = 100, MOST = 100 };
+
+/* Bits, mult and shift of the two counters. */
+static const uint32_t numbers[2][3] = { { 64, 8388608, 23 }, { 56, 39146837, 24 } };
 
 /* The name of the file that a reader makes to stop the writer. */
 static char seen[4096];
@@ -62,6 +66,26 @@ static int64_t frequency_at(uint64_t n)
 	return n % 4 ? frequency : -frequency;
 }
 
+static struct tkc_counter counter(int which)
+{
+	struct tkc_counter made;
+
+	need(!tkc_counter_new(&made, numbers[which][0], numbers[which][1], numbers[which][2]),
+	     "no counter");
+	return made;
+}
+
+/* Returns the counter after n commands, and its reading. */
+static int which_at(uint64_t n)
+{
+	return n / 8 % 2;
+}
+
+static uint64_t reading_at(int which, uint64_t cycles)
+{
+	return which ? cycles / 7 * 3 + cycles % 7 * 3 / 7 : cycles;
+}
+
 static uint64_t moved(struct shared *shared)
 {
 	uint64_t cycles = atomic_load_explicit(&shared->cycles, memory_order_relaxed) + STEP;
@@ -72,17 +96,24 @@ static uint64_t moved(struct shared *shared)
 
 static void command(struct shared *shared, struct tkc_clock *clock, uint64_t n)
 {
+	const struct tkc_counter other = counter(which_at(n));
 	struct tkc_snapshot snapshot;
+	uint64_t cycles, reading;
 	enum tkc_code code;
 	int i;
 
 	for (i = 0; i < 3; i++)
 		moved(shared);
 	tkc_page_begin(&shared->page);
+	cycles = moved(shared);
+	reading = reading_at(which_at(n - 1), cycles);
 	if (n % 2)
-		code = tkc_clock_set_tai_offset(clock, moved(shared), (int64_t)(n % 100001));
+		code = tkc_clock_set_tai_offset(clock, reading, (int64_t)(n % 100001));
+	else if (n % 8)
+		code = tkc_clock_set_frequency(clock, reading, frequency_at(n));
 	else
-		code = tkc_clock_set_frequency(clock, moved(shared), frequency_at(n));
+		code = tkc_clock_change_counter(clock, reading, &other,
+						reading_at(which_at(n), cycles));
 	tkc_page_publish_clock(&shared->page, clock);
 	tkc_clock_snapshot(&snapshot, clock);
 	tkc_latch_publish(&shared->latch, &snapshot);
@@ -91,13 +122,12 @@ static void command(struct shared *shared, struct tkc_clock *clock, uint64_t n)
 
 static void write_all(struct shared *shared, uint64_t commands)
 {
-	struct tkc_counter counter;
+	const struct tkc_counter first = counter(0);
 	struct tkc_clock clock;
 	struct tkc_snapshot snapshot;
 	uint64_t n;
 
-	need(!tkc_counter_from_hz(&counter, 64, 1000000000, 600) &&
-	     !tkc_clock_open(&clock, &counter, 0, 1700000000, 0), "no clocks");
+	need(!tkc_clock_open(&clock, &first, 0, 1700000000, 0), "no clocks");
 	tkc_clock_snapshot(&snapshot, &clock);
 	tkc_latch_init(&shared->latch, &snapshot);
 	tkc_page_init_clock(&shared->page, &clock);
@@ -116,19 +146,36 @@ static uint64_t read_counter(void *context)
 	return atomic_load_explicit(&shared->cycles, memory_order_acquire);
 }
 
+static void check_counter(const struct tkc_snapshot *snapshot, int which)
+{
+	struct tkc_counter found;
+	uint32_t bits, mult, shift;
+
+	tkc_snapshot_counter(&found, snapshot);
+	tkc_counter_numbers(&bits, &mult, &shift, &found);
+	need(bits == numbers[which][0] && mult == numbers[which][1] &&
+	     shift == numbers[which][2], "a snapshot has another counter");
+}
+
 /* Checks that a snapshot is as one command left it. Returns its front. */
 static uint64_t check_whole(const struct tkc_snapshot *snapshot)
 {
 	uint64_t words[TKC_WORDS], front, tai, frequency;
+	int which;
 
 	tkc_snapshot_words(words, snapshot);
 	front = words[0];
+	which = which_at(front);
 	tai = front % 2 || !front ? front : front - 1;
 	frequency = front % 2 ? front - 1 : front;
-	need(words[1] == front * 4 * STEP, "a snapshot has another reading");
+	if (frequency && frequency % 8 == 0)
+		frequency -= 2;
+	need(words[1] == reading_at(which, front * 4 * STEP), "a snapshot has another reading");
 	need(words[7] == tai % 100001 * 2, "a snapshot has another TAI offset");
-	need(words[2] == (uint64_t)(MULT * (65536000000 + frequency_at(frequency)) / 65536000000),
+	need(words[2] == (uint64_t)(numbers[which][1] * (65536000000 + frequency_at(frequency)) /
+				    65536000000),
 	     "a snapshot has another multiplier");
+	check_counter(snapshot, which);
 	return front;
 }
 
@@ -142,11 +189,12 @@ static void read_all(struct shared *shared)
 		ended = atomic_load_explicit(&shared->ended, memory_order_acquire);
 		need(!tkc_page_look(&shared->page, read_counter, shared, &snapshot, &reading),
 		     "the page can't be read");
-		need(!tkc_snapshot_get(&now, &snapshot, TKC_CLOCK_MONOTONIC, reading), "no time");
+		front = check_whole(&snapshot);
+		need(!tkc_snapshot_get(&now, &snapshot, TKC_CLOCK_MONOTONIC,
+				       reading_at(which_at(front), reading)), "no time");
 		need(now.sec > before.sec || (now.sec == before.sec && now.nsec >= before.nsec),
 		     "MONOTONIC went back");
 		before = now;
-		front = check_whole(&snapshot);
 		fronts += front != last;
 		if (fronts == SEEN && front != last)
 			close(open(seen, O_CREAT | O_WRONLY, 0600));

@@ -12,7 +12,8 @@ import time
 
 import tkcore
 
-SIZE, STEP, MULT, PAUSE, SEEN, MOST = 4096, 1_000_000, 8_388_608, 256, 100, 100
+SIZE, STEP, PAUSE, SEEN, MOST = 4096, 1_000_000, 256, 100, 100
+COUNTERS = (tkcore.Counter(64, 8_388_608, 23), tkcore.Counter(56, 39_146_837, 24))
 
 
 def mapped(name, is_written):
@@ -27,9 +28,17 @@ def frequency_at(n):
     return frequency if n % 4 else -frequency
 
 
+def which_at(n):
+    return n // 8 % 2
+
+
+def reading_at(which, cycles):
+    return cycles * 3 // 7 if which else cycles
+
+
 def write(name, commands):
     page_memory, latch_memory, words = mapped(name, True)
-    clock = tkcore.Clock(tkcore.Counter.from_hz(64, 10**9), 0, 1_700_000_000 * tkcore.NANOS)
+    clock = tkcore.Clock(COUNTERS[0], 0, 1_700_000_000 * tkcore.NANOS)
     latch = tkcore.Latch.create(clock.snapshot(), latch_memory)
     page = tkcore.Page.create(clock, page_memory)
     for n in range(1, commands * MOST + 1):
@@ -39,10 +48,14 @@ def write(name, commands):
             words[0] += STEP
         page.begin()
         words[0] += STEP
+        reading = reading_at(which_at(n - 1), words[0])
         if n % 2:
-            clock.set_tai_offset(words[0], n % 100_001)
+            clock.set_tai_offset(reading, n % 100_001)
+        elif n % 8:
+            clock.set_frequency(reading, frequency_at(n))
         else:
-            clock.set_frequency(words[0], frequency_at(n))
+            which = which_at(n)
+            clock.change_counter(reading, COUNTERS[which], reading_at(which, words[0]))
         page.publish(clock)
         latch.publish(clock.snapshot())
         if n % PAUSE == 0:
@@ -55,10 +68,14 @@ def check_whole(snapshot):
     words = snapshot.words()
     front = words[0]
     tai, frequency = (front, front - 1) if front % 2 else (max(front - 1, 0), front)
-    assert words[1] == front * 4 * STEP, "a snapshot has another reading"
+    frequency -= 2 if frequency and frequency % 8 == 0 else 0
+    counter = COUNTERS[which_at(front)]
+    assert snapshot.counter == counter, "a snapshot has another counter"
+    assert words[1] == reading_at(which_at(front), front * 4 * STEP), (
+        "a snapshot has another reading")
     assert words[7] == tai % 100_001 * 2, "a snapshot has another TAI offset"
-    assert words[2] == MULT * (65_536_000_000 + frequency_at(frequency)) // 65_536_000_000, (
-        "a snapshot has another multiplier")
+    rate = 65_536_000_000 + frequency_at(frequency)
+    assert words[2] == counter.mult * rate // 65_536_000_000, "a snapshot has another multiplier"
     return front
 
 
@@ -79,9 +96,9 @@ def read(name):
     while not ended:
         ended = words[1]
         snapshot, reading = page.look(lambda: words[0])
-        now = snapshot.get(reading, tkcore.ClockId.MONOTONIC)
-        assert now >= before, "MONOTONIC went back"
         front = check_whole(snapshot)
+        now = snapshot.get(reading_at(which_at(front), reading), tkcore.ClockId.MONOTONIC)
+        assert now >= before, "MONOTONIC went back"
         assert front >= last, "the front went back"
         check_whole(latch.read())
         reads, fronts, last, before = reads + 1, fronts + (front != last), front, now

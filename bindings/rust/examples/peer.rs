@@ -22,7 +22,7 @@ use tkcore::{
 
 const SIZE: usize = 4096;
 const STEP: u64 = 1_000_000;
-const MULT: i64 = 8_388_608;
+const NUMBERS: [[u32; 3]; 2] = [[64, 8_388_608, 23], [56, 39_146_837, 24]];
 const PAUSE: u64 = 256;
 const SEEN: u64 = 100;
 const MOST: u64 = 100;
@@ -71,6 +71,25 @@ fn frequency_at(n: u64) -> i64 {
     }
 }
 
+fn counter(which: usize) -> Result<Counter, Refusal> {
+    let [bits, mult, shift] = NUMBERS[which];
+    Counter::new(bits, mult, shift)
+}
+
+/// Returns the counter after n commands.
+fn which_at(n: u64) -> usize {
+    (n / 8 % 2) as usize
+}
+
+/// Returns the counter's reading when the first one's is `cycles`.
+fn reading_at(which: usize, cycles: u64) -> u64 {
+    if which == 1 {
+        cycles / 7 * 3 + cycles % 7 * 3 / 7
+    } else {
+        cycles
+    }
+}
+
 fn moved(memory: &[AtomicU64]) -> u64 {
     let cycles = memory[CYCLES].load(Relaxed) + STEP;
     memory[CYCLES].store(cycles, Release);
@@ -78,8 +97,7 @@ fn moved(memory: &[AtomicU64]) -> u64 {
 }
 
 fn write(memory: &[AtomicU64], commands: u64, seen: &Path) -> Result<(), Refusal> {
-    let counter = Counter::from_hz(64, 1_000_000_000, 600)?;
-    let mut clock = Clock::open(&counter, 0, Timespec { sec: 1_700_000_000, nsec: 0 })?;
+    let mut clock = Clock::open(&counter(0)?, 0, Timespec { sec: 1_700_000_000, nsec: 0 })?;
     let mut latch = Latch::create(&memory[LATCH..], &clock.snapshot())?;
     let mut page = Page::create(memory, &clock)?;
     for n in 1..=commands * MOST {
@@ -89,13 +107,17 @@ fn write(memory: &[AtomicU64], commands: u64, seen: &Path) -> Result<(), Refusal
         for _ in 0..3 {
             moved(memory);
         }
-        let command = if n % 2 == 1 {
-            Command::Tai((n % 100_001) as i64)
-        } else {
-            Command::Freq(frequency_at(n))
-        };
         page.begin();
-        let applied = clock.apply(moved(memory), command);
+        let cycles = moved(memory);
+        let reading = reading_at(which_at(n - 1), cycles);
+        let applied = if n % 2 == 1 {
+            clock.apply(reading, Command::Tai((n % 100_001) as i64))
+        } else if n % 8 != 0 {
+            clock.apply(reading, Command::Freq(frequency_at(n)))
+        } else {
+            let which = which_at(n);
+            clock.change_counter(reading, &counter(which)?, reading_at(which, cycles))
+        };
         page.publish(&clock);
         latch.publish(&clock.snapshot());
         applied?;
@@ -112,10 +134,17 @@ fn check_whole(snapshot: &Snapshot) -> u64 {
     let words = snapshot.words();
     let front = words[0];
     let tai = if front % 2 == 1 { front } else { front.saturating_sub(1) };
-    let frequency = if front % 2 == 1 { front - 1 } else { front };
-    assert_eq!(words[1], front * 4 * STEP, "a snapshot has another reading");
+    let steered = if front % 2 == 1 { front - 1 } else { front };
+    let frequency = if steered % 8 == 0 { steered.saturating_sub(2) } else { steered };
+    let which = which_at(front);
+    let counter = snapshot.counter();
+    let numbers = [counter.bits(), counter.mult(), counter.shift()];
+    assert_eq!(numbers, NUMBERS[which], "a snapshot has another counter");
+    let reading = reading_at(which, front * 4 * STEP);
+    assert_eq!(words[1], reading, "a snapshot has another reading");
     assert_eq!(words[7], tai % 100_001 * 2, "a snapshot has another TAI offset");
-    let mult = MULT * (65_536_000_000 + frequency_at(frequency)) / 65_536_000_000;
+    let mult =
+        i64::from(counter.mult()) * (65_536_000_000 + frequency_at(frequency)) / 65_536_000_000;
     assert_eq!(words[2], mult as u64, "a snapshot has another multiplier");
     front
 }
@@ -138,9 +167,9 @@ fn read(memory: &[AtomicU64], seen: &Path) -> Result<(), Box<dyn Error>> {
     loop {
         let ended = memory[ENDED].load(Acquire);
         let (snapshot, reading) = page.look(|| memory[CYCLES].load(Acquire))?;
-        let now = snapshot.get(ClockId::Monotonic, reading)?;
-        assert!(now >= before, "MONOTONIC went back");
         let front = check_whole(&snapshot);
+        let now = snapshot.get(ClockId::Monotonic, reading_at(which_at(front), reading))?;
+        assert!(now >= before, "MONOTONIC went back");
         assert!(front >= last, "the front went back");
         check_whole(&latch.read()?);
         reads += 1;
