@@ -5,9 +5,11 @@
 static void write_copy(struct clocks *clocks, int which)
 {
 	const u64 *from = clocks->snapshot.tkc_private;
-	u64 *to = clocks->copies[which].tkc_private;
+	struct base *copy = &clocks->copies[which];
+	u64 *to = copy->snapshot.tkc_private;
 	size_t count = ARRAY_SIZE(clocks->snapshot.tkc_private);
 
+	WRITE_ONCE(copy->read_counter, clocks->read_counter);
 	for (size_t i = 0; i < count; i++) {
 		if (i == count / 2 && clocks->midway)
 			clocks->midway();
@@ -78,6 +80,40 @@ void clocks_command(struct clocks *clocks, struct command *command)
 	raw_spin_unlock_irqrestore(&clocks->lock, flags);
 }
 
+/* The caller holds the lock and has begun to write the snapshot. */
+static u32 change(struct clocks *clocks, const struct tkc_counter *counter,
+		  u64 (*read_counter)(void))
+{
+	u64 reading = clocks->read_counter();
+	u32 code = tkc_clock_change_counter(&clocks->clock, reading, counter,
+					    read_counter());
+
+	if (code)
+		return code;
+	tkc_clock_snapshot(&clocks->snapshot, &clocks->clock);
+	WRITE_ONCE(clocks->read_counter, read_counter);
+	clocks->counter = *counter;
+	clocks->front++;
+	return TKC_OK;
+}
+
+u32 clocks_change_counter(struct clocks *clocks,
+			  const struct tkc_counter *counter,
+			  u64 (*read_counter)(void))
+{
+	unsigned long flags;
+	u32 code;
+
+	raw_spin_lock_irqsave(&clocks->lock, flags);
+	write_seqcount_begin(&clocks->seq);
+	smp_mb(); /* as in clocks_command() */
+	code = change(clocks, counter, read_counter);
+	write_seqcount_end(&clocks->seq);
+	write_copies(clocks);
+	raw_spin_unlock_irqrestore(&clocks->lock, flags);
+	return code;
+}
+
 void clocks_look(struct clocks *clocks, struct tkc_snapshot *snapshot,
 		 u64 *reading)
 {
@@ -86,18 +122,20 @@ void clocks_look(struct clocks *clocks, struct tkc_snapshot *snapshot,
 	do {
 		seq = read_seqcount_begin(&clocks->seq);
 		*snapshot = clocks->snapshot;
-		*reading = clocks->read_counter();
+		*reading = READ_ONCE(clocks->read_counter)();
 	} while (read_seqcount_retry(&clocks->seq, seq));
 }
 
 void clocks_look_fast(struct clocks *clocks, struct tkc_snapshot *snapshot,
 		      u64 *reading)
 {
+	const struct base *copy;
 	unsigned int seq;
 
 	do {
 		seq = raw_read_seqcount_latch(&clocks->latch);
-		*snapshot = clocks->copies[seq & 1];
-		*reading = clocks->read_counter();
+		copy = &clocks->copies[seq & 1];
+		*snapshot = copy->snapshot;
+		*reading = READ_ONCE(copy->read_counter)();
 	} while (read_seqcount_latch_retry(&clocks->latch, seq));
 }

@@ -22,6 +22,13 @@ struct command {
 	struct tkc_time time; /* MONOTONIC at the reading, if it was accepted */
 };
 
+/* What readers need: a snapshot, and the call that reads its counter, ordered
+ * after and before other loads (struct tk_read_base). */
+struct base {
+	struct tkc_snapshot snapshot;
+	u64 (*read_counter)(void);
+};
+
 struct clocks {
 	/*
 	 * The caller sets these before clocks_open(). `notify` is called with
@@ -30,17 +37,18 @@ struct clocks {
 	 * it. Both may be NULL.
 	 */
 	struct tkc_counter counter;
-	u64 (*read_counter)(void); /* ordered after and before other loads */
+	u64 (*read_counter)(void); /* as in struct base */
 	void (*notify)(const struct command *command);
 	void (*midway)(void);
 
 	raw_spinlock_t lock; /* serializes commands; timekeeper_lock */
 	struct tkc_clock clock;
 	u64 front; /* the commands accepted so far */
-	seqcount_raw_spinlock_t seq; /* protects the snapshot; tk_core.seq */
+	seqcount_raw_spinlock_t seq; /* protects the snapshot and read_counter,
+					as tk_core.seq does */
 	struct tkc_snapshot snapshot;
 	seqcount_latch_t latch; /* selects a copy; struct tk_fast */
-	struct tkc_snapshot copies[2];
+	struct base copies[2];
 };
 
 /* Opens the clocks with REALTIME at the reading. */
@@ -52,6 +60,15 @@ u32 clocks_open(struct clocks *clocks, u64 reading,
  * result in it. It may be called in any context except an NMI.
  */
 void clocks_command(struct clocks *clocks, struct command *command);
+
+/*
+ * Lets the clocks go on over another counter, which `read_counter` reads
+ * (change_clocksource). Returns the code of tkc_clock_change_counter(). It may
+ * be called in any context except an NMI, and doesn't call `notify`.
+ */
+u32 clocks_change_counter(struct clocks *clocks,
+			  const struct tkc_counter *counter,
+			  u64 (*read_counter)(void));
 
 /*
  * Stores a snapshot and a reading that was taken while the snapshot was the

@@ -14,7 +14,7 @@
 
 static unsigned int milliseconds = 1000;
 module_param(milliseconds, uint, 0444);
-MODULE_PARM_DESC(milliseconds, "the length of each of the two phases");
+MODULE_PARM_DESC(milliseconds, "the length of each of the three phases");
 
 static char *counter = "tsc";
 module_param(counter, charp, 0444);
@@ -31,12 +31,13 @@ MODULE_PARM_DESC(use_nmi, "whether NMIs interrupt the commands");
 static char *control = "";
 module_param(control, charp, 0444);
 MODULE_PARM_DESC(control,
-		 "a fault that the trial must find: late, copies or sse");
+		 "a fault that the trial must find: late, copies, sse or counter");
 
 enum { ROOM = 32768 };
 
 struct trial trial = {
 	.clocks.notify = command_record,
+	.read = &trial.clocks,
 	.writer = -1,
 };
 
@@ -49,6 +50,8 @@ static bool set_control(void)
 		trial.swaps_copies = true;
 	else if (!strcmp(control, "sse"))
 		trial.saves_sse = false;
+	else if (!strcmp(control, "counter"))
+		trial.keeps_counter = true;
 	else
 		return !*control;
 	return true;
@@ -70,13 +73,16 @@ static bool run(void)
 	command_timer_stop();
 	readers_stop();
 	is_well &= calls_check_words();
-	is_well &= readers_report();
+	is_well &= readers_report("");
 	pr_info("%llu commands done, %llu refused\n", trial.clocks.front,
 		trial.refused);
 	pr_info("interrupts converted %llu lists, %llu wrong, %llu postponed\n",
 		trial.lists, trial.lists_wrong, trial.lists_postponed);
 	pr_info("interrupts restored %llu snapshots and found their readings, %llu wrong\n",
 		trial.snapshots, trial.snapshots_wrong);
+	/* the faults of the other controls are those of the phases before */
+	if (!*control || trial.keeps_counter)
+		is_well &= changes_run(milliseconds, use_nmi);
 	return is_well && !trial.refused && trial.lists && !trial.lists_wrong &&
 	       trial.snapshots && !trial.snapshots_wrong;
 }

@@ -51,6 +51,12 @@ static bool is_raw(const struct tkc_snapshot *snapshot, u64 reading)
 						    trial.mult, trial.shift);
 }
 
+static bool is_right(const struct tkc_snapshot *snapshot, u64 reading)
+{
+	return trial.read == &trial.clocks ? is_raw(snapshot, reading) :
+					     changes_is_near(snapshot, reading);
+}
+
 /*
  * In a reader's thread, gives a writer time to apply a command between the
  * snapshot and the reading. The counter calls it before it is read.
@@ -72,12 +78,12 @@ static void note_back(struct seen *mine, u64 earlier, u64 value)
 /* clocks_look_fast(), but of the copy that is being written. */
 static void look_at_other_copy(struct tkc_snapshot *snapshot, u64 *reading)
 {
-	struct clocks *clocks = &trial.clocks;
+	struct clocks *clocks = trial.read;
 	unsigned int seq;
 
 	do {
 		seq = raw_read_seqcount_latch(&clocks->latch);
-		*snapshot = clocks->copies[!(seq & 1)];
+		*snapshot = clocks->copies[!(seq & 1)].snapshot;
 		*reading = clocks->read_counter();
 	} while (read_seqcount_latch_retry(&clocks->latch, seq));
 }
@@ -89,12 +95,14 @@ static void take(enum context context, struct tkc_snapshot *snapshot,
 	if (context == NMI && trial.swaps_copies) {
 		look_at_other_copy(snapshot, reading);
 	} else if (context == NMI) {
-		clocks_look_fast(&trial.clocks, snapshot, reading);
+		clocks_look_fast(trial.read, snapshot, reading);
 	} else {
-		clocks_look(&trial.clocks, snapshot, reading);
+		clocks_look(trial.read, snapshot, reading);
 		if (trial.reads_late)
-			*reading = trial.clocks.read_counter();
+			*reading = trial.read->read_counter();
 	}
+	if (trial.keeps_counter && trial.read != &trial.clocks)
+		*reading = trial.clocks.read_counter();
 }
 
 /* Reads once. The caller stays on its processor. */
@@ -111,7 +119,7 @@ static void look(enum context context)
 	if (context == NMI)
 		mine->amid += READ_ONCE(trial.writer) == smp_processor_id();
 	take(context, &snapshot, &reading);
-	mine->wrong += !is_raw(&snapshot, reading);
+	mine->wrong += !is_right(&snapshot, reading);
 	if (tkc_snapshot_get(&time, &snapshot, TKC_CLOCK_MONOTONIC, reading)) {
 		mine->refused++;
 		return;
@@ -179,6 +187,10 @@ bool readers_start(bool with_nmi)
 {
 	int cpu;
 
+	atomic64_set(&latest, 0);
+	has_nmi = false;
+	for_each_possible_cpu(cpu)
+		memset(per_cpu(seen, cpu), 0, sizeof(per_cpu(seen, cpu)));
 	on_each_cpu(start_timers, NULL, 1);
 	for_each_online_cpu(cpu) {
 		struct task_struct *task;
@@ -193,7 +205,7 @@ bool readers_start(bool with_nmi)
 	if (register_nmi_handler(NMI_LOCAL, read_in_nmi, 0, "tkc"))
 		return false;
 	has_nmi = true;
-	WRITE_ONCE(trial.clocks.midway, send_nmi);
+	WRITE_ONCE(trial.read->midway, send_nmi);
 	return true;
 }
 
@@ -202,7 +214,7 @@ void readers_stop(void)
 {
 	int cpu;
 
-	trial.clocks.midway = NULL;
+	trial.read->midway = NULL;
 	if (has_nmi) {
 		msleep(20); /* for an NMI that is on its way */
 		unregister_nmi_handler(NMI_LOCAL, "tkc");
@@ -216,8 +228,8 @@ void readers_stop(void)
 	}
 }
 
-/* Prints the reads of a context, and returns whether each was right. */
-static bool report(enum context context)
+/* Prints the reads of a context in a phase, and returns whether each was right. */
+static bool report(const char *phase, enum context context)
 {
 	struct seen all = { 0 };
 	int cpu;
@@ -232,20 +244,20 @@ static bool report(enum context context)
 		all.back += one->back;
 		all.most_back = max(all.most_back, one->most_back);
 	}
-	pr_info("%s: %llu reads, %llu refused, %llu wrong, %llu went back, by at most %llu ns\n",
-		CONTEXT_WORDS[context], all.reads, all.refused, all.wrong,
+	pr_info("%s%s: %llu reads, %llu refused, %llu wrong, %llu went back, by at most %llu ns\n",
+		phase, CONTEXT_WORDS[context], all.reads, all.refused, all.wrong,
 		all.back, all.most_back);
 	if (context != NMI)
 		return all.reads && !all.refused && !all.wrong && !all.back;
-	pr_info("nmi: %llu reads interrupted a command\n", all.amid);
+	pr_info("%snmi: %llu reads interrupted a command\n", phase, all.amid);
 	return !all.refused && !all.wrong && (all.amid || !has_nmi);
 }
 
-bool readers_report(void)
+bool readers_report(const char *phase)
 {
 	bool is_well = true;
 
 	for (enum context context = 0; context < CONTEXTS; context++)
-		is_well &= report(context);
+		is_well &= report(phase, context);
 	return is_well;
 }

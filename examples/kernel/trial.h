@@ -29,6 +29,7 @@ struct entry {
 /* The clocks of the trial, their opening, and what was done with them. */
 struct trial {
 	struct clocks clocks;
+	struct clocks *read; /* what readers read: these, or those of changes.c */
 	u64 hz; /* more than 2^32 - 1 is refused */
 	u32 mult, shift; /* of the counter */
 	u64 opened; /* the reading */
@@ -40,6 +41,7 @@ struct trial {
 	bool saves_sse; /* call kernel_fpu_begin() when a call needs it */
 	bool reads_late; /* take readings after the sequence section */
 	bool swaps_copies; /* read the copy that is being written */
+	bool keeps_counter; /* read the first counter for each snapshot */
 	u64 refused; /* commands */
 	u64 lists, lists_wrong, lists_postponed; /* converted in interrupts */
 	u64 snapshots, snapshots_wrong; /* restored from words in interrupts */
@@ -68,7 +70,7 @@ void steer_in_process(void);
 void reader_pause(void);
 bool readers_start(bool with_nmi);
 void readers_stop(void);
-bool readers_report(void);
+bool readers_report(const char *phase);
 
 /* compare.c: the kernel's clocks, and the module's clocks minus the kernel's. */
 u64 kernel_times(struct times *times);
@@ -80,6 +82,10 @@ bool compare_set(const struct timespec64 *time);
 /* calls.c: words, readings of times, and lists. */
 bool calls_check_words(void);
 void calls_make_in_interrupt(void);
+
+/* changes.c: clocks that change between two counters. */
+bool changes_run(unsigned int milliseconds, bool with_nmi);
+bool changes_is_near(const struct tkc_snapshot *snapshot, u64 reading);
 
 /* suspend.c: SUSPEND and RESUME at the system's suspend. */
 void suspend_register(void);
