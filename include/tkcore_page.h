@@ -59,6 +59,7 @@
  *     between the two looks at the sequence. tkc_page_begin makes the page's sequence odd before
  *     the command reads the counter; nothing does that for a latch.
  *   - A page has two copies, and a writer writes the one that isn't read. tk_page has one copy.
+ *   - Each copy contains its counter. A page or a latch of the crates has one counter for good.
  *   - After a failed try, a reader tries again. A reader of tk_page then takes the page for itself,
  *     and tk_latch returns Moved.
  *   - Loads, stores and fences have a weaker order. In the crates all are sequentially consistent.
@@ -91,7 +92,8 @@
  *
  *   read_counter must return a reading of the snapshot's counter:
  *   - If both counters are the same register, nothing changes for a reader. An example is the TSC
- *     of a virtual machine that was moved.
+ *     of a virtual machine that is moved. The register must change its rate and its reading while
+ *     the clocks are asleep, or while the writer is inside.
  *   - Otherwise a reader reads both counters in one call of read_counter, and keeps both readings
  *     in its context. tkc_page_look or tkc_latch_look gives the snapshot, and tkc_snapshot_get
  *     takes the reading of its counter. The numbers of the two counters must differ, or the reader
