@@ -9,7 +9,7 @@ use std::sync::atomic::AtomicU64;
 use std::sync::atomic::Ordering::Relaxed;
 
 use support::{opened, Random};
-use tkcore::{shared_words, ClockId, LATCH_WORDS, PAGE_WORDS, SAVED_WORDS, WORDS};
+use tkcore::{shared_words, ClockId, LATCH_WORDS, PAGE_WORDS, WORDS};
 use tkcore::{Clock, ClockWords, Command, Counter, Latch, Page, Refusal, Snapshot};
 
 fn calls() -> u64 {
@@ -163,27 +163,6 @@ fn memory_that_is_not_aligned() {
         let words = unsafe { shared_words(address, 8) };
         assert_eq!(words.is_ok(), is_good);
     }
-}
-
-#[test]
-fn saved_words_of_no_clocks() {
-    let saved = opened().save();
-    for (place, word) in [
-        (10, 7),
-        (10, saved[10] + (1 << 32)),
-        (11, 255),
-        (11, saved[11] + (1 << 32)),
-        (12, 33),
-        (12, u64::MAX),
-        (13, 32_768_000),
-        (14, 8_999),
-    ] {
-        let mut words = saved;
-        words[place] = word;
-        assert_eq!(Clock::load(&words), Err(Refusal::BadWords));
-    }
-    assert_eq!(Clock::load(&[0; SAVED_WORDS]), Err(Refusal::BadWords));
-    assert_eq!(Clock::load(&saved), Ok(opened()));
 }
 
 #[test]

@@ -310,6 +310,24 @@ fn words_give_the_values_back() {
 }
 
 #[test]
+fn saved_clocks() {
+    let clock = commanded();
+    let saved = clock.save();
+    let ClockWords { words, frequency, tick } = clock.words();
+    assert_eq!(saved[..WORDS], words);
+    assert_eq!(saved[WORDS..], [32, 16_777_216, 24, frequency as u64, tick as u64]);
+    assert_eq!(Clock::load(&saved), Ok(clock));
+    for row in table("worked_saved.c", "saved_words") {
+        let row = row.list();
+        let mut words = saved;
+        words[row[0].number::<usize>()] = row[1].number();
+        let made = Clock::load(&words);
+        assert_eq!(of(&made), row[2].refusal(), "{row:?}");
+        assert!(made.map_or(true, |clock| clock.save() == words));
+    }
+}
+
+#[test]
 fn wrong_words() {
     for row in table("worked_words.c", "wrong_words") {
         let row = row.list();
