@@ -23,7 +23,7 @@ saved counted =
     ++ (counter.bits ∷ counter.mult ∷ counter.shift
     ∷ cast_unsigned w64 counted.clock.frequency ∷ cast_unsigned w64 counted.clock.tick ∷ [])
 
--- a description that has no fault
+-- a counter if its description has no fault
 abbrev pub faultless : Counter → Option DescError → Option Counter
 faultless counter None = Some counter
 faultless counter (Some fault) = None
@@ -38,10 +38,11 @@ counter_of_words words =
     } in
     faultless counter (first_fault counter)
 
--- the frequency and the tick that words 13 and 14 represent
+-- the frequency that word 13 represents, in 2^-16 ppm
 abbrev pub saved_frequency : List ℕ → ℤ
 saved_frequency words = cast_signed w64 (slice_index words 13)
 
+-- the tick that word 14 represents, in microseconds
 abbrev pub saved_tick : List ℕ → ℤ
 saved_tick words = cast_signed w64 (slice_index words 14)
 

@@ -37,8 +37,8 @@ pub extern "C" fn tkc_clock_save(words: &mut [u64; SAVED_WORDS], clock: &Counted
 /// # Errors
 ///
 /// Returns `Code::BadWords`, and doesn't write `out`, if words 10 to 12 describe no counter, if the
-/// first ten words represent no snapshot of that counter, or if no running clocks with the frequency
-/// of word 13 and the tick of word 14 have this snapshot.
+/// first ten words represent no snapshot of that counter, or if no running clocks with the
+/// frequency of word 13 and the tick of word 14 have this snapshot.
 #[unsafe(no_mangle)]
 pub extern "C" fn tkc_clock_load(out: &mut ClockStorage, words: &[u64; SAVED_WORDS]) -> u32
     ensures { IsLoaded words.now out.old out.new result }
