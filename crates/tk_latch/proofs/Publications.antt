@@ -113,6 +113,24 @@ are_latest history all some_there = by history.list refl
           latest = omega (arith, front, long);
         }
 
+-- their front is the number of the latest publication
+pub latest_front : (history : History) → AreNumbered history.counter 0 history.list →
+    0 < length history.list →
+    slice_index (latest_words history.list) 0 + 1 ≡ length history.list
+latest_front history all some_there = by history.list refl
+  where
+    by : (list : List Snapshot) → history.list ≡ list →
+        slice_index (latest_words history.list) 0 + 1 ≡ length history.list
+    by [] is = absurd (omega (arith, ap length is))
+    by (x ∷ xs) is =
+        let last = latest_from history.counter 0 x xs
+        (subst (AreNumbered history.counter 0) is all) in
+        let front : slice_index (latest_words history.list) 0 ≡ last.snapshot.front =
+        ap (λ l. slice_index (latest_words l) 0) is ∙ ap (λ ws. slice_index ws 0) last.shown in
+        let number = last.publication.front in
+        let long = ap length is in
+        omega (arith, front, number, long)
+
 -- there are ten of them
 pub latest_long : (list : List Snapshot) → 0 < length list → length (latest_words list) ≡ 10
 latest_long [] some_there = absurd (omega arith)

@@ -1,5 +1,5 @@
 -- The steps of a reader keep the rule, and the result of a whole read.
-use Rattle.std.proofs.Common.{◌≡◌, ℕ, ◌+◌, ◌*◌, ◌%◌, ◌<◌, ◌≤◌, List, [], ◌∷◌, ◌++◌, length, slice_get, Some, get_or, set, refl, sym, ap, ◌∙◌, subst, arith, append_assoc, length-set, get_or-set_other, get_or-set_same}
+use Rattle.std.proofs.Common.{◌≡◌, ℕ, ◌+◌, ◌*◌, ◌/◌, ◌%◌, ◌<◌, ◌≤◌, List, [], ◌∷◌, ◌++◌, length, slice_get, Some, get_or, set, refl, sym, ap, ◌∙◌, subst, arith, append_assoc, length-set, get_or-set_other, get_or-set_same}
 use Rattle.std.proofs.lemmas.List.{ext_get_or}
 use Rattle.std.proofs.lemmas.Option.{same_Some}
 use mathlib.Core.Logic.{dite}
@@ -20,23 +20,23 @@ use Rattle.tk_latch.specs.Rule.{Copies, Counts, Latched}
 use Rattle.tk_latch.specs.Steps.{Seated, began, loaded, ended}
 use Rattle.tk_latch.specs.Views.{resting, reading, found_by}
 use Rattle.tk_latch.specs.Attempt.{Gathered, AreLatest, IsAttempt}
-use Rattle.tk_latch.proofs.Publications.{snapshot_is, begins_self, begins_trans, begins_whole, are_latest, latest_long}
+use Rattle.tk_latch.proofs.Publications.{snapshot_is, begins_self, begins_trans, begins_whole, are_latest, latest_front, latest_long}
 use Rattle.tk_latch.proofs.Keeping.{word, history_of, known_of, unmoved, counted}
 
 -- the copy that the sequence names is the latest publication
 named : (words : List ℕ) (list : List Snapshot) (role : Role) → Copies words list role → (n i : ℕ) →
-    n ≡ get_or words 0 0 → i < 10 →
-    get_or words (i + (1 + 10 * (n % 2))) 0 ≡ get_or (latest_words list) i 0
-named words list Spent c n i here l = absurd c
-named words list (Resting found) c n i here l = absurd c
-named words list (Reading found first now) c n i here l = absurd c
-named words list (Making written) c n i here l =
-    let h = c.0 in let odd : i + (1 + 10 * (n % 2)) ≡ i + 11 = omega arith in
-    ap (λ (k : ℕ). get_or words k 0) odd ∙ c.2 i l
-named words list (Copying count) c n i here l =
-    let h = c.0 in let even : i + (1 + 10 * (n % 2)) ≡ i + 1 = omega arith in
-    ap (λ (k : ℕ). get_or words k 0) even ∙ c.2 i l
-named words list (Noting note) c n i here l = absurd c
+    n ≡ get_or words 0 0 → 1 ≤ i → i < 10 →
+    get_or words (i + 9 * (n % 2)) 0 ≡ get_or (latest_words list) i 0
+named words list Spent c n i here low l = absurd c
+named words list (Resting found) c n i here low l = absurd c
+named words list (Reading found first now) c n i here low l = absurd c
+named words list (Making written) c n i here low l =
+    let h = c.0 in let odd : i + 9 * (n % 2) ≡ i + 9 = omega arith in
+    ap (λ (k : ℕ). get_or words k 0) odd ∙ c.2 i low l
+named words list (Copying count) c n i here low l =
+    let h = c.0 in let even : i + 9 * (n % 2) ≡ i = omega arith in
+    ap (λ (k : ℕ). get_or words k 0) even ∙ c.2 i low l
+named words list (Noting note) c n i here low l = absurd c
 
 -- a reader that knows the number of all publications knows all of them
 all_known : (known history : History) (first n : ℕ) → IsBeginning known history →
@@ -108,16 +108,16 @@ reads_word slots id me known before first last k is s r _ at _ =
     let above = held.3 in
     let w = reading known before first n in
     let found : (now : ℕ) × (w ≡ reading known before first now) × (last ≤ now)
-    × (now ≤ first → (i : ℕ) → i < 10 → k ≡ i + (1 + 10 * (first % 2)) →
+    × (now ≤ first → (i : ℕ) → 1 ≤ i → i < 10 → k ≡ i + 9 * (first % 2) →
     word s k ≡ get_or (latest_words known.list) i 0) = (
       n,
       refl,
       above,
-      λ still i inside place.
+      λ still i low inside place.
           let here : n ≡ first = omega arith in
           let all = all_known known r.history first n held.0 held.1 counts here in
           ap (λ (z : ℕ). word s z) place ∙ named s.words r.history.list r.role r.copies first i
-          (sym here) inside
+          (sym here) low inside
           ∙ ap (λ h. get_or (latest_words h.list) i 0) (sym all),
     ) in (
       w,
@@ -129,7 +129,7 @@ reads_word slots id me known before first last k is s r _ at _ =
         λ known' before' first' last' is'. let same = sym is ∙ is' in
             subst (λ (t : History × List ℕ × ℕ × ℕ). (now : ℕ) × (w ≡ reading t.0 t.1 t.2 now)
             × (t.3 ≤ now)
-            × (now ≤ t.2 → (i : ℕ) → i < 10 → k ≡ i + (1 + 10 * (t.2 % 2)) →
+            × (now ≤ t.2 → (i : ℕ) → 1 ≤ i → i < 10 → k ≡ i + 9 * (t.2 % 2) →
             word s k ≡ get_or (latest_words t.0.list) i 0))
             (parts same) found,
       ),
@@ -176,23 +176,44 @@ reads_end slots id me known before first last is s r _ at _ =
 -- one more word was loaded
 pub gathers_one : (begun : View) (first : ℕ) (words : List ℕ) (old new : View) (i x : ℕ) →
     (g : Gathered begun first words old i) →
-    (now : ℕ) → new ≡ reading begun.history (found_by begun.role) first now → g.0 ≤ now → i < 10 →
+    (now : ℕ) → new ≡ reading begun.history (found_by begun.role) first now → g.0 ≤ now → 1 ≤ i →
+    i < 10 →
     (now ≤ first → x ≡ get_or (latest_words begun.history.list) i 0) →
     Gathered begun first (set words i x) new (i + 1)
-gathers_one begun first words old new i x g now is later inside right =
+gathers_one begun first words old new i x g now is later low inside right =
     let up = g.2 in
     let long = g.3 in (
       now,
       is,
       omega arith,
       length-set words i x ∙ long,
-      λ still j l. dite (ℕ_discrete j i)
+      get_or-set_other words i 0 x 0 (λ e. omega arith) ∙ g.4,
+      λ still j some_low l. dite (ℕ_discrete j i)
           (λ e. ap (λ (z : ℕ). get_or (set words i x) z 0) e
           ∙ (get_or-set_same words i x 0 (omega arith)
           ∙ (right still ∙ ap (λ (z : ℕ). get_or (latest_words begun.history.list) z 0)
           (sym e))))
-          (λ other. get_or-set_other words i j x 0 other ∙ g.4 (omega arith) j (omega arith)),
+          (λ other. get_or-set_other words i j x 0 other
+          ∙ g.5 (omega arith) j some_low (omega arith)),
     )
+
+-- word 0 is the front of the latest publication, and the other words were loaded
+all_words : (known : History) (first : ℕ) (words : List ℕ) →
+    AreNumbered known.counter 0 known.list → Counts known.list first →
+    get_or words 0 0 ≡ first / 2 →
+    ((i : ℕ) → 1 ≤ i → i < 10 → get_or words i 0 ≡ get_or (latest_words known.list) i 0) →
+    (i : ℕ) → i < 10 → get_or words i 0 ≡ get_or (latest_words known.list) i 0
+all_words known first words numbered counts front others i inside =
+    dite (ℕ_discrete i 0)
+    (λ none.
+    let some_there : 0 < length known.list = (let h = counts.1 in omega arith) in
+    let number = latest_front known numbered some_there in
+    let low = counts.0 in
+    let high = counts.1 in
+    let same : get_or words 0 0 ≡ get_or (latest_words known.list) 0 0 = omega arith in
+    ap (λ (z : ℕ). get_or words z 0) none ∙ same
+    ∙ ap (λ (z : ℕ). get_or (latest_words known.list) z 0) (sym none))
+    (λ some. others i (omega arith) inside)
 
 -- the facts that the first and the second load of the sequence showed
 abbrev pub Begun : View → View → ℕ → Type 0
@@ -240,8 +261,10 @@ attempts old begun view new first last words b g finish =
           let long : length words ≡ length (latest_words begun.history.list) = g.3
           ∙ sym (ap length shown ∙ latest_long known.list some_there) in
           let words_are : words ≡ latest_words known.list =
-          ext_get_or 0 words (latest_words begun.history.list) long
-          (λ i l. g.4 still i (let h = g.3 in omega arith)) ∙ shown in
+          ext_get_or 0 words (latest_words known.list) (long ∙ ap length shown)
+          (λ i l. all_words known first words b.4 b.3 g.4
+          (λ j low inside. g.5 still j low inside ∙ ap (λ ws. get_or ws j 0) shown)
+          i (let h = g.3 in omega arith)) in
           subst (λ h. AreLatest h words) after (subst (AreLatest known) (sym words_are) latest);
     }
 

@@ -1,5 +1,5 @@
 -- The findings of a read so far.
-use Rattle.std.specs.Prelude.{◌≡◌, ℕ, ◌+◌, ◌*◌, ◌<◌, ◌≤◌, List, [], ◌∷◌, ◌++◌, length, slice_index, slice_get, Some}
+use Rattle.std.specs.Prelude.{◌≡◌, ℕ, ◌+◌, ◌*◌, ◌/◌, ◌<◌, ◌≤◌, List, [], ◌∷◌, ◌++◌, length, slice_index, slice_get, Some}
 use Rattle.tk_clock.specs.Snapshot.{Snapshot}
 use Rattle.tk_clock.specs.Words.{restored}
 use Rattle.tk_latch.specs.declared.rule.History.{History}
@@ -8,13 +8,13 @@ use Rattle.tk_latch.specs.Publications.{latest_words, IsBeginning}
 use Rattle.tk_latch.specs.Rule.{Counts}
 use Rattle.tk_latch.specs.Views.{resting, reading, found_by}
 
--- the first `count` loaded words are the latest publication's, if the sequence is still the same as
--- at the read's beginning
+-- word 0 is the number of the latest publication, and the other ones of the first `count` words are
+-- that publication's, if the sequence is still the same as at the read's beginning
 abbrev pub Gathered : View → ℕ → List ℕ → View → ℕ → Type 0
 Gathered begun first words view count =
     (now : ℕ) × (view ≡ reading begun.history (found_by begun.role) first now) × (first ≤ now)
-    × (length words ≡ 10)
-    × (now ≤ first → (i : ℕ) → i < count →
+    × (length words ≡ 10) × (slice_index words 0 ≡ first / 2)
+    × (now ≤ first → (i : ℕ) → 1 ≤ i → i < count →
     slice_index words i ≡ slice_index (latest_words begun.history.list) i)
 
 -- these words are the latest publication's of the history

@@ -16,13 +16,16 @@ use Rattle.tk_latch.specs.Views.{copying}
 abbrev pub started : Snapshot → View
 started opening = copying (opening_of opening) 10
 
--- the first `count` of these words are in copy 0, which begins at word 1
+-- the first `count` of a snapshot's words are in copy 0, except for word 0, the front: the sequence
+-- is in its place
 abbrev pub InCopy0 : List ℕ → ℕ → List ℕ → Type 0
-InCopy0 words count copy = (i : ℕ) → i < count → slice_index words (i + 1) ≡ slice_index copy i
+InCopy0 words count copy =
+    (i : ℕ) → 1 ≤ i → i < count → slice_index words i ≡ slice_index copy i
 
--- the first `count` of these words are in copy 1, which begins at word 11
+-- the first `count` of a snapshot's words are in copy 1, except for the front
 abbrev pub InCopy1 : List ℕ → ℕ → List ℕ → Type 0
-InCopy1 words count copy = (i : ℕ) → i < count → slice_index words (i + 11) ≡ slice_index copy i
+InCopy1 words count copy =
+    (i : ℕ) → 1 ≤ i → i < count → slice_index words (i + 9) ≡ slice_index copy i
 
 -- word 0 is the sequence: twice the number of the latest publication, plus 1 while the next one is
 -- being made. While it is odd, copy 1 is the latest publication, and copy 0 contains the words that
@@ -59,7 +62,7 @@ pub record Latched (state : State (Unit {0}) View) : Type 0 where
   pub history : History
   pub role : Role
   pub writer : ℕ
-  pub wide : length state.words ≡ 21
+  pub wide : length state.words ≡ 19
   pub numbered : AreNumbered history.counter 0 history.list
   pub copies : Copies state.words history.list role
   pub each : (seat : ℕ) (view : View) → get_elem? state.views seat ≡ some view →

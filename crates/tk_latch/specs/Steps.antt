@@ -1,6 +1,6 @@
 -- The knowledge that a seat gains by the steps of a latch: relations of the step, the seat before
 -- it, the number found, and the seat after it.
-use Rattle.std.specs.Prelude.{◌≡◌, ◌≢◌, ℕ, ◌+◌, ◌*◌, ◌%◌, ◌<◌, ◌≤◌, List, [], ◌∷◌, ◌++◌, slice_index}
+use Rattle.std.specs.Prelude.{◌≡◌, ◌≢◌, ℕ, ◌+◌, ◌*◌, ◌%◌, ◌<◌, ◌≤◌, List, [], ◌∷◌, ◌++◌, length, slice_index}
 use Rattle.atomic_table.specs.Table.{Me, Step}
 use Rattle.tk_latch.specs.declared.rule.History.{History}
 use Rattle.tk_latch.specs.declared.rule.View.{View}
@@ -14,10 +14,11 @@ Move = Step (Unit {0})
 abbrev pub Seated : Type 0
 Seated = Me (Unit {0}) View
 
--- the sequence is odd, and a publication is being made
+-- the sequence is odd, and a publication is being made. Its word 0, the front, is its number
 abbrev pub opened : Move → Seated → ℕ → Seated → Type 0
 opened move old found new =
-    (history : History) → old.0 ≡ copying history 10 → new.0 ≡ making history []
+    (history : History) → old.0 ≡ copying history 10 →
+    new.0 ≡ making history (length history.list ∷ [])
 
 -- the next word of copy 0 is found, and counts as a word of the publication until it is replaced
 abbrev pub found_word : Move → Seated → ℕ → Seated → Type 0
@@ -36,7 +37,7 @@ replaced_word move old found new =
 abbrev pub committed : Move → Seated → ℕ → Seated → Type 0
 committed move old found new =
     (history : History) (written : List ℕ) → old.0 ≡ making history written →
-    new.0 ≡ copying (pushed_words history written) 0
+    new.0 ≡ copying (pushed_words history written) 1
 
 -- the next word of copy 1 is found: copy 1 contains one more word of the latest publication exactly
 -- if it is that word
@@ -67,7 +68,7 @@ loaded move old found new = (new.1 ≡ old.1)
     × ((known : History) (before : List ℕ) (first last : ℕ) →
     old.0 ≡ reading known before first last →
     (now : ℕ) × (new.0 ≡ reading known before first now) × (last ≤ now)
-    × (now ≤ first → (i : ℕ) → i < 10 → move.word ≡ i + (1 + 10 * (first % 2)) →
+    × (now ≤ first → (i : ℕ) → 1 ≤ i → i < 10 → move.word ≡ i + 9 * (first % 2) →
     found ≡ slice_index (latest_words known.list) i))
 
 -- a read ends with a load of the sequence, which is listed; the reader then knows all publications

@@ -1,7 +1,8 @@
 //! The latch: a snapshot in two copies, one of which is always whole.
 //!
 //! The words are the sequence, copy 0 and copy 1. The sequence is twice the number of the latest
-//! publication, plus 1 while the next one is being made:
+//! publication, plus 1 while the next one is being made. A copy contains words 1 to 9 of a
+//! snapshot. Word 0, the front, isn't stored, because it is half the sequence, rounded down.
 //!
 //! - Even: at rest. Copy 0 is whole and is the latest publication. Copy 1 may still contain words
 //!   of the publication before it.
@@ -29,11 +30,10 @@
 //!    note.
 //! 9. The writer loads the sequence, which shows that the note is a beginning of its history.
 //!
-//! No call waits, and only `open` allocates. `try_read` takes 12 loads, whatever the writer does,
+//! No call waits, and only `open` allocates. `try_read` takes 11 loads, whatever the writer does,
 //! so an interrupt handler may call it. It may return `Moved` again and again while others publish.
-//! `publish` takes 20 loads and 4 to 22 stores: the sequence twice, and in both copies the front
-//! and all other words that changed. A load costs less than a store, which is an exchange on
-//! x86-64.
+//! `publish` takes 18 loads and 2 to 20 stores: the sequence twice, and in both copies all words
+//! that changed. A load costs less than a store, which is an exchange on x86-64.
 //!
 //! This is the kernel's `seqcount_latch_t` (Documentation/locking/seqlock.rst,
 //! include/linux/seqlock.h).
@@ -50,19 +50,21 @@ use std::mem;
 use tk_clock::{SNAPSHOT_WORDS, Snapshot};
 use tk_counter::CounterDesc;
 
-/// The positions of the sequence and of the copies among the words, and the number of words.
+/// The position of the sequence among the words.
 pub(crate) const SEQUENCE: usize = 0;
 
-pub(crate) const COPY_0: usize = 1;
+/// The positions of the copies: words 1 to 9 of a snapshot are at `COPY_0 + 1` to `COPY_0 + 9`, and
+/// at `COPY_1 + 1` to `COPY_1 + 9`. So the sequence is in the place of copy 0's word 0.
+pub(crate) const COPY_0: usize = 0;
 
-pub(crate) const COPY_1: usize = COPY_0 + SNAPSHOT_WORDS;
+pub(crate) const COPY_1: usize = COPY_0 + SNAPSHOT_WORDS - 1;
 
 const WORDS: usize = COPY_1 + SNAPSHOT_WORDS;
 
 /// The greatest number of readers of a latch.
 pub const READERS_LIMIT: usize = 64;
 
-/// Holds a sequence word and two copies of a snapshot's ten words.
+/// Holds a sequence word and two copies of a snapshot's words.
 ///
 /// The words are allocated from the allocator that `open` got. Contracts see a latch as its
 /// identity and the counter of its snapshots.
@@ -82,7 +84,7 @@ impl<A: Allocator> Model for Latch<A> {
     ghost view = { λ a. record { table = a.words.shared.table_id; counter = a.desc } };
 
     ghost invariant = { λ a.
-        (a.words.shared.table_id.words ≡ 21) × (a.words.shared.table_id.slots ≡ 0) };
+        (a.words.shared.table_id.words ≡ 19) × (a.words.shared.table_id.slots ≡ 0) };
 }
 
 impl<A: Allocator + Copy> Latch<A> {
@@ -132,8 +134,9 @@ impl<A: Allocator + Copy> Latch<A> {
     {
         let shown = snapshot.words();
         let mut words = [0; WORDS];
-        words[COPY_0..COPY_1].copy_from_slice(&shown);
-        words[COPY_1..].copy_from_slice(&shown);
+        // Word 0 is the front and the sequence, which are both 0.
+        words[..SNAPSHOT_WORDS].copy_from_slice(&shown);
+        words[SNAPSHOT_WORDS..].copy_from_slice(&shown[1..]);
         let (words, seat) = Words::of_words(alloc, &words, &snapshot)?;
         let latch = Latch {
             words,

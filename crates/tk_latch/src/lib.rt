@@ -2,7 +2,7 @@
 //!
 //! | Item | Its meaning |
 //! |---|---|
-//! | `Latch` | a sequence word and two copies of a snapshot's ten words |
+//! | `Latch` | a sequence word and two copies of a snapshot's words |
 //! | `READERS_LIMIT` | the greatest number of readers of a latch |
 //! | `LatchWriter` | publishes snapshots; a latch has one writer |
 //! | `LatchReader` | reads the latest snapshot, and knows the number of publications |

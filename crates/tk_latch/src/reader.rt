@@ -99,7 +99,7 @@ fn read_once<A: Allocator>(latch: &Latch<A>, seat: &mut Seat<(), View>) -> Attem
     Attempt { first, words, last }
 }
 
-/// Loads the words of the copy that the sequence `first` names.
+/// Loads the words of the copy that the sequence `first` names. Half of `first` is the front.
 fn gather<A: Allocator>(
     latch: &Latch<A>,
     seat: &mut Seat<(), View>,
@@ -115,16 +115,17 @@ fn gather<A: Allocator>(
     let shared = &latch.words.shared;
     let copy = copy_named(first);
     let mut words = [0; SNAPSHOT_WORDS];
-    for i in 0..SNAPSHOT_WORDS {
+    words[0] = first / 2;
+    for i in 1..SNAPSHOT_WORDS {
         // 6. A word of the copy.
         words[i] = shared.load::<Loads>(seat, copy + i);
     }
     words
 }
 
-/// Returns the position of the first word of the copy that a sequence names.
+/// Returns the position of the copy that a sequence names.
 fn copy_named(sequence: u64) -> usize
-    ensures { result ≡ 1 + 10 * (sequence % 2) }
+    ensures { result ≡ 9 * (sequence % 2) }
 {
     if sequence % 2 == 0 { COPY_0 } else { COPY_1 }
 }

@@ -1,4 +1,4 @@
-ghost use Rattle.std.specs.Prelude.{◌≡◌, ◌+◌, ◌*◌, ◌<◌, length, []};
+ghost use Rattle.std.specs.Prelude.{◌≡◌, ◌+◌, ◌*◌, ◌<◌, length, slice_index, []};
 ghost use Rattle.tk_latch.specs.Publications.{IsNext, pushed_words};
 ghost use Rattle.tk_latch.specs.Views.{making, copying};
 
@@ -84,13 +84,14 @@ fn make<A: Allocator>(
     requires latch { seat.old.table_id ≡ latch.now.table }
     requires writer { seat.old.me.0 ≡ copying seat.old.me.0.history 10 }
     requires odd { odd + 1 ≡ 2 * length seat.old.me.0.history.list }
+    requires number { slice_index words.now 0 ≡ length seat.old.me.0.history.list }
     ensures latch { seat.new.table_id ≡ seat.old.table_id }
     ensures writer { seat.new.me.0 ≡ making seat.old.me.0.history words.now }
 {
     let shared = &latch.words.shared;
     // 1. Readers now take copy 1.
     shared.store::<Opens>(seat, SEQUENCE, odd);
-    for i in 0..SNAPSHOT_WORDS {
+    for i in 1..SNAPSHOT_WORDS {
         // 2. A word of copy 0 is replaced if it differs.
         let found = shared.load::<FindsWord>(seat, COPY_0 + i);
         if found != words[i] {
@@ -116,7 +117,7 @@ fn commit<A: Allocator>(
     let shared = &latch.words.shared;
     // 3. The publication: readers now take copy 0.
     shared.store::<Commits>(seat, SEQUENCE, even);
-    for i in 0..SNAPSHOT_WORDS {
+    for i in 1..SNAPSHOT_WORDS {
         // 4. A word of copy 1 is replaced if it differs.
         let found = shared.load::<ChecksWord>(seat, COPY_1 + i);
         if found != words[i] {

@@ -16,6 +16,6 @@ loop-i-preserved g c =
       latch = s.0 ∙ held.latch;
       carried = s.2.0 ∙ held.carried;
       words = gathers_one c.args.seat.now.me.0 c.args.first c.loop-i.words c.loop-i.seat.me.0
-          c.load.new.seat.me.0 c.loop-i.i c.load.result held.words t.0 t.1 t.2 (search rules)
-          (λ still. t.3 still c.loop-i.i (search rules) (search rules));
+          c.load.new.seat.me.0 c.loop-i.i c.load.result held.words t.0 t.1 t.2 (search rules) (search rules)
+          (λ still. t.3 still c.loop-i.i (search rules) (search rules) (search rules));
     }

@@ -16,7 +16,7 @@ pub load-found-requires : goal.load-found-requires
 load-found-requires g c = (
   search rules,
   search rules,
-  checks_word _ _ _ _ _ _ c.loop-i.invariant.writer (search rules) (search rules),
+  checks_word _ _ _ _ _ _ c.loop-i.invariant.writer (search rules) (search rules) (search rules),
 )
 
 pub store-requires-then-found-words : goal.store-requires-then-found-words
@@ -29,7 +29,7 @@ store-requires-then-found-words g c =
       search rules,
       copies_word _ _ _ _ _ _ _
           ((c.load-found.ensures.2 _ _ c.loop-i.invariant.writer).1 (λ e. c.if-found-words.true (e ∙ sym same)))
-          (search rules) (search rules) same,
+          (search rules) (search rules) (search rules) same,
     )
 
 pub loop-i-preserved : goal.loop-i-preserved

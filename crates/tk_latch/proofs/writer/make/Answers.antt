@@ -1,4 +1,4 @@
-use Rattle.std.proofs.Common.{rules, refl, sym, ap, ◌∙◌, take, ◌++◌, ◌∷◌, []}
+use Rattle.std.proofs.Common.{rules, refl, sym, ap, ◌∙◌, take, ◌++◌, ◌∷◌, [], ℕ}
 use Rattle.std.proofs.lemmas.List.{take_more}
 use Rattle.tk_latch.specs.Views.{making}
 use Rattle.tk_latch.proofs.Writing.{opens, finds_word, replaces_word}
@@ -9,18 +9,20 @@ pub store-requires : goal.store-requires
 store-requires g c = (search rules, search rules, opens _ _ _ _ _ c.requires.writer c.requires.odd)
 
 pub loop-i-init : goal.loop-i-init
-loop-i-init g c = record {
-  latch = refl;
-  writer =
-      c.store.ensures.2 c.args.seat.now.me.0.history c.requires.writer;
-}
+loop-i-init g c =
+    let first = take_more c.args.words.now 0 0 (search rules) in record {
+      latch = refl;
+      writer = c.store.ensures.2 c.args.seat.now.me.0.history c.requires.writer
+          ∙ ap (λ (n : ℕ). making c.args.seat.now.me.0.history (n ∷ [])) (sym c.requires.number)
+          ∙ ap (making c.args.seat.now.me.0.history) (sym first);
+    }
 
 pub load-found-requires : goal.load-found-requires
 load-found-requires g c = (
   search rules,
   search rules,
   finds_word _ _ _ _ _ _ c.loop-i.invariant.writer (search rules)
-      (search rules),
+      (search rules) (search rules),
 )
 
 pub store-requires-then-found-words : goal.store-requires-then-found-words
@@ -28,7 +30,7 @@ store-requires-then-found-words g c = (
   search rules,
   search rules,
   replaces_word _ _ _ _ _ _ _ _ (c.load-found.ensures.2 _ _ c.loop-i.invariant.writer)
-      (search rules) (search rules),
+      (search rules) (search rules) (search rules),
 )
 
 pub loop-i-preserved : goal.loop-i-preserved
