@@ -1,4 +1,5 @@
 pub mod Beginnings
+pub mod Packed
 pub mod Shown
 pub mod Views
 pub mod Steps

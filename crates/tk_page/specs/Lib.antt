@@ -1,3 +1,4 @@
 pub mod History
+pub mod Packing
 pub mod Views
 pub mod PageError

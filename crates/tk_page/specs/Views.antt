@@ -1,4 +1,4 @@
--- The rule of the page's cell: its ten words, and the knowledge of the passes to it.
+-- The rule of the page's cell: its words, and the knowledge of the passes to it.
 use Rattle.std.specs.Prelude.{◌≡◌, ℕ, ◌+◌, List, length, Bool, true, false, Some}
 use mathlib.Core.Option.{some}
 use lib.ListN.{get_elem?}
@@ -10,6 +10,7 @@ use Rattle.tk_clock.specs.Words.{words_of, restored}
 use Rattle.tk_page.specs.declared.view.View.{View}
 use Rattle.tk_page.specs.declared.view.View.TheVariants.{Fresh, Spent, Viewing, Publishing, Comparing}
 use Rattle.tk_page.specs.History.{Begins, no_journal, longer}
+use Rattle.tk_page.specs.Packing.{packed, unpacked}
 
 -- the journal that a pass knows
 abbrev pub journal_of : View → Journal
@@ -41,10 +42,10 @@ pub record IsViewer (view : View) (counter : Counter) (front : ℕ) : Type 0 whe
   pub fronted : front ≡ length (journal_of view).entries
   pub whole : (journal_of view).opening.count ≡ 0
 
--- the words encode a journal's snapshot, and the snapshot can be restored from them
+-- the words of a page encode a journal's snapshot, and the snapshot can be restored from them
 pub record Shows (words : List ℕ) (journal : Journal) : Type 0 where
-  pub value : words ≡ words_of (snapshot_of journal)
-  pub back : restored journal.opening.counter words ≡ Some (snapshot_of journal)
+  pub value : words ≡ packed (words_of (snapshot_of journal))
+  pub back : restored journal.opening.counter (unpacked words) ≡ Some (snapshot_of journal)
 
 -- the knowledge of the pass `by` is true of the journal published so far: a viewer's journal begins
 -- it, and the journal of the one publisher, whose pass is `seat`, is all of it

@@ -8,6 +8,7 @@ ghost use Rattle.crossbeam_utils.specs.Register.{Forks, Merges, Turns};
 ghost use Rattle.crossbeam_utils.specs.Seq.{cell_view, IsSamePass};
 ghost use Rattle.tk_page.specs.Views.{Kept};
 
+use crate::packing::{PAGE_WORDS, Words};
 use crate::rule::Law;
 use crate::view::View;
 use atomic_table::{Join, Split};
@@ -15,13 +16,9 @@ use crossbeam_utils::atomic::seq_cell;
 use crossbeam_utils::atomic::seq_cell::RuledSeqCell;
 use crossbeam_utils::rule::Outcome;
 use std::sync::Wait;
-use tk_clock::SNAPSHOT_WORDS;
 
-/// The words of a snapshot.
-pub type Words = [u64; SNAPSHOT_WORDS];
-
-/// The page's cell: the words of a snapshot and a version word.
-pub type Cell = RuledSeqCell<Words, View, Law, SNAPSHOT_WORDS>;
+/// The page's cell: the page's words and a version word.
+pub type Cell = RuledSeqCell<Words, View, Law, PAGE_WORDS>;
 
 /// The access to the cell that a publisher or a viewer holds. It has no bytes.
 pub type Pass = seq_cell::Pass<Words, View>;

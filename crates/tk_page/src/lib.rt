@@ -1,5 +1,5 @@
-//! Publishes clock snapshots on a page of ten 64-bit words: one publisher writes, and any number of
-//! viewers read the latest snapshot.
+//! Publishes clock snapshots on a page of eight 64-bit words: one publisher writes, and any number
+//! of viewers read the latest snapshot.
 //!
 //! | Item | Its meaning |
 //! |---|---|
@@ -14,6 +14,7 @@
 #![tactic(auto)]
 
 mod cell;
+mod packing;
 mod page;
 mod page_error;
 mod publisher;

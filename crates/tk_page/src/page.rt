@@ -1,9 +1,9 @@
-//! The page: ten 64-bit words that one publisher writes and any number of viewers read.
+//! The page: eight 64-bit words that one publisher writes and any number of viewers read.
 //!
-//! A read returns the ten words of one publication, never a mixture of two. No later publication
-//! has been made when the read takes effect.
+//! A read returns the words of one publication, never a mixture of two. No later publication has
+//! been made when the read takes effect. src/packing.rt says what the words are.
 //!
-//! A version word says who may use the ten words, as in crossbeam's `seq_lock.rs` and the kernel's
+//! A version word says who may use the words, as in crossbeam's `seq_lock.rs` and the kernel's
 //! `seqcount_t` (Documentation/locking/seqlock.rst):
 //!
 //! - Even: no thread holds the words. They are those of the latest publication.
@@ -80,6 +80,7 @@ ghost use Rattle.tk_page.specs.History.{Begins, IsOpening, opened_by};
 ghost use Rattle.tk_page.specs.Views.{journal_of, reads_of};
 
 use crate::cell::{Cell, Pass, join, load, split, store};
+use crate::packing::pack;
 use crate::page_error::PageError;
 use crate::publisher::Publisher;
 use crate::rule::{Compares, Copies, KeepsLonger, Leaves, NamesJournal, Notes, Opens};
@@ -89,7 +90,7 @@ use std::marker::{Brand, Model};
 use std::sync::Wait;
 use tk_clock::Snapshot;
 
-/// Holds the ten words of the latest published snapshot.
+/// Holds the words of the latest published snapshot.
 ///
 /// Contracts see a page as its identity, which its publisher and its viewers name.
 #[derive(Drop)]
@@ -124,7 +125,7 @@ impl Page {
             opened.2 ≡ record { page = opened.0; reads = 0; journal = opened_by snapshot }) }
     {
         // Step 1.
-        let Ok((cell, mut pass)) = Cell::ruled(alloc, snapshot.words()) else {
+        let Ok((cell, mut pass)) = Cell::ruled(alloc, pack(&snapshot)) else {
             return Err(PageError::Memory);
         };
         take_opening::<Brand, R>(rt, &cell, &mut pass, snapshot);
@@ -200,5 +201,5 @@ fn take_opening<J: NamesJournal, R: Wait>(rt: &R, cell: &Cell, pass: &mut Pass, 
     ensures cell { pass.new.table_id ≡ pass.old.table_id }
     ensures view { cell_view pass.new ≡ Publishing (opened_by snapshot) }
 {
-    store::<Opens<J>, R>(rt, cell, pass, snapshot.words());
+    store::<Opens<J>, R>(rt, cell, pass, pack(&snapshot));
 }

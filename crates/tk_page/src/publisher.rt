@@ -7,6 +7,7 @@ ghost use Rattle.tk_page.specs.History.{Begins};
 ghost use Rattle.tk_page.specs.Views.{journal_of, noted_of};
 
 use crate::cell::{Cell, Pass, join, split, store};
+use crate::packing::pack;
 use crate::page::{Page, note};
 use crate::rule::{Copies, NamesEntry, Notes, Publishes};
 use crate::viewer::Viewer;
@@ -101,5 +102,5 @@ fn publish_entry<E: NamesEntry, R: Wait>(
     ensures begins { Begins (noted_of (cell_view pass.old)) (journal_of (cell_view pass.old)) }
 {
     // Step 2.
-    store::<Publishes<E>, R>(rt, cell, pass, snapshot.words());
+    store::<Publishes<E>, R>(rt, cell, pass, pack(snapshot));
 }

@@ -1,5 +1,5 @@
 //! The rule of the page's cell, and the outcomes of the steps on it.
-use crate::cell::Words;
+use crate::packing::Words;
 use crate::view::View;
 use atomic_table::{Join, Split};
 use crossbeam_utils::rule::{Outcome, Protocol};

@@ -3,6 +3,7 @@ ghost use Rattle.tk_clock.specs.Snapshot.{snapshot_of};
 ghost use Rattle.tk_page.specs.History.{Begins, longer};
 
 use crate::cell::{Pass, join, load, split};
+use crate::packing::unpack;
 use crate::page::Page;
 use crate::rule::{Copies, KeepsLonger, Leaves, Reads};
 use std::marker::Model;
@@ -72,7 +73,7 @@ impl Viewer {
         // Step 3 or 4.
         let words = load::<Reads<P>, R>(rt, &page.cell, &mut self.pass);
         self.front = words[0];
-        Snapshot::from_known_words(self.desc, words)
+        Snapshot::from_known_words(self.desc, unpack(&words))
     }
 
     /// Returns the number of entries that this viewer has seen: the front of its latest snapshot.

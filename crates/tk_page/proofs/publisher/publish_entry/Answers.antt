@@ -10,7 +10,7 @@ use Rattle.tk_page.proofs.publisher.publish_entry.Goals as goal
 
 pub store-requires-clause-rule : goal.store-requires-clause-rule
 store-requires-clause-rule g c =
-    let words = c.words.ensures in
+    let words = c.pack.ensures in
     let own = journal_of (cell_view c.args.pass.now) in
     let of = c.requires.snapshot
     ∙ ap (λ (e : Entry). snapshot_of (followed_by own e)) (sym c.requires.entry) in

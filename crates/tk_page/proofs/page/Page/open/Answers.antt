@@ -6,7 +6,7 @@ use Rattle.tk_page.proofs.page.Page.open.Goals as goal
 
 pub ruled-requires : goal.ruled-requires
 ruled-requires g c =
-    let words = c.words.ensures in (
+    let words = c.pack.ensures in (
       search rules,
       (
         search rules,
