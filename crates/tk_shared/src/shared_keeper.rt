@@ -144,6 +144,7 @@ impl<L: Named, C: Counter> SharedKeeper<L, C> {
     ///
     /// It reads the page once, as clause `reads` states, and doesn't take the lock. If its first
     /// try fails, it waits for the thread that holds the words of the page.
+    #[inline(always)]
     pub fn read<R: Wait>(&self, rt: &R, caller: &mut Caller<L>) -> Snapshot
         ensures reads { caller.new.reads ≡ caller.old.reads + 1 }
         ensures extends { Begins caller.old.seen caller.new.seen }
@@ -154,7 +155,25 @@ impl<L: Named, C: Counter> SharedKeeper<L, C> {
             × (caller.new.learnt ≡ caller.old.learnt)
             × (caller.new.noticed ≡ caller.old.noticed) }
     {
-        caller.viewer.read_at::<AtRead, R>(rt, &self.shared.page)
+        self.read_at::<AtRead, R>(rt, caller)
+    }
+
+    /// Reads as `read` does, at a place in the program that the type `P` names.
+    ///
+    /// The reads of each `P` are compiled apart. The machine code of the only place with a `P`
+    /// contains its read, which is faster than a call that several places share.
+    #[inline(always)]
+    pub fn read_at<P, R: Wait>(&self, rt: &R, caller: &mut Caller<L>) -> Snapshot
+        ensures reads { caller.new.reads ≡ caller.old.reads + 1 }
+        ensures extends { Begins caller.old.seen caller.new.seen }
+        ensures answer { result ≡ snapshot_of caller.new.seen }
+        ensures clocks { ReadsAs caller.new.seen result.base }
+        ensures same { (caller.new.id ≡ caller.old.id)
+            × (caller.new.accepted ≡ caller.old.accepted)
+            × (caller.new.learnt ≡ caller.old.learnt)
+            × (caller.new.noticed ≡ caller.old.noticed) }
+    {
+        caller.viewer.read_at::<P, R>(rt, &self.shared.page)
     }
 
     /// Returns the latest publication of the latch, which is no earlier than any that this caller
@@ -167,6 +186,7 @@ impl<L: Named, C: Counter> SharedKeeper<L, C> {
     ///
     /// `Moved` if a publication was begun or made during the call. In this case the caller's mark
     /// may rise.
+    #[inline(always)]
     pub fn fast_read(&self, caller: &mut Caller<L>) -> Result<Snapshot, Moved>
         ensures extends { IsPrefix caller.old.learnt.publications caller.new.learnt.publications }
         ensures answer { MatchResult result
