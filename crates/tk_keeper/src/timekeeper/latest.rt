@@ -1,5 +1,5 @@
 //! Reads MONOTONIC at the reading to which the clocks were last brought forward.
-ghost use Rattle.std.specs.Prelude.{◌≡◌, ◌*◌, ◌/◌, ◌^◌, ◌<◌, ◌≤◌, pos};
+ghost use Rattle.std.specs.Prelude.{◌≡◌, ◌*◌, ◌/◌, ◌^◌, ◌<◌, ◌≤◌, pos, unsigned_abs};
 ghost use Rattle.tk_clock.specs.Clocks.{clock_value};
 ghost use Rattle.tk_clock.specs.Journal.{last_reading};
 ghost use Rattle.tk_clock.specs.Limits.{clock_end};
@@ -17,8 +17,9 @@ impl<A: Allocator + Copy> Timekeeper<A> {
     /// were already brought forward to it, and it has no error, because every accepted command
     /// leaves MONOTONIC below its limit.
     pub fn monotonic(&self) -> Timespec
-        ensures { IsTimeOf (clock_value self.now.journal ClockId.Monotonic
+        ensures value { IsTimeOf (clock_value self.now.journal ClockId.Monotonic
             (last_reading self.now.journal)) result }
+        ensures below { unsigned_abs result.sec < clock_end }
     {
         let now = self.snapshot();
         // BOOTTIME is below its limit, and MONOTONIC isn't ahead of it
@@ -32,7 +33,8 @@ fn time_of(sec: u64, frac: u64, shift: u32) -> Timespec
     requires whole { sec < clock_end }
     requires part { frac < 10 ^ 9 * 2 ^ shift }
     requires shift { shift ≤ 32 }
-    ensures { result ≡ record { sec = pos sec; nsec = frac / 2 ^ shift } }
+    ensures value { result ≡ record { sec = pos sec; nsec = frac / 2 ^ shift } }
+    ensures below { unsigned_abs result.sec < clock_end }
 {
     Timespec {
         sec: sec as i64,

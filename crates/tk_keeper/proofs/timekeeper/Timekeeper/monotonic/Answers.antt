@@ -30,13 +30,13 @@ time_of-requires-clause-part g c =
     rw (c.frac.ensures, c.shift.ensures.value, c.desc.ensures)
     (mod-lt now.amount (second_pos now.counter.shift))
 
-pub returns : goal.returns
-returns g c =
+pub returns-clause-value : goal.returns-clause-value
+returns-clause-value g c =
     let now = c.snapshot-now.result.base in
     let journal = c.args.self.now.journal in
     let stated = ap (λ (s : Snapshot). s.base) c.snapshot-now.ensures.value in
     let same : base_value now Monotonic now.last ≡ base_value (base_of journal) Monotonic (last_reading journal) =
     ap (λ (b : ReadBase). base_value b Monotonic b.last) stated in
     let value = same ∙ base_value-base_of journal Monotonic (last_reading journal) in
-    rw (c.time_of.ensures, c.sec.ensures, c.frac.ensures, c.shift.ensures.value, c.desc.ensures)
+    rw (c.time_of.ensures.value, c.sec.ensures, c.frac.ensures, c.shift.ensures.value, c.desc.ensures)
     (IsTimeOf-parts now (clock_value journal Monotonic (last_reading journal)) value)
