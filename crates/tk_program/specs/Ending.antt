@@ -22,6 +22,7 @@ status_of endings.Faulty = 1
 status_of (endings.Fault fault) = 1
 status_of (endings.Many error) = 1
 status_of (endings.File index error) = 1
+status_of (endings.Counter index) = 1
 status_of endings.Openings = 1
 status_of (endings.Race error) = 1
 
@@ -40,6 +41,9 @@ IsErrorLine contents old new (endings.Fault fault) =
 IsErrorLine contents old new (endings.File index error) =
     Appends (contents old) (contents new)
     (codes "tkcore: file " ++ (decimal index ++ (codes ": " ++ (script_text error ++ codes "\n"))))
+IsErrorLine contents old new (endings.Counter index) =
+    Appends (contents old) (contents new)
+    (codes "tkcore: file " ++ (decimal index ++ codes ": the counter of a race cannot change\n"))
 IsErrorLine contents old new endings.Openings =
     Appends (contents old) (contents new) (codes "tkcore: " ++ codes "openings differ" ++ codes "\n")
 IsErrorLine contents old new (endings.Race error) =
@@ -59,6 +63,7 @@ ending_of_file index (scripts.Opening row) = endings.File index (scripts.Opening
 ending_of_file index (scripts.Word row) = endings.File index (scripts.Word row)
 ending_of_file index (scripts.Fields row) = endings.File index (scripts.Fields row)
 ending_of_file index (scripts.Number row) = endings.File index (scripts.Number row)
+ending_of_file index (scripts.Counter row fault) = endings.File index (scripts.Counter row fault)
 
 -- the ending of refused arguments
 abbrev pub ending_at : WordsError → Ending

@@ -1,7 +1,7 @@
 -- How a race of scripts ends.
-use Rattle.std.specs.Prelude.{◌≡◌, ◌≢◌, ℕ, ◌<◌, List, [], ◌∷◌, take, length, map, Bool, Option, None, Ok, ◌⊎◌, slice_index_or}
+use Rattle.std.specs.Prelude.{◌≡◌, ◌≢◌, ℕ, ◌<◌, List, [], ◌∷◌, take, length, map, Bool, true, false, Option, None, Ok, ◌⊎◌, slice_index_or}
 use Rattle.std.specs.Borrow.{Bor}
-use Rattle.std.specs.List.{All, AllZip}
+use Rattle.std.specs.List.{All, AllZip, list_any}
 use Rattle.tk_clock.specs.Journal.{Journal, accepted_count}
 use Rattle.tk_clock.specs.Refusal.{opening_refusal}
 use Rattle.tk_script.specs.declared.row.Row.{Row}
@@ -27,11 +27,21 @@ use Rattle.tk_program.specs.Many.{EndsWriting}
 use Rattle.tk_program.specs.Openings.{AreSameOpenings}
 use Rattle.tk_program.specs.RaceText.{race_lines}
 
+-- whether a row changes the counter
+abbrev pub is_change : Row → Bool
+is_change (rows.Change reading counter first) = true
+is_change _ = false
+
+-- whether a script changes its counter
+abbrev pub changes_counter : Script → Bool
+changes_counter script = list_any is_change script.rows.items
+
 -- the action of an actor for a row: it gives the command, or it reads; the row's reading is not
--- used
+-- used. No script that races changes its counter, so the last line never applies
 abbrev pub action_of : Row → Action
 action_of (rows.Act reading cmd) = actions.Order cmd
 action_of (rows.Look reading clock) = actions.Look
+action_of (rows.Change reading counter first) = actions.Look
 
 -- the actions of an actor
 abbrev pub part_of : Script → List Action
@@ -45,24 +55,30 @@ IsOpenable script = opening_refusal script.desc script.reading script.real ≡ N
 -- and the results of its reads
 module _ {D F : Type 0} (open_gives : D → List ℕ → Option F → Type 0)
     (remaining : F → Option (List ℕ)) (read_gives : F → Option ℕ → F → Type 0) (folder : D) where
-  -- a file of this name was read, and its bytes are this script, by which clocks can be opened
+  -- a file of this name was read, and its bytes are this script
+  abbrev pub IsParsedFrom : List ℕ → Script → Type 0
+  IsParsedFrom name script =
+      (text : List ℕ) × IsReadFrom open_gives remaining read_gives folder name text
+      × (parse_of text ≡ Ok (parse script))
+
+  -- it is a script that can race: clocks can be opened by it, and it keeps its counter
   abbrev pub IsScriptFrom : List ℕ → Script → Type 0
   IsScriptFrom name script =
-      ((text : List ℕ) × IsReadFrom open_gives remaining read_gives folder name text
-      × (parse_of text ≡ Ok (parse script)))
-      × IsOpenable script
+      IsParsedFrom name script × IsOpenable script × (changes_counter script ≡ false)
 
   abbrev pub AreScriptsFrom : List (Bor (List ℕ)) → List Script → Type 0
   AreScriptsFrom names scripts = AllZip (λ name script. IsScriptFrom name.now script) names scripts
 
-  -- why the file at this place gives no script: it couldn't be read, its bytes have this fault, or
-  -- an allocation failed
+  -- why the file at this place gives no script that can race: it couldn't be read, its bytes have
+  -- this fault, an allocation failed, or its script changes its counter
   abbrev pub StopsScript : ℕ → List ℕ → Ending → Type 0
   StopsScript place name ending =
       ((fault : Fault) × (ending ≡ endings.Fault fault)
       × StopsFile open_gives remaining read_gives folder name fault)
       ⊎ ((error : ScriptError) × (text : List ℕ) × (ending ≡ ending_of_file place error)
       × IsReadFrom open_gives remaining read_gives folder name text × Fails error (parse_of text))
+      ⊎ ((script : Script) × (ending ≡ endings.Counter place) × IsParsedFrom name script
+      × (changes_counter script ≡ true))
 
   -- why files don't all give scripts: one of them doesn't, and those before it do; or an allocation
   -- failed

@@ -31,6 +31,11 @@ pub enum Ending {
         /// The script's first fault.
         error: ScriptError,
     },
+    /// The script of a race's file changes its counter, which is one for all scripts: status 1.
+    Counter {
+        /// The file's index, from 0.
+        index: usize,
+    },
     /// The scripts of a race open their clocks differently: status 1.
     Openings,
     /// The race was not run: status 1.
@@ -47,6 +52,7 @@ impl Ending {
             Ending::Words => 2,
             Ending::Faulty | Ending::Fault(_) | Ending::Many(_) => 1,
             Ending::File { .. } | Ending::Openings | Ending::Race(_) => 1,
+            Ending::Counter { .. } => 1,
         }
     }
 
@@ -65,6 +71,12 @@ impl Ending {
             Ending::Fault(fault) => writeln!(out, "tkcore: {fault}"),
             Ending::Many(error) => writeln!(out, "tkcore: {error}"),
             Ending::File { index, error } => writeln!(out, "tkcore: file {index}: {error}"),
+            Ending::Counter { index } => {
+                writeln!(
+                    out,
+                    "tkcore: file {index}: the counter of a race cannot change"
+                )
+            }
             Ending::Openings => writeln!(out, "tkcore: openings differ"),
             Ending::Race(error) => writeln!(out, "tkcore: {error}"),
         }

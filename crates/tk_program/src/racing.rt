@@ -148,12 +148,12 @@ fn part_in(alloc: Global, rows: &[Row]) -> Result<Vec<Action>, AllocError>
     rows.iter().map(|row| action_in(row)).collect(alloc)
 }
 
-/// Returns the action for a row.
+/// Returns the action for a row. No script of a race has a change of counter.
 fn action_in(row: &Row) -> Action
     ensures { result ≡ action_of row.now }
 {
     match row {
         Row::Act { cmd, .. } => Action::Order(*cmd),
-        Row::Look { .. } => Action::Look,
+        Row::Look { .. } | Row::Change { .. } => Action::Look,
     }
 }

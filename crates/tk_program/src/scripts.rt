@@ -1,13 +1,13 @@
 //! Reads scripts by the names of their files.
-ghost use Rattle.std.specs.Prelude.{IfErr, IfOk};
-ghost use Rattle.tk_program.specs.Race.{AreScriptsFrom, IsScriptFrom, StopsScript, StopsScripts};
+ghost use Rattle.std.specs.Prelude.{◌≡◌, IfErr, IfOk};
+ghost use Rattle.tk_program.specs.Race.{AreScriptsFrom, IsScriptFrom, StopsScript, StopsScripts, changes_counter, is_change};
 
 use crate::ending::Ending;
 use crate::files::read_file;
 use crate::folder::Folder;
 use std::alloc::Global;
 use tk_report::Fault;
-use tk_script::Script;
+use tk_script::{Row, Script};
 
 /// Reads and parses the script of each file, before it opens the next file.
 ///
@@ -16,6 +16,7 @@ use tk_script::Script;
 /// Returns the first fault; `Fault::Memory` may replace any other result:
 /// - `Ending::Fault` with `Fault::Read`: a file can't be opened or read
 /// - `Ending::File`: its script has a fault
+/// - `Ending::Counter`: its script changes its counter
 /// - `Ending::Fault` with `Fault::Memory`: an allocation failed
 pub(crate) fn read_scripts<D: Folder>(
     alloc: Global,
@@ -52,8 +53,26 @@ fn read_script<D: Folder>(
         Ok(text) => text,
         Err(fault) => return Err(Ending::Fault(fault)),
     };
-    match Script::from_bytes(alloc, text.as_slice()) {
-        Ok(script) => Ok(script),
-        Err(error) => Err(Ending::of_file(place, error)),
+    let script = match Script::from_bytes(alloc, text.as_slice()) {
+        Ok(script) => script,
+        Err(error) => return Err(Ending::of_file(place, error)),
+    };
+    if has_change(&script) {
+        return Err(Ending::Counter { index: place });
     }
+    Ok(script)
+}
+
+/// Returns whether a script changes its counter.
+fn has_change(script: &Script) -> bool
+    ensures { result ≡ changes_counter script.now }
+{
+    script.rows.iter().any(|row| is_change_row(row))
+}
+
+/// Returns whether a row changes the counter.
+fn is_change_row(row: &Row) -> bool
+    ensures { result ≡ is_change row.now }
+{
+    matches!(row, Row::Change { .. })
 }

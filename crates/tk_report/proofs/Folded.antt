@@ -2,6 +2,7 @@
 use Rattle.std.proofs.Common.{◌≡◌, ◌∙◌, ℕ, ◌-◌, ◌<◌, ◌≤◌, List, length, sym, ap, subst, arith, Bool, false}
 use Rattle.std.specs.Prelude.{Option, Some, Result, Ok, Err, max, nat_le, if◌then◌else◌}
 use Rattle.std.proofs.lemmas.Grind.{common_steps}
+use Rattle.std.proofs.lemmas.Bool.{lt-leb}
 use Rattle.std.proofs.lemmas.List.{take_all}
 use Rattle.tk_clock.specs.declared.command.Entry.{Entry}
 use Rattle.tk_clock.specs.declared.refusal.Refusal.{Refusal}
@@ -100,25 +101,40 @@ IsReplied-folded whole kept after entry result alike room answered =
     by_answer (reply_by clock_refusal whole entry) result after.journal
     (replied whole kept after entry result alike room answered)
 
--- while fewer commands were accepted than a journal lists, the journal isn't full, and the count
--- doesn't refuse a command
-counted_room : (journal : Journal) → accepted_count journal < listed_most →
+-- while fewer commands were accepted over a counter than a journal lists, the journal isn't full,
+-- and the count doesn't refuse a command
+counted_room : (since : ℕ) (journal : Journal) → since ≤ journal.opening.count →
+    accepted_count journal - since < listed_most → accepted_count journal < counted_most →
     is_full journal ≡ false
-counted_room journal few = grind (arith, common_steps)
+counted_room since journal opens few counted =
+    let listed : length journal.entries < listed_most = omega (arith, opens, few) in
+    grind (arith, common_steps)
 
-counted_clock : (journal : Journal) (entry : Entry) → accepted_count journal < listed_most →
-    reply_by clock_refusal journal entry ≡ reply_by counted_refusal journal entry
-counted_clock journal entry few =
-    let below : nat_le listed_most (accepted_count journal) ≡ false = grind (arith, common_steps) in
+counted_clock : (since : ℕ) (journal : Journal) (entry : Entry) →
+    accepted_count journal - since < listed_most →
+    reply_by clock_refusal journal entry ≡ reply_by (counted_refusal since) journal entry
+counted_clock since journal entry few =
     ap (λ (b : Bool).
-    reply_if journal entry (if b then Some Full else clock_refusal journal entry)) (sym below)
+    reply_if journal entry (if b then Some Full else clock_refusal journal entry))
+    (sym (lt-leb listed_most (accepted_count journal - since) few))
 
-pub IsReplied-counted : (whole : Journal) (kept after : Keeper) (entry : Entry)
+pub IsReplied-counted : (since : ℕ) (whole : Journal) (kept after : Keeper) (entry : Entry)
     (result : Result ℕ Refusal) →
-    IsAlike kept.journal whole → accepted_count whole < listed_most →
+    IsAlike kept.journal whole → since ≤ kept.journal.opening.count →
+    accepted_count whole - since < listed_most → accepted_count whole < counted_most →
     IsAnswer kept entry result after →
-    IsReplied (reply_by counted_refusal whole entry) result after.journal
-IsReplied-counted whole kept after entry result alike few answered =
-    let room = counted_room kept.journal (omega (arith, few, alike.count)) in
-    subst (λ (r : Reply). IsReplied r result after.journal) (counted_clock whole entry few)
+    IsReplied (reply_by (counted_refusal since) whole entry) result after.journal
+IsReplied-counted since whole kept after entry result alike opens few counted answered =
+    let room = counted_room since kept.journal opens (omega (arith, few, alike.count))
+    (omega (arith, counted, alike.count)) in
+    subst (λ (r : Reply). IsReplied r result after.journal) (counted_clock since whole entry few)
     (IsReplied-folded whole kept after entry result alike room answered)
+
+-- an answer never lowers the number of folded commands
+pub opening-answered : (before after : Keeper) (entry : Entry) (answer : Result ℕ Refusal) →
+    IsAnswer before entry answer after →
+    after.journal.opening.count ≡ before.journal.opening.count
+opening-answered before after entry (Ok number) known =
+    ap (λ (j : Journal). j.opening.count) known.1
+opening-answered before after entry (Err refusal) known =
+    ap (λ (k : Keeper). k.journal.opening.count) known.1

@@ -36,6 +36,7 @@ Fails-journal_after journal rows (errors.Opening row) fails = ap (journal_after 
 Fails-journal_after journal rows (errors.Word row) fails = ap (journal_after journal) fails
 Fails-journal_after journal rows (errors.Fields row) fails = ap (journal_after journal) fails
 Fails-journal_after journal rows (errors.Number row) fails = ap (journal_after journal) fails
+Fails-journal_after journal rows (errors.Counter row fault) fails = ap (journal_after journal) fails
 
 pub Fails-journal_of : (read : Result Parse ScriptError) (fault : ScriptError) →
     Fails fault read → Fails fault (journal_of read)
@@ -46,3 +47,4 @@ Fails-journal_of read (errors.Opening row) fails = ap journal_of fails
 Fails-journal_of read (errors.Word row) fails = ap journal_of fails
 Fails-journal_of read (errors.Fields row) fails = ap journal_of fails
 Fails-journal_of read (errors.Number row) fails = ap journal_of fails
+Fails-journal_of read (errors.Counter row fault) fails = ap journal_of fails

@@ -3,6 +3,7 @@ pub mod Times
 pub mod Refusals
 pub mod Lines
 pub mod Alike
+pub mod Changes
 pub mod Counted
 pub mod Folded
 pub mod Listed

@@ -1,29 +1,32 @@
 -- The lines of a report, one after the other.
-use Rattle.std.proofs.Common.{◌≡◌, ◌∙◌, ℕ, ◌+◌, ◌≤◌, List, [], ◌∷◌, ◌++◌, refl, sym, ap, subst, append_assoc, arith}
+use Rattle.std.proofs.Common.{◌≡◌, ◌∙◌, ℕ, ◌+◌, ◌<◌, ◌≤◌, List, [], ◌∷◌, ◌++◌, refl, sym, ap, subst, append_assoc, arith}
 use Rattle.std.specs.Prelude.{pos, Option, Some, None, Result, Ok, Err, MatchResult}
 use Rattle.std.proofs.lemmas.List.{append-nil, length_push}
+use Rattle.tk_counter.specs.Counter.{Counter}
 use Rattle.tk_clock.specs.declared.clock_id.ClockId.TheVariants.{Monotonic}
 use Rattle.tk_clock.specs.declared.command.Entry.{Entry}
 use Rattle.tk_clock.specs.declared.refusal.Refusal.{Refusal}
 use Rattle.tk_clock.specs.declared.timespec.Timespec.{Timespec}
 use Rattle.tk_clock.specs.Journal.{Journal, opened, accepted_count}
+use Rattle.tk_clock.specs.Limits.{counted_most}
 use Rattle.tk_clock.specs.Monotonic.{monotonic}
 use Rattle.tk_clock.specs.Run.{Reply, reply_if}
 use Rattle.tk_clock.specs.Time.{timespec_of}
+use Rattle.tk_keeper.specs.ChangeCounter.{counter_refusal}
 use Rattle.tk_script.specs.declared.row.Row.{Row}
-use Rattle.tk_script.specs.declared.row.Row.TheVariants.{Act, Look}
+use Rattle.tk_script.specs.declared.row.Row.TheVariants.{Act, Look, Change}
 use Rattle.tk_script.specs.Coming.{opened_with, row_and}
 use Rattle.tk_script.specs.Grammar.{Fails, parse_of}
 use Rattle.tk_script.specs.Lines.{ok_line, open_line}
 use Rattle.tk_script.specs.declared.opening.Start.{Start}
 use Rattle.tk_script.specs.declared.script_error.ScriptError.{ScriptError}
 use Rattle.tk_script.specs.declared.script_error.ScriptError.TheVariants as errors
-use Rattle.tk_report.specs.Folding.{IsReplied, counting_rule_of, rule_of}
-use Rattle.tk_report.specs.Report.{Rule, IsLine, IsLines, IsReportBy, IsReportOfRows, IsTimeAt, after, answer_line, event, reply_line}
+use Rattle.tk_report.specs.Folding.{IsReplied, counting_rule_of, rule_of, since_after}
+use Rattle.tk_report.specs.Report.{Rule, IsLine, IsLines, IsReportBy, IsReportOfRows, IsTimeAt, after, answer_line, change_if, event, reply_line}
 use Rattle.tk_clock.specs.Folding.{IsAlike}
 use Rattle.tk_clock.proofs.Alike.{IsAlike-self, clock_value-alike}
-use Rattle.tk_report.proofs.Alike.{IsAlike-after, IsLine-alike}
-use Rattle.tk_report.proofs.Counted.{IsReportOf-counted}
+use Rattle.tk_report.proofs.Alike.{IsAlike-after, IsLine-alike, since-alike}
+use Rattle.tk_report.proofs.Counted.{after-counted, line-counted, opening_after}
 
 -- the line of an accepted command contains the time of the kept journal
 pub reply_line-accepted : (reply : Reply) (kept : Journal) (reading number : ℕ)
@@ -82,20 +85,24 @@ IsBegun-end rule start all journal to_come text begun none =
     let R : List ℕ → Type 0 = λ whole. IsReportOfRows rule start all whole in
     subst R (append-nil text) (begun.gives [] [] none refl)
 
--- the same for a kept journal that agrees with one which lists every command
-pub record IsBegunBy (keep : Option ℕ) (start : Start) (all : Rows) (kept : Journal)
+-- the same for a kept journal that agrees with one which lists every command since the first `since`
+-- ones, those before its counter
+pub record IsBegunBy (keep : Option ℕ) (start : Start) (all : Rows) (kept : Journal) (since : ℕ)
     (to_come : Rows) (text : List ℕ) :
     Type 0 where
   pub whole : Journal
   pub alike : IsAlike kept whole
-  pub begun : IsBegun (counting_rule_of keep) start all whole to_come text
+  pub opens : whole.opening.count ≡ since
+  pub begun : IsBegun (rule_of keep) start all whole to_come text
 
 -- after the opening's line, all rows remain
 pub IsBegunBy-start : (keep : Option ℕ) (start : Start) (all : Rows) →
-    IsBegunBy keep start all (opened start.desc start.reading start.real) all (open_line start.desc)
+    IsBegunBy keep start all (opened start.desc start.reading start.real) 0 all
+    (open_line start.desc)
 IsBegunBy-start keep start all = record {
   whole = opened start.desc start.reading start.real;
   alike = IsAlike-self (opened start.desc start.reading start.real);
+  opens = refl;
   begun = record {
     gives = λ rows rest e lines. (_, ap (opened_with start) e, (rest, lines, refl));
     fails = λ fault e. e;
@@ -103,27 +110,36 @@ IsBegunBy-start keep start all = record {
 }
 
 pub IsBegunBy-next : (keep : Option ℕ) (start : Start) (all : Rows) (kept kept' : Journal)
-    (row : Row)
+    (since : ℕ) (row : Row)
     (to_come later : Rows) (text line : List ℕ) →
-    IsBegunBy keep start all kept to_come text → to_come ≡ row_and row later →
-    IsLine (counting_rule_of keep) kept row line →
-    IsAlike kept' (after (counting_rule_of keep) kept row) →
-    IsBegunBy keep start all kept' later (text ++ line)
-IsBegunBy-next keep start all kept kept' row to_come later text line begun step isLine moved =
+    IsBegunBy keep start all kept since to_come text → to_come ≡ row_and row later →
+    accepted_count kept < counted_most →
+    IsLine (counting_rule_of keep since) kept row line →
+    IsAlike kept' (after (counting_rule_of keep since) kept row) →
+    IsBegunBy keep start all kept' (since_after since kept row) later (text ++ line)
+IsBegunBy-next keep start all kept kept' since row to_come later text line begun step few isLine
+    moved =
+    let whole = begun.whole in
+    let counted : accepted_count whole < counted_most = omega (arith, few, begun.alike.count) in
     record {
-      whole = after (counting_rule_of keep) begun.whole row;
-      alike = IsAlike-after keep kept begun.whole kept' begun.alike row moved;
-      begun = IsBegun-next (counting_rule_of keep) start all begun.whole row to_come later text line begun.begun
+      whole = after (rule_of keep) whole row;
+      alike = subst (λ (j : Journal). IsAlike kept' j)
+          (after-counted keep since whole row begun.opens counted)
+          (IsAlike-after keep since kept whole kept' begun.alike row moved);
+      opens = opening_after (rule_of keep) since whole row begun.opens
+          ∙ sym (since-alike since kept whole begun.alike row);
+      begun = IsBegun-next (rule_of keep) start all whole row to_come later text line begun.begun
           step
-          (IsLine-alike keep kept begun.whole begun.alike row line isLine);
+          (line-counted keep since whole row line begun.opens counted
+          (IsLine-alike keep since kept whole begun.alike row line isLine));
     }
 
-pub IsBegunBy-end : (keep : Option ℕ) (start : Start) (all : Rows) (kept : Journal) (to_come : Rows)
-    (text : List ℕ) →
-    IsBegunBy keep start all kept to_come text → to_come ≡ Ok [] →
-    IsReportOfRows (counting_rule_of keep) start all text
-IsBegunBy-end keep start all kept to_come text begun none =
-    IsBegun-end (counting_rule_of keep) start all begun.whole to_come text begun.begun none
+pub IsBegunBy-end : (keep : Option ℕ) (start : Start) (all : Rows) (kept : Journal) (since : ℕ)
+    (to_come : Rows) (text : List ℕ) →
+    IsBegunBy keep start all kept since to_come text → to_come ≡ Ok [] →
+    IsReportOfRows (rule_of keep) start all text
+IsBegunBy-end keep start all kept since to_come text begun none =
+    IsBegun-end (rule_of keep) start all begun.whole to_come text begun.begun none
 
 -- if every fault of `from` is a fault of `to`, `to` also allows every error that `from` allows
 pub Fails-from : (from to : Rows) (fault : ScriptError) →
@@ -136,13 +152,15 @@ Fails-from from to (errors.Opening row) step fails = step (errors.Opening row) f
 Fails-from from to (errors.Word row) step fails = step (errors.Word row) fails
 Fails-from from to (errors.Fields row) step fails = step (errors.Fields row) fails
 Fails-from from to (errors.Number row) step fails = step (errors.Number row) fails
+Fails-from from to (errors.Counter row fault) step fails = step (errors.Counter row fault) fails
 
 -- a fault of the rows to come is the fault of all rows
-pub IsBegunBy-fault : (keep : Option ℕ) (start : Start) (all : Rows) (kept : Journal)
+pub IsBegunBy-fault : (keep : Option ℕ) (start : Start) (all : Rows) (kept : Journal) (since : ℕ)
     (to_come : Rows) (text : List ℕ)
-    (fault : ScriptError) → IsBegunBy keep start all kept to_come text → Fails fault to_come →
+    (fault : ScriptError) → IsBegunBy keep start all kept since to_come text →
+    Fails fault to_come →
     Fails fault all
-IsBegunBy-fault keep start all kept to_come text fault begun fails =
+IsBegunBy-fault keep start all kept since to_come text fault begun fails =
     Fails-from to_come all fault begun.begun.fails fails
 
 fails-opened : (bytes : List ℕ) (start : Start) (all : Rows) (fault : ScriptError) →
@@ -154,18 +172,20 @@ fails-opened bytes start all (errors.Opening row) opens fails = opens ∙ ap (op
 fails-opened bytes start all (errors.Word row) opens fails = opens ∙ ap (opened_with start) fails
 fails-opened bytes start all (errors.Fields row) opens fails = opens ∙ ap (opened_with start) fails
 fails-opened bytes start all (errors.Number row) opens fails = opens ∙ ap (opened_with start) fails
+fails-opened bytes start all (errors.Counter row fault) opens fails =
+    opens ∙ ap (opened_with start) fails
 
 -- the report of the rows, or their fault, is the report or the fault of the bytes that contain the
 -- opening and the rows
 pub report-opened : {A : Type 0} (keep : Option ℕ) (bytes : List ℕ) (start : Start) (all : Rows)
     (text_of : A → List ℕ)
     (result : Result A ScriptError) → parse_of bytes ≡ opened_with start all →
-    MatchResult result (λ text. IsReportOfRows (counting_rule_of keep) start all (text_of text))
+    MatchResult result (λ text. IsReportOfRows (rule_of keep) start all (text_of text))
     (λ fault. Fails fault all) →
     MatchResult result (λ text. IsReportBy (rule_of keep) bytes (text_of text))
     (λ fault. Fails fault (parse_of bytes))
 report-opened keep bytes start all text_of (Ok text) opens (parse, known, report) =
-    (parse, opens ∙ known, IsReportOf-counted keep parse (text_of text) report)
+    (parse, opens ∙ known, report)
 report-opened keep bytes start all text_of (Err fault) opens fails =
     fails-opened bytes start all fault opens fails
 
@@ -175,14 +195,23 @@ counted : (journal : Journal) (entry : Entry) (refusal : Option Refusal) →
 counted journal entry None = omega (arith, length_push journal.entries entry)
 counted journal entry (Some refusal) = omega arith
 
+counted_changed : (journal : Journal) (reading : ℕ) (counter : Counter) (first : ℕ)
+    (refusal : Option Refusal) →
+    accepted_count (change_if journal reading counter first refusal).journal
+    ≤ accepted_count journal + 1
+counted_changed journal reading counter first None = omega arith
+counted_changed journal reading counter first (Some refusal) = omega arith
+
 pub counted_after : (rule : Rule) (journal : Journal) (row : Row) →
     accepted_count (after rule journal row) ≤ accepted_count journal + 1
 counted_after rule journal (Act reading cmd) =
     counted journal (event reading cmd) (rule journal (event reading cmd))
 counted_after rule journal (Look reading clock) = omega arith
+counted_after rule journal (Change reading counter first) =
+    counted_changed journal reading counter first (counter_refusal journal reading counter first)
 
-pub count_after : (keep : Option ℕ) (kept kept' : Journal) (row : Row) →
-    IsAlike kept' (after (counting_rule_of keep) kept row) →
+pub count_after : (keep : Option ℕ) (since : ℕ) (kept kept' : Journal) (row : Row) →
+    IsAlike kept' (after (counting_rule_of keep since) kept row) →
     accepted_count kept' ≤ accepted_count kept + 1
-count_after keep kept kept' row moved =
-    omega (arith, counted_after (counting_rule_of keep) kept row, moved.count)
+count_after keep since kept kept' row moved =
+    omega (arith, counted_after (counting_rule_of keep since) kept row, moved.count)

@@ -76,6 +76,15 @@ IsWritable-read journal clock reading time free known =
     let end = below_end time.sec time.nsec (omega (arith, ints, known.0, below, most)) known.2 in
     (end.0, end.1, known.1)
 
+whole_seconds : (sec : ℤ) → pos 0 ≤ℤ sec → sec ≡ pos (unsigned_abs sec)
+whole_seconds (pos sec) start = refl
+whole_seconds (negsuc less) start = absurd (omega (arith, ints))
+
+-- the time of a clock can be written if its seconds are low
+pub IsWritable-low : (nanos : ℤ) (time : Timespec) → IsTimeOf nanos time →
+    unsigned_abs time.sec < clock_end → IsWritable time
+IsWritable-low nanos time known low = (low, whole_seconds time.sec known.2, known.1)
+
 -- this time is the clock's time at the reading
 pub IsTimeAt-read : (journal : Journal) (clock : ClockId) (reading : ℕ) (time : Timespec) →
     IsTimeOf (clock_value journal clock reading) time → IsTimeAt journal clock reading time

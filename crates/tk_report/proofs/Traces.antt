@@ -43,6 +43,8 @@ MayFault-stamps clock script stamps journal (errors.Fields row) known fails =
     inr (parsed (parse_of script) journal known, fails, λ e. cc e)
 MayFault-stamps clock script stamps journal (errors.Number row) known fails =
     inr (parsed (parse_of script) journal known, fails, λ e. cc e)
+MayFault-stamps clock script stamps journal (errors.Counter row fault) known fails =
+    inr (parsed (parse_of script) journal known, fails, λ e. cc e)
 
 -- the result for the items is the result for the bytes that contain them
 pub trace-converted : {A : Type 0} (clock : ClockId) (script stamps : List ℕ) (journal : Journal)

@@ -1,5 +1,5 @@
 -- The report by a folded journal, compared with the report by a journal that lists every command.
-use Rattle.std.specs.Prelude.{◌≡◌, ℕ, ◌+◌, length, nat_le, Option, Some, None, Result, Ok, Err, if◌then◌else◌}
+use Rattle.std.specs.Prelude.{◌≡◌, ℕ, ◌+◌, ◌-◌, length, nat_le, Option, Some, None, Result, Ok, Err, if◌then◌else◌}
 use Rattle.tk_clock.specs.declared.refusal.Refusal.{Refusal}
 use Rattle.tk_clock.specs.declared.refusal.Refusal.TheVariants.{Full, Memory}
 use Rattle.tk_clock.specs.Folding.{IsAlike}
@@ -7,7 +7,9 @@ use Rattle.tk_clock.specs.Journal.{Journal, accepted_count}
 use Rattle.tk_clock.specs.Limits.{listed_most}
 use Rattle.tk_clock.specs.Refusal.{clock_refusal, first_refusal, is_full}
 use Rattle.tk_clock.specs.Run.{Reply}
-use Rattle.tk_report.specs.Report.{Rule}
+use Rattle.tk_script.specs.declared.row.Row.{Row}
+use Rattle.tk_script.specs.declared.row.Row.TheVariants.{Act, Look, Change}
+use Rattle.tk_report.specs.Report.{Rule, change_reply}
 
 -- the rule by which a command is refused: `None` means that a full journal refuses it too; `Some
 -- keep` means that a full journal is folded to its last `keep` entries instead
@@ -15,17 +17,31 @@ abbrev pub rule_of : Option ℕ → Rule
 rule_of None = first_refusal
 rule_of (Some keep) = clock_refusal
 
--- the rule for a journal that lists every command, by the number of accepted commands: the journal
--- is full once this is the most that a journal lists
-abbrev pub counted_refusal : Rule
-counted_refusal journal event =
-    if nat_le listed_most (accepted_count journal) then Some Full else clock_refusal journal event
+-- the rule for a journal that lists every command since the first `since` ones, by the number of
+-- accepted commands: the journal is full once it lists the most that a journal lists
+abbrev pub counted_refusal : ℕ → Rule
+counted_refusal since journal event =
+    if nat_le listed_most (accepted_count journal - since) then Some Full
+    else clock_refusal journal event
 
 -- the rule for a journal whose oldest entries may have been folded, by the number of accepted
--- commands
-abbrev pub counting_rule_of : Option ℕ → Rule
-counting_rule_of None = counted_refusal
-counting_rule_of (Some keep) = clock_refusal
+-- commands and of those before its counter
+abbrev pub counting_rule_of : Option ℕ → ℕ → Rule
+counting_rule_of None since = counted_refusal since
+counting_rule_of (Some keep) since = clock_refusal
+
+-- the number of commands before the present counter, after an answer to a change of it: an accepted
+-- change is the last of them
+abbrev pub since_answer : ℕ → Result ℕ Refusal → ℕ
+since_answer since (Ok number) = number
+since_answer since (Err refusal) = since
+
+-- the number of commands before the present counter, after a record
+abbrev pub since_after : ℕ → Journal → Row → ℕ
+since_after since journal (Act reading cmd) = since
+since_after since journal (Look reading clock) = since
+since_after since journal (Change reading counter first) =
+    since_answer since (change_reply journal reading counter first).answer
 
 -- an event got the answer of the reply and left a journal that agrees with the reply's, or an
 -- allocation failed

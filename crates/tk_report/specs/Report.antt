@@ -1,5 +1,7 @@
--- The report of a script: a line for its opening, and one for each record after it.
-use Rattle.std.specs.Prelude.{◌≡◌, ℕ, List, [], ◌∷◌, ◌++◌, pos, Option, Some, None, Result, Ok, Err}
+-- The report of a script: a line for its opening, and one for each record after it. The records are
+-- applied in order to a journal, which a change of counter replaces by one over the next counter.
+use Rattle.std.specs.Prelude.{◌≡◌, ℕ, ◌+◌, List, [], ◌∷◌, ◌++◌, pos, Option, Some, None, Result, Ok, Err}
+use Rattle.tk_counter.specs.Counter.{Counter}
 use Rattle.tk_clock.specs.declared.clock_id.ClockId.{ClockId}
 use Rattle.tk_clock.specs.declared.command.Command.{Command}
 use Rattle.tk_clock.specs.declared.command.Entry.{Entry}
@@ -7,15 +9,16 @@ use Rattle.tk_clock.specs.declared.refusal.Refusal.{Refusal}
 use Rattle.tk_clock.specs.declared.refusal.ReadError.{ReadError}
 use Rattle.tk_clock.specs.declared.timespec.Timespec.{Timespec}
 use Rattle.tk_clock.specs.Clocks.{clock_value}
-use Rattle.tk_clock.specs.Journal.{Journal, opened}
+use Rattle.tk_clock.specs.Journal.{Journal, accepted_count, opened}
 use Rattle.tk_clock.specs.Monotonic.{monotonic}
 use Rattle.tk_clock.specs.Refusal.{clock_refusal, first_refusal, refusal_of}
 use Rattle.tk_clock.specs.Run.{Reply, reply_if}
 use Rattle.tk_clock.specs.Time.{timespec_of}
+use Rattle.tk_keeper.specs.ChangeCounter.{changed_by, counter_refusal}
 use Rattle.tk_keeper.specs.Read.{read_fault}
 use Rattle.tk_script.specs.declared.opening.Start.{Start}
 use Rattle.tk_script.specs.declared.row.Row.{Row}
-use Rattle.tk_script.specs.declared.row.Row.TheVariants.{Act, Look}
+use Rattle.tk_script.specs.declared.row.Row.TheVariants.{Act, Look, Change}
 use Rattle.tk_script.specs.declared.script_error.ScriptError.{ScriptError}
 use Rattle.tk_script.specs.Coming.{opened_with}
 use Rattle.tk_script.specs.Grammar.{Parse, parse_of}
@@ -33,12 +36,27 @@ Rule = Journal → Entry → Option Refusal
 abbrev pub reply_by : Rule → Journal → Entry → Reply
 reply_by rule journal event = reply_if journal event (rule journal event)
 
+-- the reply to a change of counter: a refused one leaves the journal unchanged; an accepted one is
+-- the last command before the journal over the next counter
+abbrev pub change_if : Journal → ℕ → Counter → ℕ → Option Refusal → Reply
+change_if journal reading counter first None = record {
+  answer = Ok (accepted_count journal + 1);
+  journal = changed_by journal reading counter first;
+}
+change_if journal reading counter first (Some refusal) =
+    record { answer = Err refusal; journal = journal }
+
+-- the reply to a change of counter, by the first test that it fails
+abbrev pub change_reply : Journal → ℕ → Counter → ℕ → Reply
+change_reply journal reading counter first =
+    change_if journal reading counter first (counter_refusal journal reading counter first)
+
 -- the line of an answer: the entry's number with MONOTONIC at its reading, or the refusal
 abbrev pub answer_line : Journal → ℕ → Result ℕ Refusal → List ℕ
 answer_line journal reading (Ok number) = ok_line number (timespec_of (monotonic journal reading))
 answer_line journal reading (Err refusal) = no_line refusal
 
--- the line of a command's reply
+-- the line of a command's reply, with MONOTONIC at a reading of the journal after it
 abbrev pub reply_line : ℕ → Reply → List ℕ
 reply_line reading reply = answer_line reply.journal reading reply.answer
 
@@ -60,12 +78,16 @@ IsLine rule journal (Act reading cmd) line =
     line ≡ reply_line reading (reply_by rule journal (event reading cmd))
 IsLine rule journal (Look reading clock) line =
     IsLookLine journal clock reading (read_fault journal clock reading) line
+IsLine rule journal (Change reading counter first) line =
+    line ≡ reply_line first (change_reply journal reading counter first)
 
--- the journal after a record: an accepted command becomes its next entry, and a read changes
--- nothing
+-- the journal after a record: an accepted command becomes its next entry, a read changes nothing,
+-- and an accepted change of counter begins the journal over the next counter
 abbrev pub after : Rule → Journal → Row → Journal
 after rule journal (Act reading cmd) = (reply_by rule journal (event reading cmd)).journal
 after rule journal (Look reading clock) = journal
+after rule journal (Change reading counter first) =
+    (change_reply journal reading counter first).journal
 
 -- the lines of records, each one from the journal after the records before it
 abbrev pub IsLines : Rule → Journal → List Row → List ℕ → Type 0
@@ -91,10 +113,12 @@ abbrev pub IsReportBy : Rule → List ℕ → List ℕ → Type 0
 IsReportBy rule bytes text = (parse : Parse) × (parse_of bytes ≡ Ok parse)
     × IsReportOf rule parse text
 
--- the report of a script with these bytes, if a full journal refuses every command
+-- the report of a script with these bytes, if a full journal refuses every command except a change
+-- of counter
 abbrev pub IsReport : List ℕ → List ℕ → Type 0
 IsReport = IsReportBy first_refusal
 
--- the report of a script with these bytes, if the journal lists every command and is never full
+-- the report of a script with these bytes, if the journal lists every command over its counter and is
+-- never full
 abbrev pub IsReportUnlimited : List ℕ → List ℕ → Type 0
 IsReportUnlimited = IsReportBy clock_refusal

@@ -27,8 +27,9 @@ abbrev pub journal_after : Journal → Result (List Row) ScriptError → Result 
 journal_after journal (Ok rows) = Ok (after_all journal rows)
 journal_after journal (Err error) = Err error
 
--- the journal after a script, or the script's fault: every accepted command becomes an entry, and a
--- full journal refuses every command
+-- the journal after a script, or the script's fault: every accepted command becomes an entry, a full
+-- journal refuses every command except a change of counter, and after a change the journal lists
+-- only the commands over the new counter
 abbrev pub journal_of : Result Parse ScriptError → Result Journal ScriptError
 journal_of (Ok parse) =
     Ok (after_all (opened parse.counter parse.reading parse.real) parse.rows)

@@ -22,25 +22,28 @@ const FOLDED_AFTER: usize = 1_024;
 /// Applies a command to the clocks and returns its number, or the first test that it fails.
 ///
 /// With `keep`, a full journal is first folded to its last `keep` entries. Without it, the command
-/// is refused as `Full` after 1,048,576 accepted commands.
+/// is refused as `Full` if 1,048,576 commands were accepted after the first `since` ones.
 pub(crate) fn apply<A: Allocator + Copy>(
     keeper: &mut Timekeeper<A>,
     keep: Option<u64>,
+    since: usize,
     reading: u64,
     cmd: Command,
 ) -> Result<u64, Refusal>
     requires count { accepted_count keeper.old.journal < counted_most }
     requires keep { ForSome keep (λ n. n ≤ most_kept) }
+    requires since { since ≤ keeper.old.journal.opening.count }
     ensures replied { IsReplied
-        (reply_by (counting_rule_of keep) keeper.old.journal (event reading cmd))
+        (reply_by (counting_rule_of keep since) keeper.old.journal (event reading cmd))
         result keeper.new.journal }
+    ensures opening { keeper.old.journal.opening.count ≤ keeper.new.journal.opening.count }
     ensures listed { ForSome keep (λ n.
         length keeper.new.journal.entries
         ≡ listed_after (listed_then n keeper.old.journal) result) }
 {
     match keep {
         Some(keep) => apply_folding(keeper, keep, reading, cmd),
-        None => apply_counting(keeper, reading, cmd),
+        None => apply_counting(keeper, since, reading, cmd),
     }
 }
 
@@ -48,13 +51,18 @@ pub(crate) fn apply<A: Allocator + Copy>(
 /// every 1,024 commands, so that it takes little memory.
 fn apply_counting<A: Allocator + Copy>(
     keeper: &mut Timekeeper<A>,
+    since: usize,
     reading: u64,
     cmd: Command,
 ) -> Result<u64, Refusal>
-    ensures { IsReplied (reply_by counted_refusal keeper.old.journal (event reading cmd))
+    requires count { accepted_count keeper.old.journal < counted_most }
+    requires since { since ≤ keeper.old.journal.opening.count }
+    ensures replied { IsReplied
+        (reply_by (counted_refusal since) keeper.old.journal (event reading cmd))
         result keeper.new.journal }
+    ensures opening { keeper.old.journal.opening.count ≤ keeper.new.journal.opening.count }
 {
-    if keeper.len() >= LISTED_LIMIT {
+    if keeper.len() - since >= LISTED_LIMIT {
         return Err(Refusal::Full);
     }
     fold_in_time(keeper);
@@ -63,7 +71,8 @@ fn apply_counting<A: Allocator + Copy>(
 
 /// Folds the whole journal if the number of accepted commands is a multiple of 1,024.
 fn fold_in_time<A: Allocator + Copy>(keeper: &mut Timekeeper<A>)
-    ensures { IsAlike keeper.new.journal keeper.old.journal }
+    ensures alike { IsAlike keeper.new.journal keeper.old.journal }
+    ensures opening { keeper.old.journal.opening.count ≤ keeper.new.journal.opening.count }
 {
     if keeper.len() % FOLDED_AFTER == 0 {
         keeper.fold(0);
@@ -83,6 +92,7 @@ fn apply_folding<A: Allocator + Copy>(
     requires keep { keep ≤ most_kept }
     ensures replied { IsReplied (reply_by clock_refusal keeper.old.journal (event reading cmd))
         result keeper.new.journal }
+    ensures opening { keeper.old.journal.opening.count ≤ keeper.new.journal.opening.count }
     ensures listed { length keeper.new.journal.entries
         ≡ listed_after (listed_then keep keeper.old.journal) result }
 {

@@ -16,8 +16,8 @@ use tk_script::{Row, RowReader, ScriptError, Start};
 
 /// Opens clocks with a script's opening, applies its commands, and returns them with their journal.
 ///
-/// It skips refused commands and reads of clocks. It folds nothing, so every command after
-/// 1,048,576 accepted ones is refused as `Full`.
+/// It skips refused commands and reads of clocks. It folds the journal only at a change of counter,
+/// so every command after 1,048,576 accepted ones over one counter is refused as `Full`.
 ///
 /// # Errors
 ///
@@ -56,18 +56,26 @@ pub fn keeper_after<A: Allocator + Copy>(
     Ok(keeper)
 }
 
-/// Applies a record's command. A refused command and a read change nothing.
+/// Applies a record's command, or changes the counter. A refused command and a read change nothing.
 fn obey<A: Allocator + Copy>(keeper: &mut Timekeeper<A>, row: Row) -> Result<(), ScriptError>
     requires { accepted_count keeper.old.journal < counted_most }
     ensures after { OnOk result
         (keeper.new.journal ≡ after first_refusal keeper.old.journal row) }
     ensures err { IfErr result (λ error. error ≡ ScriptError.Memory) }
 {
-    let Row::Act { reading, cmd } = row else {
-        return Ok(());
-    };
-    match keeper.apply(CALLER, reading, cmd) {
-        Err(Refusal::Memory) => Err(ScriptError::Memory),
-        _ => Ok(()),
+    match row {
+        Row::Act { reading, cmd } => match keeper.apply(CALLER, reading, cmd) {
+            Err(Refusal::Memory) => Err(ScriptError::Memory),
+            _ => Ok(()),
+        },
+        Row::Look { .. } => Ok(()),
+        Row::Change {
+            reading,
+            desc,
+            first,
+        } => {
+            let _ = keeper.change_counter(reading, desc, first);
+            Ok(())
+        }
     }
 }

@@ -7,20 +7,29 @@ ghost use Rattle.tk_keeper.specs.Read.{read_fault};
 ghost use Rattle.tk_script.specs.Coming.{IsReady, coming};
 ghost use Rattle.tk_script.specs.Grammar.{Fails, parse_of};
 ghost use Rattle.tk_clock.specs.Folding.{IsAlike};
-ghost use Rattle.tk_report.specs.Folding.{counting_rule_of, rule_of};
-ghost use Rattle.tk_report.specs.Report.{IsLine, IsLookLine, IsReport, IsReportBy, IsReportOfRows, IsReportUnlimited, after, event, reply_by, reply_line};
+ghost use Rattle.tk_report.specs.Folding.{counting_rule_of, rule_of, since_after, since_answer};
+ghost use Rattle.tk_report.specs.Report.{IsLine, IsLookLine, IsReport, IsReportBy, IsReportOfRows, IsReportUnlimited, after, change_reply, event, reply_by, reply_line};
 
 use crate::applying::apply;
 use std::alloc::{Allocator, Global};
 use tk_clock::{ClockId, Command, Refusal};
+use tk_counter::CounterDesc;
 use tk_keeper::Timekeeper;
 use tk_script::{Calendar, Row, RowReader, ScriptError, Start, line_no, line_ok, line_open};
+
+/// The clocks of a script.
+#[derive(Drop)]
+struct Clocks<A: Allocator> {
+    keeper: Timekeeper<A>,
+    /// The number of commands before the present counter: 0, or the number of its change.
+    since: usize,
+}
 
 /// Makes the report of a script's bytes: a line for the opening, and one for each later record.
 ///
 /// Commands are applied in their order, all with the caller 0. The line of an accepted command
-/// gives MONOTONIC at its reading. After 1,048,576 accepted commands every further one is refused
-/// as `Full`.
+/// gives MONOTONIC at its reading, and the line of a change of counter at the new counter's. After
+/// 1,048,576 accepted commands every further one is refused as `Full`, until the counter changes.
 ///
 /// # Errors
 ///
@@ -89,38 +98,50 @@ pub fn report_rows<A: Allocator + Copy>(
     requires ready { IsReady rows.old }
     requires keep { ForSome keep (λ n. n ≤ most_kept) }
     ensures { MatchResult result
-        (λ text. IsReportOfRows (counting_rule_of keep) start (coming rows.old) text.items)
+        (λ text. IsReportOfRows (rule_of keep) start (coming rows.old) text.items)
         (λ error. Fails error (coming rows.old)) }
 {
-    let mut keeper = Timekeeper::open(alloc, start.desc, start.reading, start.real).unwrap();
+    let keeper = Timekeeper::open(alloc, start.desc, start.reading, start.real).unwrap();
+    let mut clocks = Clocks { keeper, since: 0 };
     let mut calendar = Calendar::new(alloc);
     let mut text = Vec::new(alloc);
     line_open(&mut text, &start.desc)?;
     'rows: while let Some(row) = rows.next_row()? {
-        add_line(&mut text, &mut calendar, &mut keeper, keep, row)?;
+        add_line(&mut text, &mut calendar, &mut clocks, keep, row)?;
     }
     Ok(text)
 }
 
-/// Applies a record's command, or reads its clock, and appends the line.
+/// Applies a record's command, reads its clock, or changes the counter, and appends the line.
 fn add_line<A: Allocator + Copy>(
     text: &mut Vec<u8, A>,
     calendar: &mut Calendar<A>,
-    keeper: &mut Timekeeper<A>,
+    clocks: &mut Clocks<A>,
     keep: Option<u64>,
     row: Row,
 ) -> Result<(), ScriptError>
-    requires count { accepted_count keeper.old.journal < counted_most }
+    requires count { accepted_count clocks.old.keeper.journal < counted_most }
     requires keep { ForSome keep (λ n. n ≤ most_kept) }
-    ensures line { OnOk result ((line : List ℕ) × IsLine (counting_rule_of keep) keeper.old.journal row line
+    requires opening { clocks.old.since ≤ clocks.old.keeper.journal.opening.count }
+    ensures line { let rule = counting_rule_of keep clocks.old.since in
+        OnOk result ((line : List ℕ) × IsLine rule clocks.old.keeper.journal row line
         × (text.new.items ≡ text.old.items ++ line)) }
-    ensures after { OnOk result
-        (IsAlike keeper.new.journal (after (counting_rule_of keep) keeper.old.journal row)) }
+    ensures after { let rule = counting_rule_of keep clocks.old.since in
+        OnOk result (IsAlike clocks.new.keeper.journal
+        (after rule clocks.old.keeper.journal row)) }
+    ensures since { OnOk result (clocks.new.since
+        ≡ since_after clocks.old.since clocks.old.keeper.journal row) }
+    ensures opening { OnOk result (clocks.new.since ≤ clocks.new.keeper.journal.opening.count) }
     ensures err { IfErr result (λ error. error ≡ ScriptError.Memory) }
 {
     match row {
-        Row::Act { reading, cmd } => add_reply(text, keeper, keep, reading, cmd),
-        Row::Look { reading, clock } => add_look(text, calendar, keeper, reading, clock),
+        Row::Act { reading, cmd } => add_reply(text, clocks, keep, reading, cmd),
+        Row::Look { reading, clock } => add_look(text, calendar, &clocks.keeper, reading, clock),
+        Row::Change {
+            reading,
+            desc,
+            first,
+        } => add_change(text, clocks, reading, desc, first),
     }
 }
 
@@ -128,21 +149,26 @@ fn add_line<A: Allocator + Copy>(
 /// reading to which the command brought the clocks forward.
 fn add_reply<A: Allocator + Copy>(
     text: &mut Vec<u8, A>,
-    keeper: &mut Timekeeper<A>,
+    clocks: &mut Clocks<A>,
     keep: Option<u64>,
     reading: u64,
     cmd: Command,
 ) -> Result<(), ScriptError>
-    requires count { accepted_count keeper.old.journal < counted_most }
+    requires count { accepted_count clocks.old.keeper.journal < counted_most }
     requires keep { ForSome keep (λ n. n ≤ most_kept) }
-    ensures line { OnOk result (text.new.items ≡ text.old.items ++ reply_line reading
-        (reply_by (counting_rule_of keep) keeper.old.journal (event reading cmd))) }
-    ensures after { OnOk result (IsAlike keeper.new.journal
-        (reply_by (counting_rule_of keep) keeper.old.journal (event reading cmd)).journal) }
+    requires opening { clocks.old.since ≤ clocks.old.keeper.journal.opening.count }
+    ensures line { let rule = counting_rule_of keep clocks.old.since in
+        OnOk result (text.new.items ≡ text.old.items ++ reply_line reading
+        (reply_by rule clocks.old.keeper.journal (event reading cmd))) }
+    ensures after { let rule = counting_rule_of keep clocks.old.since in
+        OnOk result (IsAlike clocks.new.keeper.journal
+        (reply_by rule clocks.old.keeper.journal (event reading cmd)).journal) }
+    ensures since { clocks.new.since ≡ clocks.old.since }
+    ensures opening { clocks.new.since ≤ clocks.new.keeper.journal.opening.count }
     ensures err { IfErr result (λ error. error ≡ ScriptError.Memory) }
 {
-    match apply(keeper, keep, reading, cmd) {
-        Ok(number) => line_ok(text, number, keeper.monotonic()),
+    match apply(&mut clocks.keeper, keep, clocks.since, reading, cmd) {
+        Ok(number) => line_ok(text, number, clocks.keeper.monotonic()),
         Err(Refusal::Memory) => Err(ScriptError::Memory),
         Err(refusal) => line_no(text, refusal),
     }
@@ -165,5 +191,33 @@ fn add_look<A: Allocator + Copy>(
     match keeper.get(clock, reading) {
         Ok(time) => calendar.line_at(text, clock, time),
         Err(error) => line_no(text, error.into()),
+    }
+}
+
+/// Changes the counter and appends the line. The line of an accepted change gives MONOTONIC at the
+/// reading from which the clocks go on over the new counter.
+fn add_change<A: Allocator + Copy>(
+    text: &mut Vec<u8, A>,
+    clocks: &mut Clocks<A>,
+    reading: u64,
+    desc: CounterDesc,
+    first: u64,
+) -> Result<(), ScriptError>
+    requires opening { clocks.old.since ≤ clocks.old.keeper.journal.opening.count }
+    ensures line { OnOk result (text.new.items ≡ text.old.items ++ reply_line first
+        (change_reply clocks.old.keeper.journal reading desc first)) }
+    ensures after { clocks.new.keeper.journal
+        ≡ (change_reply clocks.old.keeper.journal reading desc first).journal }
+    ensures since { clocks.new.since ≡ since_answer clocks.old.since
+        (change_reply clocks.old.keeper.journal reading desc first).answer }
+    ensures opening { clocks.new.since ≤ clocks.new.keeper.journal.opening.count }
+    ensures err { IfErr result (λ error. error ≡ ScriptError.Memory) }
+{
+    match clocks.keeper.change_counter(reading, desc, first) {
+        Ok(number) => {
+            clocks.since = number as usize;
+            line_ok(text, number, clocks.keeper.monotonic())
+        }
+        Err(refusal) => line_no(text, refusal),
     }
 }

@@ -184,3 +184,5 @@ opened-fault whole start before reader (errors.Opening row) given fails = given 
 opened-fault whole start before reader (errors.Word row) given fails = given ∙ rw fails refl
 opened-fault whole start before reader (errors.Fields row) given fails = given ∙ rw fails refl
 opened-fault whole start before reader (errors.Number row) given fails = given ∙ rw fails refl
+opened-fault whole start before reader (errors.Counter row fault) given fails =
+    given ∙ rw fails refl

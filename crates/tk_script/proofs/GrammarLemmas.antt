@@ -17,6 +17,7 @@ fails-from (errors.Opening row) read h = h
 fails-from (errors.Word row) read h = h
 fails-from (errors.Fields row) read h = h
 fails-from (errors.Number row) read h = h
+fails-from (errors.Counter row fault) read h = h
 
 -- a script with too many bytes
 pub parse-large : (bytes : List ℕ) → most_bytes < length bytes → parse_of bytes ≡ Err errors.TooLarge

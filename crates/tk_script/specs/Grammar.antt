@@ -16,7 +16,7 @@ pub record Parse : Type 0 where
   pub counter : Counter
   pub reading : ℕ
   pub real : Timespec
-  -- the commands and the reads, in order
+  -- the commands, the reads and the changes of counter, in order
   pub rows : List Row
 
 -- the first record is the opening, and the others are rows
@@ -40,6 +40,7 @@ Fails (errors.Opening row) read = read ≡ Err (errors.Opening row)
 Fails (errors.Word row) read = read ≡ Err (errors.Word row)
 Fails (errors.Fields row) read = read ≡ Err (errors.Fields row)
 Fails (errors.Number row) read = read ≡ Err (errors.Number row)
+Fails (errors.Counter row fault) read = read ≡ Err (errors.Counter row fault)
 
 -- the result of a function, seen through `view`, is the result of the reading, or its error is one
 -- that `Fails` allows

@@ -1,14 +1,17 @@
 -- The records of a script after the first one: the keyword selects the form.
-use Rattle.std.specs.Prelude.{ℕ, ℤ, List, length, Result, Ok, Err, ◌==◌, if◌then◌else◌, codes}
+use Rattle.std.specs.Prelude.{ℕ, ℤ, List, length, Option, Some, None, Result, Ok, Err, ◌==◌, if◌then◌else◌, codes}
+use Rattle.tk_counter.specs.Counter.{Counter}
+use Rattle.tk_counter.specs.Description.{first_fault}
+use Rattle.tk_counter.specs.declared.desc_error.DescError.{DescError}
 use Rattle.tk_clock.specs.declared.clock_id.ClockId.{ClockId}
 use Rattle.tk_clock.specs.declared.command.Command.{Command}
 use Rattle.tk_clock.specs.declared.command.Command.TheVariants.{Update, SetTime, Step, Freq, Tick, Tai, Suspend, Resume}
 use Rattle.tk_clock.specs.declared.timespec.Timespec.{Timespec}
 use Rattle.tk_script.specs.Word.{is_word}
-use Rattle.tk_script.specs.Field.{◌>>=◌, field, number_at, signed_at, time_at, clock_at}
+use Rattle.tk_script.specs.Field.{◌>>=◌, field, number_at, number32_at, signed_at, time_at, clock_at}
 use Rattle.tk_script.specs.Records.{each}
 use Rattle.tk_script.specs.declared.row.Row.{Row}
-use Rattle.tk_script.specs.declared.row.Row.TheVariants.{Act, Look}
+use Rattle.tk_script.specs.declared.row.Row.TheVariants.{Act, Look, Change}
 use Rattle.tk_script.specs.declared.script_error.ScriptError.{ScriptError}
 use Rattle.tk_script.specs.declared.script_error.ScriptError.TheVariants as errors
 
@@ -43,6 +46,29 @@ look_of row fields =
       Ok (reading, clock))
     else Err (errors.Fields row)
 
+-- the counter with these values, or the fault of their record
+abbrev pub counter_if : ℕ → Counter → Option DescError → Result Counter ScriptError
+counter_if row counter None = Ok counter
+counter_if row counter (Some fault) = Err (errors.Counter row fault)
+
+-- the counter with these values, or their first fault as the fault of the record
+abbrev pub counter_of : ℕ → Counter → Result Counter ScriptError
+counter_of row counter = counter_if row counter (first_fault counter)
+
+-- the row of a change of counter: a reading of the present counter (cycles), the bits, the mult and
+-- the shift of the next one, and a reading of that one (cycles)
+unfoldable pub change_of : ℕ → List (List ℕ) → Result Row ScriptError
+change_of row fields =
+    if length fields == 6 then (do
+      reading ← number_at row fields 1
+      bits ← number32_at row fields 2
+      mult ← number32_at row fields 3
+      shift ← number32_at row fields 4
+      first ← number_at row fields 5
+      counter ← counter_of row (record { bits = bits; mult = mult; shift = shift })
+      Ok (Change reading counter first))
+    else Err (errors.Fields row)
+
 -- the row of a command without an operand
 abbrev pub plain : Command → Result ℕ ScriptError → Result Row ScriptError
 plain command read = read >>= λ reading. Ok (Act reading command)
@@ -56,7 +82,7 @@ with_operand command read = read >>= λ p. Ok (Act p.0 (command p.1))
 abbrev pub look : Result (ℕ × ClockId) ScriptError → Result Row ScriptError
 look read = read >>= λ p. Ok (Look p.0 p.1)
 
--- the command or the read in the record `row`, or its fault
+-- the command, the read or the change of counter in the record `row`, or its fault
 unfoldable pub row_of : ℕ → List (List ℕ) → Result Row ScriptError
 row_of row fields =
     if is_word (field fields 0) (codes "update") then plain Update (plain_of row fields)
@@ -68,6 +94,7 @@ row_of row fields =
     else if is_word (field fields 0) (codes "tai") then with_operand Tai (valued_of row fields)
     else if is_word (field fields 0) (codes "suspend") then plain Suspend (plain_of row fields)
     else if is_word (field fields 0) (codes "resume") then with_operand Resume (timed_of row fields)
+    else if is_word (field fields 0) (codes "counter") then change_of row fields
     else Err (errors.Word row)
 
 -- the rows of these records, of which the first is the record `row`, or their first fault

@@ -1,5 +1,6 @@
 -- The texts of the faults of scripts and stamp files.
 use Rattle.std.specs.Prelude.{ℕ, List, ◌++◌, codes, decimal}
+use Rattle.tk_counter.specs.DescError.{fault_text}
 use Rattle.tk_script.specs.Records.{most_bytes}
 use Rattle.tk_script.specs.declared.script_error.ScriptError.{ScriptError}
 use Rattle.tk_script.specs.declared.script_error.ScriptError.TheVariants as errors
@@ -16,4 +17,5 @@ script_text (errors.Opening row) = record_text row (codes ": not a valid opening
 script_text (errors.Word row) = record_text row (codes ": unknown word")
 script_text (errors.Fields row) = record_text row (codes ": wrong number of fields")
 script_text (errors.Number row) = record_text row (codes ": not a number in range")
+script_text (errors.Counter row fault) = record_text row (codes ": " ++ fault_text fault)
 script_text errors.Memory = codes "out of memory"

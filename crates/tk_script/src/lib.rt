@@ -2,7 +2,7 @@
 //!
 //! | Item | Its meaning |
 //! |---|---|
-//! | `Script`, `Row` | hold a parsed script: the opening of the clocks, then commands and reads |
+//! | `Script`, `Row` | hold a parsed script: the opening of the clocks, then commands, reads and changes of counter |
 //! | `RowReader`, `Start` | read a script one row at a time |
 //! | `Stamps` | holds a parsed stamp file: readings of the counter, each with its front |
 //! | `SIZE_LIMIT` | is the greatest size of a script or of a stamp file, in bytes |

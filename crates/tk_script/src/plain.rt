@@ -105,7 +105,9 @@ impl<'a> Lines<'a> {
             (λ row. FirstLineGives row_of self.old.rest.now row self.new.rest.now) }
         ensures none { IfNone result (self.new ≡ self.old) }
     {
-        let (row, rest) = leading_row(self.rest)?;
+        let Some((row, rest)) = leading_row(self.rest) else {
+            return None;
+        };
         self.rest = rest;
         Some(row)
     }

@@ -3,19 +3,33 @@ ghost use Rattle.tk_script.specs.Cursor.{fields_of};
 ghost use Rattle.tk_script.specs.Rows as spec;
 ghost use Rattle.tk_script.specs.declared.row.Row.TheVariants.{Act};
 
-use crate::fields::{clock_at, field, has_word, number_at, signed_at, time_at};
+use crate::fields::{clock_at, field, has_word, number_at, number32_at, signed_at, time_at};
 use crate::records::Records;
 use crate::script_error::ScriptError;
 use tk_clock::{ClockId, Command, Timespec};
+use tk_counter::CounterDesc;
 
-/// Contains a record of a script after the first one: a command or a read. `reading` is the
-/// counter's, in cycles. It may be above the mask; the clocks refuse such a reading.
+/// Contains a record of a script after the first one: a command, a read or a change of counter.
+/// `reading` is the counter's, in cycles. It may be above the mask; the clocks refuse such a reading.
 #[derive(Clone, Copy, Debug, PartialEq, Eq)]
 pub enum Row {
     /// Applies a command at a reading.
-    Act { reading: u64, cmd: Command },
+    Act {
+        reading: u64,
+        cmd: Command,
+    },
     /// Reads a clock at a reading.
-    Look { reading: u64, clock: ClockId },
+    Look {
+        reading: u64,
+        clock: ClockId,
+    },
+    /// Changes the counter at a reading of the present one: the clocks go on over the counter `desc`
+    /// from its reading `first`, in cycles, which may be above its mask too.
+    Change {
+        reading: u64,
+        desc: CounterDesc,
+        first: u64,
+    },
 }
 
 /// Parses the record `row` by its keyword. The frequent keywords are tested first.
@@ -42,6 +56,8 @@ pub(crate) fn read_row(row: u64, fields: &Records<'_>) -> Result<Row, ScriptErro
         read_plain(row, fields).map(|reading| act(reading, Command::Suspend))
     } else if has_word(word, b"resume") {
         read_timed(row, fields).map(|(reading, time)| act(reading, Command::Resume(time)))
+    } else if has_word(word, b"counter") {
+        read_change(row, fields)
     } else {
         Err(ScriptError::Word { row })
     }
@@ -102,4 +118,35 @@ fn read_look(row: u64, fields: &Records<'_>) -> Result<(u64, ClockId), ScriptErr
     let reading = number_at(row, fields, 1)?;
     let clock = clock_at(row, fields, 2)?;
     Ok((reading, clock))
+}
+
+/// Parses a reading of the present counter, the numbers of the next one, and a reading of that one.
+#[tactic(auto, unfolding(crate::specs::Rows::change_of))]
+fn read_change(row: u64, fields: &Records<'_>) -> Result<Row, ScriptError>
+    ensures { result ≡ spec.change_of row (fields_of fields.now) }
+{
+    if fields.len() != 6 {
+        return Err(ScriptError::Fields { row });
+    }
+    let reading = number_at(row, fields, 1)?;
+    let bits = number32_at(row, fields, 2)?;
+    let mult = number32_at(row, fields, 3)?;
+    let shift = number32_at(row, fields, 4)?;
+    let first = number_at(row, fields, 5)?;
+    let desc = counter_of(row, bits, mult, shift)?;
+    Ok(Row::Change {
+        reading,
+        desc,
+        first,
+    })
+}
+
+/// Makes the counter with these numbers, or returns their fault as the record's.
+fn counter_of(row: u64, bits: u32, mult: u32, shift: u32) -> Result<CounterDesc, ScriptError>
+    ensures { result ≡ spec.counter_of row (record { bits = bits; mult = mult; shift = shift }) }
+{
+    match CounterDesc::new(bits, mult, shift) {
+        Ok(desc) => Ok(desc),
+        Err(error) => Err(ScriptError::Counter { row, error }),
+    }
 }

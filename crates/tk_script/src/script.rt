@@ -9,7 +9,8 @@ use std::alloc::Global;
 use tk_clock::Timespec;
 use tk_counter::CounterDesc;
 
-/// Contains a parsed script: the opening of the clocks, and then the commands and reads.
+/// Contains a parsed script: the opening of the clocks, and then the commands, the reads and the
+/// changes of counter.
 #[derive(Drop)]
 pub struct Script {
     /// Describes the counter.

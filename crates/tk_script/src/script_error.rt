@@ -4,13 +4,14 @@ ghost use Rattle.tk_script.specs.ScriptError.{script_text};
 use crate::records::SIZE_LIMIT;
 use std::error::Error;
 use std::fmt;
+use tk_counter::DescError;
 
 /// Names the first fault of a script or a stamp file, or an allocation failure.
 ///
 /// `TooLarge` is tested first, then `Empty`. After that the first record with a fault decides: its
 /// keyword, then its number of fields, then its fields from left to right, and last, in the first
-/// record of a script, the opening. `row` counts records from 1. `Display` prints the program's
-/// text.
+/// record of a script, the opening, and in a change of counter the counter's numbers. `row` counts
+/// records from 1. `Display` prints the program's text.
 #[derive(Clone, Copy, Debug, PartialEq, Eq)]
 pub enum ScriptError {
     /// The text has more than 16,777,216 bytes.
@@ -27,6 +28,8 @@ pub enum ScriptError {
     Fields { row: u64 },
     /// A field isn't a number, or the number is out of the range of its type.
     Number { row: u64 },
+    /// The numbers of a change of counter describe no counter, for the reason `error`.
+    Counter { row: u64, error: DescError },
     /// An allocation failed. This may replace any other result.
     Memory,
 }
@@ -42,6 +45,7 @@ impl fmt::Display for ScriptError {
             ScriptError::Word { row } => write!(f, "record {row}: unknown word"),
             ScriptError::Fields { row } => write!(f, "record {row}: wrong number of fields"),
             ScriptError::Number { row } => write!(f, "record {row}: not a number in range"),
+            ScriptError::Counter { row, error } => write!(f, "record {row}: {error}"),
             ScriptError::Memory => write!(f, "out of memory"),
         }
     }

@@ -4,6 +4,7 @@ use super::assert_same;
 use std::io::{Error, ErrorKind};
 use std::process::Abort;
 use std::test::Fail;
+use tk_counter::DescError;
 use tk_program::{Ending, WordsError};
 use tk_replay::{Fault, ManyError, RaceError};
 use tk_script::ScriptError;
@@ -36,7 +37,7 @@ fn states_why_words_are_not_taken(rt: HostRuntime) -> Result<(), Fail> {
 
 #[test]
 fn states_each_ending(rt: HostRuntime) {
-    let endings: [(Ending, u8, &[u8]); 11] = [
+    let endings: [(Ending, u8, &[u8]); 12] = [
         (Ending::Done, 0, b""),
         (Ending::Faulty, 1, b""),
         (
@@ -68,6 +69,11 @@ fn states_each_ending(rt: HostRuntime) {
             b"tkcore: script: larger than 16777216 bytes\n",
         ),
         (Ending::Openings, 1, b"tkcore: openings differ\n"),
+        (
+            Ending::Counter { index: 12 },
+            1,
+            b"tkcore: file 12: the counter of a race cannot change\n",
+        ),
     ];
     for (ending, status, text) in endings {
         assert_line(&rt, ending, status, text);
@@ -85,7 +91,7 @@ fn states_why_there_is_no_race(rt: HostRuntime) {
     for (error, text) in errors {
         assert_line(&rt, Ending::Race(error), 1, text);
     }
-    let faults: [(ScriptError, &[u8]); 4] = [
+    let faults: [(ScriptError, &[u8]); 5] = [
         (
             ScriptError::TooLarge,
             b"tkcore: file 12: larger than 16777216 bytes\n",
@@ -98,6 +104,13 @@ fn states_why_there_is_no_race(rt: HostRuntime) {
         (
             ScriptError::Number { row: 30 },
             b"tkcore: file 12: record 30: not a number in range\n",
+        ),
+        (
+            ScriptError::Counter {
+                row: 30,
+                error: DescError::Mult,
+            },
+            b"tkcore: file 12: record 30: the mult is below 256\n",
         ),
     ];
     for (error, text) in faults {

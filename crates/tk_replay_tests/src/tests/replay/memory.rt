@@ -88,8 +88,9 @@ fn there_is_memory(rt: HostRuntime) {
     assert_same(&rt, &report_bounded(rt.alloc(), &script, 1), &text);
 }
 
-/// A script whose report needs growths of the journal, of the text and of two dates.
-const DATED: &[u8] = b"open,64,16777216,24,0,1700000000,0\n\
+/// A script whose report needs growths of the journal, of the text and of two dates. Its counter
+/// changes to the same counter.
+const DATED: &[u8] = b"open,64,16777216,24,0,1700000000,0\ncounter,0,64,16777216,24,0\n\
 update,1\nupdate,2\nupdate,3\nupdate,4\nupdate,5\nget,5,realtime\nupdate,6\nupdate,7\n\
 update,8\nupdate,9\nget,86400000000000,realtime\nget,86400000000000,tai\nupdate,10\n";
 
@@ -139,7 +140,7 @@ enum Work {
 
 /// The end of the report of `DATED`.
 const DATED_END: &[u8] = b",2023-11-15T22:13:20.000000000Z\n\
-at,tai,1700086400.000000000\nok,10,0.000000010\n";
+at,tai,1700086400.000000000\nok,11,0.000000010\n";
 
 /// The text is the report of `DATED`.
 fn assert_dated(rt: &(impl Abort + AllocGlobal), text: &[u8]) {
@@ -161,9 +162,9 @@ impl Work {
         match self {
             Work::Report => assert_dated(rt, text_of(heap, rt.alloc(), false)?.as_slice()),
             Work::BoundedReport => assert_dated(rt, text_of(heap, rt.alloc(), true)?.as_slice()),
-            Work::Journal => assert_same(rt, &accepted(heap, rt.alloc())?, &10),
+            Work::Journal => assert_same(rt, &accepted(heap, rt.alloc())?, &11),
             Work::Lines => {
-                let text = lines(heap, rt, b"10,12\n0,7\n9,1000\n")?;
+                let text = lines(heap, rt, b"11,12\n1,7\n10,1000\n")?;
                 assert_same(rt, &text.as_slice(), &b"12\n7\n1000\n".as_slice());
             }
         }

@@ -1,6 +1,7 @@
 use super::{OPENING, act, assert_rows, joined, look, time};
 use std::process::Abort;
 use tk_clock::{ClockId, Command};
+use tk_counter::CounterDesc;
 use tk_script::Row;
 
 /// Stops the test if one record after an opening gives another row.
@@ -73,5 +74,19 @@ fn reads_the_greatest_and_the_least_numbers(rt: HostRuntime) {
         (b"tick,000,-000", act(0, Command::Tick(0))),
     ] {
         assert_row(&rt, record, row);
+    }
+}
+
+#[test]
+fn reads_a_change_of_counter(rt: HostRuntime) {
+    let desc = CounterDesc::new(64, 4_194_304, 22);
+    assert!(rt; desc.is_ok());
+    if let Ok(desc) = desc {
+        let row = Row::Change {
+            reading: 9,
+            desc,
+            first: u64::MAX,
+        };
+        assert_row(&rt, b"counter,9,64,4194304,22,18446744073709551615", row);
     }
 }

@@ -1,10 +1,10 @@
-use Rattle.std.proofs.Common.{◌≡◌, ◌∙◌, ◌<◌, ◌-◌, ◌^◌, length, sym, ap, subst}
+use Rattle.std.proofs.Common.{◌≡◌, ◌∙◌, ◌<◌, ◌≤◌, ◌-◌, ◌^◌, arith, length, sym, ap, subst}
 use Rattle.tk_clock.specs.Journal.{accepted_count}
 use Rattle.tk_clock.specs.Refusal.{clock_refusal}
 use Rattle.tk_keeper.specs.Keeper.{Keeper}
 use Rattle.tk_report.specs.Folding.{IsReplied, listed_after, listed_then}
 use Rattle.tk_report.specs.Report.{event, reply_by}
-use Rattle.tk_report.proofs.Folded.{IsAlike-folded, IsReplied-folded, has_room}
+use Rattle.tk_report.proofs.Folded.{IsAlike-folded, IsReplied-folded, has_room, opening-answered}
 use Rattle.tk_report.proofs.Listed.{listed-answered, listed_then-folded}
 use Rattle.tk_clock.proofs.Refusals.{is_full-refused}
 use Rattle.tk_report.proofs.applying.apply_folding.Goals as goal
@@ -33,7 +33,15 @@ returns-in-Err-Full g c =
     after.journal in
     let L : Keeper → Type 0 = λ k.
     length after.journal.entries ≡ listed_after (listed_then keep k.journal) answer in
+    let O : Keeper → Type 0 = λ k.
+    k.journal.opening.count ≤ after.journal.opening.count in
     record {
+      opening = subst O (sym same) (omega (
+        arith,
+        c.fold.ensures.answer,
+        c.fold.ensures.folded,
+        opening-answered folded after entry answer c.apply-in-Err-Full.ensures.answer,
+      ));
       replied = subst P (sym same)
           (IsReplied-folded before.journal folded after entry answer alike room
           c.apply-in-Err-Full.ensures.answer);

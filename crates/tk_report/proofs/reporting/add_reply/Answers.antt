@@ -2,27 +2,29 @@ use Rattle.std.proofs.Common.{◌≡◌, ◌++◌, ℕ, List, sym, subst}
 use Rattle.std.specs.Prelude.{OnOk}
 use Rattle.tk_clock.specs.declared.clock_id.ClockId.TheVariants.{Monotonic}
 use Rattle.tk_clock.specs.Clocks.{clock_value}
+use Rattle.tk_clock.specs.Journal.{last_reading}
 use Rattle.tk_keeper.specs.Read.{IsTimeOf}
 use Rattle.tk_script.specs.Lines.{ok_line}
 use Rattle.tk_report.specs.Folding.{counting_rule_of}
 use Rattle.tk_report.specs.Report.{event, reply_by, reply_line}
-use Rattle.tk_report.proofs.Times.{IsTimeAt-read, IsWritable-read}
+use Rattle.tk_report.proofs.Times.{IsTimeAt-read, IsWritable-low}
 use Rattle.tk_report.proofs.Lines.{reply_line-accepted}
-use Rattle.tk_report.proofs.Refusals.{last_reading-replied, read_fault-replied}
+use Rattle.tk_report.proofs.Refusals.{last_reading-replied}
 use Rattle.tk_report.proofs.reporting.add_reply.Goals as goal
 
 pub returns-in-Ok-clause-line : goal.returns-in-Ok-clause-line
 returns-in-Ok-clause-line g c =
+    let rule = counting_rule_of c.args.keep c.args.clocks.now.since in
+    let before = c.args.clocks.now.keeper.journal in
     let entry = event c.args.reading c.args.cmd in
     let after = c.apply.new.keeper.journal in
     let number = c.in-Ok.number in
     let time = c.monotonic.result in
-    let last = last_reading-replied c.args.keep c.args.keeper.now.journal after entry number
-    c.in-Ok.ensures.replied in
+    let last = last_reading-replied rule before after entry number c.in-Ok.ensures.replied in
     let read : IsTimeOf (clock_value after Monotonic c.args.reading) time =
     subst (λ reading. IsTimeOf (clock_value after Monotonic reading) time) last
-    c.monotonic.ensures in
-    let reply = reply_by (counting_rule_of c.args.keep) c.args.keeper.now.journal entry in
+    c.monotonic.ensures.value in
+    let reply = reply_by rule before entry in
     let line : reply_line c.args.reading reply ≡ ok_line number time =
     reply_line-accepted reply after c.args.reading number time c.in-Ok.ensures.replied
     (IsTimeAt-read after Monotonic c.args.reading time read) in
@@ -33,13 +35,6 @@ returns-in-Ok-clause-line g c =
 
 pub line_ok-requires : goal.line_ok-requires
 line_ok-requires g c =
-    let entry = event c.args.reading c.args.cmd in
-    let before = c.args.keeper.now.journal in
     let after = c.apply.new.keeper.journal in
-    let time = c.monotonic.result in
-    let replied = c.in-Ok.ensures.replied in
-    let last = last_reading-replied c.args.keep before after entry c.in-Ok.number replied in
-    let free = read_fault-replied c.args.keep before after entry c.in-Ok.number replied in
-    IsWritable-read after Monotonic c.args.reading time free
-    (subst (λ reading. IsTimeOf (clock_value after Monotonic reading) time) last
-    c.monotonic.ensures)
+    IsWritable-low (clock_value after Monotonic (last_reading after)) c.monotonic.result
+    c.monotonic.ensures.value c.monotonic.ensures.below

@@ -9,9 +9,10 @@ use Rattle.tk_report.proofs.reporting.report_rows.Given as goal
 abbrev pub invariant-rows : goal.invariant-rows
 invariant-rows g l = record {
   ready : IsReady l.rows;
-  begun : IsBegunBy l.keep l.fn.start (coming l.fn.rows) l.keeper.journal
-      (coming l.rows) l.text.items;
-  count : accepted_count l.keeper.journal + records_left l.rows ≤ 2 ^ 32;
+  begun : IsBegunBy l.keep l.fn.start (coming l.fn.rows) l.clocks.keeper.journal
+      l.clocks.since (coming l.rows) l.text.items;
+  opening : l.clocks.since ≤ l.clocks.keeper.journal.opening.count;
+  count : accepted_count l.clocks.keeper.journal + records_left l.rows ≤ 2 ^ 32;
 }
 
 abbrev pub decreases-rows : goal.decreases-rows
