@@ -19,6 +19,8 @@ import model
 
 COUNTERS = [(32, 16_777_216, 24), (8, 256, 0), (16, 16_777_216, 24), (64, 4_194_304, 0), (48, 699_050_667, 24),
             (64, 3_869_339_906, 0), (33, 259, 32), (64, 3_869_339_906, 32), (20, 1_000, 10)]
+# numbers that describe no counter: one for each bound
+NO_COUNTERS = [(7, 256, 0), (65, 256, 0), (32, 256, 33), (32, 255, 0), (32, 3_869_339_907, 0)]
 EDGES = [0, 1, 2, 127, 128, 255, 256, 65_535, 65_536, 10**9, 2**31 - 1, 2**31, 2**32 - 1, 2**32, 2**63, 2**64 - 1, 2**64]
 
 
@@ -62,8 +64,16 @@ def opening(rng):
     return bits, ["open", bits, mult, shift, rng.randrange(2**bits)] + start
 
 
-def records(rng):
-    """The records of a script, some of them with a fault."""
+def change(rng, at):
+    """A change of counter at a reading."""
+    bits, mult, shift = rng.choice(NO_COUNTERS if rng.random() < 0.02 else COUNTERS)
+    first = rng.choice(EDGES) if rng.random() < 0.05 else rng.randrange(2**bits)
+    return ["counter", at, bits, mult, shift, first]
+
+
+def records(rng, has_changes):
+    """The records of a script, some of them with a fault, and of some scripts with changes of counter."""
+    has_changes = has_changes and rng.random() < 0.5
     bits, first = opening(rng)
     lines, last, asleep = [first], first[4], False
     words = ["update", "set", "step", "freq", "tick", "tai", "suspend", "resume"]
@@ -71,6 +81,11 @@ def records(rng):
         at = reading(rng, bits, last)
         if rng.random() < 0.4:
             lines.append(["get", at, rng.choice(model.CLOCKS)])
+            continue
+        if has_changes and rng.random() < 0.15:
+            lines.append(change(rng, at))
+            # a refused change leaves the old counter, and the readings after it are wild
+            bits, last = lines[-1][2], lines[-1][5]
             continue
         word = "resume" if asleep and rng.random() < 0.6 else rng.choice(words)
         lines.append([word, at] + setting(rng, word))
@@ -82,14 +97,15 @@ def records(rng):
     return lines
 
 
-def script(rng):
-    return bytes_of(rng, records(rng))
+def script(rng, has_changes=True):
+    return bytes_of(rng, records(rng, has_changes))
 
 
 def unquoted_script(rng):
-    """A script without quotes and byte order marks, for a program that knows no more of csv than lines and commas."""
+    """A script without quotes, byte order marks and changes of counter, for a program that knows no more of csv than
+    lines and commas."""
     ending = rng.choice(["\n", "\n", "\r\n", "\r"])
-    return ending.join(",".join(map(str, line)) for line in records(rng)).encode()
+    return ending.join(",".join(map(str, line)) for line in records(rng, False)).encode()
 
 
 def bytes_of(rng, lines):
@@ -142,14 +158,15 @@ def stamp(rng, journal, front, is_wild):
         return rng.choice(EDGES)
     if is_wild and pick < 0.3:
         return rng.randrange(2**bits)
-    near = journal.reading(min(front + rng.randrange(2), len(journal.entries)))
+    near = journal.reading(min(max(front - journal.opening.count, 0) + rng.randrange(2), len(journal.entries)))
     return (near + rng.randrange(-2, 1 << rng.randrange(1, bits))) % 2**bits
 
 
 def stamps(rng, journal):
     """The bytes of a stamp file for a journal, some with a fault."""
-    last, is_wild = len(journal.entries), rng.random() < 0.2
-    fronts = [rng.randrange(last + 1) for _ in range(rng.randrange(60))]
+    last, is_wild = journal.accepted_count(), rng.random() < 0.2
+    first = 0 if rng.random() < 0.1 else journal.opening.count
+    fronts = [rng.randrange(first, last + 1) for _ in range(rng.randrange(60))]
     if rng.random() < 0.5:
         fronts.sort()
     lines = [[front, stamp(rng, journal, front, is_wild)] for front in fronts]

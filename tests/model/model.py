@@ -24,6 +24,7 @@ MONOTONIC_LIMIT = 946_080_000 * NANOS
 VALUE_LIMIT = 9_223_372_036 * NANOS
 SETTABLE_LIMIT = 8_277_292_036
 JOURNAL_LIMIT = 1_048_576
+LEAST_FREQUENCY, LEAST_TICK = -32_768_000, 9_000
 CLOCKS = ["realtime", "monotonic", "boottime", "tai", "realtime_coarse", "monotonic_coarse", "monotonic_raw"]
 
 
@@ -45,9 +46,17 @@ class Counter:
     mult: int
     shift: int
 
-    def is_described(self):
-        return (8 <= self.bits <= 64 and self.shift <= 32 and self.mult >= 256
-                and self.mult + self.mult * 11 // 100 <= 2**32 - 1)
+    def fault(self):
+        """Returns the text of the first fault of these numbers, or None if they describe a counter."""
+        if not 8 <= self.bits <= 64:
+            return "a reading does not have 8 to 64 bits"
+        if self.shift > 32:
+            return "the shift is above 32"
+        if self.mult < 256:
+            return "the mult is below 256"
+        if self.mult + self.mult * 11 // 100 > 2**32 - 1:
+            return "the mult and 11 percent of it do not fit 32 bits"
+        return None
 
     def gap(self, a, b):
         return (b - a) % 2**self.bits
@@ -75,24 +84,47 @@ def from_hz(bits, hz, maxsec):
     return Counter(bits, mult, shift)
 
 
+@dataclass(frozen=True)
+class Opening:
+    """The clocks at the start of a journal: `count` commands were accepted before it."""
+    counter: Counter
+    reading: int
+    # REALTIME and BOOTTIME minus MONOTONIC, in ns
+    real_offset: int
+    boot_offset: int = 0
+    tai: int = 0
+    # MONOTONIC and MONOTONIC_RAW, in 2^-shift ns
+    units: int = 0
+    raw_units: int = 0
+    frequency: int = 0
+    tick: int = 10_000
+    is_asleep: bool = False
+    count: int = 0
+
+
 @dataclass
 class Journal:
-    counter: Counter
-    opened_at: int
-    real: int
+    opening: Opening
     entries: list = field(default_factory=list)
 
+    @property
+    def counter(self):
+        return self.opening.counter
+
+    def accepted_count(self):
+        return self.opening.count + len(self.entries)
+
     def reading(self, place):
-        return self.entries[place - 1][1] if place else self.opened_at
+        return self.entries[place - 1][1] if place else self.opening.reading
 
     def is_asleep_at(self, place):
-        return place > 0 and self.entries[place - 1][0] == "suspend"
+        return self.entries[place - 1][0] == "suspend" if place else self.opening.is_asleep
 
     def prefix(self, place):
-        return Journal(self.counter, self.opened_at, self.real, self.entries[:place])
+        return Journal(self.opening, self.entries[:place])
 
     def followed_by(self, entry):
-        return Journal(self.counter, self.opened_at, self.real, self.entries + [entry])
+        return Journal(self.opening, self.entries + [entry])
 
     def awake_cycles(self, place):
         return sum(self.counter.gap(self.reading(k - 1), self.reading(k))
@@ -103,16 +135,18 @@ class Journal:
         return settings[-1] if settings else opening
 
     def multiplier(self, place):
-        return self.counter.multiplier(self.in_force("freq", place, 0), self.in_force("tick", place, 10_000))
+        return self.counter.multiplier(self.in_force("freq", place, self.opening.frequency),
+                                       self.in_force("tick", place, self.opening.tick))
 
     def units(self):
         """Returns MONOTONIC at the last entry, in 2^-shift ns.
 
-        It is the sum of cycles times multiplier over the stretches.
+        It is MONOTONIC at the opening, and the sum of cycles times multiplier over the stretches.
         """
         steers = [k for k, e in enumerate(self.entries, 1) if e[0] in ("freq", "tick")]
         bounds = [0] + steers + [len(self.entries)]
-        return sum((self.awake_cycles(b) - self.awake_cycles(a)) * self.multiplier(a) for a, b in zip(bounds, bounds[1:]))
+        gained = sum((self.awake_cycles(b) - self.awake_cycles(a)) * self.multiplier(a) for a, b in zip(bounds, bounds[1:]))
+        return self.opening.units + gained
 
     def forward_gap(self, reading):
         last = self.reading(len(self.entries))
@@ -120,24 +154,39 @@ class Journal:
             return 0
         return self.counter.gap(last, reading)
 
+    def units_at(self, reading):
+        return self.units() + self.forward_gap(reading) * self.multiplier(len(self.entries))
+
+    def raw_units_at(self, reading):
+        cycles = self.awake_cycles(len(self.entries)) + self.forward_gap(reading)
+        return self.opening.raw_units + cycles * self.counter.mult
+
     def monotonic(self, reading):
-        return (self.units() + self.forward_gap(reading) * self.multiplier(len(self.entries))) >> self.counter.shift
+        return self.units_at(reading) >> self.counter.shift
 
     def raw(self, reading):
-        cycles = self.awake_cycles(len(self.entries)) + self.forward_gap(reading)
-        return cycles * self.counter.mult >> self.counter.shift
+        return self.raw_units_at(reading) >> self.counter.shift
+
+    def changed(self, reading, counter, first):
+        """Returns the journal over another counter: it begins where this one is at the reading."""
+        place, shift = len(self.entries), self.counter.shift
+        return Journal(Opening(
+            counter, first, self.real_offset(), self.boot_offset(), self.in_force("tai", place, self.opening.tai),
+            (self.units_at(reading) << counter.shift) >> shift, (self.raw_units_at(reading) << counter.shift) >> shift,
+            self.in_force("freq", place, self.opening.frequency), self.in_force("tick", place, self.opening.tick),
+            self.is_asleep_at(place), self.accepted_count() + 1))
 
     def real_offset(self):
         sets = [k for k, e in enumerate(self.entries, 1) if e[0] == "set"]
         start = sets[-1] if sets else 0
-        base = self.real
+        base = self.opening.real_offset
         if sets:
             _, reading, time = self.entries[start - 1]
             base = time - self.prefix(start).monotonic(reading)
         return base + sum(value for name, _, value in self.entries[start:] if name in ("step", "resume"))
 
     def boot_offset(self):
-        return sum(value for name, _, value in self.entries if name == "resume")
+        return self.opening.boot_offset + sum(value for name, _, value in self.entries if name == "resume")
 
     def value(self, clock, reading):
         if clock.endswith("_coarse"):
@@ -150,7 +199,7 @@ class Journal:
         if clock == "realtime":
             return monotonic + self.real_offset()
         if clock == "tai":
-            return monotonic + self.real_offset() + NANOS * self.in_force("tai", len(self.entries), 0)
+            return monotonic + self.real_offset() + NANOS * self.in_force("tai", len(self.entries), self.opening.tai)
         return monotonic
 
 
@@ -204,6 +253,21 @@ def first_refusal(journal, word, reading, fields, is_bounded):
     return None
 
 
+def change_refusal(journal, reading, counter, first):
+    """Returns why a change of counter is refused. No model's journal counts 2^63 - 1 commands."""
+    if first >= 2**counter.bits:
+        return "invalid"
+    if journal.is_asleep_at(len(journal.entries)):
+        refusal = "invalid" if reading >= 2**journal.counter.bits else None
+    else:
+        refusal = first_refusal(journal, "update", reading, [], True)
+    opening = journal.changed(reading, counter, first).opening
+    slowest = counter.multiplier(LEAST_FREQUENCY, LEAST_TICK)
+    if refusal is None and opening.raw_units * slowest > opening.units * counter.mult:
+        return "range"
+    return refusal
+
+
 def value_of(word, fields):
     """Returns the operand that an entry keeps: a time in nanoseconds, or the number."""
     if word in ("set", "step", "resume"):
@@ -216,6 +280,7 @@ FIELDS = {
     "open": [U32, U32, U32, U64, I64, U32], "openhz": [U32, U32, U32, U64, I64, U32],
     "update": [U64], "suspend": [U64], "freq": [U64, I64], "tick": [U64, I64], "tai": [U64, I64],
     "set": [U64, I64, U32], "step": [U64, I64, U32], "resume": [U64, I64, U32], "get": [U64, None],
+    "counter": [U64, U32, U32, U32, U64],
 }
 
 
@@ -244,15 +309,17 @@ def read_record(row, record):
             read.append(number(text, within))
         except ValueError:
             raise Fault(f"record {row}: not a number in range") from None
+    if word == "counter" and Counter(*read[1:4]).fault():
+        raise Fault(f"record {row}: {Counter(*read[1:4]).fault()}")
     return word, read
 
 
 def opened(word, fields):
     reading, sec, nsec = fields[3:]
     counter = Counter(*fields[:3]) if word == "open" else from_hz(*fields[:3])
-    if counter is None or not counter.is_described() or reading >= 2**counter.bits or not is_settable(sec, nsec):
+    if counter is None or counter.fault() or reading >= 2**counter.bits or not is_settable(sec, nsec):
         raise Fault("record 1: not a valid opening")
-    return Journal(counter, reading, sec * NANOS + nsec)
+    return Journal(Opening(counter, reading, sec * NANOS + nsec))
 
 
 def time_text(nanos):
@@ -291,12 +358,26 @@ def parsed(text):
 
 
 def done(journal, word, reading, fields, is_bounded):
-    """Returns the journal after a command, and the command's line."""
+    """Returns the journal after a command or a change of counter, and its line."""
+    if word == "counter":
+        return changed_by(journal, reading, Counter(*fields[:3]), fields[3])
     refusal = first_refusal(journal, word, reading, fields, is_bounded)
     if refusal:
         return journal, f"no,{refusal}"
     after = journal.followed_by((word, reading, value_of(word, fields)))
-    return after, f"ok,{len(after.entries)},{time_text(after.monotonic(reading))}"
+    return after, ok_line(after, reading)
+
+
+def changed_by(journal, reading, counter, first):
+    refusal = change_refusal(journal, reading, counter, first)
+    if refusal:
+        return journal, f"no,{refusal}"
+    after = journal.changed(reading, counter, first)
+    return after, ok_line(after, first)
+
+
+def ok_line(journal, reading):
+    return f"ok,{journal.accepted_count()},{time_text(journal.monotonic(reading))}"
 
 
 def report(text, is_bounded=False):
@@ -328,11 +409,13 @@ def items_of(text):
 
 def converted(journal, clock, index, front, stamp):
     """Returns the value of an item in ns, by the first `front` accepted commands."""
-    if front > len(journal.entries):
+    if front > journal.accepted_count():
         raise Fault(f"item {index}: unknown front")
+    if front < journal.opening.count:
+        raise Fault(f"item {index}: folded front")
     if stamp >= 2**journal.counter.bits:
         raise Fault(f"item {index}: stamp above the mask")
-    value = journal.prefix(front).value(clock, stamp)
+    value = journal.prefix(front - journal.opening.count).value(clock, stamp)
     if value >= limit(clock):
         raise Fault(f"item {index}: value out of range")
     return value
@@ -367,7 +450,9 @@ def race(step, script):
     The counter is read at the opening, and then once for each command.
     """
     journal, rows = named("file 0", parsed, script)
-    start, reads, answers = journal.opened_at, 0, []
+    if any(word == "counter" for word, _ in rows):
+        raise Fault("file 0: the counter of a race cannot change")
+    start, reads, answers = journal.opening.reading, 0, []
     for word, (_, *fields) in rows:
         if word != "get":
             reads += 1
@@ -375,7 +460,7 @@ def race(step, script):
             journal, line = done(journal, word, reading, fields, False)
             answers.append(line)
     accepted = sum(line.startswith("ok") for line in answers)
-    return [f"entries,{len(journal.entries)}", f"actor,0,{accepted},{len(answers) - accepted}"]
+    return [f"entries,{journal.accepted_count()}", f"actor,0,{accepted},{len(answers) - accepted}"]
 
 
 def bytes_of(name):

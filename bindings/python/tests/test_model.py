@@ -50,9 +50,9 @@ class Model(unittest.TestCase):
                 journal, rows = model.parsed(compare.unquoted_script(rng))
             except model.Fault:
                 continue
-            of = journal.counter
-            clock = tkcore.Clock(tkcore.Counter(of.bits, of.mult, of.shift), journal.opened_at,
-                                 journal.real)
+            of, opening = journal.counter, journal.opening
+            clock = tkcore.Clock(tkcore.Counter(of.bits, of.mult, of.shift), opening.reading,
+                                 opening.real_offset)
             for word, (reading, *fields) in rows:
                 if word == "get":
                     self.read(clock.snapshot(), journal, reading)
