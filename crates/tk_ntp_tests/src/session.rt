@@ -79,20 +79,11 @@ impl Session {
 
 /// Prints a reply, and the length of a second after it.
 fn print(rt: &HostRuntime, reply: &Reply, length: i64) -> io::Result<()> {
-    let Timex {
-        offset,
-        freq,
-        maxerror,
-        esterror,
-        status,
-        constant,
-        tick,
-        sec,
-        sub,
-        ..
-    } = reply.timex;
-    let state = reply.state;
-    let tai = reply.tai;
-    print!(rt; "adj,{state:?},{sec},{sub},{offset},{freq},{maxerror},{esterror}")?;
-    println!(rt; ",{status},{constant},{tick},{tai},{length}")
+    let Reply { state, tai, timex } = *reply;
+    print!(rt;
+        "adj,{state:?},{},{},{},{}",
+        timex.sec, timex.sub, timex.offset, timex.freq
+    )?;
+    print!(rt; ",{},{},{}", timex.maxerror, timex.esterror, timex.status)?;
+    println!(rt; ",{},{},{tai},{length}", timex.constant, timex.tick)
 }

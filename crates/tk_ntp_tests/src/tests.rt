@@ -1,4 +1,5 @@
 //! Runs worked requests whose replies the kernel's own ntp.c gave, with HZ 250.
+use std::process::Abort;
 use std::test::Fail;
 use tk_clock::Timespec;
 use tk_ntp::{Discipline, Leap, Reply, TimeState, Timex};
@@ -61,6 +62,24 @@ impl Clock {
     fn reply(&mut self, nsec: u32, request: &Timex) -> Result<Reply, Fail> {
         Ok(self.ask(nsec, request).ok_or("the request has no fault")?)
     }
+
+    /// Checks the reply to a request that is not refused. It has no TAI offset.
+    fn replies(
+        &mut self,
+        rt: &impl Abort,
+        nsec: u32,
+        request: &Timex,
+        state: TimeState,
+        timex: Timex,
+    ) -> Result<(), Fail> {
+        let expected = Reply {
+            state,
+            tai: 0,
+            timex,
+        };
+        assert_eq!(rt; self.reply(nsec, request)?, expected);
+        Ok(())
+    }
 }
 
 /// Returns a request that gives nothing but its modes.
@@ -68,6 +87,14 @@ fn request(modes: u32) -> Timex {
     Timex {
         modes,
         ..Timex::default()
+    }
+}
+
+/// Returns a request that gives only an offset with its modes.
+fn with_offset(modes: u32, offset: i64) -> Timex {
+    Timex {
+        offset,
+        ..request(modes)
     }
 }
 
@@ -84,14 +111,5 @@ fn fields(modes: u32, sec: u32, sub: i64) -> Timex {
         tick: 10_000,
         sec: i64::from(sec),
         sub,
-    }
-}
-
-/// Returns a reply without a TAI offset.
-fn reply(state: TimeState, timex: Timex) -> Reply {
-    Reply {
-        state,
-        tai: 0,
-        timex,
     }
 }

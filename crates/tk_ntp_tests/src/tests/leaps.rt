@@ -1,5 +1,6 @@
 //! Leap seconds.
 use super::{Clock, fields, request};
+use std::process::Abort;
 use std::test::Fail;
 use tk_ntp::{Leap, Reply, TimeState, Timex};
 
@@ -25,22 +26,35 @@ fn announcing(status: u32) -> Timex {
     }
 }
 
+/// Lets seconds begin, and checks their leaps, and the state, the TAI offset and the greatest error
+/// that a request without modes then gets with a status.
+fn begin_with(
+    rt: &impl Abort,
+    clock: &mut Clock,
+    status: u32,
+    seconds: &[(u32, Leap, TimeState, u32, i64)],
+) -> Result<(), Fail> {
+    for (sec, leap, state, tai, maxerror) in seconds {
+        assert_eq!(rt; clock.begin(*sec), *leap);
+        let expected = reply(*state, *tai, *sec, status, *maxerror);
+        assert_eq!(rt; clock.reply(499_000_000, &request(0))?, expected);
+    }
+    Ok(())
+}
+
 #[test]
 fn a_second_is_inserted_at_midnight(rt: HostRuntime) -> Result<(), Fail> {
     let mut clock = Clock::new(1_483_228_797)?;
     let first = clock.reply(499_000_000, &announcing(16))?;
     assert_eq!(rt; first.state, TimeState::Ok);
     assert_eq!(rt; first.tai, 36);
-    for (sec, leap, state, tai, maxerror) in [
+    let seconds = [
         (1_483_228_798, Leap::None, TimeState::Ins, 36, 500),
         (1_483_228_799, Leap::None, TimeState::Ins, 36, 1000),
         (1_483_228_800, Leap::Insert, TimeState::Oop, 37, 1500),
         (1_483_228_800, Leap::None, TimeState::Wait, 37, 2000),
-    ] {
-        assert_eq!(rt; clock.begin(sec), leap);
-        let expected = reply(state, tai, sec, 16, maxerror);
-        assert_eq!(rt; clock.reply(499_000_000, &request(0))?, expected);
-    }
+    ];
+    begin_with(&rt, &mut clock, 16, &seconds)?;
     let off = clock.reply(499_000_000, &request(0x10))?;
     assert_eq!(rt; off.state, TimeState::Wait);
     assert_eq!(rt; clock.begin(1_483_228_801), Leap::None);
@@ -53,16 +67,12 @@ fn a_second_is_inserted_at_midnight(rt: HostRuntime) -> Result<(), Fail> {
 fn the_last_second_of_a_day_is_deleted(rt: HostRuntime) -> Result<(), Fail> {
     let mut clock = Clock::new(1_483_228_797)?;
     let _ = clock.reply(499_000_000, &announcing(32))?;
-    for (sec, leap, state, tai, maxerror) in [
+    let seconds = [
         (1_483_228_798, Leap::None, TimeState::Del, 36, 500),
         (1_483_228_799, Leap::Delete, TimeState::Wait, 35, 1000),
         (1_483_228_801, Leap::None, TimeState::Wait, 35, 1500),
-    ] {
-        assert_eq!(rt; clock.begin(sec), leap);
-        let expected = reply(state, tai, sec, 32, maxerror);
-        assert_eq!(rt; clock.reply(499_000_000, &request(0))?, expected);
-    }
-    Ok(())
+    ];
+    begin_with(&rt, &mut clock, 32, &seconds)
 }
 
 #[test]
@@ -71,11 +81,14 @@ fn a_set_forgets_when_the_leap_is_due(rt: HostRuntime) -> Result<(), Fail> {
     let _ = clock.reply(500_000_000, &announcing(16))?;
     assert_eq!(rt; clock.begin(1_483_228_791), Leap::None);
     clock.ntp.clear();
-    for sec in [1_483_228_799, 1_483_228_800, 1_483_228_801] {
-        assert_eq!(rt; clock.begin(sec), Leap::None);
-        let expected = reply(TimeState::Error, 36, sec, 80, 16_000_000);
-        assert_eq!(rt; clock.reply(499_000_000, &request(0))?, expected);
-    }
+    let seconds = [1_483_228_799, 1_483_228_800, 1_483_228_801].map(|sec| (
+        sec,
+        Leap::None,
+        TimeState::Error,
+        36,
+        16_000_000,
+    ));
+    begin_with(&rt, &mut clock, 80, &seconds)?;
     assert_eq!(rt;
         clock.reply(499_000_000, &request(0x10))?.state,
         TimeState::Ins

@@ -1,5 +1,5 @@
 //! Offsets that the PLL and the FLL follow.
-use super::{Clock, fields, reply, request};
+use super::{Clock, fields, request, with_offset};
 use std::test::Fail;
 use tk_ntp::{TimeState, Timex};
 
@@ -26,12 +26,12 @@ fn synchronized(modes: u32, sec: u32, sub: i64, status: u32, maxerror: i64) -> T
 #[test]
 fn a_pll_gives_a_part_of_the_offset_in_each_second(rt: HostRuntime) -> Result<(), Fail> {
     let mut clock = Clock::new(1_700_000_000)?;
-    let found = clock.reply(500_000_000, &pll(100_000_000, 1))?;
+    let first = pll(100_000_000, 1);
     let expected = Timex {
         offset: 100_000_000,
         ..synchronized(0x2035, 1_700_000_000, 500_000_000, 8193, 0)
     };
-    assert_eq!(rt; found, reply(TimeState::Ok, expected));
+    clock.replies(&rt, 500_000_000, &first, TimeState::Ok, expected)?;
     for (sec, offset, maxerror) in [
         (1_700_000_001, 99_609_375, 500),
         (1_700_000_010, 96_161_704, 5000),
@@ -41,46 +41,32 @@ fn a_pll_gives_a_part_of_the_offset_in_each_second(rt: HostRuntime) -> Result<()
             offset,
             ..synchronized(0, sec, 503_649_625, 8193, maxerror)
         };
-        let found = clock.reply(503_649_625, &request(0))?;
-        assert_eq!(rt; found, reply(TimeState::Ok, expected));
+        clock.replies(&rt, 503_649_625, &request(0), TimeState::Ok, expected)?;
     }
     clock.pass(1_700_000_064);
-    let second = Timex {
-        offset: 50_000_000,
-        ..request(0x2001)
-    };
+    let second = with_offset(0x2001, 50_000_000);
     let expected = Timex {
         offset: 50_000_000,
         freq: 200_000,
         ..synchronized(0x2001, 1_700_000_064, 522_004_432, 8193, 32_000)
     };
-    assert_eq!(rt;
-        clock.reply(522_004_432, &second)?,
-        reply(TimeState::Ok, expected)
-    );
+    clock.replies(&rt, 522_004_432, &second, TimeState::Ok, expected)?;
     clock.pass(1_700_000_100);
     let expected = Timex {
         offset: 43_428_791,
         freq: 200_000,
         ..synchronized(0, 1_700_000_100, 528_749_916, 8193, 50_000)
     };
-    assert_eq!(rt;
-        clock.reply(528_749_916, &request(0))?,
-        reply(TimeState::Ok, expected)
-    );
+    clock.replies(&rt, 528_749_916, &request(0), TimeState::Ok, expected)?;
     Ok(())
 }
 
 #[test]
 fn an_fll_acts_after_256_seconds(rt: HostRuntime) -> Result<(), Fail> {
     let mut clock = Clock::new(1_700_000_000)?;
-    let found = clock.reply(500_000_000, &pll(0, 9))?;
     let expected = synchronized(0x2035, 1_700_000_000, 500_000_000, 8201, 0);
-    assert_eq!(rt; found, reply(TimeState::Ok, expected));
-    let late = Timex {
-        offset: -3_000_000,
-        ..request(0x2001)
-    };
+    clock.replies(&rt, 500_000_000, &pll(0, 9), TimeState::Ok, expected)?;
+    let late = with_offset(0x2001, -3_000_000);
     for (sec, nsec, freq, status, maxerror) in [
         (1_700_000_300, 500_000_000, -220_090, 24_585, 150_000),
         (1_700_000_316, 499_769_627, -223_090, 8201, 158_000),
@@ -91,7 +77,7 @@ fn an_fll_acts_after_256_seconds(rt: HostRuntime) -> Result<(), Fail> {
             freq,
             ..synchronized(0x2001, sec, i64::from(nsec), status, maxerror)
         };
-        assert_eq!(rt; clock.reply(nsec, &late)?, reply(TimeState::Ok, expected));
+        clock.replies(&rt, nsec, &late, TimeState::Ok, expected)?;
     }
     Ok(())
 }
@@ -109,19 +95,13 @@ fn in_microseconds_the_constant_counts_4_more(rt: HostRuntime) -> Result<(), Fai
         offset: -300,
         ..synchronized(0x1035, 1_700_000_000, 500_000, 1, 0)
     };
-    assert_eq!(rt;
-        clock.reply(500_000_000, &micro)?,
-        reply(TimeState::Ok, expected)
-    );
+    clock.replies(&rt, 500_000_000, &micro, TimeState::Ok, expected)?;
     clock.pass(1_700_000_001);
     let expected = Timex {
         offset: -298,
         ..synchronized(0, 1_700_000_001, 249_999, 1, 500)
     };
-    assert_eq!(rt;
-        clock.reply(249_999_828, &request(0))?,
-        reply(TimeState::Ok, expected)
-    );
+    clock.replies(&rt, 249_999_828, &request(0), TimeState::Ok, expected)?;
     clock.pass(1_700_000_002);
     let nsec = 499_998_211;
     let all = [
@@ -130,16 +110,13 @@ fn in_microseconds_the_constant_counts_4_more(rt: HostRuntime) -> Result<(), Fai
         (0x2001, -2_000_000_000, -500_000_000, 499_998_211, 8193),
     ];
     for (modes, offset, left, sub, status) in all {
-        let asked = Timex {
-            offset,
-            ..request(modes)
-        };
+        let asked = with_offset(modes, offset);
         let expected = Timex {
             offset: left,
             freq: 62_500,
             ..synchronized(modes, 1_700_000_002, sub, status, 1000)
         };
-        assert_eq!(rt; clock.reply(nsec, &asked)?, reply(TimeState::Ok, expected));
+        clock.replies(&rt, nsec, &asked, TimeState::Ok, expected)?;
     }
     Ok(())
 }
@@ -149,10 +126,7 @@ fn a_step_forgets_the_phase(rt: HostRuntime) -> Result<(), Fail> {
     let mut clock = Clock::new(1_700_000_000)?;
     let _ = clock.reply(500_000_000, &pll(100_000_000, 1))?;
     clock.pass(1_700_000_002);
-    let shot = Timex {
-        offset: 900_000,
-        ..request(0x8001)
-    };
+    let shot = with_offset(0x8001, 900_000);
     let _ = clock.reply(500_585_078, &shot)?;
     clock.ntp.clear();
     let step = Timex {
@@ -162,10 +136,7 @@ fn a_step_forgets_the_phase(rt: HostRuntime) -> Result<(), Fail> {
     };
     for asked in [step, request(0xa001)] {
         let expected = synchronized(asked.modes, 1_700_000_002, 752_110_687, 8257, 16_000_000);
-        assert_eq!(rt;
-            clock.reply(752_110_687, &asked)?,
-            reply(TimeState::Error, expected)
-        );
+        clock.replies(&rt, 752_110_687, &asked, TimeState::Error, expected)?;
     }
     assert_eq!(rt; clock.ntp.second_length(), 4_294_967_296_000_000_000);
     Ok(())

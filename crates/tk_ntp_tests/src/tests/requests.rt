@@ -1,5 +1,5 @@
 //! Frequencies, ticks, errors, the old call adjtime, steps and faults.
-use super::{Clock, fields, reply, request};
+use super::{Clock, fields, request, with_offset};
 use std::test::Fail;
 use tk_clock::Timespec;
 use tk_ntp::{Discipline, TimeState, Timex};
@@ -7,10 +7,8 @@ use tk_ntp::{Discipline, TimeState, Timex};
 #[test]
 fn a_fresh_discipline_is_not_synchronized(rt: HostRuntime) -> Result<(), Fail> {
     let mut clock = Clock::new(1_700_000_000)?;
-    assert_eq!(rt;
-        clock.reply(0, &request(0))?,
-        reply(TimeState::Error, fields(0, 1_700_000_000, 0))
-    );
+    let expected = fields(0, 1_700_000_000, 0);
+    clock.replies(&rt, 0, &request(0), TimeState::Error, expected)?;
     assert_eq!(rt; clock.ntp.second_length(), 4_294_967_296_000_000_000);
     assert_eq!(rt; clock.ntp.tick(), 10_000);
     Ok(())
@@ -40,8 +38,7 @@ fn a_frequency_is_clamped(rt: HostRuntime) -> Result<(), Fail> {
             freq: kept,
             ..fields(0x2, 1_700_000_010, 501_049)
         };
-        let found = clock.reply(501_049_935, &asked)?;
-        assert_eq!(rt; found, reply(TimeState::Error, expected));
+        clock.replies(&rt, 501_049_935, &asked, TimeState::Error, expected)?;
     }
     Ok(())
 }
@@ -69,10 +66,7 @@ fn a_phase_goes_on_under_another_tick(rt: HostRuntime) -> Result<(), Fail> {
         tick: 10_100,
         ..fields(0x4000, 1_700_000_004, 500_136_017)
     };
-    assert_eq!(rt;
-        clock.reply(500_136_017, &ticked)?,
-        reply(TimeState::Ok, expected)
-    );
+    clock.replies(&rt, 500_136_017, &ticked, TimeState::Ok, expected)?;
     clock.pass(1_700_000_014);
     let slower = Timex {
         freq: -6_553_600,
@@ -88,10 +82,7 @@ fn a_phase_goes_on_under_another_tick(rt: HostRuntime) -> Result<(), Fail> {
         tick: 9900,
         ..fields(0x4002, 1_700_000_014, 600_514_511)
     };
-    assert_eq!(rt;
-        clock.reply(600_514_511, &slower)?,
-        reply(TimeState::Ok, expected)
-    );
+    clock.replies(&rt, 600_514_511, &slower, TimeState::Ok, expected)?;
     assert_eq!(rt; clock.ntp.tick(), 9900);
     Ok(())
 }
@@ -116,10 +107,7 @@ fn the_greatest_error_grows_to_its_limit(rt: HostRuntime) -> Result<(), Fail> {
             status,
             ..fields(0, sec, 500_000)
         };
-        assert_eq!(rt;
-            clock.reply(500_000_000, &request(0))?,
-            reply(state, expected)
-        );
+        clock.replies(&rt, 500_000_000, &request(0), state, expected)?;
     }
     Ok(())
 }
@@ -127,10 +115,7 @@ fn the_greatest_error_grows_to_its_limit(rt: HostRuntime) -> Result<(), Fail> {
 #[test]
 fn adjtime_gives_500_us_in_a_second(rt: HostRuntime) -> Result<(), Fail> {
     let mut clock = Clock::new(1_700_000_000)?;
-    let shot = Timex {
-        offset: 1200,
-        ..request(0x8001)
-    };
+    let shot = with_offset(0x8001, 1200);
     assert_eq!(rt; clock.reply(500_000_000, &shot)?.timex.offset, 0);
     // a second of 10^9 ns, and longer by 0, then by 500, 500, 200 and 0 us
     for (sec, left, length) in [
@@ -145,8 +130,8 @@ fn adjtime_gives_500_us_in_a_second(rt: HostRuntime) -> Result<(), Fail> {
             offset: left,
             ..fields(0xa001, sec, 500_249)
         };
-        let found = clock.reply(500_249_981, &request(0xa001))?;
-        assert_eq!(rt; found, reply(TimeState::Error, expected));
+        let single = request(0xa001);
+        clock.replies(&rt, 500_249_981, &single, TimeState::Error, expected)?;
         assert_eq!(rt; clock.ntp.second_length(), length);
     }
     Ok(())
