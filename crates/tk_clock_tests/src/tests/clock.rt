@@ -45,6 +45,11 @@ fn answers(
     }
 }
 
+/// Checks the words of the snapshot with this front.
+fn has_words(rt: &impl Abort, clock: &Clock, front: u64, words: &[u64; 10]) {
+    assert_same(rt, &clock.snapshot(front).words(), words);
+}
+
 /// Reads a clock and checks its time.
 fn reads(rt: &impl Abort, clock: &Clock, id: ClockId, reading: u64, value: Timespec) {
     let read = clock.snapshot(0).get(id, reading);

@@ -1,5 +1,6 @@
 use super::{
-    answers, assert_same, assert_same_at, nanosecond_counter, opened, reads, time, wide_counter,
+    answers, assert_same, assert_same_at, has_words, nanosecond_counter, opened, reads, time,
+    wide_counter,
 };
 use std::process::Abort;
 use std::test::Fail;
@@ -53,9 +54,10 @@ fn a_finer_counter_and_the_first_one_again(rt: HostRuntime) -> Result<(), Fail> 
     answers(&rt, &mut clock, 0, Freq(32_768_000), Ok(()));
     answers(&rt, &mut clock, 10, Tai(37), Ok(()));
     changes(&rt, &mut clock, 1_000_000_007, (fine_counter()?, 5), Ok(()));
-    assert_same(
+    has_words(
         &rt,
-        &clock.snapshot(0).words(),
+        &clock,
+        0,
         &[
             0,
             5,
@@ -81,9 +83,10 @@ fn a_finer_counter_and_the_first_one_again(rt: HostRuntime) -> Result<(), Fail> 
     }
     let last = (nanosecond_counter()?, 4_294_967_295);
     changes(&rt, &mut clock, 1_000_005, last, Ok(()));
-    assert_same(
+    has_words(
         &rt,
-        &clock.snapshot(0).words(),
+        &clock,
+        0,
         &[
             0,
             4_294_967_295,
@@ -129,26 +132,16 @@ fn from_8_bits_to_64_bits(rt: HostRuntime) -> Result<(), Fail> {
 #[test]
 fn a_smaller_shift_cuts_the_fraction(rt: HostRuntime) -> Result<(), Fail> {
     let mut clock = Clock::open(fine_counter()?, 0, time(5, 0))?;
+    let halves = (CounterDesc::new(40, 1_000, 1)?, 3);
+    let wholes = (CounterDesc::new(40, 1_000, 0)?, 9);
     // 7 cycles last 4.889 nanoseconds, of which halves are kept
-    changes(
-        &rt,
-        &mut clock,
-        7,
-        (CounterDesc::new(40, 1_000, 1)?, 3),
-        Ok(()),
-    );
+    changes(&rt, &mut clock, 7, halves, Ok(()));
     assert_same(&rt, &clock.snapshot(0).frac(), &9);
     assert_same(&rt, &clock.snapshot(0).raw_frac(), &9);
     reads(&rt, &clock, Monotonic, 3, time(0, 4));
     reads(&rt, &clock, Monotonic, 4, time(0, 504));
     // of 504.5 nanoseconds only whole ones are kept
-    changes(
-        &rt,
-        &mut clock,
-        4,
-        (CounterDesc::new(40, 1_000, 0)?, 9),
-        Ok(()),
-    );
+    changes(&rt, &mut clock, 4, wholes, Ok(()));
     assert_same(&rt, &clock.snapshot(0).frac(), &504);
     reads(&rt, &clock, Monotonic, 9, time(0, 504));
     Ok(())
@@ -201,21 +194,11 @@ fn a_change_at_each_limit_is_refused(rt: HostRuntime) -> Result<(), Fail> {
     }
     let mut monotonic = Clock::open(wide_counter()?, 0, time(0, 0))?;
     let to = (nanosecond_counter()?, 0);
-    changes(
-        &rt,
-        &mut monotonic,
-        225_563_049_317,
-        to,
-        Err(Refusal::Range),
-    );
-    changes(&rt, &mut monotonic, 225_563_049_316, to, Ok(()));
-    reads(
-        &rt,
-        &monotonic,
-        Monotonic,
-        0,
-        time(946_079_999, 998_296_064),
-    );
+    let (last, past) = (225_563_049_316, 225_563_049_317);
+    changes(&rt, &mut monotonic, past, to, Err(Refusal::Range));
+    changes(&rt, &mut monotonic, last, to, Ok(()));
+    let most = time(946_079_999, 998_296_064);
+    reads(&rt, &monotonic, Monotonic, 0, most);
     Ok(())
 }
 
@@ -230,21 +213,11 @@ fn slowed() -> Result<Clock, Fail> {
 #[test]
 fn raw_may_be_too_far_ahead_for_another_counter(rt: HostRuntime) -> Result<(), Fail> {
     let mut clock = slowed()?;
-    changes(
-        &rt,
-        &mut clock,
-        1_000,
-        (exact_counter()?, 0),
-        Err(Refusal::Range),
-    );
+    let exact = (exact_counter()?, 0);
     // this counter's slowest rate is lower
-    changes(
-        &rt,
-        &mut clock,
-        1_000,
-        (CounterDesc::new(64, 259, 0)?, 0),
-        Ok(()),
-    );
+    let slower = (CounterDesc::new(64, 259, 0)?, 0);
+    changes(&rt, &mut clock, 1_000, exact, Err(Refusal::Range));
+    changes(&rt, &mut clock, 1_000, slower, Ok(()));
     reads(&rt, &clock, Monotonic, 0, time(0, 899));
     reads(&rt, &clock, MonotonicRaw, 0, time(0, 1_000));
 
@@ -252,14 +225,8 @@ fn raw_may_be_too_far_ahead_for_another_counter(rt: HostRuntime) -> Result<(), F
     let mut clock = slowed()?;
     answers(&rt, &mut clock, 1_000_000, Freq(0), Ok(()));
     answers(&rt, &mut clock, 1_000_000, Tick(10_000), Ok(()));
-    changes(
-        &rt,
-        &mut clock,
-        1_000_000,
-        (exact_counter()?, 0),
-        Err(Refusal::Range),
-    );
-    changes(&rt, &mut clock, 1_000_001, (exact_counter()?, 0), Ok(()));
+    changes(&rt, &mut clock, 1_000_000, exact, Err(Refusal::Range));
+    changes(&rt, &mut clock, 1_000_001, exact, Ok(()));
     Ok(())
 }
 
@@ -306,9 +273,10 @@ fn a_thousand_changes_lose_only_parts_of_a_nanosecond(rt: HostRuntime) -> Result
     change_in_turn(&mut clock, &[fine, coarse, whole, fine, coarse, whole])?;
     // The exact sum is 85,203,709.56 nanoseconds. Each of 333 changes to the coarse counter loses
     // less than half a nanosecond, and each of 333 changes from it to the first one loses nothing.
-    assert_same(
+    has_words(
         &rt,
-        &clock.snapshot(0).words(),
+        &clock,
+        0,
         &[
             0,
             3_000,

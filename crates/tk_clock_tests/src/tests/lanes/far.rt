@@ -64,44 +64,49 @@ fn converts_in_each_order(
     Ok(())
 }
 
+/// Checks the stamps these numbers of cycles after the last command, except those at the limit.
+fn converts_gaps(
+    rt: &impl Abort,
+    alloc: Global,
+    snapshot: &Snapshot,
+    gaps: &[u64],
+) -> Result<(), Fail> {
+    let (mut stamps, mut values) = (Vec::new(alloc), Vec::new(alloc));
+    for cycles in gaps {
+        let value = monotonic_after(snapshot, *cycles);
+        if value < LIMIT {
+            stamps.push(LAST.wrapping_add(*cycles))?;
+            values.push(value as u64)?;
+        }
+    }
+    let (stamps, values) = (stamps.as_mut_slice(), values.as_mut_slice());
+    converts_in_each_order(rt, alloc, snapshot, stamps, values)
+}
+
 #[test]
 fn gaps_next_to_each_power_of_two_are_converted(rt: HostRuntime) -> Result<(), Fail> {
-    let alloc = rt.alloc();
+    let mut gaps = Vec::new(rt.alloc());
+    for power in 1..60u32 {
+        for cycles in [(1u64 << power) - 1, 1 << power, (1 << power) + 1] {
+            gaps.push(cycles)?;
+        }
+    }
     for (mult, shift) in RATES {
         let snapshot = updated(64, mult, shift)?;
-        let (mut stamps, mut values) = (Vec::new(alloc), Vec::new(alloc));
-        for power in 1..60u32 {
-            for cycles in [(1u64 << power) - 1, 1 << power, (1 << power) + 1] {
-                let value = monotonic_after(&snapshot, cycles);
-                if value < LIMIT {
-                    stamps.push(LAST.wrapping_add(cycles))?;
-                    values.push(value as u64)?;
-                }
-            }
-        }
-        let (stamps, values) = (stamps.as_mut_slice(), values.as_mut_slice());
-        converts_in_each_order(&rt, alloc, &snapshot, stamps, values)?;
+        converts_gaps(&rt, rt.alloc(), &snapshot, gaps.as_slice())?;
     }
     Ok(())
 }
 
 #[test]
 fn gaps_next_to_64_bits_of_units_are_converted(rt: HostRuntime) -> Result<(), Fail> {
-    let alloc = rt.alloc();
     for (mult, shift) in RATES {
-        let snapshot = updated(64, mult, shift)?;
         let most = u64::MAX / u64::from(mult.max(1));
-        let (mut stamps, mut values) = (Vec::new(alloc), Vec::new(alloc));
-        for step in 0..40u64 {
-            let cycles = most.wrapping_sub(20).wrapping_add(step);
-            let value = monotonic_after(&snapshot, cycles);
-            if value < LIMIT {
-                stamps.push(LAST.wrapping_add(cycles))?;
-                values.push(value as u64)?;
-            }
+        let mut gaps = [most.wrapping_sub(20); 40];
+        for (step, gap) in gaps.iter_mut().enumerate() {
+            *gap = gap.wrapping_add(step as u64);
         }
-        let (stamps, values) = (stamps.as_mut_slice(), values.as_mut_slice());
-        converts_in_each_order(&rt, alloc, &snapshot, stamps, values)?;
+        converts_gaps(&rt, rt.alloc(), &updated(64, mult, shift)?, &gaps)?;
     }
     Ok(())
 }
@@ -149,6 +154,7 @@ fn gaps_after_a_wrap_are_converted(rt: HostRuntime) -> Result<(), Fail> {
 #[test]
 fn the_limit_ends_a_list_wherever_it_is_reached(rt: HostRuntime) -> Result<(), Fail> {
     let alloc = rt.alloc();
+    let clock = ClockId::Monotonic;
     let snapshot = updated(64, 16_777_216, 24)?;
     // one nanosecond a cycle, and 1,233,567 ns at the last command
     let past = LAST
@@ -165,15 +171,7 @@ fn the_limit_ends_a_list_wherever_it_is_reached(rt: HostRuntime) -> Result<(), F
             *value = 946_080_000_000_000_000u64.wrapping_sub(before.wrapping_mul(1 << 23));
         }
         let answer = Err(BatchError::Range { index: place });
-        converts(
-            &rt,
-            alloc,
-            &snapshot,
-            ClockId::Monotonic,
-            &stamps,
-            answer,
-            &values,
-        )?;
+        converts(&rt, alloc, &snapshot, clock, &stamps, answer, &values)?;
     }
     Ok(())
 }

@@ -18,27 +18,17 @@ fn a_stamp_above_the_mask_ends_a_list(rt: HostRuntime) -> Result<(), Fail> {
     let alloc = rt.alloc();
     let snapshot = opened()?.snapshot(0);
     let answer = Err(BatchError::Invalid { index: 1 });
-    for clock in [ClockId::Monotonic, ClockId::MonotonicRaw] {
-        converts(
-            &rt,
-            alloc,
-            &snapshot,
-            clock,
-            &[1_001, ABOVE, 1_002],
-            answer,
-            &[1, 7, 7],
-        )?;
-    }
+    let stamps = [1_001, ABOVE, 1_002];
     // a coarse clock refuses too
-    converts(
-        &rt,
-        alloc,
-        &snapshot,
-        ClockId::MonotonicCoarse,
-        &[1_001, ABOVE, 1_002],
-        answer,
-        &[0, 7, 7],
-    )
+    for (clock, first) in [
+        (ClockId::Monotonic, 1),
+        (ClockId::MonotonicRaw, 1),
+        (ClockId::MonotonicCoarse, 0),
+    ] {
+        let values = [first, 7, 7];
+        converts(&rt, alloc, &snapshot, clock, &stamps, answer, &values)?;
+    }
+    Ok(())
 }
 
 #[test]
@@ -61,6 +51,7 @@ fn a_value_at_the_limit_ends_a_list(rt: HostRuntime) -> Result<(), Fail> {
 #[test]
 fn the_place_of_a_refused_stamp_is_that_in_the_list(rt: HostRuntime) -> Result<(), Fail> {
     let alloc = rt.alloc();
+    let clock = ClockId::Monotonic;
     let snapshot = opened()?.snapshot(0);
     for place in 0..24usize {
         let mut stamps = [1_005; 24];
@@ -69,15 +60,8 @@ fn the_place_of_a_refused_stamp_is_that_in_the_list(rt: HostRuntime) -> Result<(
         for value in values[..place].iter_mut() {
             *value = 5;
         }
-        converts(
-            &rt,
-            alloc,
-            &snapshot,
-            ClockId::Monotonic,
-            &stamps,
-            Err(BatchError::Invalid { index: place }),
-            &values,
-        )?;
+        let answer = Err(BatchError::Invalid { index: place });
+        converts(&rt, alloc, &snapshot, clock, &stamps, answer, &values)?;
     }
     Ok(())
 }

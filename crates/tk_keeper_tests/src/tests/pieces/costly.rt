@@ -1,7 +1,7 @@
 //! Lists with unordered fronts, so that several threads convert a few thousand items.
 
 use super::{
-    ABOVE, Lists, agrees_with_one_thread, answered, assert_same, counted, first_faults, opened, put,
+    ABOVE, Lists, agrees_with_one_thread, answered, assert_same, counted, first_faults, opened,
 };
 use std::alloc::Global;
 use std::process::Abort;
@@ -36,12 +36,8 @@ fn busy(rt: &impl Abort, alloc: Global, pair: [Command; 2]) -> Timekeeper {
 /// Returns this number of items, with stamps after `READING`.
 fn late(rt: &impl Abort, alloc: Global, many: usize) -> Lists {
     let mut lists = counted(rt, alloc, many);
-    for place in 0..many {
-        put(
-            lists.stamps.as_mut_slice(),
-            place,
-            READING.wrapping_add(place as u64),
-        );
+    for (place, stamp) in lists.stamps.as_mut_slice().iter_mut().enumerate() {
+        *stamp = READING.wrapping_add(place as u64);
     }
     lists
 }
@@ -50,9 +46,9 @@ fn late(rt: &impl Abort, alloc: Global, many: usize) -> Lists {
 fn scattered(rt: &impl Abort, alloc: Global, many: usize) -> Lists {
     let mut lists = late(rt, alloc, many);
     let mut seed: u64 = 88_172_645_463_325_252;
-    for place in 0..many {
+    for front in lists.fronts.as_mut_slice().iter_mut() {
         seed = next_random(seed);
-        put(lists.fronts.as_mut_slice(), place, seed % (LAST + 1));
+        *front = seed % (LAST + 1);
     }
     lists
 }
@@ -76,12 +72,8 @@ fn calm(rt: &impl Abort, alloc: Global) -> Timekeeper {
 /// estimated time of an item is 2,215 ns, so a piece has the least number of items, which is 32.
 fn far_apart(rt: &impl Abort, alloc: Global, many: usize) -> Lists {
     let mut lists = late(rt, alloc, many);
-    for place in 0..many {
-        put(
-            lists.fronts.as_mut_slice(),
-            place,
-            if place % 2 == 0 { 140 } else { 396 },
-        );
+    for (place, front) in lists.fronts.as_mut_slice().iter_mut().enumerate() {
+        *front = if place % 2 == 0 { 140 } else { 396 };
     }
     lists
 }

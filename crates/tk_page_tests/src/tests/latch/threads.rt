@@ -67,30 +67,27 @@ fn read_beside<R: Threads + Sync>(
     this && that
 }
 
-/// Publishes on one thread, and reads on another.
-fn publish_beside<R: Threads + Sync>(
+/// Reads on three threads.
+fn read_on_three<R: Threads + Sync>(
     rt: &R,
     latch: &Latch,
-    writer: LatchWriter,
-    desc: CounterDesc,
-    reader: LatchReader,
+    one: LatchReader,
+    others: (LatchReader, LatchReader),
 ) -> bool
-    requires writer { writer.latch ≡ latch.now }
-    requires counter { desc ≡ latch.now.counter }
-    requires opened { length writer.publications ≡ 1 }
-    requires reader { reader.latch ≡ latch.now }
+    requires one { one.latch ≡ latch.now }
+    requires others { (others.0.latch ≡ latch.now) × (others.1.latch ≡ latch.now) }
 {
-    let (published, read) = join(
+    let (this, those) = join(
         rt,
         move || -> bool
-            requires { (writer.latch ≡ latch.now) × (desc ≡ latch.now.counter)
-                × (length writer.publications ≡ 1) }
-        { publishes_all(latch, writer, desc) },
+            requires { one.latch ≡ latch.now }
+        { reads_all(latch, one) },
         move || -> bool
-            requires { reader.latch ≡ latch.now }
-        { reads_all(latch, reader) },
+            requires { IsSync R.row × (others.0.latch ≡ latch.now)
+                × (others.1.latch ≡ latch.now) }
+        { read_beside(rt, latch, others) },
     );
-    published && read
+    this && those
 }
 
 /// Publishes on one thread, and reads on three.
@@ -111,12 +108,13 @@ fn race<R: Threads + Sync>(
     let (published, read) = join(
         rt,
         move || -> bool
-            requires { IsSync R.row × (writer.latch ≡ latch.now) × (desc ≡ latch.now.counter)
-                × (length writer.publications ≡ 1) × (one.latch ≡ latch.now) }
-        { publish_beside(rt, latch, writer, desc, one) },
+            requires { (writer.latch ≡ latch.now) × (desc ≡ latch.now.counter)
+                × (length writer.publications ≡ 1) }
+        { publishes_all(latch, writer, desc) },
         move || -> bool
-            requires { IsSync R.row × (two.latch ≡ latch.now) × (three.latch ≡ latch.now) }
-        { read_beside(rt, latch, (two, three)) },
+            requires { IsSync R.row × (one.latch ≡ latch.now) × (two.latch ≡ latch.now)
+                × (three.latch ≡ latch.now) }
+        { read_on_three(rt, latch, one, (two, three)) },
     );
     published && read
 }

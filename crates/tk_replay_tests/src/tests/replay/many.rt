@@ -136,37 +136,31 @@ fn all_workers_are_at_work_at_once(rt: HostRuntime) -> Result<(), Fail> {
     Ok(())
 }
 
+/// Stops the test unless 1 to 64 workers give this result, and any other number is refused.
+fn assert_for_1_to_64(
+    rt: &(impl Abort + AllocGlobal + Threads + Wait + Sync),
+    scripts: &[Vec<u8>],
+    wanted: &Outcomes,
+) {
+    for workers in [1, 2, 64] {
+        assert_outcomes(rt, scripts, workers, &NoGate, wanted);
+    }
+    for workers in [0, 65, usize::MAX] {
+        assert_outcomes(rt, scripts, workers, &NoGate, &Err(ManyError::Count));
+    }
+}
+
 #[test]
 fn as_many_workers_as_are_asked_for(rt: HostRuntime) -> Result<(), Fail> {
     let scripts = two(rt.alloc())?;
-    let both = Ok(two_outcomes(rt.alloc())?);
-    let refused = Err(ManyError::Count);
-    for (workers, wanted) in [
-        (1, &both),
-        (2, &both),
-        (64, &both),
-        (0, &refused),
-        (65, &refused),
-        (usize::MAX, &refused),
-    ] {
-        assert_outcomes(&rt, scripts.as_slice(), workers, &NoGate, wanted);
-    }
+    let wanted = Ok(two_outcomes(rt.alloc())?);
+    assert_for_1_to_64(&rt, scripts.as_slice(), &wanted);
     Ok(())
 }
 
 #[test]
 fn no_scripts_have_no_reports(rt: HostRuntime) {
-    let none = Ok(Vec::new(rt.alloc()));
-    let refused = Err(ManyError::Count);
-    for (workers, wanted) in [
-        (1, &none),
-        (64, &none),
-        (0, &refused),
-        (65, &refused),
-        (usize::MAX, &refused),
-    ] {
-        assert_outcomes(&rt, &[], workers, &NoGate, wanted);
-    }
+    assert_for_1_to_64(&rt, &[], &Ok(Vec::new(rt.alloc())));
 }
 
 /// Records in bits which of 40 pieces were begun and ended, whether a call was wrong, and the
