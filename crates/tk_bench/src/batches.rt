@@ -50,9 +50,6 @@ impl Job for Batch {
 /// Times lists of 4,096 stamps, fifty times in a turn, and of ten million. One list of 4,096 stamps
 /// goes up to 12 hours.
 pub(crate) fn run_batches(rt: &(impl Threads + Hours + Sync), bench: &Bench<'_>) -> Result<()> {
-    if !bench.wants_any("batch_") {
-        return Ok(());
-    }
     let snapshot = updated(bench.unknown()).context("no clocks")?;
     let alloc = bench.alloc();
     let names = [

@@ -116,9 +116,6 @@ impl Job for Past {
 
 /// Times ten million updates with folds, the longest of them, and snapshots of a full journal.
 pub(crate) fn run_keepers(rt: &(impl Threads + Hours + Sync), bench: &Bench<'_>) -> Result<()> {
-    if !bench.wants_any("keeper_") {
-        return Ok(());
-    }
     let (alloc, unknown) = (bench.alloc(), bench.unknown());
     let desc = CounterDesc::new(32, unknown.wrapping_add(16_777_216), 24);
     let desc = desc.ok().context("no counter")?;

@@ -34,8 +34,17 @@ fn main(rt: HostRuntime) -> Result<()> {
     let words: Vec<String> = env::args(&rt)?.collect(rt.alloc())?;
     let bench = Bench::of_words(&rt, words.as_slice())?;
     run_clocks(&rt, &bench)?;
-    run_keepers(&rt, &bench)?;
-    run_batches(&rt, &bench)?;
-    run_traces(&rt, &bench)?;
-    run_texts(&rt, &bench)
+    if bench.wants_any("keeper_") {
+        run_keepers(&rt, &bench)?;
+    }
+    if bench.wants_any("batch_") {
+        run_batches(&rt, &bench)?;
+    }
+    if bench.wants_any("trace_") || bench.wants_any("pieces_") {
+        run_traces(&rt, &bench)?;
+    }
+    if bench.wants_any("text_") {
+        run_texts(&rt, &bench)?;
+    }
+    Ok(())
 }

@@ -61,9 +61,6 @@ impl Job for Trace {
 
 /// Times reports of 100,000 and a million records, and traces.
 pub(crate) fn run_texts(rt: &(impl Threads + Hours + Sync), bench: &Bench<'_>) -> Result<()> {
-    if !bench.wants_any("text_") {
-        return Ok(());
-    }
     let alloc = bench.alloc();
     for (name, pairs, clock, turns) in [
         ("text_report_100000", 50_000, "tai", 20),

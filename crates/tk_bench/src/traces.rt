@@ -22,6 +22,14 @@ enum Form {
     TraceAllInto,
 }
 
+/// All forms, with the beginnings of their jobs' names.
+const FORMS: [(&str, Form); 4] = [
+    ("trace_new", Form::Trace),
+    ("trace_into", Form::TraceInto),
+    ("pieces_new", Form::TraceAll),
+    ("pieces_into", Form::TraceAllInto),
+];
+
 /// Converts one list.
 #[derive(Drop)]
 struct Trace {
@@ -70,45 +78,28 @@ impl Job for Trace {
 /// Times all forms at 100,000, a million and ten million stamps, and the forms of one thread at
 /// 100,000 stamps that go up to 12 hours.
 pub(crate) fn run_traces(rt: &(impl Threads + Hours + Sync), bench: &Bench<'_>) -> Result<()> {
-    if !bench.wants_any("trace_") && !bench.wants_any("pieces_") {
-        return Ok(());
-    }
     let alloc = bench.alloc();
-    let names = [
-        ("trace_new_100000", Form::Trace),
-        ("trace_into_100000", Form::TraceInto),
-        ("pieces_new_100000", Form::TraceAll),
-        ("pieces_into_100000", Form::TraceAllInto),
-    ];
-    run_forms(rt, bench, stamps(alloc, 100_000)?, 50, &names)?;
-    let names = [
-        ("trace_new_12h", Form::Trace),
-        ("trace_into_12h", Form::TraceInto),
-    ];
-    run_forms(rt, bench, far_stamps(alloc, 100_000)?, 50, &names)?;
-    let names = [
-        ("trace_new_1000000", Form::Trace),
-        ("trace_into_1000000", Form::TraceInto),
-        ("pieces_new_1000000", Form::TraceAll),
-        ("pieces_into_1000000", Form::TraceAllInto),
-    ];
-    run_forms(rt, bench, stamps(alloc, 1_000_000)?, 20, &names)?;
-    let names = [
-        ("trace_new_10000000", Form::Trace),
-        ("trace_into_10000000", Form::TraceInto),
-        ("pieces_new_10000000", Form::TraceAll),
-        ("pieces_into_10000000", Form::TraceAllInto),
-    ];
-    run_forms(rt, bench, stamps(alloc, 10_000_000)?, 5, &names)
+    run_forms(rt, bench, "100000", stamps(alloc, 100_000)?, 50, &FORMS)?;
+    run_forms(
+        rt,
+        bench,
+        "12h",
+        far_stamps(alloc, 100_000)?,
+        50,
+        &FORMS[..2],
+    )?;
+    run_forms(rt, bench, "1000000", stamps(alloc, 1_000_000)?, 20, &FORMS)?;
+    run_forms(rt, bench, "10000000", stamps(alloc, 10_000_000)?, 5, &FORMS)
 }
 
-/// Times the jobs of these names, with a list of stamps.
+/// Times these forms with a list of stamps, whose size ends the names of the jobs.
 fn run_forms(
     rt: &(impl Threads + Hours + Sync),
     bench: &Bench<'_>,
+    size: &str,
     stamps: Vec<u64>,
     turns: u32,
-    names: &[(&str, Form)],
+    forms: &[(&str, Form)],
 ) -> Result<()> {
     let alloc = bench.alloc();
     let count = stamps.len();
@@ -121,10 +112,12 @@ fn run_forms(
         made: Vec::new(alloc),
         out: repeated(alloc, count, 0)?,
     };
-    for &(name, form) in names {
+    let unit = Unit::Each(count as u64, "stamp");
+    for &(form_name, form) in forms {
         job.form = form;
         job.out.fill(0);
-        bench.run(rt, name, Unit::Each(count as u64, "stamp"), turns, &mut job)?;
+        let name = format!(in alloc; "{form_name}_{size}")?;
+        bench.run(rt, name.as_str(), unit, turns, &mut job)?;
     }
     Ok(())
 }
