@@ -1,10 +1,10 @@
 ghost use Rattle.std.specs.Prelude.{◌≡◌, MatchOption, MatchResult, Some, None};
 ghost use Rattle.tk_counter.specs.Counter.{Counter};
 ghost use Rattle.tk_counter.specs.Description.{first_fault};
-ghost use Rattle.tk_counter.specs.Frequency.{hertz, kilohertz, from_frequency, frequency_fault};
+ghost use Rattle.tk_counter.specs.Frequency.{hertz, kilohertz};
 ghost use Rattle.tk_c.specs.Codes.{number_of, code_of_fault};
 ghost use Rattle.tk_c.specs.declared.code.Code.TheVariants.{Done};
-ghost use Rattle.tk_c.specs.Rate.{requested_rate};
+ghost use Rattle.tk_c.specs.Rate.{IsMadeAtRate, requested_rate};
 ghost use Rattle.tk_c.specs.Storage.{counter_storage};
 
 use crate::code::Code;
@@ -51,10 +51,7 @@ pub extern "C" fn tkc_counter_from_hz(
     hz: u64,
     maxsec: u32,
 ) -> u32
-    ensures { MatchOption (frequency_fault bits (requested_rate hz) maxsec)
-        ((result ≡ number_of Done) × MatchOption (from_frequency hertz bits hz maxsec) ⊥
-        (λ counter. out.new ≡ counter_storage counter))
-        (λ fault. (result ≡ number_of (code_of_fault fault)) × (out.new ≡ out.old)) }
+    ensures { IsMadeAtRate hertz bits hz maxsec out.old result out.new }
 {
     write(out, CounterDesc::from_hz(bits, requested_rate(hz), maxsec))
 }
@@ -76,10 +73,7 @@ pub extern "C" fn tkc_counter_from_khz(
     khz: u64,
     maxsec: u32,
 ) -> u32
-    ensures { MatchOption (frequency_fault bits (requested_rate khz) maxsec)
-        ((result ≡ number_of Done) × MatchOption (from_frequency kilohertz bits khz maxsec) ⊥
-        (λ counter. out.new ≡ counter_storage counter))
-        (λ fault. (result ≡ number_of (code_of_fault fault)) × (out.new ≡ out.old)) }
+    ensures { IsMadeAtRate kilohertz bits khz maxsec out.old result out.new }
 {
     write(
         out,
