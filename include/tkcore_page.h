@@ -17,10 +17,10 @@
  * Which one
  *   - A page: MONOTONIC never goes back for any reader, if the clocks get a command at least once
  *     in each half of the counter's range (tkcore.h, "Limits"). For this the writer reads the
- *     counter after tkc_page_begin, and tkc_page_now reads it before the reader's second look. A
- *     reader waits while a writer is inside, that is between tkc_page_begin and tkc_page_publish.
- *     So a handler that may interrupt the writer must not wait: it may call tkc_page_try_now, which
- *     returns TKC_BUSY.
+ *     counter after tkc_page_begin, and tkc_page_now reads it before the reader's second load of
+ *     the sequence. A reader waits while a writer is inside, that is between tkc_page_begin and
+ *     tkc_page_publish. So a handler that may interrupt the writer must not wait: it may call
+ *     tkc_page_try_now, which returns TKC_BUSY.
  *   - A latch: a reader never waits for a writer that it interrupted, so an NMI or a signal handler
  *     may read it. MONOTONIC may go back by the change of the rate times the time since the
  *     writer's reading (as in ktime_get_mono_fast_ns in kernel/time/timekeeping.c).
@@ -54,9 +54,9 @@
  *   Nothing in this header is proved. The crates tk_page, tk_latch and tk_now are, and the steps
  *   below are theirs, with these differences:
  *   - In the crates, a reader reads the counter after it has read the page or the latch, between
- *     two looks at a separate word, the notice (tk_now). A command makes the notice odd before it
+ *     two loads of a separate word, the notice (tk_now). A command makes the notice odd before it
  *     reads the counter. Here there is no notice. tkc_page_now and tkc_latch_now read the counter
- *     between the two looks at the sequence. tkc_page_begin makes the page's sequence odd before
+ *     between the two loads of the sequence. tkc_page_begin makes the page's sequence odd before
  *     the command reads the counter; nothing does that for a latch.
  *   - A page has two copies, and a writer writes the one that isn't read. tk_page has one copy.
  *   - Each copy contains its counter. A page or a latch of the crates has one counter for good.
@@ -74,7 +74,8 @@
  *   that precede its call and before the loads that follow it. If the processor may reorder the
  *   reading, the function must prevent that:
  *   - x86-64: "lfence; rdtsc; lfence" or "rdtscp; lfence", if the TSC is constant and the same on
- *     all processors. The last lfence keeps the second look from running before the reading.
+ *     all processors. The last lfence keeps the second load of the sequence from running before
+ *     the reading.
  *   - A device: a load that the device orders with memory.
  *
  * Another counter
@@ -165,9 +166,9 @@ typedef _Atomic uint64_t tkc_word;
  *           2. reads the counter and applies the command.
  *           3. writes the words of the other copy.
  *           4. makes the sequence even, which selects that copy.
- *   Reader: 5. loads the sequence: the first look. Starts again if it is odd.
+ *   Reader: 5. loads the sequence for the first time. Starts again if it is odd.
  *           6. loads the words of the copy that the sequence selects, and reads the counter.
- *           7. loads the sequence again: the second look. Starts again if it has changed.
+ *           7. loads the sequence again. Starts again if it has changed.
  * It is 256 bytes, aligned to 8 bytes.
  */
 struct tkc_page {
@@ -182,9 +183,9 @@ struct tkc_page {
  *           2. writes copy 0.
  *           3. makes the sequence even: readers take copy 0.
  *           4. writes copy 1.
- *   Reader: 5. loads the sequence: the first look.
+ *   Reader: 5. loads the sequence for the first time.
  *           6. loads the words of the copy that the sequence selects, and reads the counter.
- *           7. loads the sequence again: the second look. Starts again if it has changed.
+ *           7. loads the sequence again. Starts again if it has changed.
  * It is 224 bytes, aligned to 8 bytes.
  */
 struct tkc_latch {

@@ -6,8 +6,9 @@
  * (kernel/time/timekeeping.c, Documentation/locking/seqlock.rst).
  *
  * The writer reads the counter after tkc_page_begin, and tkc_page_now reads it
- * before its second look. So a reader never combines a snapshot with a reading
- * later than the next command's reading, and it never sees MONOTONIC go back.
+ * before its second load of the sequence. So a reader never combines a snapshot
+ * with a reading later than the next command's reading, and it never sees
+ * MONOTONIC go back.
  *
  * The counter here is a word in memory. tests/c/page_tsc.c does the same with
  * the TSC.

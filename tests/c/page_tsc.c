@@ -8,7 +8,7 @@
  *
  * Compiled with one of these it must fail within seconds; tests/c/page_controls tries them:
  *   -DREADING_FIRST   the writer reads the counter before it begins
- *   -DREADING_LAST    a reader reads the counter after its second look
+ *   -DREADING_LAST    a reader reads the counter after its second load of the sequence
  */
 #include <inttypes.h>
 #include <pthread.h>
