@@ -14,7 +14,8 @@ impl Clock {
     /// present counter, as an update does, and lets them run over the counter `desc` starting at
     /// its reading `first`. Both readings are in cycles.
     ///
-    /// Every clock has the same time, in ns, at `first` as at `reading`. So both readings must be
+    /// Every clock that isn't coarse has the same time, in ns, at `first` as at `reading`. The
+    /// coarse clocks show the time of the change, as after any command. So both readings must be
     /// taken at the same moment: the time from one to the other isn't counted. If the shift of
     /// `desc` is smaller than the present one, MONOTONIC and MONOTONIC_RAW lose less than `2^-shift`
     /// ns of the part below a nanosecond; otherwise they lose nothing. The frequency as it was set,

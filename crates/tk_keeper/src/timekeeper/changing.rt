@@ -17,8 +17,9 @@ impl<A: Allocator + Copy> Timekeeper<A> {
     /// present counter, as an update does, and lets them run over the counter `desc` starting at
     /// its reading `first`. Returns the number of this command, counted from 1 as an entry's.
     ///
-    /// Every clock has the same time, in ns, at `first` as at `reading`, so both readings, in
-    /// cycles, must be taken at the same moment. `Clock::change_counter` describes what stays.
+    /// Every clock that isn't coarse has the same time, in ns, at `first` as at `reading`, and the
+    /// coarse clocks show the time of the change. So both readings, in cycles, must be taken at the
+    /// same moment. `Clock::change_counter` describes what stays.
     ///
     /// The journal is folded at the change. So `folded()` is the returned number, and earlier
     /// fronts no longer have a snapshot. The journal's opening has the new counter, and later
