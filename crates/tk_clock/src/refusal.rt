@@ -28,15 +28,6 @@ pub enum Refusal {
     Memory,
 }
 
-/// Says why a clock can't be read: the first test that fails.
-#[derive(Clone, Copy, Debug, PartialEq, Eq)]
-pub enum ReadError {
-    /// The reading is above the mask.
-    Invalid,
-    /// The clock is at its limit or beyond it.
-    Range,
-}
-
 impl fmt::Display for Refusal {
     ghost output = { λ refusal. Some (refusal_text refusal) };
 
@@ -54,6 +45,15 @@ impl fmt::Display for Refusal {
 }
 
 impl Error for Refusal {}
+
+/// Says why a clock can't be read: the first test that fails.
+#[derive(Clone, Copy, Debug, PartialEq, Eq)]
+pub enum ReadError {
+    /// The reading is above the mask.
+    Invalid,
+    /// The clock is at its limit or beyond it.
+    Range,
+}
 
 impl fmt::Display for ReadError {
     ghost output = { λ error. Some (read_text error) };

@@ -13,21 +13,6 @@ pub enum LatchError {
     Memory,
 }
 
-/// Says that a snapshot wasn't published, because 2^63 - 1 were, and the sequence can't count
-/// further.
-#[derive(Clone, Copy, Debug, PartialEq, Eq)]
-pub struct PageFull;
-
-/// Says that a read returned no snapshot, because a publication was begun or made between its two
-/// loads of the sequence.
-#[derive(Clone, Copy, Debug, PartialEq, Eq)]
-pub struct Moved {
-    /// The sequence number that the first load found.
-    pub first: u64,
-    /// The sequence number that the second load found. It is greater.
-    pub last: u64,
-}
-
 impl fmt::Display for LatchError {
     ghost output = { λ fault. Some (fault_text fault) };
 
@@ -39,12 +24,31 @@ impl fmt::Display for LatchError {
     }
 }
 
+impl Error for LatchError {}
+
+/// Says that a snapshot wasn't published, because 2^63 - 1 were, and the sequence can't count
+/// further.
+#[derive(Clone, Copy, Debug, PartialEq, Eq)]
+pub struct PageFull;
+
 impl fmt::Display for PageFull {
     ghost output = { λ _. Some full_text };
 
     fn fmt<W: fmt::Write>(&self, f: &mut fmt::Formatter<W>) -> fmt::Result {
         f.write_str("page full")
     }
+}
+
+impl Error for PageFull {}
+
+/// Says that a read returned no snapshot, because a publication was begun or made between its two
+/// loads of the sequence.
+#[derive(Clone, Copy, Debug, PartialEq, Eq)]
+pub struct Moved {
+    /// The sequence number that the first load found.
+    pub first: u64,
+    /// The sequence number that the second load found. It is greater.
+    pub last: u64,
 }
 
 impl fmt::Display for Moved {
@@ -54,9 +58,5 @@ impl fmt::Display for Moved {
         write!(f, "moved from {} to {}", self.first, self.last)
     }
 }
-
-impl Error for LatchError {}
-
-impl Error for PageFull {}
 
 impl Error for Moved {}
