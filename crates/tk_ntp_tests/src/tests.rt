@@ -27,6 +27,13 @@ impl Clock {
         })
     }
 
+    /// Makes a discipline whose PLL follows an offset in nanoseconds since a part of this second.
+    fn following(offset: i64) -> Result<Clock, Fail> {
+        let mut clock = Clock::new(1_700_000_000)?;
+        let _ = clock.reply(500_000_000, &pll(offset, 1))?;
+        Ok(clock)
+    }
+
     /// Lets the seconds after the present one begin, up to `sec`.
     fn pass(&mut self, sec: u32) {
         for before in self.sec..sec {
@@ -98,6 +105,16 @@ fn with_offset(modes: u32, offset: i64) -> Timex {
     }
 }
 
+/// Returns a request of an offset in nanoseconds that sets up the PLL.
+fn pll(offset: i64, status: u32) -> Timex {
+    Timex {
+        offset,
+        status,
+        constant: 6,
+        ..request(0x2035)
+    }
+}
+
 /// Returns the fields of a fresh discipline's reply to some modes, at a time.
 fn fields(modes: u32, sec: u32, sub: i64) -> Timex {
     Timex {
@@ -111,5 +128,15 @@ fn fields(modes: u32, sec: u32, sub: i64) -> Timex {
         tick: 10_000,
         sec: i64::from(sec),
         sub,
+    }
+}
+
+/// Returns the fields of a reply that is synchronized, in nanoseconds, with the constant 6.
+fn synchronized(modes: u32, sec: u32, sub: i64, status: u32, maxerror: i64) -> Timex {
+    Timex {
+        maxerror,
+        status,
+        constant: 6,
+        ..fields(modes, sec, sub)
     }
 }

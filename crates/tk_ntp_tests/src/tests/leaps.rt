@@ -17,13 +17,17 @@ fn reply(state: TimeState, tai: u32, sec: u32, status: u32, maxerror: i64) -> Re
     }
 }
 
-/// Returns the request that announces a leap second by a status.
-fn announcing(status: u32) -> Timex {
-    Timex {
+/// Makes a discipline to which a status announces a leap second, during this second. Returns the
+/// reply to the announcement too.
+fn announced(sec: u32, status: u32) -> Result<(Clock, Reply), Fail> {
+    let mut clock = Clock::new(sec)?;
+    let announcing = Timex {
         status,
         constant: 36,
         ..request(0x94)
-    }
+    };
+    let first = clock.reply(499_000_000, &announcing)?;
+    Ok((clock, first))
 }
 
 /// Lets seconds begin, and checks their leaps, and the state, the TAI offset and the greatest error
@@ -44,8 +48,7 @@ fn begin_with(
 
 #[test]
 fn a_second_is_inserted_at_midnight(rt: HostRuntime) -> Result<(), Fail> {
-    let mut clock = Clock::new(1_483_228_797)?;
-    let first = clock.reply(499_000_000, &announcing(16))?;
+    let (mut clock, first) = announced(1_483_228_797, 16)?;
     assert_eq!(rt; first.state, TimeState::Ok);
     assert_eq!(rt; first.tai, 36);
     let seconds = [
@@ -65,20 +68,16 @@ fn a_second_is_inserted_at_midnight(rt: HostRuntime) -> Result<(), Fail> {
 
 #[test]
 fn the_last_second_of_a_day_is_deleted(rt: HostRuntime) -> Result<(), Fail> {
-    let mut clock = Clock::new(1_483_228_797)?;
-    let _ = clock.reply(499_000_000, &announcing(32))?;
-    let seconds = [
-        (1_483_228_798, Leap::None, TimeState::Del, 36, 500),
-        (1_483_228_799, Leap::Delete, TimeState::Wait, 35, 1000),
-        (1_483_228_801, Leap::None, TimeState::Wait, 35, 1500),
-    ];
-    begin_with(&rt, &mut clock, 32, &seconds)
+    let (mut clock, _) = announced(1_483_228_797, 32)?;
+    let deleting = (1_483_228_798, Leap::None, TimeState::Del, 36, 500);
+    let deleted = (1_483_228_799, Leap::Delete, TimeState::Wait, 35, 1000);
+    let after = (1_483_228_801, Leap::None, TimeState::Wait, 35, 1500);
+    begin_with(&rt, &mut clock, 32, &[deleting, deleted, after])
 }
 
 #[test]
 fn a_set_forgets_when_the_leap_is_due(rt: HostRuntime) -> Result<(), Fail> {
-    let mut clock = Clock::new(1_483_228_790)?;
-    let _ = clock.reply(500_000_000, &announcing(16))?;
+    let (mut clock, _) = announced(1_483_228_790, 16)?;
     assert_eq!(rt; clock.begin(1_483_228_791), Leap::None);
     clock.ntp.clear();
     let seconds = [1_483_228_799, 1_483_228_800, 1_483_228_801].map(|sec| (

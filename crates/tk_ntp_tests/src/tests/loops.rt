@@ -1,27 +1,7 @@
 //! Offsets that the PLL and the FLL follow.
-use super::{Clock, fields, request, with_offset};
+use super::{Clock, pll, request, synchronized, with_offset};
 use std::test::Fail;
 use tk_ntp::{TimeState, Timex};
-
-/// Returns a request of an offset in nanoseconds that sets up the PLL.
-fn pll(offset: i64, status: u32) -> Timex {
-    Timex {
-        offset,
-        status,
-        constant: 6,
-        ..request(0x2035)
-    }
-}
-
-/// Returns the fields of a reply that is synchronized, in nanoseconds, with the constant 6.
-fn synchronized(modes: u32, sec: u32, sub: i64, status: u32, maxerror: i64) -> Timex {
-    Timex {
-        maxerror,
-        status,
-        constant: 6,
-        ..fields(modes, sec, sub)
-    }
-}
 
 #[test]
 fn a_pll_gives_a_part_of_the_offset_in_each_second(rt: HostRuntime) -> Result<(), Fail> {
@@ -123,8 +103,7 @@ fn in_microseconds_the_constant_counts_4_more(rt: HostRuntime) -> Result<(), Fai
 
 #[test]
 fn a_step_forgets_the_phase(rt: HostRuntime) -> Result<(), Fail> {
-    let mut clock = Clock::new(1_700_000_000)?;
-    let _ = clock.reply(500_000_000, &pll(100_000_000, 1))?;
+    let mut clock = Clock::following(100_000_000)?;
     clock.pass(1_700_000_002);
     let shot = with_offset(0x8001, 900_000);
     let _ = clock.reply(500_585_078, &shot)?;

@@ -1,5 +1,5 @@
 //! Frequencies, ticks, errors, the old call adjtime, steps and faults.
-use super::{Clock, fields, request, with_offset};
+use super::{Clock, fields, request, synchronized, with_offset};
 use std::test::Fail;
 use tk_clock::Timespec;
 use tk_ntp::{Discipline, TimeState, Timex};
@@ -45,14 +45,7 @@ fn a_frequency_is_clamped(rt: HostRuntime) -> Result<(), Fail> {
 
 #[test]
 fn a_phase_goes_on_under_another_tick(rt: HostRuntime) -> Result<(), Fail> {
-    let mut clock = Clock::new(1_700_000_000)?;
-    let pll = Timex {
-        offset: 10_000_000,
-        status: 1,
-        constant: 6,
-        ..request(0x2035)
-    };
-    let _ = clock.reply(500_000_000, &pll)?;
+    let mut clock = Clock::following(10_000_000)?;
     clock.pass(1_700_000_004);
     let ticked = Timex {
         tick: 10_100,
@@ -60,11 +53,8 @@ fn a_phase_goes_on_under_another_tick(rt: HostRuntime) -> Result<(), Fail> {
     };
     let expected = Timex {
         offset: 9_844_663,
-        maxerror: 2000,
-        status: 8193,
-        constant: 6,
         tick: 10_100,
-        ..fields(0x4000, 1_700_000_004, 500_136_017)
+        ..synchronized(0x4000, 1_700_000_004, 500_136_017, 8193, 2000)
     };
     clock.replies(&rt, 500_136_017, &ticked, TimeState::Ok, expected)?;
     clock.pass(1_700_000_014);
@@ -76,11 +66,8 @@ fn a_phase_goes_on_under_another_tick(rt: HostRuntime) -> Result<(), Fail> {
     let expected = Timex {
         offset: 9_466_795,
         freq: -6_553_600,
-        maxerror: 7000,
-        status: 8193,
-        constant: 6,
         tick: 9900,
-        ..fields(0x4002, 1_700_000_014, 600_514_511)
+        ..synchronized(0x4002, 1_700_000_014, 600_514_511, 8193, 7000)
     };
     clock.replies(&rt, 600_514_511, &slower, TimeState::Ok, expected)?;
     assert_eq!(rt; clock.ntp.tick(), 9900);

@@ -77,17 +77,17 @@ fn read_on_three<R: Threads + Sync>(
     requires one { one.latch ≡ latch.now }
     requires others { (others.0.latch ≡ latch.now) × (others.1.latch ≡ latch.now) }
 {
-    let (this, those) = join(
+    let (those, this) = join(
         rt,
-        move || -> bool
-            requires { one.latch ≡ latch.now }
-        { reads_all(latch, one) },
         move || -> bool
             requires { IsSync R.row × (others.0.latch ≡ latch.now)
                 × (others.1.latch ≡ latch.now) }
         { read_beside(rt, latch, others) },
+        move || -> bool
+            requires { one.latch ≡ latch.now }
+        { reads_all(latch, one) },
     );
-    this && those
+    those && this
 }
 
 /// Publishes on one thread, and reads on three.
