@@ -11,6 +11,9 @@ pub const OPENED_TIME: Timespec = Timespec {
 /// The same time in nanoseconds.
 pub const OPENED_REAL: u64 = 1_700_000_000_000_000_000;
 
+/// The words of the snapshot at the opening, of `nanosecond_counter` at the reading 0.
+pub const OPENED_WORDS: [u64; 10] = [0, 0, 16_777_216, 0, 0, OPENED_REAL, 0, 0, 0, 0];
+
 /// All clocks.
 pub const CLOCKS: [ClockId; 7] = [
     ClockId::Realtime,

@@ -4,6 +4,7 @@
 //! |---|---|
 //! | `Heap` | an allocator that forwards requests to another one, and refuses chosen ones |
 //! | `nanosecond_counter`, `OPENED_TIME`, `OPENED_REAL` | the clocks that most tests open |
+//! | `OPENED_WORDS` | the words of their first snapshot |
 //! | `CLOCKS` | the names of all clocks |
 //! | `next_random` | the next number of a random generator |
 //! | `mixed_up` | finds two values of a list whose comparison is wrong |
@@ -27,7 +28,7 @@ mod running;
 mod steps;
 mod turn;
 
-pub use clocks::{CLOCKS, OPENED_REAL, OPENED_TIME, nanosecond_counter};
+pub use clocks::{CLOCKS, OPENED_REAL, OPENED_TIME, OPENED_WORDS, nanosecond_counter};
 pub use copies::mixed_up;
 pub use heap::Heap;
 pub use page_desk::{PageDesk, opened_page};

@@ -20,10 +20,7 @@ use std::alloc::Allocator;
 use std::process::Abort;
 use tk_clock::{ClockId, Command, Refusal, Snapshot, Timespec};
 use tk_keeper::{FrontError, Timekeeper};
-use tk_test_support::OPENED_REAL;
-
-/// The words of the snapshot at the opening.
-const OPENED_WORDS: [u64; 10] = [0, 0, 16_777_216, 0, 0, OPENED_REAL, 0, 0, 0, 0];
+use tk_test_support::{OPENED_REAL, OPENED_WORDS};
 
 /// A thousand nanoseconds, in units of 2^-24 ns.
 const THOUSAND: u64 = 16_777_216_000;

@@ -8,10 +8,7 @@ mod threads;
 use super::assert_same;
 use std::test::Fail;
 use tk_clock::{Clock, Snapshot};
-use tk_test_support::{OPENED_REAL, OPENED_TIME, nanosecond_counter};
-
-/// The words of the snapshot at the opening.
-const OPENED_WORDS: [u64; 10] = [0, 0, 16_777_216, 0, 0, OPENED_REAL, 0, 0, 0, 0];
+use tk_test_support::{OPENED_REAL, OPENED_TIME, OPENED_WORDS, nanosecond_counter};
 
 /// The words after an Update at reading 100.
 const UPDATED_WORDS: [u64; 10] = [

@@ -1,23 +1,11 @@
 use super::{assert_same, assert_same_at, nanosecond_counter, opened, time, wide_counter};
 use std::test::Fail;
 use tk_clock::{Clock, Refusal};
-
-const OPENING: [u64; 10] = [
-    0,
-    0,
-    16_777_216,
-    0,
-    0,
-    1_700_000_000_000_000_000,
-    0,
-    0,
-    0,
-    0,
-];
+use tk_test_support::OPENED_WORDS;
 
 #[test]
 fn the_clocks_open_awake_at_their_usual_rate(rt: HostRuntime) -> Result<(), Fail> {
-    assert_same(&rt, &opened()?.snapshot(0).words(), &OPENING);
+    assert_same(&rt, &opened()?.snapshot(0).words(), &OPENED_WORDS);
     Ok(())
 }
 
@@ -40,7 +28,7 @@ fn the_getters_return_the_words(rt: HostRuntime) -> Result<(), Fail> {
             snapshot.raw_frac(),
             snapshot.raw_sec(),
         ],
-        &OPENING,
+        &OPENED_WORDS,
     );
     Ok(())
 }
