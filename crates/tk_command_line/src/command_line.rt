@@ -1,10 +1,10 @@
 //! Parses the command line.
-ghost use Rattle.std.specs.Prelude.{◌≡◌, ◌≢◌, Some, None, [], false, map, codes, string_bytes, IfErr, IfOk, IfSome, IsNone, option_map};
+ghost use Rattle.std.specs.Prelude.{◌≡◌, ◌≢◌, ◌⊎◌, Some, None, [], false, map, codes, string_bytes, IfErr, IfOk, IfSome, IsNone, option_map};
 ghost use Rattle.clap.specs.Words.{App, all_of, app_of, fault_of, first_of, found_of, rows_of, rule_of, subcommand_of, subcommand_rows_of, with_subcommand};
 ghost use Rattle.clap.specs.declared.builder.command.Command.TheViews.{out-Command};
 ghost use Rattle.tk_command_line.specs.CommandLine.{Asks, IsAsked, bare_words, files_rule, files_words, keep_rule, one_script_words, program_words, replay_words, task_by, task_found, trace_words, word_rule};
 ghost use Rattle.tk_script.specs.Number.{number_of};
-ghost use Rattle.tk_command_line.specs.Request.{IsAllowed, keep_of, many_by, race_by, replay_by, task_of, trace_by, workers_of};
+ghost use Rattle.tk_command_line.specs.Request.{IsAllowed, keep_of, replay_by, task_of, trace_by, workers_of};
 
 use crate::request::Request;
 use crate::words_error::WordsError;
@@ -75,9 +75,17 @@ fn request_by<'a>(
         let stamps = text_in(found, "STAMPS");
         trace_asked(clock, script, stamps).ok_or(WordsError::Refused)
     } else if name == "many" {
-        many_asked(alloc, text_in(found, "WORKERS"), files_in(found))
+        let workers = text_in(found, "WORKERS").and_then(workers_in);
+        match with_files(alloc, workers, files_in(found)) {
+            Ok((workers, files)) => Ok(Request::Many { workers, files }),
+            Err(fault) => Err(fault),
+        }
     } else if name == "race" {
-        race_asked(alloc, text_in(found, "STEP"), files_in(found))
+        let step = text_in(found, "STEP").and_then(step_in);
+        match with_files(alloc, step, files_in(found)) {
+            Ok((step, files)) => Ok(Request::Race { step, files }),
+            Err(fault) => Err(fault),
+        }
     } else {
         Err(WordsError::Refused)
     }
@@ -143,45 +151,11 @@ fn trace_asked<'a>(
     }
 }
 
-/// Makes the request of `many` from the texts of WORKERS and FILE.., if they were found.
-fn many_asked<'a>(
-    alloc: Global,
-    workers: Option<&str>,
-    files: Option<&[&'a str]>,
-) -> Result<Request<'a>, WordsError>
-    ensures asked { Asks (many_by (option_map (λ t. t.now) workers.entry)
-        (option_map (λ names. map (λ t. t.now) names.now) files.entry)) result }
-    ensures allowed { IfOk result IsAllowed }
-{
-    let Some(workers) = workers.and_then(workers_in) else {
-        return Err(WordsError::Refused);
-    };
-    let files = copied_files(alloc, files)?;
-    Ok(Request::Many { workers, files })
-}
-
 /// Parses WORKERS: a number as in scripts, from 1 to 64.
 fn workers_in(text: &str) -> Option<u64>
     ensures { result ≡ workers_of text.now }
 {
     number(text.as_bytes()).filter(|workers| (1..=WORKERS_LIMIT as u64).contains(workers))
-}
-
-/// Makes the race request from the texts of STEP and FILE.., if they were found.
-fn race_asked<'a>(
-    alloc: Global,
-    step: Option<&str>,
-    files: Option<&[&'a str]>,
-) -> Result<Request<'a>, WordsError>
-    ensures asked { Asks (race_by (option_map (λ t. t.now) step.entry)
-        (option_map (λ names. map (λ t. t.now) names.now) files.entry)) result }
-    ensures allowed { IfOk result IsAllowed }
-{
-    let Some(step) = step.and_then(step_in) else {
-        return Err(WordsError::Refused);
-    };
-    let files = copied_files(alloc, files)?;
-    Ok(Request::Race { step, files })
 }
 
 /// Parses STEP: any number as in scripts.
@@ -191,16 +165,22 @@ fn step_in(text: &str) -> Option<u64>
     number(text.as_bytes())
 }
 
-/// Copies the texts of FILE.., if they were found.
-fn copied_files<'a>(alloc: Global, files: Option<&[&'a str]>) -> Result<Vec<&'a str>, WordsError>
-    ensures ok { IfOk result (λ copy. option_map (λ names. map (λ t. t.now) names.now) files.entry
-        ≡ Some (map (λ t. t.now) copy.items)) }
-    ensures err { IfErr result (λ error. error ≡ WordsError.Refused → IsNone files.entry) }
+/// Returns a number, and a copy of the texts of FILE.., if both were found.
+fn with_files<'a>(
+    alloc: Global,
+    number: Option<u64>,
+    files: Option<&[&'a str]>,
+) -> Result<(u64, Vec<&'a str>), WordsError>
+    ensures number { IfOk result (λ found. number ≡ Some found.0) }
+    ensures files { IfOk result (λ found. option_map (λ names. map (λ t. t.now) names.now) files.entry
+        ≡ Some (map (λ t. t.now) found.1.items)) }
+    ensures err { IfErr result (λ error. error ≡ WordsError.Refused →
+        (number ≡ None) ⊎ IsNone files.entry) }
 {
-    let Some(names) = files else {
+    let (Some(number), Some(names)) = (number, files) else {
         return Err(WordsError::Refused);
     };
-    Ok(Vec::from_slice(alloc, names)?)
+    Ok((number, Vec::from_slice(alloc, names)?))
 }
 
 /// Makes the grammar of the program's arguments.
