@@ -20,11 +20,11 @@ impl fmt::Display for ManyError {
     ghost output = { λ error. Some (many_text error) };
 
     fn fmt<W: fmt::Write>(&self, f: &mut fmt::Formatter<W>) -> fmt::Result {
-        match self {
-            ManyError::Count => write!(f, "count out of range"),
-            ManyError::Memory => write!(f, "out of memory"),
-            ManyError::Threads => write!(f, "cannot start a thread"),
-        }
+        f.write_str(match self {
+            ManyError::Count => "count out of range",
+            ManyError::Memory => "out of memory",
+            ManyError::Threads => "cannot start a thread",
+        })
     }
 }
 
