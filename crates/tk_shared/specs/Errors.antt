@@ -14,6 +14,10 @@ open_text Count = codes "count out of range"
 open_text Invalid = codes "invalid opening"
 open_text Memory = codes "out of memory"
 
+-- why a keeper isn't closed
+abbrev pub missing_text : List ℕ
+missing_text = codes "callers are missing"
+
 -- the two numbers of commands that differ
 abbrev pub late_text : Late → List ℕ
 late_text late =

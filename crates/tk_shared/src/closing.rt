@@ -1,8 +1,9 @@
 //! Closes a shared keeper after all callers are back.
-ghost use Rattle.std.specs.Prelude.{◌≡◌, ◌+◌, ◌<◌, ◌≤◌, All, MatchResult, length, vec_len};
+ghost use Rattle.std.specs.Prelude.{◌≡◌, ◌+◌, ◌<◌, ◌≤◌, All, MatchResult, Some, length, vec_len};
 ghost use mathlib.Core.List.{IsPrefix};
 ghost use Rattle.tk_now.specs.Moments.{AreInLife, AreInTurn};
 ghost use Rattle.tk_shared.specs.Closing.{AreDifferent, HasListed, HasNoticed, HaveListed, IsClosed, IsPartOf, accepted_by};
+ghost use Rattle.tk_shared.specs.Errors.{missing_text};
 ghost use Rattle.tk_shared.specs.History.{AreSnapshots};
 ghost use Rattle.tk_shared.specs.Opening.{AreNamed, AreWriters};
 
@@ -12,6 +13,8 @@ use crate::locked::Locked;
 use crate::named::Named;
 use crate::parts::{Shared, Writers};
 use crate::shared_keeper::SharedKeeper;
+use std::error::Error;
+use std::fmt;
 use std::sync::Wait;
 use std::sync::ledger::Share;
 use tk_keeper::Timekeeper;
@@ -34,6 +37,22 @@ pub struct Missing<L: Named, C: Counter> {
     /// The callers that were passed to `close`.
     pub callers: Vec<Caller<L>>,
 }
+
+impl<L: Named, C: Counter> fmt::Debug for Missing<L, C> {
+    fn fmt<W: fmt::Write>(&self, f: &mut fmt::Formatter<W>) -> fmt::Result {
+        f.write_str("Missing { .. }")
+    }
+}
+
+impl<L: Named, C: Counter> fmt::Display for Missing<L, C> {
+    ghost output = { λ _. Some missing_text };
+
+    fn fmt<W: fmt::Write>(&self, f: &mut fmt::Formatter<W>) -> fmt::Result {
+        f.write_str("callers are missing")
+    }
+}
+
+impl<L: Named, C: Counter> Error for Missing<L, C> {}
 
 impl<L: Named, C: Counter> SharedKeeper<L, C> {
     /// Closes the keeper, and returns its timekeeper and its counter. It must get all callers back.

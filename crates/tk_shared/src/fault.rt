@@ -1,4 +1,4 @@
-ghost use Rattle.std.specs.Prelude.{Some};
+ghost use Rattle.std.specs.Prelude.{◌≡◌, Some};
 ghost use Rattle.tk_shared.specs.Errors.{open_text};
 
 use crate::counter::Counter;
@@ -16,15 +16,6 @@ pub enum OpenError {
     Memory,
 }
 
-/// Contains the reason why a keeper can't be opened, and the counter.
-#[derive(Debug, Drop)]
-pub struct OpenFault<C: Counter> {
-    /// The reason.
-    pub error: OpenError,
-    /// The counter that was passed to `prepare`.
-    pub counter: C,
-}
-
 impl fmt::Display for OpenError {
     ghost output = { λ error. Some (open_text error) };
 
@@ -37,6 +28,27 @@ impl fmt::Display for OpenError {
     }
 }
 
+impl Error for OpenError {}
+
+/// Contains the reason why a keeper can't be opened, and the counter.
+#[derive(Debug, Drop)]
+pub struct OpenFault<C: Counter> {
+    /// The reason.
+    pub error: OpenError,
+    /// The counter that was passed to `prepare`.
+    pub counter: C,
+}
+
+impl<C: Counter> OpenFault<C> {
+    /// Returns the fault with this reason, and the counter.
+    pub(crate) fn new(error: OpenError, counter: C) -> OpenFault<C>
+        ensures error { result.error ≡ error }
+        ensures counter { result.counter ≡ counter }
+    {
+        OpenFault { error, counter }
+    }
+}
+
 impl<C: Counter> fmt::Display for OpenFault<C> {
     ghost output = { λ fault. Some (open_text fault.error) };
 
@@ -44,7 +56,5 @@ impl<C: Counter> fmt::Display for OpenFault<C> {
         write!(f, "{}", self.error)
     }
 }
-
-impl Error for OpenError {}
 
 impl<C: Counter + fmt::Debug> Error for OpenFault<C> {}

@@ -81,27 +81,18 @@ pub fn prepare<C: Counter, R: Wait>(
         IsReading C.answers counter desc prepared.journal.opening.reading) }
 {
     if callers < 1 || callers > CALLERS_LIMIT {
-        return Err(OpenFault {
-            error: OpenError::Count,
-            counter,
-        });
+        return Err(OpenFault::new(OpenError::Count, counter));
     }
     // Reading 0 is never above the mask, so this tests only `real`, before the counter is read.
     if Clock::open(desc, 0, real).is_err() {
-        return Err(OpenFault {
-            error: OpenError::Invalid,
-            counter,
-        });
+        return Err(OpenFault::new(OpenError::Invalid, counter));
     }
     let mut counter = counter;
     let mask = desc.mask();
     let reading = counter.read() & mask;
     let keeper = Timekeeper::open(alloc, desc, reading, real).unwrap();
     let Ok(parts) = assemble(alloc, rt, keeper, callers, room) else {
-        return Err(OpenFault {
-            error: OpenError::Memory,
-            counter,
-        });
+        return Err(OpenFault::new(OpenError::Memory, counter));
     };
     let blank = Blank::new(callers as u64);
     Ok(Prepared {

@@ -71,33 +71,24 @@ impl<L: Named, C: Counter> SharedKeeper<L, C> {
             × (opened.1.items ≡ newcomers prepared.latch prepared.notice prepared.journal prepared.callers))
             (λ fault. fault.error ≡ OpenError.Memory) }
     {
-        let Prepared {
-            parts,
-            counter,
-            mask,
-            blank,
-        } = prepared;
         let Parts {
             keeper,
             shared,
             mut writers,
             viewer,
             readers,
-        } = parts;
+        } = prepared.parts;
         let callers = readers.len();
-        let (book, mut rest) = blank.open::<L>();
+        let (book, mut rest) = prepared.blank.open::<L>();
         let writer = &mut writers.notice;
         let Ok(made) = make_callers(alloc, &shared, viewer, readers, writer, &mut rest) else {
-            return Err(OpenFault {
-                error: OpenError::Memory,
-                counter,
-            });
+            return Err(OpenFault::new(OpenError::Memory, prepared.counter));
         };
         let locked = Locked {
             keeper,
             writers,
-            counter,
-            mask,
+            counter: prepared.counter,
+            mask: prepared.mask,
             book,
             rest,
         };
