@@ -1,24 +1,21 @@
 //! Tests folding under the lock.
 ghost use Rattle.std.specs.Prelude.{◌≡◌};
 
-use super::{assert_same, both, commanded, deeds, glanced, read_by};
-use std::alloc::Global;
+use super::deeds::{Deed, Two, does};
+use super::{assert_same, both, commanded, glanced, read_by};
 use std::process::Abort;
 use std::sync::Wait;
 use std::test::Fail;
 use tk_clock::{Command, Refusal};
-use tk_shared::{Caller, Named, SharedKeeper, Ticker};
+use tk_shared::{Named, Ticker};
 
 #[test]
 fn a_fold_makes_room_again(rt: HostRuntime) -> Result<(), Fail> {
-    deeds::alone_does(&rt, rt.alloc(), Ticker::new(0, 0), deeds::Alone::Fills)
+    does(&rt, rt.alloc(), Ticker::new(0, 0), Deed::Fills)
 }
 
-pub(super) fn fills<L: Named, R: Wait + Abort>(
-    rt: &R,
-    keeper: &SharedKeeper<L, Ticker>,
-    caller: &mut Caller<L>,
-) -> Result<(), Fail> {
+pub(super) fn fills<L: Named>(rt: &(impl Wait + Abort), two: &mut Two<L>) -> Result<(), Fail> {
+    let (keeper, caller) = (&two.keeper, &mut two.one);
     let mut is_good = true;
     for number in 1..=1_048_576 {
         let answer = commanded(rt, keeper, caller, Command::Update);
@@ -37,14 +34,11 @@ pub(super) fn fills<L: Named, R: Wait + Abort>(
 
 #[test]
 fn a_fold_keeps_as_many_entries_as_asked(rt: HostRuntime) -> Result<(), Fail> {
-    deeds::alone_does(&rt, rt.alloc(), Ticker::new(0, 1_000), deeds::Alone::Keeps)
+    does(&rt, rt.alloc(), Ticker::new(0, 1_000), Deed::Keeps)
 }
 
-pub(super) fn keeps_of_five<L: Named, R: Wait + Abort>(
-    rt: &R,
-    keeper: &SharedKeeper<L, Ticker>,
-    caller: &mut Caller<L>,
-) -> Result<(), Fail> {
+pub(super) fn keeps<L: Named>(rt: &(impl Wait + Abort), two: &mut Two<L>) -> Result<(), Fail> {
+    let (keeper, caller) = (&two.keeper, &mut two.one);
     for number in 1..=5 {
         let answer = commanded(rt, keeper, caller, Command::Update);
         assert_same(rt, &answer, &Ok(number));
@@ -58,30 +52,28 @@ pub(super) fn keeps_of_five<L: Named, R: Wait + Abort>(
 
 #[test]
 fn numbers_and_fronts_go_on_after_a_fold(rt: HostRuntime) -> Result<(), Fail> {
-    deeds::both_do(&rt, rt.alloc(), deeds::Both::Fold)
+    does(&rt, rt.alloc(), Ticker::new(0, 1_000), Deed::Fold)
 }
 
-pub(super) fn folds<L: Named, R: Wait + Abort>(
-    rt: &R,
-    alloc: Global,
-    keeper: SharedKeeper<L, Ticker>,
-    mut one: Caller<L>,
-    mut two: Caller<L>,
-) -> Result<(), Fail>
-    requires callers { (one.id ≡ 0) × (two.id ≡ 1) }
+pub(super) fn folds<L: Named>(rt: &(impl Wait + Abort), two: Two<L>) -> Result<(), Fail>
+    requires callers { (two.one.id ≡ 0) × (two.other.id ≡ 1) }
 {
+    let Two {
+        alloc,
+        keeper,
+        mut one,
+        mut other,
+    } = two;
     let first = commanded(rt, &keeper, &mut one, Command::Update);
-    let second = commanded(rt, &keeper, &mut two, Command::Update);
+    let second = commanded(rt, &keeper, &mut other, Command::Update);
     let third = commanded(rt, &keeper, &mut one, Command::Update);
     let folded = keeper.fold(rt, 1);
-    let fronts = (one.front(), two.front());
+    let fronts = (one.front(), other.front());
     let seen = read_by(rt, &keeper, &mut one).front();
-    let fast = glanced(&keeper, &mut two).is_ok_and(|seen| seen.front() == 3);
-    let fourth = commanded(rt, &keeper, &mut two, Command::Update);
-    let closed = keeper
-        .close(rt, both(alloc, one, two)?)
-        .ok()
-        .ok_or("closed")?;
+    let fast = glanced(&keeper, &mut other).is_ok_and(|seen| seen.front() == 3);
+    let fourth = commanded(rt, &keeper, &mut other, Command::Update);
+    let callers = both(alloc, one, other)?;
+    let closed = keeper.close(rt, callers).ok().ok_or("closed")?;
     assert_same(
         rt,
         &(first, second, third, fourth),

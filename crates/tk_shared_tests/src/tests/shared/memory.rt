@@ -3,7 +3,6 @@ ghost use Rattle.std.specs.Prelude.{◌≡◌};
 ghost use Rattle.tk_shared.specs.Opening.{IsNamed};
 
 use super::{OPENED_TIME, assert_same, commanded, nanosecond_counter, read_by, two_of};
-use std::alloc::Global;
 use std::marker::Brand;
 use std::process::Abort;
 use std::sync::Wait;
@@ -31,27 +30,26 @@ fn came_back<R: Abort>(rt: &R, fault: OpenFault<Ticker>) -> Result<(), Fail> {
 fn refused_requests_change_nothing(rt: HostRuntime) -> Result<(), Fail> {
     let desc = nanosecond_counter()?;
     match prepare(rt.alloc(), &rt, desc, OPENED_TIME, Ticker::new(0, 10), 2, 3) {
-        Ok(prepared) => opened::<Brand, _>(&rt, rt.alloc(), prepared),
+        Ok(prepared) => opened::<Brand, _>(&rt, prepared),
         Err(fault) => came_back(&rt, fault),
     }
 }
 
-fn opened<L: Named, R: Wait + Abort>(
+fn opened<L: Named, R: Wait + Abort + AllocGlobal>(
     rt: &R,
-    alloc: Global,
     prepared: Prepared<Ticker>,
 ) -> Result<(), Fail>
     requires named { IsNamed prepared L.page L.latch L.notice L.name L.parts L.callers }
     requires two { prepared.callers ≡ 2 }
 {
-    let (keeper, callers) = match SharedKeeper::<L, Ticker>::open(alloc, prepared) {
+    let (keeper, callers) = match SharedKeeper::<L, Ticker>::open(rt.alloc(), prepared) {
         Ok(opened) => opened,
         Err(fault) => return came_back(rt, fault),
     };
     let (mut one, two) = two_of(callers)?;
     gives_all(rt, &keeper, &mut one);
     let accepted = one.accepted();
-    let Ok(callers) = vec![in alloc; one, two] else {
+    let Ok(callers) = vec![in rt.alloc(); one, two] else {
         // the request of this test itself was refused
         assert_same(rt, &accepted, &COMMANDS);
         return Ok(());

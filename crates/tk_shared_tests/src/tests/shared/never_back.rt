@@ -178,6 +178,11 @@ fn two_play<L: Named + Send + Sync, C: Counter, R: Threads + Wait + Sync>(
     );
 }
 
+/// Returns the last two callers of a list, and removes them.
+fn last_two<L: Named>(callers: &mut Vec<Caller<L>>) -> Option<(Caller<L>, Caller<L>)> {
+    Some((callers.pop()?, callers.pop()?))
+}
+
 /// Lets the last four callers play at once.
 fn four_play<L: Named + Send + Sync, C: Counter, R: Threads + Wait + Sync>(
     rt: &R,
@@ -185,12 +190,8 @@ fn four_play<L: Named + Send + Sync, C: Counter, R: Threads + Wait + Sync>(
     mut callers: Vec<Caller<L>>,
     board: &Board,
 ) {
-    let (Some(one), Some(two), Some(three), Some(four)) = (
-        callers.pop(),
-        callers.pop(),
-        callers.pop(),
-        callers.pop(),
-    ) else {
+    let pairs = (last_two(&mut callers), last_two(&mut callers));
+    let (Some((one, two)), Some((three, four))) = pairs else {
         board.fails();
         return;
     };
@@ -210,8 +211,7 @@ fn all_play<L: Named + Send + Sync, C: Counter, R: Threads + Wait + Abort + Sync
     requires named { IsNamed prepared L.page L.latch L.notice L.name L.parts L.callers }
 {
     let (keeper, mut callers) = opened::<L, C>(alloc, prepared)?;
-    let one = callers.pop().ok_or("a caller")?;
-    let two = callers.pop().ok_or("a caller")?;
+    let (one, two) = last_two(&mut callers).ok_or("two callers")?;
     let keeper = &keeper;
     let _ = thread::join(
         rt,

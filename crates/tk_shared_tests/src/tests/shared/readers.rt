@@ -3,7 +3,6 @@ ghost use Rattle.std.specs.Prelude.{◌≡◌};
 ghost use Rattle.tk_shared.specs.Opening.{IsNamed};
 
 use super::{assert_same, commanded, glanced, open_two, read_by, ready};
-use std::alloc::Global;
 use std::marker::Brand;
 use std::process::Abort;
 use std::sync::Wait;
@@ -28,13 +27,11 @@ fn commands<L: Named, R: Wait>(
     rt: &R,
     keeper: &SharedKeeper<L, Ticker>,
     caller: &mut Caller<L>,
-    ended: &AtomicU64,
 ) -> bool {
     let mut is_good = true;
     for number in 1..=COMMANDS {
         is_good = commanded(rt, keeper, caller, Command::Update) == Ok(number) && is_good;
     }
-    ended.store(1, Ordering::SeqCst);
     is_good
 }
 
@@ -46,8 +43,7 @@ fn glances<L: Named, R: Wait>(
     caller: &mut Caller<L>,
     ended: &AtomicU64,
 ) -> bool {
-    let mut is_good = true;
-    let mut front = 0;
+    let (mut is_good, mut front) = (true, 0);
     for _ in 0..u64::MAX {
         if ended.load(Ordering::SeqCst) == 1 {
             break;
@@ -81,24 +77,27 @@ fn sees_all<L: Named, R: Wait>(
 #[test]
 fn fast_reads_are_whole_while_commands_are_given(rt: HostRuntime) -> Result<(), Fail> {
     let prepared = ready(&rt, rt.alloc(), Ticker::new(0, STEP), 2)?;
-    glances_beside::<Brand, _>(&rt, rt.alloc(), prepared)
+    glances_beside::<Brand, _>(&rt, prepared)
 }
 
-fn glances_beside<L: Named + Send + Sync, R: Threads + Wait + Abort + Sync>(
+fn glances_beside<L: Named + Send + Sync, R: Threads + Wait + Abort + AllocGlobal + Sync>(
     rt: &R,
-    alloc: Global,
     prepared: Prepared<Ticker>,
 ) -> Result<(), Fail>
     requires named { IsNamed prepared L.page L.latch L.notice L.name L.parts L.callers }
     requires two { prepared.callers ≡ 2 }
 {
-    let (keeper, mut one, mut two) = open_two::<L, Ticker>(alloc, prepared)?;
+    let (keeper, mut one, mut two) = open_two::<L, Ticker>(rt.alloc(), prepared)?;
     let ended = AtomicU64::new(0);
     let (shared, flag) = (&keeper, &ended);
     let (first, second) = (&mut one, &mut two);
     let (commanded, read) = join(
         rt,
-        move || commands(rt, shared, first, flag),
+        move || {
+            let is_good = commands(rt, shared, first);
+            flag.store(1, Ordering::SeqCst);
+            is_good
+        },
         move || glances(rt, shared, second, flag),
     );
     assert_same(rt, &(commanded, read), &(true, true));

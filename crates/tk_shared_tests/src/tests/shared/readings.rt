@@ -2,7 +2,6 @@
 ghost use Rattle.tk_shared.specs.Opening.{IsNamed};
 
 use super::{assert_same, commanded, opened, read_by, ready, ready_on, time};
-use std::alloc::Global;
 use std::marker::Brand;
 use std::process::Abort;
 use std::sync::Wait;
@@ -54,24 +53,22 @@ fn accepted(last: u64, nanos: u32) -> Updated {
 }
 
 /// Opens the prepared keeper, and compares an Update of its first caller with the wanted result.
-fn updates<C: Counter, R: Wait + Abort>(
+fn updates<C: Counter, R: Wait + Abort + AllocGlobal>(
     rt: &R,
-    alloc: Global,
     prepared: Prepared<C>,
     wanted: Updated,
 ) -> Result<(), Fail> {
-    updates_named::<Brand, C, R>(rt, alloc, prepared, wanted)
+    updates_named::<Brand, C, R>(rt, prepared, wanted)
 }
 
-fn updates_named<L: Named, C: Counter, R: Wait + Abort>(
+fn updates_named<L: Named, C: Counter, R: Wait + Abort + AllocGlobal>(
     rt: &R,
-    alloc: Global,
     prepared: Prepared<C>,
     wanted: Updated,
 ) -> Result<(), Fail>
     requires named { IsNamed prepared L.page L.latch L.notice L.name L.parts L.callers }
 {
-    let (keeper, mut callers) = opened::<L, C>(alloc, prepared)?;
+    let (keeper, mut callers) = opened::<L, C>(rt.alloc(), prepared)?;
     updates_by(rt, &keeper, callers.as_mut_slice(), wanted)
 }
 
@@ -108,7 +105,7 @@ fn a_counter_that_runs_back_is_refused(rt: HostRuntime) -> Result<(), Fail> {
         last: 3_000,
         nanos: 0,
     };
-    updates(&rt, rt.alloc(), prepared, refused)
+    updates(&rt, prepared, refused)
 }
 
 #[test]
@@ -118,7 +115,7 @@ fn answers_above_the_mask_are_masked(rt: HostRuntime) -> Result<(), Fail> {
         others: (1 << 63) + 7,
     };
     let prepared = ready(&rt, rt.alloc(), counter, 1)?;
-    updates(&rt, rt.alloc(), prepared, accepted(7, 2))
+    updates(&rt, prepared, accepted(7, 2))
 }
 
 #[test]
@@ -127,7 +124,7 @@ fn readings_of_48_bits_keep_their_upper_bits(rt: HostRuntime) -> Result<(), Fail
     let start = (1 << 32) + 5;
     let prepared = ready_on(&rt, rt.alloc(), desc, Ticker::new(start, 1_000), 1)?;
     let wanted = accepted((1 << 32) + 1_005, 1_000);
-    updates(&rt, rt.alloc(), prepared, wanted)
+    updates(&rt, prepared, wanted)
 }
 
 #[test]
@@ -135,5 +132,5 @@ fn a_ticker_wraps_at_64_bits(rt: HostRuntime) -> Result<(), Fail> {
     let mut ticker = Ticker::new(u64::MAX - 999, 1_000);
     assert_same(&rt, &(ticker.read(), ticker.read()), &(u64::MAX - 999, 0));
     let prepared = ready(&rt, rt.alloc(), Ticker::new(u64::MAX - 999, 1_000), 1)?;
-    updates(&rt, rt.alloc(), prepared, accepted(0, 1_000))
+    updates(&rt, prepared, accepted(0, 1_000))
 }

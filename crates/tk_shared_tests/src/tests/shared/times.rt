@@ -152,19 +152,18 @@ fn the_time_now_rises_with_the_hosts_clock(rt: HostRuntime) -> Result<(), Fail> 
     let desc = CounterDesc::from_hz(64, 1_000_000_000, 600)?;
     let counter = SharedReader::new(rt.alloc(), &host)?;
     let prepared = ready_on(&rt, rt.alloc(), desc, counter, 2)?;
-    rises::<Brand, _, _, _>(&rt, rt.alloc(), prepared, &host)
+    rises::<Brand, _, _, _>(&rt, prepared, &host)
 }
 
-fn rises<L: Named, C: Counter, S: SharedCounter, R: Wait + Abort>(
+fn rises<L: Named, C: Counter, S: SharedCounter, R: Wait + Abort + AllocGlobal>(
     rt: &R,
-    alloc: Global,
     prepared: Prepared<C>,
     counter: &S,
 ) -> Result<(), Fail>
     requires named { IsNamed prepared L.page L.latch L.notice L.name L.parts L.callers }
     requires two { prepared.callers ≡ 2 }
 {
-    let (keeper, mut one, mut two) = open_two::<L, C>(alloc, prepared)?;
+    let (keeper, mut one, mut two) = open_two::<L, C>(rt.alloc(), prepared)?;
     let mut before = 0;
     for _ in 0..1000 {
         let by_page = nanoseconds(keeper.now(rt, &mut two, counter, ClockId::Monotonic)?);

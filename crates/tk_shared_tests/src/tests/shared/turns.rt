@@ -1,7 +1,8 @@
 //! Tests two callers that take turns in one thread.
 ghost use Rattle.std.specs.Prelude.{◌≡◌, [], ◌∷◌, IfOk};
 
-use super::{assert_same, commanded, deeds, glanced, read_by, time};
+use super::deeds::{Deed, Two, does};
+use super::{assert_same, commanded, glanced, read_by, time};
 use std::alloc::Global;
 use std::process::Abort;
 use std::sync::Wait;
@@ -18,23 +19,17 @@ const SET: Command = Command::SetTime(Timespec {
 
 #[test]
 fn a_command_is_read_by_both_and_all_callers_close(rt: HostRuntime) -> Result<(), Fail> {
-    deeds::both_do(&rt, rt.alloc(), deeds::Both::Read)
+    does(&rt, rt.alloc(), Ticker::new(0, 1_000), Deed::Read)
 }
 
-pub(super) fn reads<L: Named, R: Wait + Abort>(
-    rt: &R,
-    alloc: Global,
-    keeper: SharedKeeper<L, Ticker>,
-    mut one: Caller<L>,
-    mut two: Caller<L>,
-) -> Result<(), Fail>
-    requires callers { (one.id ≡ 0) × (two.id ≡ 1) }
+pub(super) fn reads<L: Named>(rt: &(impl Wait + Abort), mut two: Two<L>) -> Result<(), Fail>
+    requires callers { (two.one.id ≡ 0) × (two.other.id ≡ 1) }
 {
-    both_read(rt, &keeper, &mut one, &mut two);
+    both_read(rt, &two.keeper, &mut two.one, &mut two.other);
     let Closed {
         keeper,
         mut counter,
-    } = closed_late(rt, alloc, keeper, one, two)?;
+    } = closed_late(rt, two)?;
     // it was read at the opening and by each command
     assert_same(rt, &counter.read(), &3_000);
     is_journal(rt, &keeper)
@@ -78,15 +73,15 @@ fn is_set_between<R: Abort>(
 }
 
 /// Closes with only the first caller, which is refused, and then with both.
-fn closed_late<L: Named, R: Wait>(
-    rt: &R,
-    alloc: Global,
-    keeper: SharedKeeper<L, Ticker>,
-    one: Caller<L>,
-    two: Caller<L>,
-) -> Result<Closed<Ticker>, Fail>
-    requires callers { (one.id ≡ 0) × (two.id ≡ 1) }
+fn closed_late<L: Named>(rt: &impl Wait, two: Two<L>) -> Result<Closed<Ticker>, Fail>
+    requires callers { (two.one.id ≡ 0) × (two.other.id ≡ 1) }
 {
+    let Two {
+        alloc,
+        keeper,
+        one,
+        other,
+    } = two;
     let Err(missing) = keeper.close(rt, alone(alloc, one)?) else {
         return Err(Fail::from("a caller is missing"));
     };
@@ -94,7 +89,7 @@ fn closed_late<L: Named, R: Wait>(
         keeper,
         mut callers,
     } = missing;
-    callers.push(two).ok().ok_or("memory")?;
+    callers.push(other).ok().ok_or("memory")?;
     match keeper.close(rt, callers) {
         Ok(closed) => Ok(closed),
         Err(_) => Err(Fail::from("not closed")),
@@ -124,15 +119,11 @@ fn is_journal<R: Abort>(rt: &R, keeper: &Timekeeper) -> Result<(), Fail> {
 
 #[test]
 fn a_fast_read_finds_what_another_caller_did(rt: HostRuntime) -> Result<(), Fail> {
-    deeds::both_do(&rt, rt.alloc(), deeds::Both::ReadFast)
+    does(&rt, rt.alloc(), Ticker::new(0, 1_000), Deed::ReadFast)
 }
 
-pub(super) fn fast_reads<L: Named, R: Wait + Abort>(
-    rt: &R,
-    keeper: &SharedKeeper<L, Ticker>,
-    one: &mut Caller<L>,
-    two: &mut Caller<L>,
-) -> Result<(), Fail> {
+pub(super) fn reads_fast<L: Named>(rt: &(impl Wait + Abort), two: &mut Two<L>) -> Result<(), Fail> {
+    let (keeper, one, two) = (&two.keeper, &mut two.one, &mut two.other);
     let first = commanded(rt, keeper, one, SET);
     let own = glanced(keeper, one).ok().ok_or("read")?;
     let others = glanced(keeper, two).ok().ok_or("read")?.front();
@@ -146,15 +137,11 @@ pub(super) fn fast_reads<L: Named, R: Wait + Abort>(
 
 #[test]
 fn a_caller_that_follows_knows_what_another_one_did(rt: HostRuntime) -> Result<(), Fail> {
-    deeds::both_do(&rt, rt.alloc(), deeds::Both::Follow)
+    does(&rt, rt.alloc(), Ticker::new(0, 1_000), Deed::Follow)
 }
 
-pub(super) fn follows<L: Named, R: Wait + Abort>(
-    rt: &R,
-    keeper: &SharedKeeper<L, Ticker>,
-    one: &mut Caller<L>,
-    two: &mut Caller<L>,
-) -> Result<(), Fail> {
+pub(super) fn follows<L: Named>(rt: &(impl Wait + Abort), two: &mut Two<L>) -> Result<(), Fail> {
+    let (keeper, one, two) = (&two.keeper, &mut two.one, &mut two.other);
     let first = commanded(rt, keeper, one, SET);
     let before = (two.front(), two.mark());
     keeper.follow(rt, two, one);

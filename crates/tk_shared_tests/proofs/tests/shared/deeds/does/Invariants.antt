@@ -1,4 +1,4 @@
-use Rattle.tk_shared_tests.proofs.tests.shared.deeds.both_do.Given as goal
+use Rattle.tk_shared_tests.proofs.tests.shared.deeds.does.Given as goal
 
 -- the names are the names of the prepared parts
 abbrev pub ghosts-two_callers-L-Named : goal.ghosts-two_callers-L-Named
