@@ -35,8 +35,12 @@
  *   - At any other place, readers of the page get the last snapshot that was published.
  *   - In tkc_latch_publish while the sequence is odd: readers of the latch get the former snapshot,
  *     in copy 1. After the sequence is even again they get the new one, in copy 0. They never wait.
- *   No reader gets a mixture of two snapshots. A new writer must know that the former one is dead
- *   (a robust mutex returns EOWNERDEAD, for example). Before it publishes anything it takes over:
+ *   No reader gets a mixture of two snapshots. A new writer must know that the former one is dead:
+ *   pthread_mutex_trylock of a robust mutex returns EOWNERDEAD, for example. Repeat it with naps
+ *   between the tries, and don't wait in pthread_mutex_lock. An unlock wakes one waiter. If that
+ *   waiter is killed before it takes the lock, and a third process has taken it, the third one
+ *   doesn't know of the other waiters and wakes none of them.
+ *   Before a new writer publishes anything it takes over:
  *
  *     if (tkc_page_clock(&page, &clock))                   or with clocks that it has
  *             return -1;
