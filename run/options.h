@@ -8,6 +8,7 @@
 enum {
 	STATUS_WRONG = 2,	/* a wrong option */
 	STATUS_DIFFERS = 3,	/* a value that --check doesn't reproduce */
+	STATUS_UNCHECKED = 4,	/* a value that --check couldn't compare */
 	STATUS_FAILED = 125,	/* tkrun itself failed */
 	STATUS_NOT_RUN = 126,	/* PROGRAM can't be run */
 	STATUS_NOT_FOUND = 127, /* there is no PROGRAM */

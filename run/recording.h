@@ -14,6 +14,7 @@ struct recording {
 	int rows_file;
 	int error;	  /* errno, if rows couldn't be kept */
 	uint64_t missing; /* the first row that is missing then */
+	uint64_t gap;	  /* the first command that is missing, or 0 */
 	uint64_t reads, commands;
 	unsigned int parts;
 	pthread_t thread;

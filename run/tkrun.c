@@ -85,50 +85,18 @@ static void drive(struct run *run, const sigset_t *signals)
 	}
 }
 
-static void print_summary(const struct run *run)
+static bool is_complete(const struct run *run)
 {
-	const struct control *control = run->machine.control;
-	uint64_t nanos = host_nanos(CLOCK_MONOTONIC) - run->started;
-
-	fprintf(stderr,
-		"tkrun: %.3f s of the host; commands: %" PRIu64
-		" accepted, %" PRIu64 " refused; at least %" PRIu64
-		" reads; programs: %" PRIu32 " attached\n",
-		(double)nanos / 1e9, control->accepted, control->refused,
-		control->reads, control->attached);
-	if (control->recovered)
-		fprintf(stderr,
-			"tkrun: took over %" PRIu64
-			" times from a process that died amid a command\n",
-			control->recovered);
+	return !run->recording.error && !run->recording.gap &&
+	       !run->machine.control->rows.lost;
 }
 
-static void print_record(const struct run *run)
+/* Compares the record, if it was written. The status says if a value differs,
+ * or else if not all values could be compared. */
+static void check_record(struct run *run, bool is_written)
 {
 	const struct recording *recording = &run->recording;
-	const struct rows *rows = &run->machine.control->rows;
-
-	if (!run->options.is_quiet)
-		fprintf(stderr,
-			"tkrun: recorded %" PRIu64 " reads and %" PRIu64
-			" commands, in %u %s\n",
-			recording->reads, recording->commands, recording->parts,
-			recording->parts == 1 ? "script" : "scripts");
-	if (recording->error)
-		fprintf(stderr,
-			"tkrun: the record ends before row %" PRIu64 ": %s\n",
-			recording->missing, strerror(recording->error));
-	if (rows->lost)
-		fprintf(stderr,
-			"tkrun: %" PRIu64
-			" reads or commands aren't in the record\n",
-			rows->lost);
-}
-
-static void check_record(struct run *run)
-{
-	const struct recording *recording = &run->recording;
-	uint64_t differ = recording_check(recording);
+	uint64_t differ = is_written ? recording_check(recording) : 0;
 	uint64_t all = recording->reads + recording->commands;
 
 	if (differ) {
@@ -137,6 +105,15 @@ static void check_record(struct run *run)
 			" lines differ from tkcore's\n",
 			differ);
 		run->status = STATUS_DIFFERS;
+	} else if (!is_written) {
+		fprintf(stderr, "tkrun: check: there is no record\n");
+		run->status = STATUS_UNCHECKED;
+	} else if (!is_complete(run)) {
+		fprintf(stderr,
+			"tkrun: check: tkcore gives each of the first %" PRIu64
+			" values; the others aren't in the record\n",
+			all);
+		run->status = STATUS_UNCHECKED;
 	} else if (!run->options.is_quiet) {
 		fprintf(stderr,
 			"tkrun: check: tkcore gives each of the %" PRIu64
@@ -190,8 +167,8 @@ static void end_run(struct run *run, bool is_recorded)
 		is_written = recording_write(&run->recording, &run->machine,
 					     &run->plan);
 		print_record(run);
-		if (is_written && run->options.is_checked)
-			check_record(run);
+		if (run->options.is_checked)
+			check_record(run, is_written);
 		remove_scratch(run);
 	}
 }

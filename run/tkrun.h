@@ -39,4 +39,8 @@ void start_program(struct run *run, const sigset_t *signals);
  * or to the next order. Returns whether it moved. */
 bool move_counter(struct run *run);
 
+/* Print what became of the run, and of its record. */
+void print_summary(const struct run *run);
+void print_record(const struct run *run);
+
 #endif

@@ -25,16 +25,34 @@ class Records(RunTest):
         self.assertEqual(run.returncode, 3)
         self.assertIn("and tkcore gives 'at,realtime,1.000000000'", run.stderr)
 
+    def full_disk(self, *arguments):
+        """Runs a program that sets the clocks, with a record on a disk that gets full."""
+        command = ("mount -t tmpfs -o size=100k tmpfs $1 && folder=$1 && shift && "
+                   "exec $1 --start 1000000000 --record $folder/r \"${@:2}\"")
+        return call(["unshare", "-m", "bash", "-c", command, "bash", self.folder, TKRUN,
+                     *arguments, "--", program("killed"), "10"])
+
     @needs_root("mounts a small disk")
     def test_a_full_disk(self):
-        command = ("mount -t tmpfs -o size=100k tmpfs $1 && "
-                   "exec $2 --start 1000000000 --record $1/r -- $3 10")
-        run = call(["unshare", "-m", "sh", "-c", command, "sh", self.folder, TKRUN,
-                    program("killed")])
+        run = self.full_disk()
         self.assertEqual(run.returncode, 0, run.stderr)
         self.assertIn("back 0, errors 0", run.stdout)
         self.assertRegex(run.stderr, "the record ends before row [0-9]+: No space left on device|"
                                      "cannot write the record '.*': No space left on device")
+
+    @needs_root("mounts a small disk")
+    def test_what_a_full_disk_lost_is_not_checked(self):
+        run = self.full_disk("--check")
+        self.assertIn("back 0, errors 0", run.stdout)
+        self.assertRegex(run.stderr, "check: there is no record|aren't in the record")
+        self.assertEqual(run.returncode, 4, run.stderr)
+
+    def test_a_record_that_is_gone_is_not_checked(self):
+        (self.folder / "gone").mkdir()
+        run = self.start("--record", self.folder / "gone" / "r", "--check", "--", "rm", "-r",
+                         self.folder / "gone")
+        self.assertEqual(run.returncode, 4, run.stderr)
+        self.assertIn("check: there is no record", run.stderr)
 
     @needs_root("hides /dev/shm")
     def test_no_shared_memory_folder(self):

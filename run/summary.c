@@ -1,0 +1,53 @@
+/* SPDX-License-Identifier: MIT OR Apache-2.0 */
+/* What tkrun prints at the end of a run. */
+#define _GNU_SOURCE
+#include "tkrun.h"
+
+#include <inttypes.h>
+#include <stdio.h>
+#include <string.h>
+
+void print_summary(const struct run *run)
+{
+	const struct control *control = run->machine.control;
+	uint64_t nanos = host_nanos(CLOCK_MONOTONIC) - run->started;
+
+	fprintf(stderr,
+		"tkrun: %.3f s of the host; commands: %" PRIu64
+		" accepted, %" PRIu64 " refused; at least %" PRIu64
+		" reads; programs: %" PRIu32 " attached\n",
+		(double)nanos / 1e9, control->accepted, control->refused,
+		control->reads, control->attached);
+	if (control->recovered)
+		fprintf(stderr,
+			"tkrun: took over %" PRIu64
+			" times from a process that died amid a command\n",
+			control->recovered);
+}
+
+void print_record(const struct run *run)
+{
+	const struct recording *recording = &run->recording;
+	const struct rows *rows = &run->machine.control->rows;
+
+	if (!run->options.is_quiet)
+		fprintf(stderr,
+			"tkrun: recorded %" PRIu64 " reads and %" PRIu64
+			" commands, in %u %s\n",
+			recording->reads, recording->commands, recording->parts,
+			recording->parts == 1 ? "script" : "scripts");
+	if (recording->error)
+		fprintf(stderr,
+			"tkrun: the record ends before row %" PRIu64 ": %s\n",
+			recording->missing, strerror(recording->error));
+	if (recording->gap)
+		fprintf(stderr,
+			"tkrun: the record ends before command %" PRIu64
+			", which couldn't be recorded\n",
+			recording->gap);
+	if (rows->lost)
+		fprintf(stderr,
+			"tkrun: %" PRIu64
+			" reads or commands aren't in the record\n",
+			rows->lost);
+}
