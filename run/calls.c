@@ -99,6 +99,12 @@ int logged(const char *call, int result, const char *form, ...)
 	return result;
 }
 
+void note_host(struct machine *m, enum host_wait wait)
+{
+	if (m->control)
+		atomic_fetch_or(&m->control->host_waits, 1U << wait);
+}
+
 int machine_clock(clockid_t clock)
 {
 	switch (clock) {

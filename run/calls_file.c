@@ -9,6 +9,7 @@
 #include <signal.h>
 #include <sys/epoll.h>
 #include <sys/select.h>
+#include <sys/sem.h>
 
 /* Begins a wait for a span of MONOTONIC. Returns false if the host's call is
  * to be made once with it: it is no limit, nothing, or no span. */
@@ -182,6 +183,38 @@ EXPORT int sigtimedwait(const sigset_t *restrict set, siginfo_t *restrict info,
 	} while (number < 0 && errno == EAGAIN && !wait.is_reached);
 	wait_end(&wait);
 	return number;
+}
+
+/* An operation that doesn't wait fails as one whose time has come, so a wait
+ * with one can't be made in slices. */
+static bool has_no_wait(const struct sembuf *operations, size_t count)
+{
+	for (size_t i = 0; i < count; i++) {
+		if (operations[i].sem_flg & IPC_NOWAIT)
+			return true;
+	}
+	return false;
+}
+
+EXPORT int semtimedop(int set, struct sembuf *operations, size_t count,
+		      const struct timespec *span)
+{
+	struct timespec slice;
+	struct wait wait;
+	int result;
+
+	if (machine() && span && has_no_wait(operations, count)) {
+		note_host(machine(), HOST_SEMAPHORES);
+		return REAL(semtimedop)(set, operations, count, span);
+	}
+	if (!wait_span(&wait, span))
+		return REAL(semtimedop)(set, operations, count, span);
+	do {
+		slice = next_slice(&wait);
+		result = REAL(semtimedop)(set, operations, count, &slice);
+	} while (result < 0 && errno == EAGAIN && !wait.is_reached);
+	wait_end(&wait);
+	return result;
 }
 
 /* Begins a wait until a time of REALTIME, whose slices end on the host's. */

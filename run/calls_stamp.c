@@ -29,6 +29,9 @@ EXPORT int setsockopt(int file, int level, int name, const void *value,
 	case SO_TIMESTAMPING_OLD:
 	case SO_TIMESTAMPING_NEW:
 		return refuse(ENOPROTOOPT);
+	case SO_RCVTIMEO_OLD:
+	case SO_SNDTIMEO_OLD:
+		note_host(m, HOST_SOCKET);
 	}
 	return REAL(setsockopt)(file, level, name, value, length);
 }
@@ -95,6 +98,8 @@ EXPORT int recvmmsg(int file, struct mmsghdr *messages, unsigned int count,
 {
 	int received = REAL(recvmmsg)(file, messages, count, flags, span);
 
+	if (machine() && span)
+		note_host(machine(), HOST_MESSAGES);
 	for (int i = 0; i < received; i++)
 		convert_all(&messages[i].msg_hdr);
 	return received;

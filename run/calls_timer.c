@@ -3,6 +3,7 @@
 #define _GNU_SOURCE
 #include "timers.h"
 
+#include <sys/syscall.h>
 #include <sys/time.h>
 #include <sys/timerfd.h>
 #include <unistd.h>
@@ -21,14 +22,15 @@ EXPORT int timerfd_create(int clock, int flags)
 	timers_lock(&saved);
 	timer = timer_of_file(file);
 	if (timer)
-		timer->kind = TIMER_NONE; /* of a file that was closed */
-	timer = number < 0 ? NULL : timer_free();
+		timer_remove(timer); /* of a file that was closed */
+	timer = number < 0 ? NULL : timer_add(TIMER_FILE, number);
 	if (timer)
-		*timer = (struct timer){ .kind = TIMER_FILE,
-					 .file = file,
-					 .own_clock = number };
+		timer->file = file;
 	timers_unlock(&saved);
-	return file;
+	if (timer || number < 0)
+		return file;
+	close(file);
+	return refuse(ENOMEM);
 }
 
 EXPORT int timerfd_settime(int file, int flags, const struct itimerspec *in,
@@ -72,6 +74,20 @@ EXPORT int timerfd_gettime(int file, struct itimerspec *out)
 	return timer ? 0 : REAL(timerfd_gettime)(file, out);
 }
 
+/* Adds a timer of the host to the table. Returns false if memory is missing. */
+static bool add_posix(int clock, timer_t posix)
+{
+	struct timer *timer;
+	sigset_t saved;
+
+	timers_lock(&saved);
+	timer = timer_add(TIMER_POSIX, clock);
+	if (timer)
+		timer->posix = posix;
+	timers_unlock(&saved);
+	return timer;
+}
+
 EXPORT int timer_create(clockid_t clock, struct sigevent *restrict event,
 			timer_t *restrict out)
 {
@@ -79,19 +95,28 @@ EXPORT int timer_create(clockid_t clock, struct sigevent *restrict event,
 	int number = m ? machine_clock(clock) : -1;
 	int result = REAL(timer_create)(number < 0 ? clock : CLOCK_MONOTONIC,
 					event, out);
-	struct timer *timer;
-	sigset_t saved;
 
-	if (result || number < 0)
+	if (result || number < 0 || add_posix(number, *out))
 		return result;
-	timers_lock(&saved);
-	timer = timer_free();
-	if (timer)
-		*timer = (struct timer){ .kind = TIMER_POSIX,
-					 .posix = *out,
-					 .own_clock = number };
-	timers_unlock(&saved);
-	return result;
+	REAL(timer_delete)(*out);
+	return refuse(EAGAIN);
+}
+
+/* The system call's numbers of timers are also those of glibc, except for
+ * timers that start a thread. */
+long create_kernel_timer(clockid_t clock, struct sigevent *event, int *out)
+{
+	int number = machine_clock(clock);
+	long result = host_call(SYS_timer_create,
+				number < 0 ? clock : CLOCK_MONOTONIC,
+				(long)event, (long)out, 0, 0, 0);
+
+	if (result)
+		return refuse((int)-result);
+	if (number < 0 || add_posix(number, kernel_timer(*out)))
+		return 0;
+	host_call(SYS_timer_delete, *out, 0, 0, 0, 0, 0);
+	return refuse(EAGAIN);
 }
 
 EXPORT int timer_delete(timer_t posix)
@@ -101,10 +126,8 @@ EXPORT int timer_delete(timer_t posix)
 
 	timers_lock(&saved);
 	timer = timer_of_posix(posix);
-	if (timer) {
-		waiter_leave(timer->waiter);
-		*timer = (struct timer){ 0 };
-	}
+	if (timer)
+		timer_remove(timer);
 	timers_unlock(&saved);
 	return REAL(timer_delete)(posix);
 }
@@ -149,94 +172,4 @@ EXPORT int timer_gettime(timer_t posix, struct itimerspec *out)
 		timer_store(m, timer, out);
 	timers_unlock(&saved);
 	return timer ? 0 : REAL(timer_gettime)(posix, out);
-}
-
-static struct timespec of_micros(const struct timeval *span)
-{
-	return (struct timespec){ span->tv_sec, span->tv_usec * 1000 };
-}
-
-/* Rounds up, since 0 would mean that it isn't armed. */
-static struct timeval to_micros(struct timespec span)
-{
-	span = later(span, 999);
-	return (struct timeval){ span.tv_sec, span.tv_nsec / 1000 };
-}
-
-EXPORT int setitimer(__itimer_which_t which,
-		     const struct itimerval *restrict in,
-		     struct itimerval *restrict out)
-{
-	struct machine *m = machine();
-	struct itimerspec before, after = { 0 };
-	struct timer *timer;
-	sigset_t saved;
-	int result;
-
-	if (!m || which != ITIMER_REAL)
-		return REAL(setitimer)(which, in, out);
-	if (in)
-		after = (struct itimerspec){ of_micros(&in->it_interval),
-					     of_micros(&in->it_value) };
-	timers_lock(&saved);
-	timer = timer_of_alarm();
-	if (!timer) {
-		timers_unlock(&saved);
-		return REAL(setitimer)(which, in, out);
-	}
-	timer_store(m, timer, &before);
-	result = timer_set(m, timer, false, &after);
-	timers_unlock(&saved);
-	if (!result && out)
-		*out = (struct itimerval){ to_micros(before.it_interval),
-					   to_micros(before.it_value) };
-	return result;
-}
-
-EXPORT int getitimer(__itimer_which_t which, struct itimerval *out)
-{
-	struct machine *m = machine();
-	struct itimerspec now = { 0 };
-	struct timer *timer;
-	sigset_t saved;
-
-	if (!m || which != ITIMER_REAL)
-		return REAL(getitimer)(which, out);
-	timers_lock(&saved);
-	timer = timer_of_alarm();
-	if (timer)
-		timer_store(m, timer, &now);
-	timers_unlock(&saved);
-	*out = (struct itimerval){ to_micros(now.it_interval),
-				   to_micros(now.it_value) };
-	return 0;
-}
-
-EXPORT unsigned int alarm(unsigned int span)
-{
-	struct itimerval in = { { 0, 0 }, { span, 0 } }, out = { 0 };
-
-	if (!machine())
-		return REAL(alarm)(span);
-	if (setitimer(ITIMER_REAL, &in, &out))
-		return 0;
-	/* to the nearest second, and 1 if any time is left */
-	if (!out.it_value.tv_sec && out.it_value.tv_usec)
-		return 1;
-	return (unsigned int)(out.it_value.tv_sec +
-			      (out.it_value.tv_usec >= 500000));
-}
-
-EXPORT useconds_t ualarm(useconds_t span, useconds_t period)
-{
-	struct itimerval in = { { period / 1000000, period % 1000000 },
-				{ span / 1000000, span % 1000000 } };
-	struct itimerval out = { 0 };
-
-	if (!machine())
-		return REAL(ualarm)(span, period);
-	if (setitimer(ITIMER_REAL, &in, &out))
-		return 0;
-	return (useconds_t)(out.it_value.tv_sec * 1000000 +
-			    out.it_value.tv_usec);
 }

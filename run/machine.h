@@ -21,7 +21,7 @@
 
 enum {
 	MACHINE_LAYOUT = 0x746b7201,
-	WAITERS_MOST = 1024,
+	WAITERS_MOST = 32768,
 };
 
 #define NEVER UINT64_MAX
@@ -54,6 +54,17 @@ struct waiter {
 	int64_t sec;
 };
 
+/* Waits that go by the host's time, of which tkrun warns. */
+enum host_wait {
+	HOST_UNLISTED, /* with COUNTER_SLEEPS: there was no waiter left */
+	HOST_SEMAPHORES,
+	HOST_SOCKET,
+	HOST_MESSAGES,
+	HOST_FUTEX,
+	HOST_ASYNCHRONOUS,
+	HOST_WAITS,
+};
+
 /* The state of the record, for rows.c. */
 struct rows {
 	_Atomic uint64_t count; /* rows that were asked for */
@@ -70,6 +81,8 @@ struct control {
 	_Atomic int32_t zone[2]; /* the time zone of settimeofday */
 	_Atomic uint64_t accepted, refused, reads, recovered;
 	_Atomic uint32_t attached;
+	_Atomic uint32_t host_waits;	/* a bit for each enum host_wait */
+	_Atomic uint32_t waiters_count; /* entries that were ever taken */
 	_Alignas(64) struct rows rows;
 	struct waiter waiters[WAITERS_MOST];
 };

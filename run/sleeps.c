@@ -18,10 +18,12 @@ static bool is_alive(const struct tree *tree, int32_t thread)
  * if none waits. Frees the entries of threads that are gone. */
 static uint64_t first_waiter(struct run *run)
 {
+	struct control *control = run->machine.control;
+	uint32_t count = atomic_load(&control->waiters_count);
 	uint64_t least = NEVER, left;
 
-	for (int i = 0; i < WAITERS_MOST; i++) {
-		struct waiter *waiter = &run->machine.control->waiters[i];
+	for (uint32_t i = 0; i < count; i++) {
+		struct waiter *waiter = &control->waiters[i];
 		int32_t thread = atomic_load(&waiter->thread);
 
 		if (!thread)

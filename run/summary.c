@@ -7,6 +7,29 @@
 #include <stdio.h>
 #include <string.h>
 
+/* Warns of waits that the clocks have no part in. */
+static void print_host_waits(const struct control *control)
+{
+	static const char *const WAITS[HOST_WAITS] = {
+		[HOST_UNLISTED] =
+			"some waits moved no counter: more than 32768 at once",
+		[HOST_SEMAPHORES] =
+			"semtimedop with IPC_NOWAIT waited by the host's time",
+		[HOST_SOCKET] =
+			"SO_RCVTIMEO or SO_SNDTIMEO waits by the host's time",
+		[HOST_MESSAGES] = "recvmmsg waited by the host's time",
+		[HOST_FUTEX] =
+			"FUTEX_WAIT_REQUEUE_PI waited by the host's time",
+		[HOST_ASYNCHRONOUS] =
+			"io_uring or io_getevents waits by the host's time",
+	};
+
+	for (int i = 0; i < HOST_WAITS; i++) {
+		if (control->host_waits & 1U << i)
+			fprintf(stderr, "tkrun: %s\n", WAITS[i]);
+	}
+}
+
 void print_summary(const struct run *run)
 {
 	const struct control *control = run->machine.control;
@@ -23,6 +46,7 @@ void print_summary(const struct run *run)
 			"tkrun: took over %" PRIu64
 			" times from a process that died amid a command\n",
 			control->recovered);
+	print_host_waits(control);
 }
 
 void print_record(const struct run *run)

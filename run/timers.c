@@ -2,34 +2,16 @@
 #define _GNU_SOURCE
 #include "timers.h"
 
-#include <fcntl.h>
-#include <signal.h>
+#include <poll.h>
+#include <stdio.h>
+#include <sys/ioctl.h>
 #include <sys/time.h>
 #include <sys/timerfd.h>
 #include <unistd.h>
 
-enum { TIMERS_MOST = 1024 };
-
-static const uint64_t FOLLOW_NANOS = 3600 * (uint64_t)NANOS;
-
-static struct timer timers[TIMERS_MOST];
-static pthread_mutex_t table_lock = PTHREAD_MUTEX_INITIALIZER;
-static bool is_following, has_fork_hooks;
-
-void timers_lock(sigset_t *saved)
-{
-	sigset_t all;
-
-	sigfillset(&all);
-	pthread_sigmask(SIG_SETMASK, &all, saved);
-	pthread_mutex_lock(&table_lock);
-}
-
-void timers_unlock(const sigset_t *saved)
-{
-	pthread_mutex_unlock(&table_lock);
-	pthread_sigmask(SIG_SETMASK, saved, NULL);
-}
+#ifndef TFD_IOC_SET_TICKS /* in linux/timerfd.h */
+#define TFD_IOC_SET_TICKS _IOW('T', 0, uint64_t)
+#endif
 
 /* No timer is set for more than 292 years. */
 static uint64_t nanos_of(const struct timespec *span)
@@ -39,11 +21,20 @@ static uint64_t nanos_of(const struct timespec *span)
 	return (uint64_t)span->tv_sec * NANOS + (uint64_t)span->tv_nsec;
 }
 
+static struct timeval micros_of(const struct timespec *span)
+{
+	uint64_t micros = (nanos_of(span) + 999) / 1000;
+
+	return (struct timeval){ (time_t)(micros / 1000000),
+				 (suseconds_t)(micros % 1000000) };
+}
+
 /* Sets the host's timer. A span of 0 disarms it. */
 static int set_host(const struct timer *timer, uint64_t span, uint64_t period)
 {
 	struct itimerspec host = { span_of(period), span_of(span) };
-	struct itimerval micros;
+	struct itimerval micros = { micros_of(&host.it_interval),
+				    micros_of(&host.it_value) };
 
 	switch (timer->kind) {
 	case TIMER_FILE:
@@ -51,20 +42,37 @@ static int set_host(const struct timer *timer, uint64_t span, uint64_t period)
 	case TIMER_POSIX:
 		return REAL(timer_settime)(timer->posix, 0, &host, NULL);
 	case TIMER_ALARM:
-		micros.it_value = (struct timeval){ host.it_value.tv_sec,
-						    (host.it_value.tv_nsec +
-						     999) / 1000 };
-		if (micros.it_value.tv_usec == 1000000)
-			micros.it_value =
-				(struct timeval){ micros.it_value.tv_sec + 1,
-						  0 };
-		micros.it_interval =
-			(struct timeval){ host.it_interval.tv_sec,
-					  host.it_interval.tv_nsec / 1000 };
 		return REAL(setitimer)(ITIMER_REAL, &micros, NULL);
 	default:
 		return 0;
 	}
+}
+
+/* Returns whether the host's timer, which was armed, isn't any more. */
+static bool has_expired(const struct timer *timer)
+{
+	struct itimerspec host = { 0 };
+	struct itimerval micros = { 0 };
+
+	if (timer->is_held)
+		return false;
+	if (timer->kind == TIMER_FILE)
+		REAL(timerfd_gettime)(timer->file, &host);
+	else if (timer->kind == TIMER_POSIX)
+		REAL(timer_gettime)(timer->posix, &host);
+	else
+		REAL(getitimer)(ITIMER_REAL, &micros);
+	return !host.it_value.tv_sec && !host.it_value.tv_nsec &&
+	       !micros.it_value.tv_sec && !micros.it_value.tv_usec;
+}
+
+/* Returns whether a file has expiries that nobody has read. The kernel forgets
+ * them when the timer is set (timerfd_setup in fs/timerfd.c). */
+static bool is_unread(const struct timer *timer)
+{
+	struct pollfd file = { timer->file, POLLIN, 0 };
+
+	return timer->kind == TIMER_FILE && REAL(poll)(&file, 1, 0) > 0;
 }
 
 /* Returns the host's ns in which MONOTONIC moves on by a period. */
@@ -81,31 +89,62 @@ static uint64_t host_period(struct machine *m, uint64_t period)
 }
 
 /* Moves `next` to the first time that the clock hasn't reached, by whole
- * periods. Returns whether it moved. */
-static bool skip_reached(struct machine *m, struct timer *timer)
+ * periods. Returns the number of times that it has reached. */
+static uint64_t skip_reached(struct machine *m, struct timer *timer)
 {
 	struct tkc_time now;
+	uint64_t count = 1;
 	int64_t late;
 
 	if (machine_read(m, (uint32_t)timer->clock, &now))
-		return false;
+		return 0;
 	late = (now.sec - timer->next.tv_sec) * NANOS + (int64_t)now.nsec -
 	       timer->next.tv_nsec;
 	if (late < 0)
-		return false;
-	if (timer->period)
-		timer->next = later(timer->next,
-				    ((uint64_t)late / timer->period + 1) *
-					    timer->period);
-	return true;
+		return 0;
+	if (timer->period) {
+		count = (uint64_t)late / timer->period + 1;
+		timer->next = later(timer->next, count * timer->period);
+	}
+	return count;
+}
+
+/* Returns the expiries of a file that nobody has read. */
+static uint64_t unread_count(const struct timer *timer)
+{
+	unsigned long long count = 0;
+	char path[64], line[128];
+	FILE *file;
+
+	if (!is_unread(timer))
+		return 0;
+	snprintf(path, sizeof(path), "/proc/self/fdinfo/%d", timer->file);
+	file = fopen(path, "re");
+	while (file && fgets(line, sizeof(line), file))
+		sscanf(line, "ticks: %llu", &count);
+	if (file)
+		fclose(file);
+	return count;
+}
+
+/* Lets a timer expire now. A kernel without TFD_IOC_SET_TICKS counts one
+ * expiry. */
+static void expire(const struct timer *timer, uint64_t count)
+{
+	count += unread_count(timer);
+	if (timer->kind != TIMER_FILE ||
+	    ioctl(timer->file, TFD_IOC_SET_TICKS, &count))
+		set_host(timer, 1, 0);
 }
 
 /* Lets a timer expire if its time has come, with a counter of sleeps, and
  * lists the time that it waits for. The thread that follows calls it. */
 static void follow_sleeps(struct machine *m, struct timer *timer)
 {
-	if (skip_reached(m, timer)) {
-		set_host(timer, 1, 0);
+	uint64_t count = skip_reached(m, timer);
+
+	if (count) {
+		expire(timer, count);
 		timer->is_armed = timer->period;
 		waiter_leave(timer->waiter);
 		timer->waiter = NULL;
@@ -119,16 +158,18 @@ static void follow_sleeps(struct machine *m, struct timer *timer)
 /* Arms the host's timer for what is left. */
 static int arm(struct machine *m, struct timer *timer)
 {
-	uint64_t left;
+	uint64_t left = machine_left(m, (uint32_t)timer->clock,
+				     timer->next.tv_sec,
+				     (uint32_t)timer->next.tv_nsec);
 
-	left = machine_left(m, (uint32_t)timer->clock, timer->next.tv_sec,
-			    (uint32_t)timer->next.tv_nsec);
-	if (left > INT64_MAX) /* asleep, or a counter of sleeps */
+	timer->is_stale = false;
+	timer->is_held = left > INT64_MAX; /* asleep, or a counter of sleeps */
+	if (timer->is_held)
 		return set_host(timer, 0, 0);
 	return set_host(timer, left ? left : 1, host_period(m, timer->period));
 }
 
-static void follow_timer(struct machine *m, struct timer *timer)
+void timer_follow(struct machine *m, struct timer *timer)
 {
 	if (!timer->is_armed)
 		return;
@@ -136,120 +177,14 @@ static void follow_timer(struct machine *m, struct timer *timer)
 		follow_sleeps(m, timer);
 		return;
 	}
-	/* at most one expiry is still to come of a timer without a period */
-	if (skip_reached(m, timer) && !timer->period) {
-		set_host(timer, 1, 0);
+	if (!timer->period && has_expired(timer)) {
 		timer->is_armed = false;
 		return;
 	}
-	arm(m, timer);
-}
-
-static void *follow(void *unused)
-{
-	struct machine *m = machine();
-	uint32_t generation = atomic_load(&m->shared->generation);
-	sigset_t saved;
-
-	(void)unused;
-	for (;;) {
-		timers_lock(&saved);
-		for (int i = 0; i < TIMERS_MOST; i++)
-			follow_timer(m, &timers[i]);
-		timers_unlock(&saved);
-		host_futex_wait(&m->shared->generation, generation,
-				host_nanos(CLOCK_MONOTONIC) + FOLLOW_NANOS);
-		generation = atomic_load(&m->shared->generation);
-	}
-	return NULL;
-}
-
-static void before_fork(void)
-{
-	pthread_mutex_lock(&table_lock);
-}
-
-static void after_fork(void)
-{
-	pthread_mutex_unlock(&table_lock);
-}
-
-/* Only timers that are files live on in a child. */
-static void in_child(void)
-{
-	for (int i = 0; i < TIMERS_MOST; i++) {
-		if (timers[i].kind != TIMER_FILE)
-			timers[i] = (struct timer){ 0 };
-		timers[i].waiter = NULL;
-	}
-	is_following = false;
-	pthread_mutex_unlock(&table_lock);
-}
-
-/* Starts the thread that follows. The caller has the lock. */
-static void start_following(void)
-{
-	pthread_attr_t attributes;
-	pthread_t thread;
-
-	if (!has_fork_hooks)
-		pthread_atfork(before_fork, after_fork, in_child);
-	has_fork_hooks = true;
-	if (is_following)
+	if (!timer->is_stale || is_unread(timer))
 		return;
-	pthread_attr_init(&attributes);
-	pthread_attr_setdetachstate(&attributes, PTHREAD_CREATE_DETACHED);
-	is_following = !pthread_create(&thread, &attributes, follow, NULL);
-	pthread_attr_destroy(&attributes);
-}
-
-struct timer *timer_of_file(int file)
-{
-	for (int i = 0; i < TIMERS_MOST; i++) {
-		if (timers[i].kind == TIMER_FILE && timers[i].file == file)
-			return &timers[i];
-	}
-	return NULL;
-}
-
-struct timer *timer_of_posix(timer_t posix)
-{
-	for (int i = 0; i < TIMERS_MOST; i++) {
-		if (timers[i].kind == TIMER_POSIX && timers[i].posix == posix)
-			return &timers[i];
-	}
-	return NULL;
-}
-
-struct timer *timer_free(void)
-{
-	for (int i = 0; i < TIMERS_MOST; i++) {
-		if (timers[i].kind == TIMER_NONE)
-			return &timers[i];
-	}
-	for (int i = 0; i < TIMERS_MOST; i++) {
-		if (timers[i].kind == TIMER_FILE &&
-		    fcntl(timers[i].file, F_GETFD) < 0)
-			return &timers[i];
-	}
-	return NULL;
-}
-
-struct timer *timer_of_alarm(void)
-{
-	struct timer *timer = NULL;
-
-	for (int i = 0; i < TIMERS_MOST && !timer; i++) {
-		if (timers[i].kind == TIMER_ALARM)
-			timer = &timers[i];
-	}
-	if (timer)
-		return timer;
-	timer = timer_free();
-	if (timer)
-		*timer = (struct timer){ .kind = TIMER_ALARM,
-					 .own_clock = CLOCK_MONOTONIC };
-	return timer;
+	skip_reached(m, timer);
+	arm(m, timer);
 }
 
 void timer_store(struct machine *m, struct timer *timer, struct itimerspec *out)
@@ -293,7 +228,7 @@ int timer_set(struct machine *m, struct timer *timer, bool is_absolute,
 	if (!set_next(m, timer, is_absolute, &in->it_value))
 		return refuse(EINVAL);
 	timer->period = nanos_of(&in->it_interval);
-	start_following();
+	follow_start();
 	if (m->shared->kind == COUNTER_SLEEPS)
 		machine_wake(m);
 	return arm(m, timer);

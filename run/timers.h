@@ -15,8 +15,11 @@ enum timer_kind { TIMER_NONE, TIMER_FILE, TIMER_POSIX, TIMER_ALARM };
 /* A timer. `next` is the time on `clock` at which it expires next; with a
  * period, the host may have let it expire at later ones already. */
 struct timer {
+	struct timer *link; /* the next one of the table */
 	enum timer_kind kind;
 	bool is_armed;
+	bool is_stale; /* the clocks have changed since the host's was armed */
+	bool is_held;  /* the host's isn't armed: its time brings nothing */
 	int file;
 	int own_clock; /* the clock it was created with */
 	int clock; /* the same, or MONOTONIC for a span of REALTIME or TAI */
@@ -31,13 +34,23 @@ struct timer {
 void timers_lock(sigset_t *saved);
 void timers_unlock(const sigset_t *saved);
 
-/* Return the timer of a file, of a number, or of alarm, or NULL. */
+/* Returns the first entry of the table, which `link` continues. */
+struct timer *timers_all(void);
+
+/* Return the timer of a file or of a number, or NULL, or the timer of alarm. */
 struct timer *timer_of_file(int file);
 struct timer *timer_of_posix(timer_t posix);
 struct timer *timer_of_alarm(void);
 
-/* Returns a free entry, or one whose file was closed, or NULL. */
-struct timer *timer_free(void);
+/* Takes a free entry, or one whose file was closed. Returns NULL if memory is
+ * missing. */
+struct timer *timer_add(enum timer_kind kind, int clock);
+
+/* Makes an entry free. */
+void timer_remove(struct timer *timer);
+
+/* Prepares the table for the forks to come. */
+void timers_hook_forks(void);
 
 /* Stores what is left of a timer, and its period. */
 void timer_store(struct machine *m, struct timer *timer,
@@ -46,6 +59,26 @@ void timer_store(struct machine *m, struct timer *timer,
 /* Sets a timer. Returns 0, or -1 with errno. */
 int timer_set(struct machine *m, struct timer *timer, bool is_absolute,
 	      const struct itimerspec *in);
+
+/* Arms the host's timer anew if it is stale. With a counter of sleeps, lets the
+ * timer expire if its time has come. */
+void timer_follow(struct machine *m, struct timer *timer);
+
+/* Starts the thread that follows the clocks for all timers, if there is none. */
+void follow_start(void);
+
+/* Notes in a new child that it has no such thread. */
+void follow_no_more(void);
+
+/* Makes the system call timer_create, with a timer of the table. Returns 0, or
+ * -1 with errno. */
+long create_kernel_timer(clockid_t clock, struct sigevent *event, int *out);
+
+/* Returns glibc's number of a timer of the kernel's. */
+static inline timer_t kernel_timer(int number)
+{
+	return (timer_t)(intptr_t)number;
+}
 
 static inline struct timespec span_of(uint64_t nanos)
 {

@@ -86,29 +86,47 @@ int machine_sleep(struct machine *machine, uint32_t clock, int64_t sec,
 	return error == EINTR ? EINTR : 0;
 }
 
+/* Takes a free entry for a thread: minus the thread, since the time isn't
+ * written yet. Returns NULL if all are taken. */
+static struct waiter *take_waiter(struct control *control, int32_t thread)
+{
+	for (uint32_t i = 0; i < WAITERS_MOST; i++) {
+		struct waiter *waiter = &control->waiters[i];
+		uint32_t count = atomic_load(&control->waiters_count);
+		int32_t none = 0;
+
+		/* tkrun looks at this entry too, before it is taken */
+		while (count <= i &&
+		       !atomic_compare_exchange_weak(&control->waiters_count,
+						     &count, i + 1))
+			;
+		if (atomic_compare_exchange_strong(&waiter->thread, &none,
+						   -thread))
+			return waiter;
+	}
+	return NULL;
+}
+
 struct waiter *waiter_enter(struct machine *machine, uint32_t clock,
 			    int64_t sec, uint32_t nsec)
 {
-	int32_t thread, none;
 	struct waiter *waiter;
+	int32_t thread;
 
 	if (machine->shared->kind != COUNTER_SLEEPS || !machine->control)
 		return NULL;
 	thread = (int32_t)host_call(SYS_gettid, 0, 0, 0, 0, 0, 0);
-	for (int i = 0; i < WAITERS_MOST; i++) {
-		waiter = &machine->control->waiters[i];
-		none = 0;
-		/* minus: the time isn't written yet */
-		if (!atomic_compare_exchange_strong(&waiter->thread, &none,
-						    -thread))
-			continue;
-		waiter->clock = clock;
-		waiter->sec = sec;
-		waiter->nsec = nsec;
-		atomic_store(&waiter->thread, thread);
-		return waiter;
+	waiter = take_waiter(machine->control, thread);
+	if (!waiter) {
+		atomic_fetch_or(&machine->control->host_waits,
+				1U << HOST_UNLISTED);
+		return NULL;
 	}
-	return NULL;
+	waiter->clock = clock;
+	waiter->sec = sec;
+	waiter->nsec = nsec;
+	atomic_store(&waiter->thread, thread);
+	return waiter;
 }
 
 void waiter_leave(struct waiter *waiter)

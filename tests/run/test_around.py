@@ -38,6 +38,13 @@ class Around(RunTest):
         run = self.start("--", "sleep", "0.5")
         self.assertNotIn("reads the host's clocks", run.stderr)
 
+    def test_warnings_of_waits_by_the_hosts_time(self):
+        code = ("import socket, struct; s = socket.socket(); "
+                "s.setsockopt(socket.SOL_SOCKET, socket.SO_RCVTIMEO, struct.pack('ll', 1, 0))")
+        run = self.start("--", "/usr/bin/python3", "-c", code)
+        self.assertEqual(run.returncode, 0, run.stderr)
+        self.assertIn("tkrun: SO_RCVTIMEO or SO_SNDTIMEO waits by the host's time", run.stderr)
+
     def setuid(self, name, user):
         """Copies a program, and makes the copy setuid to a user."""
         copied = self.folder / name

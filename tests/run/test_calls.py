@@ -23,25 +23,55 @@ class Calls(RunTest):
         self.assertTrue(any(line.endswith("clock_settime 2147483640.000000005 = EPERM")
                             for line in lines), lines)
 
-    def waits(self, output):
-        lines = [line.split() for line in output.splitlines()]
-        self.assertGreaterEqual(len(lines), 42)
-        return {name: value for name, value in lines}
+    def waits(self, *arguments, least):
+        """Runs a program that prints waits, and returns how long each was."""
+        lines = [line.split() for line in self.run_on("--check", *arguments).splitlines()]
+        self.assertGreaterEqual(len(lines), least)
+        return lines
 
-    def test_waits_on_a_counter_of_sleeps(self):
-        output = self.run_on("--counter", "sleeps", "--check", "--", program("waits"))
-        for name, value in self.waits(output).items():
-            with self.subTest(name):
+    def check_exact(self, name, least):
+        waits = self.waits("--counter", "sleeps", "--", program(name), least=least)
+        for wait, value in waits:
+            with self.subTest(wait):
                 self.assertEqual(value, str(WAIT))
 
-    def test_waits_on_a_counter_ten_times_as_fast(self):
-        output = self.run_on("--speed", 10, "--check", "--", program("waits"))
-        for name, value in self.waits(output).items():
-            with self.subTest(name):
+    def check_at_speed(self, name, least):
+        waits = self.waits("--speed", 10, "--", program(name), least=least)
+        for wait, value in waits:
+            with self.subTest(wait):
                 self.assertTrue(re.fullmatch(r"\d+", value), value)
                 self.assertGreaterEqual(int(value), WAIT)
-                # half a second of the host, on a busy machine
-                self.assertLess(int(value), WAIT + 5_000_000_000)
+                # two seconds of the host, on a busy machine
+                self.assertLess(int(value), WAIT + 20_000_000_000)
+
+    def test_waits_on_a_counter_of_sleeps(self):
+        self.check_exact("waits", 42)
+
+    def test_waits_on_a_counter_ten_times_as_fast(self):
+        self.check_at_speed("waits", 42)
+
+    def test_system_calls_on_a_counter_of_sleeps(self):
+        self.check_exact("system", 21)
+
+    def test_system_calls_on_a_counter_ten_times_as_fast(self):
+        self.check_at_speed("system", 21)
+
+    def test_many_timers_and_threads(self):
+        for counter in [["--counter", "sleeps"], ["--speed", 20]]:
+            for waiters in ["timers", "threads"]:
+                with self.subTest(counter=counter, waiters=waiters):
+                    self.assertEqual(self.run_on(*counter, "--", program("many"), waiters),
+                                     "ended 1500, early 0\n")
+
+    def test_a_step_neither_repeats_nor_loses_an_expiry(self):
+        for counter in [["--counter", "sleeps"], ["--speed", 5], ["--speed", 0.5]]:
+            with self.subTest(counter=counter):
+                self.assertEqual(self.run_on(*counter, "--", program("again")), "")
+
+    def test_a_process_with_timers_ends_with_its_last_thread(self):
+        for counter in [["--counter", "sleeps"], ["--speed", 20]]:
+            with self.subTest(counter=counter):
+                self.assertEqual(self.run_on(*counter, "--", program("exits")), "bye\n")
 
     def test_a_step_ends_waits_for_its_time_and_no_other(self):
         script = self.file("s", "openhz,64,1000000000,1,0,1000,0\nstep,1000000000,100,0\n")

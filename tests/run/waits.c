@@ -1,10 +1,8 @@
 /* SPDX-License-Identifier: MIT OR Apache-2.0 */
-/*
- * Makes each timed wait that libtkrun.so answers, for two seconds, and prints
- * its name and by how many ns MONOTONIC has moved on. A call that ends in
- * another way than by its time prints its name and "failed".
- */
+/* Makes each timed wait of the C library that libtkrun.so answers. */
 #define _GNU_SOURCE
+#include "timed.h"
+
 #include <errno.h>
 #include <fcntl.h>
 #include <linux/futex.h>
@@ -13,37 +11,16 @@
 #include <pthread.h>
 #include <semaphore.h>
 #include <signal.h>
-#include <stdbool.h>
 #include <stdint.h>
 #include <stdio.h>
-#include <string.h>
 #include <sys/epoll.h>
 #include <sys/select.h>
+#include <sys/sem.h>
 #include <sys/syscall.h>
 #include <sys/time.h>
 #include <sys/timerfd.h>
 #include <threads.h>
-#include <time.h>
 #include <unistd.h>
-
-static const struct timespec SPAN = { 2, 0 };
-
-static struct timespec now(clockid_t clock)
-{
-	struct timespec time;
-
-	clock_gettime(clock, &time);
-	return time;
-}
-
-/* Two seconds from now. */
-static struct timespec until(clockid_t clock)
-{
-	struct timespec time = now(clock);
-
-	time.tv_sec += SPAN.tv_sec;
-	return time;
-}
 
 static bool by_nanosleep(void)
 {
@@ -321,6 +298,16 @@ static bool by_sigtimedwait(void)
 	return sigtimedwait(&set, NULL, &SPAN) < 0 && errno == EAGAIN;
 }
 
+static bool by_semtimedop(void)
+{
+	int set = semget(IPC_PRIVATE, 1, 0600);
+	struct sembuf take = { 0, -1, 0 };
+	bool is_over = semtimedop(set, &take, 1, &SPAN) < 0 &&
+		       errno == EAGAIN;
+
+	return !semctl(set, 0, IPC_RMID) && is_over;
+}
+
 static mqd_t open_queue(void)
 {
 	struct mq_attr attributes = { .mq_maxmsg = 1, .mq_msgsize = 1 };
@@ -510,10 +497,7 @@ static bool by_cancelled_sleep(void)
 	       result == PTHREAD_CANCELED;
 }
 
-static const struct {
-	const char *name;
-	bool (*wait)(void);
-} WAITS[] = {
+static const struct timed_wait WAITS[] = {
 	{ "nanosleep", by_nanosleep },
 	{ "clock_nanosleep", by_clock_nanosleep },
 	{ "absolute_sleep", by_absolute_sleep },
@@ -543,6 +527,7 @@ static const struct {
 	{ "epoll_pwait", by_epoll_pwait },
 	{ "epoll_pwait2", by_epoll_pwait2 },
 	{ "sigtimedwait", by_sigtimedwait },
+	{ "semtimedop", by_semtimedop },
 	{ "mq_timedreceive", by_mq_timedreceive },
 	{ "mq_timedsend", by_mq_timedsend },
 	{ "futex", by_futex },
@@ -558,26 +543,9 @@ static const struct {
 	{ "cancelled_sleep", by_cancelled_sleep },
 };
 
-static int64_t nanos(struct timespec time)
-{
-	return time.tv_sec * INT64_C(1000000000) + time.tv_nsec;
-}
-
-/* With a name, makes only that wait. */
 int main(int count, char **words)
 {
-	for (size_t i = 0; i < sizeof(WAITS) / sizeof(*WAITS); i++) {
-		int64_t before = nanos(now(CLOCK_MONOTONIC));
-
-		if (count > 1 && strcmp(words[1], WAITS[i].name))
-			continue;
-		if (WAITS[i].wait())
-			printf("%s %lld\n", WAITS[i].name,
-			       (long long)(nanos(now(CLOCK_MONOTONIC)) -
-					   before));
-		else
-			printf("%s failed\n", WAITS[i].name);
-		fflush(stdout);
-	}
+	make_waits(WAITS, sizeof(WAITS) / sizeof(*WAITS),
+		   count > 1 ? words[1] : NULL);
 	return 0;
 }

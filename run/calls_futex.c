@@ -1,0 +1,93 @@
+/* SPDX-License-Identifier: MIT OR Apache-2.0 */
+/* Timed waits of a futex, which a program makes by syscall(2). */
+#define _GNU_SOURCE
+#include "calls_system.h"
+
+#include <linux/futex.h>
+#include <sys/syscall.h>
+
+#ifndef FUTEX_LOCK_PI2
+#define FUTEX_LOCK_PI2 13
+#endif
+#ifndef SYS_futex_waitv
+#define SYS_futex_waitv 449
+#endif
+
+/* A wait whose time is a span of MONOTONIC (FUTEX_WAIT), or a time of MONOTONIC
+ * or REALTIME. */
+static long wait_until(struct machine *m, const long *a, int clock,
+		       long operation, bool is_span)
+{
+	long bits = operation == FUTEX_WAIT_BITSET && is_span
+			    ? (long)FUTEX_BITSET_MATCH_ANY
+			    : a[5];
+	struct timespec time = *(const struct timespec *)a[3], until;
+	struct wait wait;
+	long result;
+
+	if (is_bad(&time) || time.tv_sec < 0 ||
+	    (is_span && !time_after(m, CLOCK_MONOTONIC, &time, &time)))
+		return refuse(EINVAL);
+	operation |= a[1] & FUTEX_PRIVATE_FLAG;
+	wait_begin(&wait, m, clock, &time);
+	do {
+		until = wait_slice_end(&wait);
+		result = host_call(SYS_futex, a[0], operation, a[2],
+				   (long)&until, a[4], bits);
+	} while (result == -ETIMEDOUT && !wait.is_reached);
+	wait_end(&wait);
+	return result_of(result);
+}
+
+/* A wait for several futexes, until a time of the clock a[4]. */
+static long wait_several(struct machine *m, const long *a)
+{
+	struct timespec time = *(const struct timespec *)a[3], until;
+	struct wait wait;
+	long result;
+
+	if (is_bad(&time) || time.tv_sec < 0 ||
+	    (a[4] != CLOCK_REALTIME && a[4] != CLOCK_MONOTONIC))
+		return refuse(EINVAL);
+	wait_begin(&wait, m, (int)a[4], &time);
+	do {
+		until = wait_slice_end(&wait);
+		result = host_call(SYS_futex_waitv, a[0], a[1], a[2],
+				   (long)&until, CLOCK_MONOTONIC, 0);
+	} while (result == -ETIMEDOUT && !wait.is_reached);
+	wait_end(&wait);
+	return result_of(result);
+}
+
+bool make_futex(struct machine *m, long number, const long *a, long *result)
+{
+	int clock =
+		a[1] & FUTEX_CLOCK_REALTIME ? CLOCK_REALTIME : CLOCK_MONOTONIC;
+
+	if (number == SYS_futex_waitv && a[3]) {
+		*result = wait_several(m, a);
+		return true;
+	}
+	if (number != SYS_futex || !a[3])
+		return false;
+	switch (a[1] & FUTEX_CMD_MASK) {
+	case FUTEX_WAIT:
+		*result = wait_until(m, a, clock, FUTEX_WAIT_BITSET, true);
+		return true;
+	case FUTEX_WAIT_BITSET:
+		*result = wait_until(m, a, clock, FUTEX_WAIT_BITSET, false);
+		return true;
+	case FUTEX_LOCK_PI: /* its time is one of REALTIME */
+		*result = wait_until(m, a, CLOCK_REALTIME, FUTEX_LOCK_PI2,
+				     false);
+		return true;
+	case FUTEX_LOCK_PI2:
+		*result = wait_until(m, a, clock, FUTEX_LOCK_PI2, false);
+		return true;
+	case FUTEX_WAIT_REQUEUE_PI:
+		note_host(m, HOST_FUTEX);
+		return false;
+	default:
+		return false;
+	}
+}

@@ -1,0 +1,147 @@
+/* SPDX-License-Identifier: MIT OR Apache-2.0 */
+/* The timers of a process, in chunks of memory that never move. */
+#define _GNU_SOURCE
+#include "timers.h"
+
+#include <fcntl.h>
+#include <signal.h>
+#include <sys/mman.h>
+
+enum { TIMERS_IN_CHUNK = 256 };
+
+/* A handler may set the timer of alarm, so its entry is always there. */
+static struct timer alarm_timer = { .kind = TIMER_ALARM,
+				    .own_clock = CLOCK_MONOTONIC };
+static struct timer *all_timers = &alarm_timer;
+static pthread_mutex_t table_lock = PTHREAD_MUTEX_INITIALIZER;
+static bool has_fork_hooks;
+
+void timers_lock(sigset_t *saved)
+{
+	sigset_t all;
+
+	sigfillset(&all);
+	pthread_sigmask(SIG_SETMASK, &all, saved);
+	pthread_mutex_lock(&table_lock);
+}
+
+void timers_unlock(const sigset_t *saved)
+{
+	pthread_mutex_unlock(&table_lock);
+	pthread_sigmask(SIG_SETMASK, saved, NULL);
+}
+
+struct timer *timers_all(void)
+{
+	return all_timers;
+}
+
+struct timer *timer_of_file(int file)
+{
+	struct timer *timer = all_timers;
+
+	while (timer && (timer->kind != TIMER_FILE || timer->file != file))
+		timer = timer->link;
+	return timer;
+}
+
+struct timer *timer_of_posix(timer_t posix)
+{
+	struct timer *timer = all_timers;
+
+	while (timer && (timer->kind != TIMER_POSIX || timer->posix != posix))
+		timer = timer->link;
+	return timer;
+}
+
+struct timer *timer_of_alarm(void)
+{
+	return &alarm_timer;
+}
+
+/* Adds a chunk of free entries. Returns false if memory is missing. */
+static bool add_chunk(void)
+{
+	struct timer *chunk =
+		mmap(NULL, TIMERS_IN_CHUNK * sizeof(*chunk),
+		     PROT_READ | PROT_WRITE, MAP_PRIVATE | MAP_ANONYMOUS, -1, 0);
+
+	if (chunk == MAP_FAILED)
+		return false;
+	for (int i = 0; i < TIMERS_IN_CHUNK; i++) {
+		chunk[i].link = all_timers;
+		all_timers = &chunk[i];
+	}
+	return true;
+}
+
+/* Returns whether an entry is free: its file may have been closed. */
+static bool is_free(const struct timer *timer, bool looks_at_files)
+{
+	if (timer->kind == TIMER_FILE)
+		return looks_at_files && fcntl(timer->file, F_GETFD) < 0;
+	return timer->kind == TIMER_NONE;
+}
+
+static struct timer *find_free(bool looks_at_files)
+{
+	struct timer *timer = all_timers;
+
+	while (timer && !is_free(timer, looks_at_files))
+		timer = timer->link;
+	return timer;
+}
+
+struct timer *timer_add(enum timer_kind kind, int clock)
+{
+	struct timer *timer = find_free(false);
+
+	if (!timer)
+		timer = find_free(true);
+	if (!timer && add_chunk())
+		timer = find_free(false);
+	if (!timer)
+		return NULL;
+	timer_remove(timer);
+	timer->kind = kind;
+	timer->own_clock = clock;
+	return timer;
+}
+
+void timer_remove(struct timer *timer)
+{
+	waiter_leave(timer->waiter);
+	*timer = (struct timer){ .link = timer->link };
+}
+
+static void before_fork(void)
+{
+	pthread_mutex_lock(&table_lock);
+}
+
+static void after_fork(void)
+{
+	pthread_mutex_unlock(&table_lock);
+}
+
+/* Only timers that are files live on in a child. The waiting places are the
+ * parent's. */
+static void in_child(void)
+{
+	for (struct timer *timer = all_timers; timer; timer = timer->link) {
+		timer->waiter = NULL;
+		if (timer->kind == TIMER_ALARM)
+			timer->is_armed = false;
+		else if (timer->kind != TIMER_FILE)
+			timer_remove(timer);
+	}
+	follow_no_more();
+	pthread_mutex_unlock(&table_lock);
+}
+
+void timers_hook_forks(void)
+{
+	if (!has_fork_hooks)
+		pthread_atfork(before_fork, after_fork, in_child);
+	has_fork_hooks = true;
+}

@@ -1,0 +1,105 @@
+/* SPDX-License-Identifier: MIT OR Apache-2.0 */
+/*
+ * Waits for more times than a table of fixed size would have.
+ *
+ *     many timers|threads
+ *
+ * Each of COUNT timers or threads waits for its time: a millisecond later than
+ * the time of the GROUP before. Prints the number of those that ended, and of
+ * those that ended before their time.
+ */
+#define _GNU_SOURCE
+#include <pthread.h>
+#include <signal.h>
+#include <stdatomic.h>
+#include <stdbool.h>
+#include <stdint.h>
+#include <stdio.h>
+#include <string.h>
+#include <time.h>
+
+enum { COUNT = 1500, GROUP = 150, STACK_BYTES = 65536, BEGIN_SEC = 10 };
+
+static atomic_int ended, early;
+
+static struct timespec time_of(int number)
+{
+	return (struct timespec){ BEGIN_SEC, number / GROUP * 1000000L };
+}
+
+static void note_end(int number)
+{
+	struct timespec now, due = time_of(number);
+
+	clock_gettime(CLOCK_MONOTONIC, &now);
+	ended++;
+	early += now.tv_sec < due.tv_sec ||
+		 (now.tv_sec == due.tv_sec && now.tv_nsec < due.tv_nsec);
+}
+
+static bool set_timer(int number)
+{
+	struct sigevent event = { .sigev_notify = SIGEV_SIGNAL,
+				  .sigev_signo = SIGRTMIN,
+				  .sigev_value.sival_int = number };
+	struct itimerspec spec = { .it_value = time_of(number) };
+	timer_t timer;
+
+	return !timer_create(CLOCK_MONOTONIC, &event, &timer) &&
+	       !timer_settime(timer, TIMER_ABSTIME, &spec, NULL);
+}
+
+static bool wait_timers(void)
+{
+	siginfo_t info;
+	sigset_t set;
+
+	sigemptyset(&set);
+	sigaddset(&set, SIGRTMIN);
+	sigprocmask(SIG_BLOCK, &set, NULL);
+	for (int i = 0; i < COUNT; i++) {
+		if (!set_timer(i))
+			return false;
+	}
+	for (int i = 0; i < COUNT; i++) {
+		if (sigwaitinfo(&set, &info) == SIGRTMIN)
+			note_end(info.si_value.sival_int);
+	}
+	return true;
+}
+
+static void *sleep_until(void *number)
+{
+	struct timespec time = time_of((int)(intptr_t)number);
+
+	clock_nanosleep(CLOCK_MONOTONIC, TIMER_ABSTIME, &time, NULL);
+	note_end((int)(intptr_t)number);
+	return NULL;
+}
+
+static bool wait_threads(void)
+{
+	static pthread_t threads[COUNT];
+	pthread_attr_t attributes;
+
+	pthread_attr_init(&attributes);
+	pthread_attr_setstacksize(&attributes, STACK_BYTES);
+	for (int i = 0; i < COUNT; i++) {
+		if (pthread_create(&threads[i], &attributes, sleep_until,
+				   (void *)(intptr_t)i))
+			return false;
+	}
+	for (int i = 0; i < COUNT; i++)
+		pthread_join(threads[i], NULL);
+	return true;
+}
+
+int main(int count, char **words)
+{
+	bool is_timers = count > 1 && !strcmp(words[1], "timers");
+
+	if (!(is_timers ? wait_timers() : wait_threads()))
+		perror("many");
+	printf("ended %d, early %d\n", ended, early);
+	return 0;
+}
