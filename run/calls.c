@@ -27,7 +27,8 @@ void *real_call(const char *name)
 	return found;
 }
 
-static void find_machine(void)
+/* Not inlined, so that `machine` is small. */
+__attribute__((noinline, cold)) static void find_machine(void)
 {
 	const char *folder = getenv("TKRUN");
 

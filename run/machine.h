@@ -108,6 +108,10 @@ void machine_init_lock(struct control *control);
 /* Returns the counter's reading. */
 uint64_t machine_reading(const struct shared_page *shared);
 
+/* Returns the same, and is faster. Loads that follow may run before the counter
+ * is read, unless their address depends on the reading. */
+uint64_t machine_early_reading(const struct shared_page *shared);
+
 /* Returns the TSC, or MONOTONIC_RAW in ns. */
 uint64_t machine_host(enum counter_kind kind);
 

@@ -9,8 +9,11 @@
 
 enum { READS_IN_COUNT = 256 }; /* a thread's reads that are counted at once */
 
+/* What a read seldom does isn't inlined, so that the rest is fast. */
+#define SELDOM __attribute__((noinline, cold))
+
 /* Waits for a writer that is inside. */
-static void wait_writer(struct machine *machine, unsigned int *turns)
+SELDOM static void wait_writer(struct machine *machine, unsigned int *turns)
 {
 	if (++*turns % 256)
 		__builtin_ia32_pause();
@@ -26,24 +29,26 @@ struct coarse {
 	struct tkc_time time;
 };
 
-/* A snapshot that is kept as long as the page's sequence stays. An odd sequence
- * is none. */
+/* The sequence of no snapshot: no page has it. */
+#define NO_SEQUENCE UINT64_MAX
+
+/* A snapshot that is kept as long as the page's sequence stays. */
 struct kept {
 	uint64_t sequence, front;
 	struct tkc_snapshot snapshot;
 	struct coarse real, monotonic;
 };
 
-static _Thread_local struct kept own_kept = { .sequence = 1 };
+static _Thread_local struct kept own_kept = { .sequence = NO_SEQUENCE };
 static _Thread_local volatile sig_atomic_t is_kept_busy;
 static _Thread_local uint64_t own_reads;
 
-static enum tkc_code keep(struct kept *kept, uint64_t sequence,
-			  const uint64_t *words)
+SELDOM static enum tkc_code keep(struct kept *kept, uint64_t sequence,
+				 const uint64_t *words)
 {
 	enum tkc_code code;
 
-	kept->sequence = 1;
+	kept->sequence = NO_SEQUENCE;
 	code = tkc_words_checked(&kept->snapshot, words);
 	if (code)
 		return code;
@@ -57,9 +62,21 @@ static enum tkc_code keep(struct kept *kept, uint64_t sequence,
 	return TKC_OK;
 }
 
+/*
+ * Returns the word itself, by an address that depends on the reading. So the
+ * processor can't load the word before the counter is read, and no fence has to
+ * wait for it. `and` isn't one of the instructions whose result the processor
+ * knows without their operand.
+ */
+static inline const tkc_word *after(const tkc_word *word, uint64_t reading)
+{
+	__asm__("and $0, %0" : "+r"(reading));
+	return word + reading;
+}
+
 /* tkc_page_look, with a snapshot that is made only after a command. */
-static enum tkc_code look(struct machine *machine, struct kept *kept,
-			  uint64_t *reading, bool is_coarse)
+static inline enum tkc_code look(struct machine *machine, struct kept *kept,
+				 uint64_t *reading)
 {
 	struct shared_page *shared = machine->shared;
 	const struct tkc_page *page = &shared->page;
@@ -76,8 +93,8 @@ static enum tkc_code look(struct machine *machine, struct kept *kept,
 		if (sequence != kept->sequence)
 			tkc_words_load(page->copies[sequence / 2 % 2], words,
 				       TKC_LATCH_WORDS);
-		*reading = is_coarse ? 0 : machine_reading(shared);
-		if (tkc_page_moved(&page->sequence, sequence))
+		*reading = machine_early_reading(shared);
+		if (tkc_page_moved(after(&page->sequence, *reading), sequence))
 			continue;
 		return sequence == kept->sequence
 			       ? TKC_OK
@@ -85,7 +102,15 @@ static enum tkc_code look(struct machine *machine, struct kept *kept,
 	}
 }
 
-static void record_read(struct machine *machine, uint32_t clock,
+/* Makes the snapshot that is kept the latest one. */
+SELDOM static enum tkc_code renew(struct machine *machine, struct kept *kept)
+{
+	uint64_t reading;
+
+	return look(machine, kept, &reading);
+}
+
+SELDOM static void record_read(struct machine *machine, uint32_t clock,
 			enum tkc_code code, const struct kept *kept,
 			uint64_t reading, const struct tkc_time *time)
 {
@@ -104,7 +129,7 @@ static void record_read(struct machine *machine, uint32_t clock,
 }
 
 /* Counts a read, and returns whether it is to be recorded. */
-static bool count_read(struct machine *machine)
+static inline bool count_read(struct machine *machine)
 {
 	struct control *control = machine->control;
 
@@ -116,46 +141,65 @@ static bool count_read(struct machine *machine)
 	return control->rows.every && own_reads % control->rows.every == 0;
 }
 
-/* Returns a coarse clock's time, or NULL for another clock. */
-static const struct coarse *coarse_of(const struct kept *kept, uint32_t clock)
+/* Returns what the kept snapshot has for a coarse clock. */
+static inline const struct coarse *coarse_of(const struct kept *kept,
+					     uint32_t clock)
 {
-	switch (clock) {
-	case TKC_CLOCK_REALTIME_COARSE:
-		return &kept->real;
-	case TKC_CLOCK_MONOTONIC_COARSE:
-		return &kept->monotonic;
-	default:
-		return NULL;
-	}
+	return clock == TKC_CLOCK_REALTIME_COARSE ? &kept->real
+						  : &kept->monotonic;
 }
 
-static enum tkc_code read_from(struct machine *machine, struct kept *kept,
-			       uint32_t clock, struct tkc_time *out)
+/* Reads a coarse clock, which needs no reading of the counter. */
+static enum tkc_code read_coarse(struct machine *machine, struct kept *kept,
+				 uint32_t clock, struct tkc_time *out)
 {
 	const struct coarse *coarse = coarse_of(kept, clock);
+	enum tkc_code code;
+
+	if (atomic_load_explicit(&machine->shared->page.sequence,
+				 memory_order_acquire) != kept->sequence) {
+		code = renew(machine, kept);
+		if (code)
+			return code;
+	}
+	*out = coarse->time;
+	if (count_read(machine))
+		record_read(machine, clock, coarse->code, kept, 0, out);
+	return coarse->code;
+}
+
+static enum tkc_code read_fine(struct machine *machine, struct kept *kept,
+			       uint32_t clock, struct tkc_time *out)
+{
 	uint64_t reading;
-	enum tkc_code code = look(machine, kept, &reading, coarse);
+	enum tkc_code code = look(machine, kept, &reading);
 
 	if (code)
 		return code;
-	if (coarse) {
-		code = coarse->code;
-		*out = coarse->time;
-	} else {
-		code = tkc_snapshot_get(out, &kept->snapshot, clock, reading);
-	}
+	code = tkc_snapshot_get(out, &kept->snapshot, clock, reading);
 	if (count_read(machine))
 		record_read(machine, clock, code, kept, reading, out);
 	return code;
 }
 
-/* Reads in a signal handler that interrupted a read of its thread. */
-__attribute__((noinline)) static enum tkc_code
-read_in_handler(struct machine *machine, uint32_t clock, struct tkc_time *out)
+static inline enum tkc_code read_kept(struct machine *machine,
+				      struct kept *kept, uint32_t clock,
+				      struct tkc_time *out)
 {
-	struct kept kept = { .sequence = 1 };
+	if (clock == TKC_CLOCK_REALTIME_COARSE ||
+	    clock == TKC_CLOCK_MONOTONIC_COARSE)
+		return read_coarse(machine, kept, clock, out);
+	return read_fine(machine, kept, clock, out);
+}
 
-	return read_from(machine, &kept, clock, out);
+/* Reads in a signal handler that interrupted a read of its thread. */
+SELDOM static enum tkc_code read_in_handler(struct machine *machine,
+					    uint32_t clock,
+					    struct tkc_time *out)
+{
+	struct kept kept = { .sequence = NO_SEQUENCE };
+
+	return read_kept(machine, &kept, clock, out);
 }
 
 enum tkc_code machine_read(struct machine *machine, uint32_t clock,
@@ -167,7 +211,7 @@ enum tkc_code machine_read(struct machine *machine, uint32_t clock,
 		return read_in_handler(machine, clock, out);
 	is_kept_busy = 1;
 	atomic_signal_fence(memory_order_seq_cst);
-	code = read_from(machine, &own_kept, clock, out);
+	code = read_kept(machine, &own_kept, clock, out);
 	atomic_signal_fence(memory_order_seq_cst);
 	is_kept_busy = 0;
 	return code;
