@@ -106,26 +106,6 @@ void note_host(struct machine *m, enum host_wait wait)
 		atomic_fetch_or(&m->control->host_waits, 1U << wait);
 }
 
-int machine_clock(clockid_t clock)
-{
-	switch (clock) {
-	case CLOCK_REALTIME:
-	case CLOCK_MONOTONIC:
-	case CLOCK_MONOTONIC_RAW:
-	case CLOCK_REALTIME_COARSE:
-	case CLOCK_MONOTONIC_COARSE:
-	case CLOCK_BOOTTIME:
-	case CLOCK_TAI:
-		return clock;
-	case CLOCK_REALTIME_ALARM:
-		return CLOCK_REALTIME;
-	case CLOCK_BOOTTIME_ALARM:
-		return CLOCK_BOOTTIME;
-	default:
-		return -1;
-	}
-}
-
 bool is_bad(const struct timespec *time)
 {
 	return time->tv_nsec < 0 || time->tv_nsec >= NANOS;

@@ -37,10 +37,6 @@ __attribute__((format(printf, 3, 4))) int logged(const char *call, int result,
 /* Notes that a wait is the host's, for tkrun's warning. */
 void note_host(struct machine *m, enum host_wait wait);
 
-/* Returns the number of a clock that the machine answers for, or -1 if the
- * host does. */
-int machine_clock(clockid_t clock);
-
 /* Returns whether the nanoseconds are none of 0 to 999999999. */
 bool is_bad(const struct timespec *time);
 

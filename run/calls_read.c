@@ -39,14 +39,12 @@ EXPORT int clock_getres(clockid_t clock, struct timespec *out)
 EXPORT int gettimeofday(struct timeval *restrict out, void *restrict zone)
 {
 	struct machine *m = machine();
-	struct timezone *minutes = zone;
 	struct timespec now;
 
-	if (minutes)
-		*minutes = (struct timezone){ 0 };
-	if (minutes && m && m->control)
-		*minutes = (struct timezone){ m->control->zone[0],
-					      m->control->zone[1] };
+	if (zone && m)
+		machine_zone(m, zone);
+	else if (zone)
+		*(struct timezone *)zone = (struct timezone){ 0 };
 	if (clock_gettime(CLOCK_REALTIME, &now))
 		return -1;
 	*out = (struct timeval){ now.tv_sec, now.tv_nsec / 1000 };

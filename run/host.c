@@ -37,7 +37,7 @@ void host_nap(uint64_t nanos)
 	struct timespec span = { (time_t)(nanos / NANOS),
 				 (long)(nanos % NANOS) };
 
-	host_call(SYS_nanosleep, (long)&span, 0, 0, 0, 0, 0);
+	host_call(SYS_nanosleep, (long)&span, 0, 0, 0, 0, HOST_SLEEP);
 }
 
 int host_futex_wait(_Atomic uint32_t *futex, uint32_t value, uint64_t until)

@@ -18,6 +18,10 @@ long host_call(long number, long a, long b, long c, long d, long e, long f);
 /* Returns the host's clock in ns. */
 uint64_t host_nanos(clockid_t clock);
 
+/* The sixth argument of a sleep that is the host's: the filter of a run lets it
+ * pass. */
+#define HOST_SLEEP 0x746b7275
+
 /* Sleeps for `nanos` ns of the host's time, or until a signal comes. */
 void host_nap(uint64_t nanos);
 

@@ -17,6 +17,7 @@
 #include <stdatomic.h>
 #include <stdbool.h>
 #include <stddef.h>
+#include <sys/time.h>
 #include <tkcore_page.h>
 
 enum {
@@ -119,6 +120,10 @@ uint64_t machine_host(enum counter_kind kind);
 enum tkc_code machine_read(struct machine *machine, uint32_t clock,
 			   struct tkc_time *out);
 
+/* Returns the number of a clock that the machine answers for, or -1 if the
+ * host does. */
+int machine_clock(clockid_t clock);
+
 /* Counts the reads of this thread that aren't counted yet. */
 void machine_count_rest(struct machine *machine);
 
@@ -137,6 +142,16 @@ enum tkc_code machine_apply(struct machine *machine, const struct order *orders,
 /* Takes the lock and applies one command. */
 enum tkc_code machine_command(struct machine *machine, uint32_t command,
 			      int64_t number, uint32_t nsec);
+
+/* Returns whether a process may not set the clocks. */
+bool machine_denies_set(const struct machine *machine);
+
+/* Set REALTIME or the time zone. Return 0 or an errno. */
+int machine_set_time(struct machine *machine, int64_t sec, int64_t nsec);
+int machine_set_zone(struct machine *machine, const struct timezone *zone);
+
+/* Stores the time zone. */
+void machine_zone(const struct machine *machine, struct timezone *out);
 
 /* Returns whether the clocks are asleep after a SUSPEND. */
 bool machine_is_asleep(const struct machine *machine);
@@ -165,10 +180,12 @@ int machine_sleep(struct machine *machine, uint32_t clock, int64_t sec,
 /* Wakes all sleepers, because the clocks have changed. */
 void machine_wake(struct machine *machine);
 
-/* Lists the thread as waiting for a time, with COUNTER_SLEEPS. Returns NULL if
- * it can't be listed. */
+/* List this thread, or another one, as waiting for a time, with COUNTER_SLEEPS.
+ * Return NULL if it can't be listed. */
 struct waiter *waiter_enter(struct machine *machine, uint32_t clock,
 			    int64_t sec, uint32_t nsec);
+struct waiter *waiter_enter_for(struct machine *machine, int32_t thread,
+				uint32_t clock, int64_t sec, uint32_t nsec);
 void waiter_leave(struct waiter *waiter);
 
 #endif

@@ -27,6 +27,7 @@ static const char USAGE[] =
 	"  --deny-set                calls that set the clocks get EPERM\n"
 	"  --stamps                  converts the kernel's stamps of packets\n"
 	"  --log FILE                writes a line for each call that sets the clocks\n"
+	"  --static                  answers programs without the library too\n"
 	"  --quiet                   prints no summary\n";
 
 void fail(int status, const char *form, ...)
@@ -155,6 +156,8 @@ static void parse_option(struct options *o, const char *name)
 		o->has_stamps = true;
 	else if (!strcmp(name, "log"))
 		o->log = value;
+	else if (!strcmp(name, "static"))
+		o->is_static = true;
 	else if (!strcmp(name, "quiet"))
 		o->is_quiet = true;
 	o->has_ahead |= !strcmp(name, "ahead");
@@ -188,8 +191,9 @@ void parse_options(int count, char **words, struct options *options)
 		{ "script", 1, 0, 0 },	  { "record", 1, 0, 0 },
 		{ "every", 1, 0, 0 },	  { "check", 0, 0, 0 },
 		{ "deny-set", 0, 0, 0 },  { "stamps", 0, 0, 0 },
-		{ "log", 1, 0, 0 },	  { "quiet", 0, 0, 0 },
-		{ "help", 0, 0, 'h' },	  { 0, 0, 0, 0 },
+		{ "log", 1, 0, 0 },	  { "static", 0, 0, 0 },
+		{ "quiet", 0, 0, 0 },	  { "help", 0, 0, 'h' },
+		{ 0, 0, 0, 0 },
 	};
 	int letter, index;
 

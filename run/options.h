@@ -27,7 +27,7 @@ struct options {
 	double ahead; /* s */
 	const char *script, *record, *log;
 	uint64_t every;
-	bool is_checked, denies_set, has_stamps, is_quiet;
+	bool is_checked, denies_set, has_stamps, is_quiet, is_static;
 	char **program;
 };
 

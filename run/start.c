@@ -7,10 +7,12 @@
 #include <fcntl.h>
 #include <linux/capability.h>
 #include <linux/prctl.h>
+#include <poll.h>
 #include <stdio.h>
 #include <stdlib.h>
 #include <string.h>
 #include <sys/prctl.h>
+#include <sys/socket.h>
 #include <sys/syscall.h>
 #include <sys/wait.h>
 #include <unistd.h>
@@ -80,46 +82,198 @@ static void drop_sys_time(void)
 	syscall(SYS_capset, &header, data);
 }
 
-/* Becomes the program, or writes an errno to the pipe. */
-static void become_program(const struct run *run, int report)
+/* What the child reports before the program runs. */
+struct report {
+	bool is_filter; /* else the program can't be run */
+	int error;
+};
+
+/* Sends a report with a file, or with none if it is negative. */
+static void send_report(int socket, struct report report, int file)
+{
+	union {
+		struct cmsghdr head;
+		char bytes[CMSG_SPACE(sizeof(int))];
+	} part = { .head = { CMSG_LEN(sizeof(int)), SOL_SOCKET, SCM_RIGHTS } };
+	struct iovec text = { &report, sizeof(report) };
+	struct msghdr message = { .msg_iov = &text, .msg_iovlen = 1 };
+
+	if (file >= 0) {
+		memcpy(CMSG_DATA(&part.head), &file, sizeof(file));
+		message.msg_control = &part;
+		message.msg_controllen = sizeof(part);
+	}
+	(void)!sendmsg(socket, &message, 0);
+}
+
+/* Receives a report. Returns false if there is none, since the program runs.
+ * `file` becomes the file that came with it, or -1. */
+static bool receive_report(int socket, struct report *report, int *file)
+{
+	union {
+		struct cmsghdr head;
+		char bytes[CMSG_SPACE(sizeof(int))];
+	} part = { 0 };
+	struct iovec text = { report, sizeof(*report) };
+	struct msghdr message = { .msg_iov = &text,
+				  .msg_iovlen = 1,
+				  .msg_control = &part,
+				  .msg_controllen = sizeof(part) };
+
+	*file = -1;
+	if (recvmsg(socket, &message, MSG_CMSG_CLOEXEC) != sizeof(*report))
+		return false;
+	if (CMSG_FIRSTHDR(&message))
+		memcpy(file, CMSG_DATA(&part.head), sizeof(*file));
+	return true;
+}
+
+static void install_filter(int socket)
+{
+	int file = filter_install();
+
+	send_report(socket, (struct report){ true, file < 0 ? -file : 0 },
+		    file);
+	if (file >= 0)
+		close(file);
+}
+
+/* Becomes the program, or reports an error. */
+static void become_program(const struct run *run, int socket, bool has_filter)
 {
 	char **program = run->options.program;
-	int error;
 
 	setenv("TKRUN", run->folder, 1);
 	if (run->options.log)
 		setenv("TKRUN_LOG", run->options.log, 1);
 	else
 		unsetenv("TKRUN_LOG");
+	if (has_filter)
+		install_filter(socket);
 	drop_sys_time();
 	execvp(*program, program);
-	error = errno;
-	(void)!write(report, &error, sizeof(error));
+	send_report(socket, (struct report){ false, errno }, -1);
 	_exit(STATUS_NOT_FOUND);
 }
 
-void start_program(struct run *run, const sigset_t *signals)
+/* Returns whether PROGRAM is a static file, as execvp finds it. */
+static bool is_static_program(const char *program)
 {
-	int report[2], error = 0;
+	const char *next = getenv("PATH");
+	char path[PATH_MAX];
 
-	if (pipe2(report, O_CLOEXEC))
-		fail(STATUS_FAILED, "cannot start a program: %s",
-		     strerror(errno));
-	run->child = fork();
-	if (!run->child) {
-		sigprocmask(SIG_SETMASK, signals, NULL);
-		become_program(run, report[1]);
+	if (strchr(program, '/'))
+		return is_static_file(program);
+	while (next && *next) {
+		size_t length = strcspn(next, ":");
+
+		snprintf(path, sizeof(path), "%.*s/%s", (int)length, next,
+			 program);
+		if (!access(path, X_OK))
+			return is_static_file(path);
+		next += length + (next[length] == ':');
 	}
-	close(report[1]);
-	if (run->child < 0)
-		error = errno;
-	else if (read(report[0], &error, sizeof(error)) == sizeof(error))
+	return false;
+}
+
+/* Answers the calls that the child makes until it runs the program, or reports
+ * that it can't. Returns an errno, or 0. */
+static int serve_start(struct run *run, int socket)
+{
+	struct pollfd files[2] = { { socket, POLLIN, 0 },
+				   { run->listener, POLLIN, 0 } };
+	struct seccomp_notif ask;
+	struct report report;
+	siginfo_t info;
+	int file;
+
+	for (;;) {
+		poll(files, 2, 1);
+		if (files[1].revents & POLLIN &&
+		    filter_next(run->listener, &ask)) {
+			if (is_exec(&ask))
+				exec_follow(run->listener, &ask);
+			else
+				answer(&run->machine, run->listener, &ask);
+		}
+		info.si_pid = 0;
+		if (!waitid(P_PID, (id_t)run->child, &info,
+			    WSTOPPED | WNOHANG | __WALL) &&
+		    info.si_pid)
+			exec_stopped(run->child, W_STOPCODE(info.si_status));
+		if (files[0].revents)
+			return receive_report(socket, &report, &file)
+				       ? report.error
+				       : 0;
+	}
+}
+
+/* Takes the filter's listener, and starts the threads that answer. Without a
+ * filter the program reads the host's clocks, which --static doesn't allow. */
+static void take_filter(struct run *run, int socket)
+{
+	struct report report = { .error = EIO };
+	const char *reason = NULL;
+
+	receive_report(socket, &report, &run->listener);
+	if (run->listener < 0)
+		reason = strerror(report.error);
+	else if (!sleepers_start(&run->machine, run->listener))
+		reason = "cannot start a thread";
+	if (reason && run->options.is_static) {
+		kill(run->child, SIGKILL);
 		waitpid(run->child, NULL, 0);
-	close(report[0]);
+		fail(STATUS_FAILED,
+		     "--static: the kernel lets no filter ask tkrun: %s",
+		     reason);
+	}
+}
+
+static void check_start(struct run *run, int error)
+{
+	if (error && run->child > 0)
+		waitpid(run->child, NULL, __WALL);
 	if (error)
 		fail(run->child < 0    ? STATUS_FAILED
 		     : error == ENOENT ? STATUS_NOT_FOUND
 				       : STATUS_NOT_RUN,
 		     "cannot run '%s': %s", *run->options.program,
 		     strerror(error));
+}
+
+void start_program(struct run *run, const sigset_t *signals)
+{
+	bool has_filter = run->options.is_static ||
+			  is_static_program(*run->options.program);
+	int ends[2], error = 0;
+
+	run->listener = run->execs = -1;
+	if (socketpair(AF_UNIX, SOCK_SEQPACKET | SOCK_CLOEXEC, 0, ends))
+		fail(STATUS_FAILED, "cannot start a program: %s",
+		     strerror(errno));
+	run->child = fork();
+	if (!run->child) {
+		sigprocmask(SIG_SETMASK, signals, NULL);
+		become_program(run, ends[1], has_filter);
+	}
+	close(ends[1]);
+	if (run->child < 0)
+		error = errno;
+	else if (has_filter)
+		take_filter(run, ends[0]);
+	if (run->child > 0)
+		error = serve_start(run, ends[0]);
+	close(ends[0]);
+	check_start(run, error);
+	if (run->listener >= 0)
+		run->execs = answers_start(&run->machine, run->listener);
+}
+
+void serve_execs(struct run *run)
+{
+	struct seccomp_notif ask;
+
+	while (run->execs >= 0 &&
+	       read(run->execs, &ask, sizeof(ask)) == sizeof(ask))
+		exec_follow(run->listener, &ask);
 }

@@ -33,7 +33,8 @@ static uint64_t step_clocks(struct run *run)
 	double order;
 
 	if (shared->kind == COUNTER_SLEEPS) {
-		move_counter(run);
+		if (move_counter(run))
+			sleepers_wake();
 		return NAP_NANOS;
 	}
 	machine_lock(machine, &saved);
@@ -51,10 +52,20 @@ static void warn_now_and_then(struct run *run)
 {
 	uint64_t now = host_nanos(CLOCK_MONOTONIC);
 
-	if (run->options.is_quiet || now - run->warned < WARN_NANOS)
+	if (run->options.is_quiet || run->listener >= 0 ||
+	    now - run->warned < WARN_NANOS)
 		return;
 	run->warned = now;
 	tree_warn(&run->tree);
+}
+
+static void note_child(struct run *run, pid_t child, int status)
+{
+	if (WIFSTOPPED(status))
+		exec_stopped(child, status);
+	else if (child == run->child)
+		run->status = WIFEXITED(status) ? WEXITSTATUS(status)
+						: 128 + WTERMSIG(status);
 }
 
 /* Waits for all processes, and passes SIGTERM and SIGHUP on. The program's
@@ -68,12 +79,9 @@ static void drive(struct run *run, const sigset_t *signals)
 
 	for (;;) {
 		left = step_clocks(run);
-		while ((ended = waitpid(-1, &status, WNOHANG)) > 0) {
-			if (ended == run->child)
-				run->status = WIFEXITED(status)
-						      ? WEXITSTATUS(status)
-						      : 128 + WTERMSIG(status);
-		}
+		serve_execs(run);
+		while ((ended = waitpid(-1, &status, WNOHANG | __WALL)) > 0)
+			note_child(run, ended, status);
 		if (ended < 0 && errno == ECHILD)
 			return;
 		warn_now_and_then(run);

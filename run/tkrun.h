@@ -4,6 +4,7 @@
 #define TKRUN_H
 
 #include "recording.h"
+#include "static.h"
 #include "tree.h"
 
 #include <limits.h>
@@ -19,6 +20,8 @@ struct run {
 	uint64_t started, warned;
 	pid_t child;
 	int status;
+	int listener; /* by which the kernel asks, or -1 */
+	int execs;    /* from which programs to execute come, or -1 */
 };
 
 /* Makes the clocks of the options. Ends tkrun if it can't. */
@@ -34,6 +37,9 @@ void preload_library(void);
 /* Starts the program, with these signals blocked. If it can't be run, ends
  * tkrun as env(1) ends. */
 void start_program(struct run *run, const sigset_t *signals);
+
+/* Lets programs be executed that wait for it. */
+void serve_execs(struct run *run);
 
 /* If all threads wait, moves a counter of sleeps to the first of their times,
  * or to the next order. Returns whether it moved. */

@@ -107,15 +107,13 @@ static struct waiter *take_waiter(struct control *control, int32_t thread)
 	return NULL;
 }
 
-struct waiter *waiter_enter(struct machine *machine, uint32_t clock,
-			    int64_t sec, uint32_t nsec)
+struct waiter *waiter_enter_for(struct machine *machine, int32_t thread,
+				uint32_t clock, int64_t sec, uint32_t nsec)
 {
 	struct waiter *waiter;
-	int32_t thread;
 
 	if (machine->shared->kind != COUNTER_SLEEPS || !machine->control)
 		return NULL;
-	thread = (int32_t)host_call(SYS_gettid, 0, 0, 0, 0, 0, 0);
 	waiter = take_waiter(machine->control, thread);
 	if (!waiter) {
 		atomic_fetch_or(&machine->control->host_waits,
@@ -127,6 +125,16 @@ struct waiter *waiter_enter(struct machine *machine, uint32_t clock,
 	waiter->nsec = nsec;
 	atomic_store(&waiter->thread, thread);
 	return waiter;
+}
+
+struct waiter *waiter_enter(struct machine *machine, uint32_t clock,
+			    int64_t sec, uint32_t nsec)
+{
+	if (machine->shared->kind != COUNTER_SLEEPS)
+		return NULL;
+	return waiter_enter_for(
+		machine, (int32_t)host_call(SYS_gettid, 0, 0, 0, 0, 0, 0),
+		clock, sec, nsec);
 }
 
 void waiter_leave(struct waiter *waiter)

@@ -83,12 +83,14 @@ static void check_monotonic(void)
 	CHECK(syscall(SYS_clock_gettime, 77, &time) == -1 && errno == EINVAL);
 }
 
+/* A static program has no stime. */
 static int set_old_time(const time_t *when)
 {
 	int (*stime)(const time_t *) =
 		(int (*)(const time_t *))dlsym(RTLD_DEFAULT, "stime");
+	struct timespec time = { *when, 0 };
 
-	return stime ? stime(when) : -1;
+	return stime ? stime(when) : clock_settime(CLOCK_REALTIME, &time);
 }
 
 static void check_sets(void)

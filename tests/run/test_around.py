@@ -31,8 +31,8 @@ class Around(RunTest):
         run.stdout.close()
 
     def test_warnings_of_programs_without_the_library(self):
-        run = self.start("--", program("static"), "nanosleep")
-        self.assertRegex(run.stderr, "tkrun: 'static' .process [0-9]+. reads the host's clocks")
+        run = self.start("--", "bash", "-c", f"{program('static_waits')} nanosleep; true")
+        self.assertRegex(run.stderr, "tkrun: 'static_waits' .process [0-9]+. reads the host's clocks")
         run = self.start("--", "env", "-i", "/bin/sleep", "0.5")
         self.assertRegex(run.stderr, "tkrun: 'sleep' .process [0-9]+. reads the host's clocks")
         run = self.start("--", "sleep", "0.5")

@@ -1,0 +1,252 @@
+/* SPDX-License-Identifier: MIT OR Apache-2.0 */
+/* Answers the system calls of programs without the library. */
+#define _GNU_SOURCE
+#include "static.h"
+
+#include <errno.h>
+#include <fcntl.h>
+#include <signal.h>
+#include <sys/ioctl.h>
+#include <sys/syscall.h>
+#include <sys/time.h>
+#include <sys/uio.h>
+#include <unistd.h>
+
+static struct machine *answered;
+static int answered_by, execs[2];
+
+/* Copies to a thread's memory. Returns 0 or an errno. */
+static int put(const struct seccomp_notif *ask, uint64_t address,
+	       const void *value, size_t size)
+{
+	struct iovec here = { (void *)value, size };
+	struct iovec there = { (void *)address, size };
+
+	if (process_vm_writev((pid_t)ask->pid, &here, 1, &there, 1, 0) ==
+	    (ssize_t)size)
+		return 0;
+	return EFAULT;
+}
+
+static int fetch(const struct seccomp_notif *ask, uint64_t address, void *value,
+		 size_t size)
+{
+	struct iovec here = { value, size };
+	struct iovec there = { (void *)address, size };
+
+	if (process_vm_readv((pid_t)ask->pid, &here, 1, &there, 1, 0) ==
+	    (ssize_t)size)
+		return 0;
+	return EFAULT;
+}
+
+/* Each of these returns 0 or an errno, or one of these. */
+enum { CALL_HOST = -1, CALL_LATER = -2 };
+
+static int read_clock(struct machine *m, const struct seccomp_notif *ask)
+{
+	int number = machine_clock((clockid_t)ask->data.args[0]);
+	struct timespec time;
+	struct tkc_time now;
+
+	if (number < 0)
+		return CALL_HOST;
+	if (machine_read(m, (uint32_t)number, &now))
+		return EOVERFLOW;
+	time = (struct timespec){ now.sec, now.nsec };
+	return put(ask, ask->data.args[1], &time, sizeof(time));
+}
+
+static int read_micros(struct machine *m, const struct seccomp_notif *ask)
+{
+	struct timezone zone;
+	struct timeval time;
+	struct tkc_time now;
+	int error = 0;
+
+	if (machine_read(m, TKC_CLOCK_REALTIME, &now))
+		return EOVERFLOW;
+	time = (struct timeval){ now.sec, now.nsec / 1000 };
+	machine_zone(m, &zone);
+	if (ask->data.args[0])
+		error = put(ask, ask->data.args[0], &time, sizeof(time));
+	if (!error && ask->data.args[1])
+		error = put(ask, ask->data.args[1], &zone, sizeof(zone));
+	return error;
+}
+
+static int read_second(struct machine *m, const struct seccomp_notif *ask,
+		       int64_t *value)
+{
+	struct tkc_time now;
+
+	if (machine_read(m, TKC_CLOCK_REALTIME_COARSE, &now))
+		return EOVERFLOW;
+	*value = now.sec;
+	if (!ask->data.args[0])
+		return 0;
+	return put(ask, ask->data.args[0], &now.sec, sizeof(now.sec));
+}
+
+/* A call that was interrupted is made again, and a set of the time twice is the
+ * same set. */
+static int set_clock(struct machine *m, const struct seccomp_notif *ask)
+{
+	struct timespec time;
+
+	if (ask->data.args[0] != CLOCK_REALTIME)
+		return EINVAL;
+	if (fetch(ask, ask->data.args[1], &time, sizeof(time)))
+		return EFAULT;
+	return machine_set_time(m, time.tv_sec, time.tv_nsec);
+}
+
+static int set_micros(struct machine *m, const struct seccomp_notif *ask)
+{
+	uint64_t times = ask->data.args[0], zones = ask->data.args[1];
+	struct timezone zone;
+	struct timeval time;
+	int error = 0;
+
+	if ((times && fetch(ask, times, &time, sizeof(time))) ||
+	    (zones && fetch(ask, zones, &zone, sizeof(zone))))
+		return EFAULT;
+	if (times && (time.tv_usec < 0 || time.tv_usec >= 1000000))
+		return EINVAL;
+	if (zones)
+		error = machine_set_zone(m, &zone);
+	if (!error && times)
+		error = machine_set_time(m, time.tv_sec, time.tv_usec * 1000);
+	return error;
+}
+
+/* Sleeps until a time, or for a span of MONOTONIC or BOOTTIME, which a step
+ * doesn't change. */
+static int sleep_until(struct machine *m, const struct seccomp_notif *ask,
+		       int clock, bool is_absolute, uint64_t address)
+{
+	struct timespec time;
+	struct tkc_time now = { 0 };
+
+	if (clock < 0)
+		return CALL_HOST;
+	if (fetch(ask, address, &time, sizeof(time)))
+		return EFAULT;
+	if (time.tv_sec < 0 || time.tv_nsec < 0 || time.tv_nsec >= NANOS)
+		return EINVAL;
+	if (!is_absolute && clock != CLOCK_BOOTTIME)
+		clock = CLOCK_MONOTONIC;
+	if (!is_absolute && machine_read(m, (uint32_t)clock, &now))
+		return EINVAL;
+	time.tv_nsec += now.nsec;
+	if (time.tv_sec > INT64_MAX - now.sec - 1)
+		time.tv_sec = INT64_MAX - now.sec - 1;
+	time.tv_sec += now.sec + time.tv_nsec / NANOS;
+	if (!sleepers_add(ask, (uint32_t)clock, time.tv_sec,
+			  (uint32_t)(time.tv_nsec % NANOS)))
+		return ENOMEM;
+	return CALL_LATER;
+}
+
+static int sleep_on(struct machine *m, const struct seccomp_notif *ask)
+{
+	int clock = (int)ask->data.args[0], number = machine_clock(clock);
+
+	if (number == CLOCK_REALTIME_COARSE ||
+	    number == CLOCK_MONOTONIC_COARSE || number == CLOCK_MONOTONIC_RAW)
+		return EOPNOTSUPP;
+	return sleep_until(m, ask, number, ask->data.args[1] & TIMER_ABSTIME,
+			   ask->data.args[2]);
+}
+
+/* As calls_ntp.c: the library has no adjtimex yet. */
+static int steer(struct machine *m, const struct seccomp_notif *ask,
+		 uint64_t address)
+{
+	uint32_t modes;
+
+	if (fetch(ask, address, &modes, sizeof(modes)))
+		return EFAULT;
+	return modes && machine_denies_set(m) ? EPERM : EOPNOTSUPP;
+}
+
+static int make_call(struct machine *m, const struct seccomp_notif *ask,
+		     int64_t *value)
+{
+	switch (ask->data.nr) {
+	case SYS_clock_gettime:
+		return read_clock(m, ask);
+	case SYS_gettimeofday:
+		return read_micros(m, ask);
+	case SYS_time:
+		return read_second(m, ask, value);
+	case SYS_clock_settime:
+		return set_clock(m, ask);
+	case SYS_settimeofday:
+		return set_micros(m, ask);
+	case SYS_nanosleep:
+		return sleep_until(m, ask, CLOCK_MONOTONIC, false,
+				   ask->data.args[0]);
+	case SYS_clock_nanosleep:
+		return sleep_on(m, ask);
+	case SYS_adjtimex:
+		return steer(m, ask, ask->data.args[0]);
+	case SYS_clock_adjtime:
+		if (ask->data.args[0] != CLOCK_REALTIME)
+			return EOPNOTSUPP;
+		return steer(m, ask, ask->data.args[1]);
+	default:
+		return CALL_HOST;
+	}
+}
+
+void answer(struct machine *machine, int listener,
+	    const struct seccomp_notif *ask)
+{
+	struct seccomp_notif_resp reply = { .id = ask->id };
+	int64_t value = 0;
+	int error = make_call(machine, ask, &value);
+
+	if (error == CALL_LATER)
+		return;
+	if (error == CALL_HOST) {
+		filter_continue(listener, ask->id);
+		return;
+	}
+	reply.error = -error;
+	reply.val = error ? 0 : value;
+	ioctl(listener, SECCOMP_IOCTL_NOTIF_SEND, &reply);
+}
+
+/* Only the thread that waits for a program's stop may follow it. */
+static void pass_on(const struct seccomp_notif *ask)
+{
+	if (write(execs[1], ask, sizeof(*ask)) != sizeof(*ask))
+		filter_continue(answered_by, ask->id);
+	kill(getpid(), SIGCHLD);
+}
+
+static void *answer_all(void *unused)
+{
+	struct seccomp_notif ask;
+
+	while (filter_next(answered_by, &ask) || !filter_is_over(answered_by)) {
+		if (is_exec(&ask))
+			pass_on(&ask);
+		else if (ask.id)
+			answer(answered, answered_by, &ask);
+	}
+	return unused;
+}
+
+int answers_start(struct machine *machine, int listener)
+{
+	pthread_t thread;
+
+	answered = machine;
+	answered_by = listener;
+	if (pipe2(execs, O_CLOEXEC | O_NONBLOCK) ||
+	    pthread_create(&thread, NULL, answer_all, NULL))
+		return -1;
+	return execs[0];
+}

@@ -1,0 +1,54 @@
+/* SPDX-License-Identifier: MIT OR Apache-2.0 */
+/* How a process sets the clocks. */
+#define _GNU_SOURCE
+#include "machine.h"
+
+#include <errno.h>
+#include <stdlib.h>
+#include <sys/time.h>
+
+static int error_of(enum tkc_code code)
+{
+	switch (code) {
+	case TKC_OK:
+		return 0;
+	case TKC_ASLEEP:
+		return EAGAIN;
+	default:
+		return EINVAL;
+	}
+}
+
+bool machine_denies_set(const struct machine *machine)
+{
+	return machine->shared->denies_set || !machine->control;
+}
+
+int machine_set_time(struct machine *machine, int64_t sec, int64_t nsec)
+{
+	if (machine_denies_set(machine))
+		return EPERM;
+	if (nsec < 0 || nsec >= NANOS)
+		return EINVAL;
+	return error_of(machine_command(machine, TKC_CMD_SET_TIME, sec,
+					(uint32_t)nsec));
+}
+
+int machine_set_zone(struct machine *machine, const struct timezone *zone)
+{
+	if (machine_denies_set(machine))
+		return EPERM;
+	if (abs(zone->tz_minuteswest) > 15 * 60)
+		return EINVAL;
+	machine->control->zone[0] = zone->tz_minuteswest;
+	machine->control->zone[1] = zone->tz_dsttime;
+	return 0;
+}
+
+void machine_zone(const struct machine *machine, struct timezone *out)
+{
+	*out = (struct timezone){ 0 };
+	if (machine->control)
+		*out = (struct timezone){ machine->control->zone[0],
+					  machine->control->zone[1] };
+}

@@ -1,0 +1,59 @@
+/* SPDX-License-Identifier: MIT OR Apache-2.0 */
+/*
+ * static.h - programs that no library can be loaded into. A filter of their
+ * system calls asks tkrun for the calls about time, and their vDSO is hidden
+ * when they are executed, so that they make these calls.
+ */
+#ifndef STATIC_H
+#define STATIC_H
+
+#include "machine.h"
+
+#include <linux/seccomp.h>
+
+/* Returns whether a file is a static program for this machine. */
+bool is_static_file(const char *path);
+
+/* Installs the filter in this process and all that it starts. Returns the file
+ * by which the kernel asks, or minus an error. */
+int filter_install(void);
+
+/* Asks about the listener's next call. Returns false if there is none. */
+bool filter_next(int listener, struct seccomp_notif *ask);
+
+/* Returns whether no process has the filter any more. */
+bool filter_is_over(int listener);
+
+/* Lets the kernel make the call. */
+void filter_continue(int listener, uint64_t id);
+
+/* Returns whether a call executes a program. */
+bool is_exec(const struct seccomp_notif *ask);
+
+/* Answers a call that isn't one of those. A sleep is answered later. */
+void answer(struct machine *machine, int listener,
+	    const struct seccomp_notif *ask);
+
+/* Adds a sleep of a thread that is to be answered at a time of a clock. Returns
+ * false if memory is missing. */
+bool sleepers_add(const struct seccomp_notif *ask, uint32_t clock, int64_t sec,
+		  uint32_t nsec);
+
+/* Starts the thread that answers sleeps. Returns false if it can't. */
+bool sleepers_start(struct machine *machine, int listener);
+
+/* Starts the thread that answers. It passes on what executes a program: tkrun
+ * reads it from the file that this returns, when SIGCHLD comes. Returns -1 if
+ * it can't. */
+int answers_start(struct machine *machine, int listener);
+
+/* Lets the sleeps be looked at, since the counter has moved. */
+void sleepers_wake(void);
+
+/* Lets a thread execute a program, and follows it until it has. */
+void exec_follow(int listener, const struct seccomp_notif *ask);
+
+/* Handles the stop of a thread that is followed. */
+void exec_stopped(pid_t thread, int status);
+
+#endif

@@ -1,0 +1,97 @@
+"""Programs that no library can be loaded into: static ones, in Go, and with a cleared environment."""
+import os
+import shutil
+import subprocess
+
+from runs import OTHER, TKRUN, RunTest, call, needs, needs_root, program
+
+GO = """package main
+
+import (
+\t"fmt"
+\t"time"
+)
+
+func main() {
+\tstart := time.Now()
+\ttime.Sleep(10 * time.Millisecond)
+\tfmt.Println(start.Unix(), time.Since(start) >= 10*time.Millisecond)
+}
+"""
+
+
+class Static(RunTest):
+    def test_reads_and_sets(self):
+        for counter in ["raw", "tsc"]:
+            with self.subTest(counter):
+                self.assertEqual(self.run_on("--start", 1000000000, "--counter", counter, "--check",
+                                             "--", program("static_reads")), "")
+
+    def test_denied_sets(self):
+        self.assertEqual(self.run_on("--start", 1000000000, "--deny-set", "--",
+                                     program("static_reads"), "deny"), "")
+
+    def test_sleeps(self):
+        for name in ["nanosleep", "clock_nanosleep", "absolute_sleep", "usleep", "sleep"]:
+            with self.subTest(name):
+                self.assertEqual(self.run_on("--counter", "sleeps", "--check", "--",
+                                             program("static_waits"), name),
+                                 f"{name} 2000000000\n")
+
+    def test_a_sleep_until_a_time_ends_by_a_step(self):
+        script = self.file("s", "openhz,64,1000000000,1,0,1000,0\nstep,100000000,100,0\n")
+        code = "import time; time.sleep(0.3); print(int(time.time()))"
+        run = self.start("--static", "--script", script, "--", "env", "-i", "/usr/bin/python3",
+                         "-c", code)
+        self.assertEqual((run.returncode, run.stdout), (0, "1100\n"), run.stderr)
+
+    def test_a_signal_ends_a_sleep(self):
+        command = f"echo up; exec {program('static_waits')} sleep"
+        run = subprocess.Popen([TKRUN, "--static", "--quiet", "--speed", "0.001", "--", "bash",
+                                "-c", command], stdout=subprocess.PIPE, text=True)
+        self.assertEqual(run.stdout.readline(), "up\n")
+        run.terminate()
+        self.assertEqual(run.wait(20), 143)
+        run.stdout.close()
+
+    def test_what_a_dynamic_program_starts(self):
+        command = ("date +%s; env -i /bin/date +%s; /nowhere/program; "
+                   f"{program('static_waits')} sleep")
+        run = self.start("--static", "--counter", "sleeps", "--start", 1000000000, "--check", "--",
+                         "bash", "-c", command)
+        self.assertEqual(run.stdout, "1000000000\n1000000000\nsleep 2000000000\n", run.stderr)
+        self.assertEqual(run.returncode, 0)
+        self.assertNotIn("reads the host's clocks", run.stderr)
+
+    def test_a_tkrun_inside(self):
+        inside = f"{TKRUN} --quiet --start 2000000000 -- date +%s"
+        self.assertEqual(self.run_on("--static", "--start", 1000000000, "--", "bash", "-c",
+                                     f"{inside}; env -i date +%s"), "2000000000\n1000000000\n")
+
+    def test_a_filter_inside_a_filter(self):
+        run = self.start("--static", "--quiet", "--", TKRUN, "--static", "--", "date")
+        self.assertEqual((run.returncode, run.stdout), (125, ""))
+        self.assertIn("--static: the kernel lets no filter ask tkrun", run.stderr)
+
+    @needs_root("becomes another user")
+    def test_another_user(self):
+        shared = self.share()
+        static = shutil.copy(program("static_waits"), self.folder)
+        run = call([*OTHER, shared / "bin/tkrun", "--quiet", "--counter", "sleeps", "--", static,
+                    "sleep"])
+        self.assertEqual((run.returncode, run.stdout), (0, "sleep 2000000000\n"), run.stderr)
+
+    def test_programs_that_cannot_be_run(self):
+        for name, status in [("/nowhere/program", 127), ("no-such-program", 127),
+                             ("/etc/passwd", 126), ("/", 126)]:
+            run = self.start("--static", "--", name)
+            self.assertEqual((run.returncode, len(run.stderr.splitlines())), (status, 1))
+
+    @needs("go")
+    def test_go(self):
+        source = self.file("main.go", GO)
+        subprocess.run(["go", "build", "-o", self.folder / "program", source], check=True,
+                       env={**os.environ, "CGO_ENABLED": "0", "GO111MODULE": "off",
+                            "GOCACHE": str(self.folder / "cache"), "GOFLAGS": ""})
+        self.assertEqual(self.run_on("--start", 2147483648, "--", self.folder / "program"),
+                         "2147483648 true\n")
