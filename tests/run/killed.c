@@ -5,7 +5,7 @@
  *     killed ROUNDS
  *
  * In each round, two writers set REALTIME as fast as they can, and are killed
- * after 1 to 10 ms. Three readers look whether MONOTONIC goes back, also from
+ * after 0.1 to 1 ms. Three readers look whether MONOTONIC goes back, also from
  * one reader to another. Prints the counts, and ends with status 1 if a time
  * went back, a call failed, or REALTIME is none of the two that were set.
  */
@@ -20,7 +20,8 @@
 #include <time.h>
 #include <unistd.h>
 
-enum { READERS = 3, WRITERS = 2 };
+/* a writer makes at most SETS_MOST, so that the record fits one script */
+enum { READERS = 3, WRITERS = 2, SETS_MOST = 2000 };
 
 static const time_t TIMES[] = { 1000000000, 2000000000 };
 
@@ -69,13 +70,15 @@ static void read_all(void)
 
 static void set_all(void)
 {
-	for (int i = 0;; i++) {
+	for (int i = 0; i < SETS_MOST; i++) {
 		struct timespec time = { TIMES[i % 2], 0 };
 
 		if (clock_settime(CLOCK_REALTIME, &time))
 			shared->errors++;
 		shared->sets++;
 	}
+	for (;;)
+		pause();
 }
 
 static pid_t start(void (*run)(void))
@@ -91,7 +94,7 @@ static pid_t start(void (*run)(void))
 
 static void kill_writers(unsigned int *seed)
 {
-	struct timespec span = { 0, 1000000 + rand_r(seed) % 9000000 };
+	struct timespec span = { 0, 100000 + rand_r(seed) % 900000 };
 	pid_t writers[WRITERS];
 
 	for (int i = 0; i < WRITERS; i++)

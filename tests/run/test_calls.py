@@ -92,8 +92,14 @@ class Calls(RunTest):
             self.assertLess(ends[name], end + 2.5)
 
     def test_killed_writers(self):
-        run = self.start("--start", 1000000000, "--every", 100, "--check", "--",
-                         program("killed"), 25)
+        record = self.folder / "r"
+        run = self.start("--start", 1000000000, "--every", 1000, "--record", record, "--check",
+                         "--", program("killed"), 100)
         self.assertEqual(run.returncode, 0, run.stdout + run.stderr)
-        self.assertRegex(run.stdout, "^killed 50, sets [0-9]+, reads [0-9]+, back 0, errors 0$")
-        self.assertIn("check: tkcore gives each of the", run.stderr)
+        counts = re.fullmatch("killed 200, sets ([0-9]+), reads [0-9]+, back 0, errors 0\n",
+                              run.stdout)
+        self.assertTrue(counts, run.stdout)
+        # the last part contains every command: a set that a writer has made isn't lost
+        last = max(self.folder.glob("r.[0-9]"), default=record)
+        sets = sum(line.startswith("set,") for line in last.read_text().splitlines())
+        self.assertGreaterEqual(sets, int(counts[1]))
