@@ -20,6 +20,7 @@ static const char USAGE[] =
 	"  --start TIME              REALTIME at the start: SEC[.NSEC] or\n"
 	"                            YYYY-MM-DDThh:mm:ss[.NSEC]Z (the host's)\n"
 	"  --ahead SEC               or its lead over the host's REALTIME\n"
+	"  --uptime SEC              MONOTONIC and BOOTTIME at the start (0)\n"
 	"  --script FILE             opens and commands the clocks by a tkcore script\n"
 	"  --record FILE             records all commands, and reads\n"
 	"  --every N                 records each Nth read of a thread (1)\n"
@@ -142,6 +143,8 @@ static void parse_option(struct options *o, const char *name)
 		parse_start(o, value);
 	else if (!strcmp(name, "ahead"))
 		o->ahead = decimal(name, value, -1e9, 1e9);
+	else if (!strcmp(name, "uptime"))
+		o->uptime = decimal(name, value, 0, 900000000);
 	else if (!strcmp(name, "script"))
 		o->script = value;
 	else if (!strcmp(name, "record"))
@@ -170,9 +173,9 @@ static void compare_options(const struct options *o)
 {
 	if (o->has_start && o->has_ahead)
 		fail(STATUS_WRONG, "--start and --ahead exclude each other");
-	if (o->script && (o->has_start || o->has_ahead))
+	if (o->script && (o->has_start || o->has_ahead || o->uptime != 0))
 		fail(STATUS_WRONG,
-		     "--script opens the clocks, so --start and --ahead can't");
+		     "--script opens the clocks, so --start, --ahead and --uptime can't");
 	if (o->every != 1 && !o->record && !o->is_checked)
 		fail(STATUS_WRONG, "--every needs --record or --check");
 	if (o->counter == COUNTER_SLEEPS &&
@@ -188,12 +191,12 @@ void parse_options(int count, char **words, struct options *options)
 		{ "bits", 1, 0, 0 },	  { "maxsec", 1, 0, 0 },
 		{ "error-ppm", 1, 0, 0 }, { "speed", 1, 0, 0 },
 		{ "start", 1, 0, 0 },	  { "ahead", 1, 0, 0 },
-		{ "script", 1, 0, 0 },	  { "record", 1, 0, 0 },
-		{ "every", 1, 0, 0 },	  { "check", 0, 0, 0 },
-		{ "deny-set", 0, 0, 0 },  { "stamps", 0, 0, 0 },
-		{ "log", 1, 0, 0 },	  { "static", 0, 0, 0 },
-		{ "quiet", 0, 0, 0 },	  { "help", 0, 0, 'h' },
-		{ 0, 0, 0, 0 },
+		{ "uptime", 1, 0, 0 },	  { "script", 1, 0, 0 },
+		{ "record", 1, 0, 0 },	  { "every", 1, 0, 0 },
+		{ "check", 0, 0, 0 },	  { "deny-set", 0, 0, 0 },
+		{ "stamps", 0, 0, 0 },	  { "log", 1, 0, 0 },
+		{ "static", 0, 0, 0 },	  { "quiet", 0, 0, 0 },
+		{ "help", 0, 0, 'h' },	  { 0, 0, 0, 0 },
 	};
 	int letter, index;
 

@@ -24,7 +24,7 @@ struct options {
 	bool has_start, has_ahead;
 	int64_t start_sec;
 	uint32_t start_nsec;
-	double ahead; /* s */
+	double ahead, uptime; /* s */
 	const char *script, *record, *log;
 	uint64_t every;
 	bool is_checked, denies_set, has_stamps, is_quiet, is_static;

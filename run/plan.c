@@ -116,6 +116,11 @@ void plan_make(struct plan *plan, const struct options *options, double hz)
 	if (options->script)
 		return;
 	set_start(plan, options);
+	plan->start_sec = plan->open_sec;
+	plan->open_sec -= (int64_t)ceil(options->uptime);
+	if (plan->open_sec < 0 && options->uptime)
+		fail(STATUS_WRONG,
+		     "--uptime: the clocks would have run before 1970");
 	if (tkc_clock_open(&plan->clock, &plan->counter, 0, plan->open_sec,
 			   plan->open_nsec))
 		fail(STATUS_WRONG, "the clocks can't start at second %lld",

@@ -11,7 +11,7 @@ struct plan {
 	struct tkc_clock clock;
 	double hz; /* the rate that the counter is described with */
 	uint64_t first;
-	int64_t open_sec;
+	int64_t start_sec, open_sec; /* REALTIME; the opening is before an uptime */
 	uint32_t open_nsec;
 	struct order *orders;
 	size_t count, next;

@@ -18,14 +18,24 @@ class Counters(RunTest):
                                             "--hz", hz), span)
 
     def test_counters_that_run(self):
-        for span, *options in [(12, "--bits", 32, "--speed", 10),  # wraps after 4.3 s
-                               (50, "--bits", 24, "--hz", 10**6, "--speed", 50, "--counter", "tsc"),
-                               (1, "--hz", 32768, "--error-ppm", 500),
-                               (0.5, "--speed", 0.5)]:
-            with self.subTest(options=options):
-                slept = self.slept(span, *options)
+        for span, speed, *options in [(12, 10, "--bits", 32),  # wraps after 4.3 s
+                                      (50, 50, "--bits", 24, "--hz", 10**6, "--counter", "tsc"),
+                                      (1, 1, "--hz", 32768, "--error-ppm", 500),
+                                      (0.5, 0.5)]:
+            with self.subTest(speed=speed, options=options):
+                slept = self.slept(span, "--speed", speed, *options)
                 self.assertGreaterEqual(slept, span)
-                self.assertLess(slept, span + 25)
+                self.assertLess(slept, span + 5 * speed)  # 5 s of the host, on a busy machine
+
+    def test_an_uptime(self):
+        code = """use Time::HiRes qw(clock_gettime CLOCK_MONOTONIC CLOCK_BOOTTIME CLOCK_REALTIME);
+        printf '%.3f %.3f %.3f', map { clock_gettime($_) } CLOCK_MONOTONIC, CLOCK_BOOTTIME,
+        CLOCK_REALTIME"""
+        for options in [[], ["--bits", 16, "--hz", 32768], ["--bits", 8, "--hz", 1000]]:
+            with self.subTest(options=options):
+                self.assertEqual(self.run_on("--counter", "sleeps", *options, "--uptime", 3600.25,
+                                             "--start", "5000.5", "--check", "--", "/usr/bin/perl",
+                                             "-e", code), "3600.250 3600.250 5000.500")
 
     def test_a_frequency_and_a_tick(self):
         script = self.file("s", "openhz,64,1000000000,1,0,0,0\nfreq,0,32768000\n"
