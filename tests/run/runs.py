@@ -9,9 +9,9 @@ import unittest
 ROOT = pathlib.Path(__file__).resolve().parents[2]
 TKRUN = os.environ.get("TKRUN_PROGRAM", str(ROOT / "dist/bin/tkrun"))
 PROGRAMS = os.environ.get("TKRUN_TESTS", str(ROOT / "dist/tests"))  # tools/check_run compiles them
-SECONDS = 60  # the longest that a run may take
+SECONDS = 120  # the longest that a run may take
 
-
+STILL = ["--counter", "sleeps"]  # no time passes while programs compute
 OTHER = ["setpriv", "--reuid", "65531", "--regid", "65531", "--clear-groups"]  # another user
 IS_ROOT = os.geteuid() == 0
 
@@ -45,7 +45,7 @@ class RunTest(unittest.TestCase):
     def share(self):
         """Copies tkrun into the test's folder, so that other users may run it."""
         shared = self.folder / "dist"
-        shutil.copytree(ROOT / "dist/lib", shared / "lib")
+        shutil.copytree(pathlib.Path(TKRUN).parents[1] / "lib", shared / "lib")
         (shared / "bin").mkdir()
         shutil.copy(TKRUN, shared / "bin")
         shutil.copy(shutil.which("tkcore"), shared / "bin")

@@ -1,7 +1,8 @@
 """Wrong arguments, and programs that can't be run: nothing is started."""
+import os
 import pathlib
 
-from runs import RunTest
+from runs import TKRUN, RunTest, call, needs_root
 
 
 class Arguments(RunTest):
@@ -25,6 +26,7 @@ class Arguments(RunTest):
             "start": ["", "x", "-1", "1.5.5", "2038-01-19", "2038-01-19T03:14:00", "8277292036",
                       "2038-13-19T03:14:00Z", "99999999999999999999"],
             "ahead": ["x", "", "1e10"],
+            "uptime": ["x", "", "-1", "900000001", "inf", "nan"],
             "every": ["0", "-1", "x"],
         }
         for option, values in wrong.items():
@@ -43,6 +45,10 @@ class Arguments(RunTest):
         self.refuse("--start", "1", "--ahead", "1")
         self.refuse("--script", script, "--start", "1")
         self.refuse("--script", script, "--ahead", "1")
+        self.refuse("--script", script, "--uptime", "1")
+        self.assertIn("before 1970", self.refuse("--start", "5", "--uptime", "6"))
+        self.assertIn("wraps", self.refuse("--counter", "sleeps", "--bits", "8", "--hz", "1000",
+                                           "--uptime", "900000000"))
         self.refuse("--counter", "sleeps", "--speed", "2")
         self.refuse("--counter", "sleeps", "--error-ppm", "1")
         self.refuse("--every", "2")
@@ -80,8 +86,17 @@ class Arguments(RunTest):
             self.assertFalse((self.folder / "r.rows").exists())
 
     def test_nothing_is_left(self):
-        before = set(pathlib.Path("/dev/shm").glob("tkrun.*"))
-        self.start("--check", "--", "true")
-        self.start("--check", "--", "/nowhere/program")
-        self.start("--record", "/nowhere/r", "--", "true")
-        self.assertEqual(set(pathlib.Path("/dev/shm").glob("tkrun.*")) - before, set())
+        shown = self.start("--quiet", "--check", "--", "bash", "-c", "echo $TKRUN").stdout.strip()
+        self.assertIn("/tkrun.", shown)
+        self.assertFalse(pathlib.Path(shown).exists())
+
+    @needs_root("hides /dev/shm")
+    def test_nothing_is_left_if_nothing_runs(self):
+        # without /dev/shm the folder is in TMPDIR, where nobody else writes
+        command = "mount -t tmpfs -o ro tmpfs /dev/shm; exec \"$@\""
+        for arguments in [["--check", "--", "/nowhere/program"],
+                          ["--record", "/nowhere/r", "--", "true"]]:
+            run = call(["unshare", "-m", "sh", "-c", command, "sh", TKRUN, *arguments],
+                       env={**os.environ, "TMPDIR": str(self.folder)})
+            self.assertIn(run.returncode, [2, 127])
+            self.assertEqual(list(self.folder.iterdir()), [])

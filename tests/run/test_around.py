@@ -3,20 +3,22 @@ library."""
 import shutil
 import subprocess
 
-from runs import OTHER, TKRUN, RunTest, call, needs_root, program
+from runs import OTHER, STILL, TKRUN, RunTest, call, needs_root, program
 
 
 class Around(RunTest):
     def test_two_at_once(self):
-        first = subprocess.Popen([TKRUN, "--quiet", "--start", "1000000000", "--", "bash", "-c",
-                                  "sleep 0.3; date +%s"], stdout=subprocess.PIPE, text=True)
-        self.assertEqual(self.run_on("--start", 2000000000, "--", "date", "+%s"), "2000000000\n")
-        self.assertEqual(first.communicate()[0], "1000000000\n")
+        first = subprocess.Popen([TKRUN, "--quiet", *STILL, "--start", "1000000000", "--", "bash",
+                                  "-c", "read; date +%s"], stdin=subprocess.PIPE,
+                                 stdout=subprocess.PIPE, text=True)
+        self.assertEqual(self.run_on(*STILL, "--start", 2000000000, "--", "date", "+%s"),
+                         "2000000000\n")
+        self.assertEqual(first.communicate("\n")[0], "1000000000\n")
 
     def test_one_inside_the_other(self):
-        self.assertEqual(self.run_on("--start", 1000000000, "--", "bash", "-c",
-                                     f"{TKRUN} --quiet --start 2000000000 -- date +%s; date +%s"),
-                         "2000000000\n1000000000\n")
+        inside = f"{TKRUN} --quiet {' '.join(STILL)} --start 2000000000 -- date +%s"
+        self.assertEqual(self.run_on(*STILL, "--start", 1000000000, "--", "bash", "-c",
+                                     f"{inside}; date +%s"), "2000000000\n1000000000\n")
 
     def test_the_status_is_the_programs(self):
         self.assertEqual(self.start("--", "bash", "-c", "exit 7").returncode, 7)
@@ -33,7 +35,7 @@ class Around(RunTest):
     def test_warnings_of_programs_without_the_library(self):
         run = self.start("--", "bash", "-c", f"{program('static_waits')} nanosleep; true")
         self.assertRegex(run.stderr, "tkrun: 'static_waits' .process [0-9]+. reads the host's clocks")
-        run = self.start("--", "env", "-i", "/bin/sleep", "0.5")
+        run = self.start("--", "env", "-i", "/bin/sleep", "2")
         self.assertRegex(run.stderr, "tkrun: 'sleep' .process [0-9]+. reads the host's clocks")
         run = self.start("--", "sleep", "0.5")
         self.assertNotIn("reads the host's clocks", run.stderr)
@@ -56,7 +58,7 @@ class Around(RunTest):
 
     @needs_root("makes a setuid program")
     def test_a_setuid_program_reads_the_hosts_clocks(self):
-        run = self.start("--", self.setuid("sleep", "nobody"), "0.5")
+        run = self.start("--", self.setuid("sleep", "nobody"), "2")
         self.assertEqual(run.returncode, 0)
         self.assertRegex(run.stderr, "tkrun: 'sleep' .process [0-9]+. (may not be looked at|reads)")
 
@@ -71,8 +73,8 @@ class Around(RunTest):
         run = call([*OTHER, self.share() / "bin/tkrun", "--quiet", "--start", "5", "--record",
                     "/dev/null/r", "--", "date"])
         self.assertEqual((run.returncode, len(run.stderr.splitlines())), (2, 1))
-        run = call([*OTHER, self.folder / "dist/bin/tkrun", "--start", "5", "--check", "--",
-                    "date", "+%s"], cwd="/")
+        run = call([*OTHER, self.folder / "dist/bin/tkrun", *STILL, "--start", "5", "--check",
+                    "--", "date", "+%s"], cwd="/")
         self.assertEqual((run.returncode, run.stdout), (0, "5\n"), run.stderr)
 
     @needs_root("has no limit of processes, and becomes another user")
@@ -97,7 +99,7 @@ class Around(RunTest):
     def test_another_user_reads_and_does_not_set(self):
         shared = self.share()
         other = " ".join(OTHER)
-        run = call([shared / "bin/tkrun", "--quiet", "--start", "1000000000", "--", "bash",
+        run = call([shared / "bin/tkrun", "--quiet", *STILL, "--start", "1000000000", "--", "bash",
                     "-c", f"{other} date +%s; {other} date -s @5; date +%s"])
         self.assertEqual(run.stdout.splitlines()[0], "1000000000")
         self.assertIn("Operation not permitted", run.stderr)

@@ -89,7 +89,7 @@ class Calls(RunTest):
         for name, end in [("absolute_sleep", 1), ("absolute_timerfd", 1), ("span", 2),
                           ("timer_span", 2)]:
             self.assertGreaterEqual(ends[name], end)
-            self.assertLess(ends[name], end + 2.5)
+            self.assertLess(ends[name], 50)  # when REALTIME is 1050 without the step
 
     def test_killed_writers(self):
         record = self.folder / "r"

@@ -56,7 +56,7 @@ class Records(RunTest):
 
     @needs_root("hides /dev/shm")
     def test_no_shared_memory_folder(self):
-        command = "mount -t tmpfs -o ro tmpfs /dev/shm && exec $1 --quiet --start 5 -- date -u +%s"
+        command = "mount -t tmpfs -o ro tmpfs /dev/shm && exec $1 --quiet --counter sleeps --start 5 -- date +%s"
         run = call(["unshare", "-m", "sh", "-c", command, "sh", TKRUN])
         self.assertEqual((run.returncode, run.stdout, run.stderr), (0, "5\n", ""))
         run = call(["unshare", "-m", "sh", "-c", "export TMPDIR=/nowhere; " + command,
