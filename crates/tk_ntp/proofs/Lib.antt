@@ -4,8 +4,11 @@ pub mod Near
 pub mod Needed
 pub mod Long
 pub mod Kept
+pub mod Product
 pub mod Reading
+pub mod Real
+pub mod Restart
 pub mod ReadBack
-pub mod Saturating
+pub mod Seconds
 pub mod Multipliers
 pub mod Worked

@@ -1,8 +1,10 @@
 -- The change that brings clocks to another rate: at most a command for the tick and one for the
 -- frequency.
-use Rattle.std.specs.Prelude.{ℕ, Bool, nat_eq, Option, Some, None, ℤ, if◌then◌else◌}
+use Rattle.std.specs.Prelude.{ℕ, Bool, nat_eq, Option, Some, None, option_map, ℤ, if◌then◌else◌}
 use Rattle.std.specs.Ordering.{int_eq}
 use Rattle.tk_counter.specs.Counter.{Counter, multiplier}
+use Rattle.tk_clock.specs.declared.command.Command.{Command}
+use Rattle.tk_clock.specs.declared.command.Command.TheVariants.{Freq, Tick}
 use Rattle.tk_ntp.specs.declared.rate.Rate.{Rate}
 use Rattle.tk_ntp.specs.declared.change.Change.{Change}
 
@@ -39,3 +41,11 @@ changed in_force change = record {
   frequency = set_to in_force.frequency change.frequency;
   tick = set_to in_force.tick change.tick;
 }
+
+-- the command of a change for the tick
+abbrev pub tick_command : Change → Option Command
+tick_command change = option_map Tick change.tick
+
+-- the command of a change for the frequency
+abbrev pub frequency_command : Change → Option Command
+frequency_command change = option_map Freq change.frequency

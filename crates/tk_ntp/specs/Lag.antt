@@ -2,7 +2,7 @@
 --
 -- It counts units of 2^-shift nanoseconds times lengths, so nothing of it is rounded (ntp_error of
 -- struct timekeeper, include/linux/timekeeper_internal.h).
-use Rattle.std.specs.Prelude.{ℕ, ◌+◌, ◌*◌, ◌/◌, ℤ, pos, ◌+ℤ◌, ◌-ℤ◌, ◌*ℤ◌}
+use Rattle.std.specs.Prelude.{ℕ, ◌+◌, ◌*◌, ◌/◌, ◌^◌, ◌<◌, ◌≤◌, ℤ, pos, neg_ℤ, unsigned_abs, ◌+ℤ◌, ◌-ℤ◌, ◌*ℤ◌}
 use Rattle.std.specs.Int.{int_div_euclid}
 use Rattle.tk_counter.specs.Counter.{Counter, second}
 use Rattle.tk_ntp.specs.Length.{max_frequency}
@@ -30,3 +30,16 @@ most_made_up counter = max_frequency + 2 * nominal / counter.mult
 abbrev pub made_up : Counter → ℤ → ℤ
 made_up counter lag =
     clamped_by (most_made_up counter) (int_div_euclid lag (pos (second counter)))
+
+-- the least lag that two words can contain
+abbrev pub least_lag : ℤ
+least_lag = neg_ℤ (pos (2 ^ 124))
+
+-- the lag in two words of 64 bits
+abbrev pub lag_in : ℕ → ℕ → ℤ
+lag_in high low = pos (high * 2 ^ 64 + low) +ℤ least_lag
+
+-- two words that contain a lag
+pub record IsLag (high low : ℕ) : Type 0 where
+  pub low_fits : low < 2 ^ 64
+  pub short : unsigned_abs (lag_in high low) ≤ 2 ^ 123

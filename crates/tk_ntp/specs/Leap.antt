@@ -1,17 +1,80 @@
 -- The leap second as a second of REALTIME begins (second_overflow, kernel/time/ntp.c).
-use Rattle.std.specs.Prelude.{ℕ, ◌+◌, ◌-◌, ◌%◌, ℤ, pos, negsuc, Bool, false, not, ◌&&◌, ◌||◌, nat_eq, nat_lt, Option, Some, None, if◌then◌else◌}
+use Rattle.std.specs.Prelude.{◌≡◌, ℕ, ◌+◌, ◌-◌, ◌%◌, ℤ, pos, negsuc, Bool, true, false, not, ◌&&◌, ◌||◌, nat_eq, nat_lt, Option, Some, None, if◌then◌else◌}
+use Rattle.std.proofs.Common.{refl}
+use Rattle.tk_clock.specs.declared.command.Command.{Command}
+use Rattle.tk_clock.specs.declared.command.Command.TheVariants.{Step}
 use Rattle.tk_clock.specs.Limits.{greatest_tai}
 use Rattle.tk_ntp.specs.declared.leap.Leap.{Leap}
 use Rattle.tk_ntp.specs.declared.leap.Leap.TheVariants.{None as NoLeap, Insert, Delete}
 use Rattle.tk_ntp.specs.declared.leap_plan.LeapState.{LeapState}
 use Rattle.tk_ntp.specs.declared.leap_plan.LeapState.TheVariants.{Idle, Inserting, Deleting, InProgress, Over}
-use Rattle.tk_ntp.specs.declared.leap_plan.LeapPlan.{LeapPlan}
+
+-- what the leap second is doing, and the second of REALTIME whose beginning is the leap
+pub record LeapPlan : Type 0 where
+  pub state : LeapState
+  pub due : Option ℕ
+
+-- the number of a state
+abbrev pub number_of : LeapState → ℕ
+number_of Idle = 0
+number_of Inserting = 1
+number_of Deleting = 2
+number_of InProgress = 3
+number_of Over = 4
+
+-- the state with a number
+abbrev pub state_numbered : ℕ → LeapState
+state_numbered number =
+    if nat_eq number 0 then Idle
+    else if nat_eq number 1 then Inserting
+    else if nat_eq number 2 then Deleting
+    else if nat_eq number 3 then InProgress
+    else Over
+
+-- a second at which a leap is due, if a test holds
+abbrev pub due_if : Bool → ℕ → Option ℕ
+due_if true due = Some due
+due_if false due = None
+
+-- whether a leap is due, and the second at which it is, or 0
+abbrev pub is_due_in : Option ℕ → Bool
+is_due_in (Some due) = true
+is_due_in None = false
+
+abbrev pub due_in : Option ℕ → ℕ
+due_in (Some due) = due
+due_in None = 0
+
+pub due_if-is_due : (test : Bool) (due : ℕ) → is_due_in (due_if test due) ≡ test
+due_if-is_due true due = refl
+due_if-is_due false due = refl
+
+-- the numbers of a plan: the number of a state, and 0 if no leap is due
+pub record IsPlanned (number : ℕ) (test : Bool) (due : ℕ) : Type 0 where
+  pub numbered : number_of (state_numbered number) ≡ number
+  pub zero_if_none : due_in (due_if test due) ≡ due
 
 -- what a leap adds to REALTIME, in seconds
 abbrev pub leap_seconds : Leap → ℤ
 leap_seconds NoLeap = pos 0
 leap_seconds Insert = negsuc 0
 leap_seconds Delete = pos 1
+
+-- whether REALTIME leaps
+abbrev pub is_leap : Leap → Bool
+is_leap NoLeap = false
+is_leap Insert = true
+is_leap Delete = true
+
+-- the command that makes a leap
+abbrev pub leap_step : Leap → Command
+leap_step leap = Step (record { sec = leap_seconds leap; nsec = 0 })
+
+-- the second that begins next after a leap, if it was `sec` before it
+abbrev pub second_after_leap : Leap → ℕ → ℕ
+second_after_leap NoLeap sec = sec
+second_after_leap Insert sec = sec - 1
+second_after_leap Delete sec = sec + 1
 
 -- the TAI offset after a leap, so that TAI runs on; it stays in its range, from 0 to greatest_tai
 abbrev pub tai_after_leap : Leap → ℕ → ℕ

@@ -15,3 +15,7 @@ pub mod Rate
 pub mod Lag
 pub mod Change
 pub mod Steering
+pub mod SteeredClock
+pub mod Advance
+pub mod Asked
+pub mod Applied

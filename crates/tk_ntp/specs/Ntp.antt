@@ -1,9 +1,8 @@
 -- The state of a discipline (kernel/time/ntp.c).
 use Rattle.std.specs.Prelude.{ℕ, ◌+◌, ◌/◌, ◌^◌, ◌<◌, ◌≤◌, ℤ, pos, ◌+ℤ◌, ◌*ℤ◌, unsigned_abs, bit_or, None}
-use Rattle.tk_ntp.specs.declared.leap_plan.LeapPlan.{LeapPlan}
 use Rattle.tk_ntp.specs.Bits.{sta_unsync}
 use Rattle.tk_ntp.specs.Request.{error_limit, greatest_constant}
-use Rattle.tk_ntp.specs.Leap.{no_plan}
+use Rattle.tk_ntp.specs.Leap.{LeapPlan, no_plan}
 use Rattle.tk_ntp.specs.Length.{base_of, second_of, max_phase, max_frequency}
 
 pub record Ntp : Type 0 where

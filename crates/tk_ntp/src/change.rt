@@ -1,8 +1,9 @@
 ghost use Rattle.std.specs.Prelude.{◌≡◌, ◌≤ℤ◌, true};
 ghost use Rattle.tk_counter.specs.Counter.{least_tick, greatest_tick};
-ghost use Rattle.tk_ntp.specs.Change.{multiplier_at, is_same, unless_same, change_of, set_to, changed};
+ghost use Rattle.tk_ntp.specs.Change.{multiplier_at, is_same, unless_same, change_of, set_to, changed, tick_command, frequency_command};
 
 use crate::rate::Rate;
+use tk_clock::Command;
 use tk_counter::CounterDesc;
 
 /// Represents the change that brings clocks to another rate: at most a command for the tick, and
@@ -38,6 +39,20 @@ impl Change {
             tick: unless_same(in_force.tick, wanted.tick),
             frequency: unless_same(in_force.frequency, wanted.frequency),
         }
+    }
+
+    /// Returns the command for the tick, if the tick changes.
+    pub(crate) fn tick_command(self) -> Option<Command>
+        ensures { result ≡ tick_command self }
+    {
+        self.tick.map(Command::Tick)
+    }
+
+    /// Returns the command for the frequency, if the frequency changes.
+    pub(crate) fn frequency_command(self) -> Option<Command>
+        ensures { result ≡ frequency_command self }
+    {
+        self.frequency.map(Command::Freq)
     }
 }
 

@@ -9,6 +9,7 @@ use crate::bits::STA_UNSYNC;
 use crate::leap_plan::LeapPlan;
 use crate::length::second_with_phase;
 use crate::request::ERROR_LIMIT;
+pub(crate) use requests::asked_tai;
 use std::marker::Model;
 
 /// The usual tick, in microseconds (`USER_TICK_USEC`).
@@ -21,6 +22,7 @@ const HZ_LIMIT: u32 = 1024;
 ///
 /// It has no source of time and knows no counter: its caller says which second of REALTIME begins,
 /// and which time it is at a request. It allocates nothing, and is at most 128 bytes long.
+#[repr(C)]
 #[derive(Clone, Copy, Debug)]
 pub struct Discipline {
     /// Counts the parts of a second that phases are divided into: the kernel's `HZ`.
@@ -143,7 +145,7 @@ impl Discipline {
         ensures { self.new ≡ cleared self.old }
     {
         self.status |= STA_UNSYNC;
-        self.plan.due = None;
+        self.plan = self.plan.put_off();
         self.offset = 0;
         self.maxerror = ERROR_LIMIT;
         self.esterror = ERROR_LIMIT;

@@ -1,8 +1,9 @@
-ghost use Rattle.std.specs.Prelude.{◌≡◌, ◌<◌, pos, ◌+ℤ◌};
+ghost use Rattle.std.specs.Prelude.{◌≡◌, ◌<◌, ◌^◌, pos, ◌+ℤ◌};
 ghost use Rattle.tk_clock.specs.Limits.{greatest_tai};
-ghost use Rattle.tk_ntp.specs.Leap.{leap_seconds, tai_after_leap};
+ghost use Rattle.tk_ntp.specs.Leap.{leap_seconds, tai_after_leap, leap_step, second_after_leap};
 
 use crate::request::TAI_OFFSET_LIMIT;
+use tk_clock::{Command, Timespec};
 
 /// Says what REALTIME leaps by as a second begins.
 #[derive(Clone, Copy, Debug, PartialEq, Eq)]
@@ -40,6 +41,29 @@ impl Leap {
             Leap::Insert if tai < TAI_OFFSET_LIMIT => tai + 1,
             Leap::Insert => tai,
             Leap::Delete => tai.saturating_sub(1),
+        }
+    }
+
+    /// Returns the command that makes the leap: a step of REALTIME.
+    pub(crate) fn step(self) -> Command
+        ensures { result ≡ leap_step self }
+    {
+        Command::Step(Timespec {
+            sec: self.seconds(),
+            nsec: 0,
+        })
+    }
+
+    /// Returns the second of REALTIME that begins next after the leap, if it was `sec` before it.
+    pub(crate) fn next_second(self, sec: u64) -> u64
+        requires some { 0 < sec }
+        requires low { sec < 2 ^ 63 }
+        ensures { result ≡ second_after_leap self sec }
+    {
+        match self {
+            Leap::None => sec,
+            Leap::Insert => sec - 1,
+            Leap::Delete => sec + 1,
         }
     }
 }

@@ -23,6 +23,7 @@ mod phase;
 mod rate;
 mod reply;
 mod request;
+mod steered_clock;
 mod steering;
 mod timex;
 
@@ -37,5 +38,6 @@ pub use lag::Lag;
 pub use leap::Leap;
 pub use rate::Rate;
 pub use reply::{Reply, TimeState};
+pub use steered_clock::SteeredClock;
 pub use steering::Steering;
 pub use timex::Timex;

@@ -1,5 +1,6 @@
 //! Clamps the numbers of a request to their ranges.
-ghost use Rattle.std.specs.Prelude.{◌≡◌, ◌≤◌, unsigned_abs};
+ghost use Rattle.std.specs.Prelude.{◌≡◌, ◌≤◌, ◌≤ℤ◌, unsigned_abs};
+ghost use Rattle.tk_counter.specs.Counter.{least_tick, greatest_tick};
 ghost use Rattle.tk_ntp.specs.Length.{max_frequency};
 ghost use Rattle.tk_ntp.specs.Request.{gain_of, clamped_to, error_limit, constant_of, tai_of};
 
@@ -41,6 +42,17 @@ pub(crate) fn constant_of(constant: i64, nano: bool) -> u32
 {
     let clamped = constant.clamp(0, GREATEST_CONSTANT) as u32;
     if nano { clamped } else { (clamped + 4).min(10) }
+}
+
+/// Returns a given tick, in microseconds.
+pub(crate) fn tick_of(tick: i64) -> u32
+    requires slowest { least_tick ≤ℤ tick }
+    requires fastest { tick ≤ℤ greatest_tick }
+    ensures value { result ≡ unsigned_abs tick }
+    ensures slowest { 9000 ≤ result }
+    ensures fastest { result ≤ 11000 }
+{
+    tick as u32
 }
 
 /// Returns a given TAI offset, in seconds, or `tai` if it isn't 0 to 100,000.

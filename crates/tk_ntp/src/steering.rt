@@ -13,6 +13,7 @@ use tk_clock::Timespec;
 use tk_counter::CounterDesc;
 
 /// Keeps a discipline and the lag of its clock, and says which commands each second needs.
+#[repr(C)]
 #[derive(Clone, Copy, Debug)]
 pub struct Steering {
     ntp: Discipline,

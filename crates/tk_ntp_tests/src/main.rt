@@ -1,4 +1,4 @@
-//! Asks a discipline as standard input says, and writes the replies. `tests/model/ntp.py` compares
+//! Asks a discipline and steered clocks as standard input says, and writes the replies. `tests/model/ntp.py` compares
 //! them with the definitions in Python.
 //!
 //! Each line is an order, and gets a line as its answer. LENGTH is the length of a second after the
@@ -10,12 +10,23 @@
 //! | `second,SEC` | `second,LEAP,TAI,LENGTH`: the second SEC of REALTIME begins |
 //! | `clear` | `clear,LENGTH`: REALTIME was set |
 //! | `adjtimex,SEC,NSEC,MODES,OFFSET,FREQ,MAXERROR,ESTERROR,STATUS,CONSTANT,TICK,STEP_SEC,SUB` | a reply at the time SEC and NSEC, after the line `step,STEP_SEC,NSEC` if the request steps REALTIME; or `no` |
+//! | `open,BITS,MULT,SHIFT,READING,SEC,NSEC,HZ` | opens steered clocks: `open,CLOCKS` or `no,REFUSAL` |
+//! | `advance,READING` | `ok,CLOCKS`, after `no,REFUSAL` if it is refused |
+//! | `ask,READING,MODES,..` | a request, whose fields are those of `adjtimex`: a reply without its LENGTH, or `no,REFUSAL`; then `ok,CLOCKS` |
+//! | `update,READING`, `suspend,READING`, `freq,READING,N`, `tick,READING,N`, `tai,READING,N`, `set,READING,SEC,NSEC`, `step,READING,SEC,NSEC`, `resume,READING,SEC,NSEC` | a command to them: as for `advance` |
+//!
+//! CLOCKS is `LAST,SEC,FRAC,REAL_OFFSET,BOOT_OFFSET,TAI,FREQUENCY,TICK,ASLEEP,NEXT`: the last
+//! reading, MONOTONIC there, the offsets, the rate in force, whether the clocks are asleep, and the
+//! reading at which the next second begins, or `none`.
 //!
 //! A reply is `adj,STATE,SEC,SUB,OFFSET,FREQ,MAXERROR,ESTERROR,STATUS,CONSTANT,TICK,TAI,LENGTH`.
 #![tactic(auto)]
 
 mod order;
+mod reply_line;
 mod session;
+mod steered_order;
+mod steered_session;
 
 use session::Session;
 use std::io::{self, BufRead, BufReader};

@@ -37,7 +37,7 @@ impl Order {
 }
 
 /// Returns the numbers of a line's fields. A field that isn't a number is left out.
-fn numbers_of(alloc: Global, fields: &str) -> Result<Vec<i64>, AllocError> {
+pub fn numbers_of(alloc: Global, fields: &str) -> Result<Vec<i64>, AllocError> {
     let mut numbers = Vec::new(alloc);
     for field in fields.split(',') {
         if let Ok(number) = field.parse::<i64>() {
@@ -72,7 +72,8 @@ fn adjtimex_order(numbers: &[i64]) -> Option<Order> {
     Some(Order::Adjtimex(real, timex_of(request)?))
 }
 
-fn timex_of(numbers: &[i64]) -> Option<Timex> {
+/// Returns the request with these fields.
+pub fn timex_of(numbers: &[i64]) -> Option<Timex> {
     let [
         modes,
         offset,

@@ -1,23 +1,34 @@
 use crate::order::Order;
+use crate::reply_line::print_reply;
+use crate::steered_order::SteeredOrder;
+use crate::steered_session::SteeredSession;
 use std::io;
 use tk_clock::Timespec;
-use tk_ntp::{Discipline, Reply, Timex};
+use tk_ntp::{Discipline, Timex};
 
-/// Keeps a discipline, and TAI minus REALTIME in seconds.
+/// Keeps a discipline, TAI minus REALTIME in seconds, and steered clocks.
 #[derive(Drop)]
 pub struct Session {
     ntp: Option<Discipline>,
     tai: u32,
+    steered: SteeredSession,
 }
 
 impl Session {
-    /// Makes a session without a discipline.
+    /// Makes a session without a discipline and without clocks.
     pub fn new() -> Session {
-        Session { ntp: None, tai: 0 }
+        Session {
+            ntp: None,
+            tai: 0,
+            steered: SteeredSession::new(),
+        }
     }
 
     /// Follows the order of a line, and prints the answer.
     pub fn follow(&mut self, rt: &HostRuntime, line: &str) -> io::Result<()> {
+        if let Some(order) = SteeredOrder::read(rt.alloc(), line)? {
+            return self.steered.follow(rt, &order);
+        }
         match Order::read(rt.alloc(), line)? {
             Some(Order::New(hz)) => self.open(rt, hz),
             Some(Order::Second(sec)) => self.begin(rt, sec),
@@ -73,17 +84,7 @@ impl Session {
         let reply = ntp.adjtimex(request, real, self.tai);
         self.tai = reply.tai;
         self.ntp = Some(ntp);
-        print(rt, &reply, ntp.second_length())
+        print_reply(rt, &reply)?;
+        println!(rt; ",{}", ntp.second_length())
     }
-}
-
-/// Prints a reply, and the length of a second after it.
-fn print(rt: &HostRuntime, reply: &Reply, length: i64) -> io::Result<()> {
-    let Reply { state, tai, timex } = *reply;
-    print!(rt;
-        "adj,{state:?},{},{},{},{}",
-        timex.sec, timex.sub, timex.offset, timex.freq
-    )?;
-    print!(rt; ",{},{},{}", timex.maxerror, timex.esterror, timex.status)?;
-    println!(rt; ",{},{},{tai},{length}", timex.constant, timex.tick)
 }

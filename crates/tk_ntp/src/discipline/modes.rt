@@ -9,7 +9,7 @@ use super::Discipline;
 use crate::bits::*;
 use crate::leap_plan::LeapPlan;
 use crate::loops::{elapsed, frequency_after, offset_of, phase_share, uses_fll};
-use crate::request::{constant_of, error_of, gain_of};
+use crate::request::{constant_of, error_of, gain_of, tick_of};
 use crate::timex::Timex;
 
 impl Discipline {
@@ -150,7 +150,7 @@ impl Discipline {
         ensures { self.new ≡ with_given_tick request.now self.old }
     {
         if has(request.modes, ADJ_TICK) {
-            self.tick = request.tick as u32;
+            self.tick = tick_of(request.tick);
         }
     }
 }

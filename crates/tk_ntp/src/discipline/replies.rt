@@ -55,7 +55,7 @@ impl Discipline {
         if has(self.status, STA_UNSYNC | STA_CLOCKERR) {
             TimeState::Error
         } else {
-            named(self.plan.state)
+            named(self.plan.state())
         }
     }
 

@@ -73,3 +73,14 @@ fn given_tai(request: &Timex, tai: u32) -> u32
         tai
     }
 }
+
+/// Returns the TAI offset after a request without a fault, in seconds, if it was `tai` before it.
+pub(crate) fn asked_tai(request: &Timex, tai: u32) -> u32
+    ensures { result ≡ asked_tai request.now tai }
+{
+    if has(request.modes, ADJ_ADJTIME) {
+        tai
+    } else {
+        given_tai(request, tai)
+    }
+}

@@ -1,0 +1,110 @@
+-- Only finitely many seconds can begin.
+use Rattle.std.proofs.Common.{◌≡◌, refl, ℕ, ◌+◌, ◌-◌, ◌*◌, ◌<◌, ◌≤◌, Bool, true, false, ◌&&◌, ◌||◌, Option, Some, None, arith}
+use Rattle.std.specs.Prelude.{if◌then◌else◌}
+use Rattle.tk_clock.specs.Limits.{clock_end}
+use Rattle.tk_clock.specs.Refusal.{state_refusal}
+use Rattle.tk_clock.specs.declared.refusal.Refusal.{Refusal}
+use Rattle.tk_ntp.specs.declared.leap.Leap.{Leap}
+use Rattle.tk_ntp.specs.declared.leap.Leap.TheVariants.{None as NoLeap, Insert, Delete}
+use Rattle.tk_ntp.specs.declared.leap_plan.LeapState.{LeapState}
+use Rattle.tk_ntp.specs.declared.leap_plan.LeapState.TheVariants.{Idle, Inserting, Deleting, InProgress, Over}
+use Rattle.tk_ntp.specs.Bits.{has, sta_ins, sta_del}
+use Rattle.tk_ntp.specs.Leap.{LeapPlan, over, is_due, plan_in, leap_in, leap_step}
+use Rattle.tk_ntp.specs.Second.{leap_at}
+use Rattle.tk_ntp.specs.SteeredClock.{SteeredClock}
+use Rattle.tk_ntp.specs.Advance.{leapt, leapt_unless, with_next_second, second_begun_at, steps_before, seconds_left}
+
+-- the seconds that REALTIME goes back by
+abbrev back : Leap → ℕ
+back NoLeap = 0
+back Insert = 1
+back Delete = 0
+
+steps_most : (state : LeapState) → steps_before state ≤ 1
+steps_most Idle = omega arith
+steps_most Inserting = omega arith
+steps_most Deleting = omega arith
+steps_most InProgress = omega arith
+steps_most Over = omega arith
+
+inserting : (plan : LeapPlan) (due : Bool) →
+    steps_before (if due then record plan { state = InProgress } else plan).state
+    + 2 * back (if true && due then Insert else NoLeap) < 3
+inserting plan true = omega arith
+inserting plan false = let most = steps_most plan.state in omega arith
+
+deleting : (plan : LeapPlan) (due : Bool) →
+    steps_before (if due then over else plan).state
+    + 2 * back (if true && due then Delete else NoLeap) < 3
+deleting plan true = omega arith
+deleting plan false = let most = steps_most plan.state in omega arith
+
+after_leap : (plan : LeapPlan) (waits : Bool) →
+    steps_before (if waits then plan else record plan { state = Idle }).state < 3
+after_leap plan true = let most = steps_most plan.state in omega arith
+after_leap plan false = omega arith
+
+-- a leap that goes back is in progress after it
+plan_steps : (state : LeapState) (plan : LeapPlan) (insert delete : Bool) (sec : ℕ) →
+    steps_before (plan_in state plan insert delete sec).state
+    + 2 * back (leap_in state plan insert delete sec) < 2 + steps_before state
+plan_steps Idle plan true delete sec = omega arith
+plan_steps Idle plan false true sec = omega arith
+plan_steps Idle plan false false sec = let most = steps_most plan.state in omega arith
+plan_steps Inserting plan false delete sec = omega arith
+plan_steps Inserting plan true delete sec = inserting plan (is_due plan.due sec)
+plan_steps Deleting plan insert false sec = omega arith
+plan_steps Deleting plan insert true sec = deleting plan (is_due plan.due sec)
+plan_steps InProgress plan insert delete sec = omega arith
+plan_steps Over plan insert delete sec = let after = after_leap plan (insert || delete) in omega arith
+
+leapt_unless-next : (refusal : Option Refusal) (reading : ℕ) (leap : Leap)
+    (steered : SteeredClock) →
+    steered.next ≤ (leapt_unless refusal reading leap steered).next + back leap
+leapt_unless-next (Some refusal) reading leap steered = omega arith
+leapt_unless-next None reading NoLeap steered = omega arith
+leapt_unless-next None reading Insert steered = omega arith
+leapt_unless-next None reading Delete steered = omega arith
+
+leapt-next : (reading : ℕ) (leap : Leap) (steered : SteeredClock) →
+    steered.next ≤ (leapt reading leap steered).next + back leap
+leapt-next reading NoLeap steered = omega arith
+leapt-next reading Insert steered =
+    leapt_unless-next (state_refusal steered.clock reading (leap_step Insert)) reading Insert steered
+leapt-next reading Delete steered =
+    leapt_unless-next (state_refusal steered.clock reading (leap_step Delete)) reading Delete steered
+
+leapt_unless-steering : (refusal : Option Refusal) (reading : ℕ) (leap : Leap)
+    (steered : SteeredClock) → (leapt_unless refusal reading leap steered).steering ≡ steered.steering
+leapt_unless-steering (Some refusal) reading leap steered = refl
+leapt_unless-steering None reading leap steered = refl
+
+-- a leap leaves the discipline
+pub leapt-steering : (reading : ℕ) (leap : Leap) (steered : SteeredClock) →
+    (leapt reading leap steered).steering ≡ steered.steering
+leapt-steering reading NoLeap steered = refl
+leapt-steering reading Insert steered =
+    leapt_unless-steering (state_refusal steered.clock reading (leap_step Insert)) reading Insert
+    steered
+leapt-steering reading Delete steered =
+    leapt_unless-steering (state_refusal steered.clock reading (leap_step Delete)) reading Delete
+    steered
+
+counted : (next after drop steps before : ℕ) → next < clock_end → next + 1 ≤ after + drop →
+    steps + 2 * drop < 2 + before →
+    2 * (clock_end + 1 - after) + steps < 2 * (clock_end + 1 - next) + before
+counted next after drop steps before low h k = omega arith
+
+-- each second that begins leaves fewer of them
+pub fewer : (reading : ℕ) (steered : SteeredClock) → steered.next < clock_end →
+    seconds_left (second_begun_at reading steered) < seconds_left steered
+fewer reading steered low =
+    let ntp = steered.steering.ntp in
+    let leap = leap_at ntp steered.next in
+    let begun = with_next_second reading steered in
+    rw (leapt-steering reading leap begun)
+    (counted steered.next (leapt reading leap begun).next (back leap)
+    (steps_before begun.steering.ntp.plan.state) (steps_before ntp.plan.state) low
+    (leapt-next reading leap begun)
+    (plan_steps ntp.plan.state ntp.plan (has ntp.status sta_ins) (has ntp.status sta_del)
+    steered.next))

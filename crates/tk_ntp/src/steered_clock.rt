@@ -1,0 +1,135 @@
+ghost use Rattle.std.specs.Prelude.{◌≡◌, MatchResult, MatchOption, Some, None};
+
+mod advancing;
+mod asking;
+mod commanding;
+
+use crate::discipline::Discipline;
+use crate::steering::Steering;
+use std::marker::Model;
+use tk_clock::{Clock, ClockId, Refusal, Snapshot, Timespec};
+use tk_counter::CounterDesc;
+
+/// Keeps the clocks of a counter, steered by a discipline: the kernel's `struct timekeeper` with the
+/// variables of kernel/time/ntp.c.
+///
+/// It has no source of time: the caller passes the counter's reading with each call. No call
+/// allocates.
+#[repr(C)]
+#[derive(Clone, Copy, Debug)]
+pub struct SteeredClock {
+    /// Contains the running clocks.
+    clock: Clock,
+    /// Contains the discipline, and what the clocks lag behind the lengths of their seconds.
+    steering: Steering,
+    /// Contains the second of REALTIME that begins next, in seconds since 1970.
+    next: u64,
+    /// Contains the reading up to which the lag is accounted for, in cycles.
+    mark: u64,
+}
+
+impl Model for SteeredClock {
+    ghost use Rattle.std.specs.Prelude.{◌+◌, ◌≤◌};
+    ghost use Rattle.tk_clock.specs.Limits.{clock_end};
+    ghost use Rattle.tk_ntp.specs.SteeredClock.{SteeredClock};
+
+    ghost Value = { SteeredClock };
+
+    ghost view = { λ a. record {
+      clock = a.clock;
+      steering = a.steering;
+      next = a.next;
+      mark = a.mark;
+    } };
+
+    ghost invariant = { λ a. a.next ≤ clock_end + 1 };
+
+    ghost inverse = { λ s. record {
+      clock = s.clock;
+      steering = s.steering;
+      next = s.next;
+      mark = s.mark;
+    } };
+}
+
+impl SteeredClock {
+    ghost use Rattle.tk_clock.specs.declared.clock_id.ClockId.TheVariants.{Realtime};
+    ghost use Rattle.tk_clock.specs.Reach.{IsFirstReached, IsNeverReached};
+    ghost use Rattle.tk_clock.specs.Time.{nanoseconds};
+    ghost use Rattle.tk_ntp.specs.SteeredClock.{steered_refusal, steered_opened};
+    ghost use Rattle.tk_ntp.specs.Advance.{second_time};
+
+    /// Opens the clocks of the counter `desc` at `reading`, in cycles, with a fresh discipline. They
+    /// are awake and at their usual rate, MONOTONIC is 0 and REALTIME is `real`.
+    ///
+    /// `hz` is the number of parts of a second that phases are divided into, as in
+    /// `Discipline::new`.
+    ///
+    /// # Errors
+    ///
+    /// - `Invalid`: `reading` is above the mask, REALTIME may not be set to `real`, or `hz` is not 1
+    ///   to 1024. REALTIME may be set to times from 0 s to below 8,277,292,036 s, with `nsec` below
+    ///   10^9.
+    pub fn open(
+        desc: CounterDesc,
+        reading: u64,
+        real: Timespec,
+        hz: u32,
+    ) -> Result<SteeredClock, Refusal>
+        ensures { MatchResult result
+            (λ steered. (steered_refusal desc reading real hz ≡ None)
+            × (steered ≡ steered_opened desc reading real hz))
+            (λ refusal. steered_refusal desc reading real hz ≡ Some refusal) }
+    {
+        let clock = Clock::open(desc, reading, real)?;
+        let Some(ntp) = Discipline::new(hz) else {
+            return Err(Refusal::Invalid);
+        };
+        Ok(SteeredClock {
+            clock,
+            steering: Steering::new(ntp),
+            next: real.sec.unsigned_abs() + 1,
+            mark: reading,
+        })
+    }
+
+    /// Returns the first reading, in cycles, at which the next second of REALTIME has begun: the one
+    /// to set a timer to. It is not before the last command's reading.
+    ///
+    /// `None` means that REALTIME doesn't reach that second up to half the counter's range after the
+    /// last command, or that the clocks are asleep (`Snapshot::reading_at`).
+    pub fn next_second(&self) -> Option<u64>
+        ensures { let nanos = nanoseconds (second_time self.now.next) in
+            MatchOption result
+            (IsNeverReached self.now.clock.base Realtime nanos)
+            (λ reading. IsFirstReached self.now.clock.base Realtime nanos reading) }
+    {
+        let time = Timespec {
+            sec: self.next as i64,
+            nsec: 0,
+        };
+        self.snapshot(0).reading_at(ClockId::Realtime, time)
+    }
+
+    /// Returns the clocks.
+    pub fn clock(&self) -> Clock
+        ensures { result ≡ self.now.clock }
+    {
+        self.clock
+    }
+
+    /// Returns the snapshot of the clocks. `front` is the number of commands accepted so far, which
+    /// the caller counts.
+    pub fn snapshot(&self, front: u64) -> Snapshot
+        ensures { result ≡ record { front = front; base = self.now.clock.base } }
+    {
+        self.clock.snapshot(front)
+    }
+
+    /// Returns the description of the counter.
+    fn desc(&self) -> CounterDesc
+        ensures { result ≡ self.now.clock.base.counter }
+    {
+        self.snapshot(0).desc()
+    }
+}

@@ -1,0 +1,118 @@
+//! Lets the seconds of REALTIME begin.
+ghost use Rattle.std.specs.Prelude.{◌≡◌, ◌<◌, ◌≤◌, MatchResult, MatchOption, Some, None};
+ghost use Rattle.tk_clock.specs.declared.command.Command.TheVariants.{Update};
+ghost use Rattle.tk_clock.specs.Limits.{clock_end};
+ghost use Rattle.tk_clock.specs.Refusal.{state_refusal};
+ghost use Rattle.tk_ntp.specs.Second.{leap_at};
+ghost use Rattle.tk_ntp.specs.Advance.{leapt, with_next_second, second_begun_at, IsDue, IsNoneDue, IsAdvanced, seconds_left};
+
+use super::SteeredClock;
+use crate::leap::Leap;
+use tk_clock::{Command, Refusal};
+
+impl SteeredClock {
+    /// Lets each second of REALTIME up to `reading` begin, in order, at the first reading at which
+    /// REALTIME reaches it (`timekeeping_advance`).
+    ///
+    /// As a second begins, a leap is made by a step of REALTIME and a TAI offset, and the clocks get
+    /// the rate that the second needs. A leap that the clocks refuse isn't made.
+    ///
+    /// # Errors
+    ///
+    /// Returns what `Clock::apply` returns for `Update` at `reading`. Nothing changes then.
+    ///
+    /// - `Asleep`: the clocks are asleep.
+    /// - `Invalid`: `reading` is above the mask.
+    /// - `Behind`: `reading` is behind the last command's.
+    /// - `Range`: a clock would be at its limit or beyond it.
+    pub fn advance(&mut self, reading: u64) -> Result<(), Refusal>
+        ensures { MatchResult result
+            (λ _. (state_refusal self.old.clock reading Command.Update ≡ None)
+            × IsAdvanced reading self.old self.new)
+            (λ refusal. (state_refusal self.old.clock reading Command.Update ≡ Some refusal)
+            × (self.new ≡ self.old)) }
+    {
+        self.test(reading)?;
+        self.begin_seconds(reading);
+        Ok(())
+    }
+
+    /// Returns the refusal of an update at a reading.
+    fn test(&self, reading: u64) -> Result<(), Refusal>
+        ensures { MatchResult result
+            (λ _. state_refusal self.now.clock reading Command.Update ≡ None)
+            (λ refusal. state_refusal self.now.clock reading Command.Update ≡ Some refusal) }
+    {
+        let mut clock = self.clock;
+        clock.apply(reading, Command::Update)
+    }
+
+    /// Lets each second of REALTIME up to a reading begin.
+    fn begin_seconds(&mut self, reading: u64)
+        ensures { IsAdvanced reading self.old self.new }
+    {
+        'seconds: while let Some(at) = self.due(reading) {
+            self.begin(at);
+        }
+    }
+
+    /// Returns the reading at which the next second of REALTIME begins, if it is not after `reading`.
+    fn due(&self, reading: u64) -> Option<u64>
+        ensures answer { MatchOption result
+            (IsNoneDue self.now reading)
+            (λ at. IsDue self.now reading at) }
+        ensures early { MatchOption result (Unit {0}) (λ _. self.now.next < clock_end) }
+    {
+        let Some(at) = self.next_second() else {
+            return None;
+        };
+        let now = self.snapshot(0);
+        if now.desc().gap(now.last(), reading) < now.desc().gap(now.last(), at) {
+            return None;
+        }
+        Some(at)
+    }
+
+    /// Lets the next second of REALTIME begin at a reading, in cycles, with the commands that it
+    /// needs.
+    #[tactic(auto, using(crate::proofs::Seconds::fewer))]
+    fn begin(&mut self, reading: u64)
+        requires { self.old.next < clock_end }
+        ensures state { self.new ≡ second_begun_at reading self.old }
+        ensures fewer { seconds_left self.new < seconds_left self.old }
+    {
+        let leap = self.begin_next(reading);
+        self.leap(reading, leap);
+        self.steer(reading);
+    }
+
+    /// Lets the discipline's next second begin at a reading, and returns its leap. It gives no
+    /// command.
+    fn begin_next(&mut self, reading: u64) -> Leap
+        requires { self.old.next < clock_end }
+        ensures state { self.new ≡ with_next_second reading self.old }
+        ensures leap { result ≡ leap_at self.old.steering.ntp self.old.next }
+    {
+        let now = self.snapshot(0);
+        let cycles = now.desc().gap(self.mark, reading);
+        let leap = self
+            .steering
+            .begin(now.desc(), now.mult(), cycles, self.next);
+        self.next += 1;
+        self.mark = reading;
+        leap
+    }
+
+    /// Makes a leap, unless the clocks refuse its step.
+    fn leap(&mut self, reading: u64, leap: Leap)
+        requires some { 0 < self.old.next }
+        requires early { self.old.next ≤ clock_end }
+        ensures { self.new ≡ leapt reading leap self.old }
+    {
+        if leap == Leap::None || self.clock.apply(reading, leap.step()).is_err() {
+            return;
+        }
+        self.next = leap.next_second(self.next);
+        let _answer = self.set_tai(reading, leap.tai_after(self.snapshot(0).tai()));
+    }
+}

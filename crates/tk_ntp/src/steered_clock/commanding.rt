@@ -1,0 +1,148 @@
+//! Gives the clocks commands.
+ghost use Rattle.std.specs.Prelude.{◌≡◌, ◌≤◌, ◌≤ℤ◌, MatchResult, Some, None};
+ghost use Rattle.tk_counter.specs.Counter.{mask, least_tick, greatest_tick};
+ghost use Rattle.tk_clock.specs.Limits.{clock_end};
+ghost use Rattle.tk_clock.specs.Refusal.{state_refusal};
+ghost use Rattle.tk_ntp.specs.Advance.{given_tai};
+ghost use Rattle.tk_ntp.specs.Asked.{tai_refusal, second_after, restarted, after_command, IsCommanded};
+ghost use Rattle.tk_ntp.specs.SteeredClock.{accounted_to, given, given_any, given_change, rate_in_force, steered_at};
+
+use super::SteeredClock;
+use crate::change::Change;
+use crate::rate::Rate;
+use tk_clock::{Clock, ClockId, Command, Refusal};
+use tk_counter::NANOS_PER_SECOND;
+
+impl SteeredClock {
+    /// Accounts for the cycles up to a reading, in cycles.
+    pub(super) fn account(&mut self, reading: u64)
+        ensures { self.new ≡ accounted_to reading self.old }
+    {
+        let now = self.snapshot(0);
+        let cycles = now.desc().gap(self.mark, reading);
+        self.steering.account(now.desc(), now.mult(), cycles);
+        self.mark = reading;
+    }
+
+    /// Gives the clocks the rate that the present second needs, by commands at a reading.
+    pub(super) fn steer(&mut self, reading: u64)
+        ensures { self.new ≡ steered_at reading self.old }
+    {
+        let change = self.steering.commands(self.desc(), self.rate());
+        self.change(reading, change);
+    }
+
+    /// Returns the rate in force.
+    fn rate(&self) -> Rate
+        ensures value { result ≡ rate_in_force self.now.clock }
+        ensures slowest { least_tick ≤ℤ result.tick }
+        ensures fastest { result.tick ≤ℤ greatest_tick }
+    {
+        Rate {
+            frequency: self.clock.frequency(),
+            tick: self.clock.tick(),
+        }
+    }
+
+    /// Gives the commands of a change.
+    fn change(&mut self, reading: u64, change: Change)
+        ensures { self.new ≡ record self.old {
+          clock = given_change reading change self.old.clock;
+        } }
+    {
+        self.give_any(reading, change.tick_command());
+        self.give_any(reading, change.frequency_command());
+    }
+
+    /// Gives a command that may be missing.
+    fn give_any(&mut self, reading: u64, cmd: Option<Command>)
+        ensures { self.new ≡ record self.old { clock = given_any reading cmd self.old.clock } }
+    {
+        if let Some(cmd) = cmd {
+            let _answer = self.give(reading, cmd);
+        }
+    }
+
+    /// Gives a command. The error is the clocks' refusal, and then nothing changes.
+    pub(super) fn give(&mut self, reading: u64, cmd: Command) -> Result<(), Refusal>
+        ensures answer { MatchResult result
+            (λ _. state_refusal self.old.clock reading cmd ≡ None)
+            (λ refusal. (state_refusal self.old.clock reading cmd ≡ Some refusal)
+            × (self.new ≡ self.old)) }
+        ensures state { self.new ≡ record self.old { clock = given reading cmd self.old.clock } }
+    {
+        self.clock.apply(reading, cmd)
+    }
+
+    /// Sets the TAI offset, in seconds, unless it is in force. The error is the clocks' refusal, and
+    /// then nothing changes.
+    pub(super) fn set_tai(&mut self, reading: u64, tai: u32) -> Result<(), Refusal>
+        ensures answer { MatchResult result
+            (λ _. tai_refusal reading tai self.old.clock ≡ None)
+            (λ refusal. (tai_refusal reading tai self.old.clock ≡ Some refusal)
+            × (self.new ≡ self.old)) }
+        ensures state { self.new ≡ record self.old {
+          clock = given_tai reading tai self.old.clock;
+        } }
+    {
+        if tai == self.tai() {
+            return Ok(());
+        }
+        self.give(reading, Command::Tai(i64::from(tai)))
+    }
+
+    /// Applies a command that is neither `Freq` nor `Tick`, after the seconds up to its reading have
+    /// begun. A refused command changes nothing.
+    pub(super) fn command(&mut self, reading: u64, cmd: Command) -> Result<(), Refusal>
+        ensures { IsCommanded reading cmd self.old result self.new }
+    {
+        let mut clock = self.clock;
+        clock.apply(reading, cmd)?;
+        self.follow(reading, cmd, clock);
+        Ok(())
+    }
+
+    /// Takes the clocks that an accepted command left.
+    fn follow(&mut self, reading: u64, cmd: Command, clock: Clock)
+        requires { reading ≤ mask clock.base.counter }
+        ensures { self.new ≡ after_command reading cmd clock self.old }
+    {
+        match cmd {
+            Command::SetTime(_) | Command::Step(_) => {
+                self.steering.clear();
+                self.restart(reading, clock);
+            }
+            Command::Resume(_) => self.restart(reading, clock),
+            _ => {
+                self.account(reading);
+                self.clock = clock;
+            }
+        }
+    }
+
+    /// Takes clocks that were set or woken at a reading, and gives the present second its rate.
+    fn restart(&mut self, reading: u64, clock: Clock)
+        requires { reading ≤ mask clock.base.counter }
+        ensures { self.new ≡ restarted reading clock self.old }
+    {
+        self.clock = clock;
+        self.next = second_after(clock, reading);
+        self.mark = reading;
+        self.steer(reading);
+    }
+}
+
+/// Returns the second of REALTIME that begins next, by clocks that were set or woken at a reading.
+fn second_after(clock: Clock, reading: u64) -> u64
+    requires { reading ≤ mask clock.base.counter }
+    ensures value { result ≡ second_after clock }
+    ensures low { result ≤ clock_end }
+{
+    let now = clock.snapshot(0);
+    // REALTIME is below its limit at the last reading, and its offset isn't negative
+    let _low = (clock.tick(), now.real_offset());
+    match now.nanos(ClockId::RealtimeCoarse, reading) {
+        Ok(nanos) => nanos / NANOS_PER_SECOND + 1,
+        Err(_) => unreachable!(),
+    }
+}
