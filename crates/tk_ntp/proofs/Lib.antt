@@ -1,6 +1,8 @@
 pub mod Gains
+pub mod Gaps
 pub mod Lengths
 pub mod Near
+pub mod Often
 pub mod Needed
 pub mod Long
 pub mod Kept

@@ -17,5 +17,6 @@ pub mod Change
 pub mod Steering
 pub mod SteeredClock
 pub mod Advance
+pub mod Often
 pub mod Asked
 pub mod Applied

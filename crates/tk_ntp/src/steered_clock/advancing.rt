@@ -1,9 +1,10 @@
 //! Lets the seconds of REALTIME begin.
-ghost use Rattle.std.specs.Prelude.{◌≡◌, ◌<◌, ◌≤◌, MatchResult, MatchOption, Some, None};
+ghost use Rattle.std.specs.Prelude.{◌≡◌, ◌<◌, ◌≤◌, MatchResult, MatchOption, IfOk, Some, None};
 ghost use Rattle.tk_clock.specs.declared.command.Command.TheVariants.{Update};
 ghost use Rattle.tk_clock.specs.Limits.{clock_end};
 ghost use Rattle.tk_clock.specs.Refusal.{state_refusal};
 ghost use Rattle.tk_ntp.specs.Second.{leap_at};
+ghost use Rattle.tk_ntp.specs.Often.{IsAtOnce};
 ghost use Rattle.tk_ntp.specs.Advance.{leapt, with_next_second, second_begun_at, IsDue, IsNoneDue, IsAdvanced, seconds_left};
 
 use super::SteeredClock;
@@ -26,11 +27,15 @@ impl SteeredClock {
     /// - `Behind`: `reading` is behind the last command's.
     /// - `Range`: a clock would be at its limit or beyond it.
     pub fn advance(&mut self, reading: u64) -> Result<(), Refusal>
-        ensures { MatchResult result
+        ensures answer { MatchResult result
             (λ _. (state_refusal self.old.clock reading Command.Update ≡ None)
             × IsAdvanced reading self.old self.new)
             (λ refusal. (state_refusal self.old.clock reading Command.Update ≡ Some refusal)
             × (self.new ≡ self.old)) }
+        // no second up to the reading is left
+        ensures none { IfOk result (λ _. IsNoneDue self.new reading) }
+        // advancing often or seldom leaves the same state
+        ensures at_once { IfOk result (λ _. IsAtOnce reading self.old self.new) }
     {
         self.test(reading)?;
         self.begin_seconds(reading);

@@ -1,0 +1,11 @@
+use Rattle.tk_ntp.proofs.Often.{at_once, none_due}
+use Rattle.tk_ntp.proofs.steered_clock.SteeredClock.advance.Goals as goal
+
+pub returns-clause-none : goal.returns-clause-none
+returns-clause-none c =
+    none_due c.args.reading c.args.self.now c.begin_seconds.new.self c.begin_seconds.ensures
+
+pub returns-clause-at_once : goal.returns-clause-at_once
+returns-clause-at_once c = λ before earlier first order.
+    at_once earlier c.args.reading before c.args.self.now c.begin_seconds.new.self first
+    c.begin_seconds.ensures order
