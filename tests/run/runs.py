@@ -63,6 +63,21 @@ def needs_root(reason):
     return unittest.skipUnless(IS_ROOT, f"only root {reason}")
 
 
+def succeeds(*command):
+    """Whether a command runs, and ends with status 0."""
+    return not subprocess.run(command, check=False, capture_output=True).returncode
+
+
+# a container may have neither
+CAN_MOUNT = IS_ROOT and succeeds("unshare", "-m", "mount", "-t", "tmpfs", "tmpfs", "/dev/shm")
+CAN_FILTER = succeeds(TKRUN, "--static", "--", "true")
+
+
+def needs_mounts(reason):
+    """Skips a test if no file system can be mounted."""
+    return unittest.skipUnless(CAN_MOUNT, f"only root, with the right to mount, {reason}")
+
+
 def needs(name):
     """Skips a test if a program isn't installed."""
     return unittest.skipUnless(shutil.which(name), f"{name} isn't installed")

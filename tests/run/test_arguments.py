@@ -2,7 +2,7 @@
 import os
 import pathlib
 
-from runs import TKRUN, RunTest, call, needs_root
+from runs import TKRUN, RunTest, call, needs_mounts
 
 
 class Arguments(RunTest):
@@ -90,7 +90,7 @@ class Arguments(RunTest):
         self.assertIn("/tkrun.", shown)
         self.assertFalse(pathlib.Path(shown).exists())
 
-    @needs_root("hides /dev/shm")
+    @needs_mounts("hides /dev/shm")
     def test_nothing_is_left_if_nothing_runs(self):
         # without /dev/shm the folder is in TMPDIR, where nobody else writes
         command = "mount -t tmpfs -o ro tmpfs /dev/shm; exec \"$@\""

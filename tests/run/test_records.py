@@ -1,7 +1,7 @@
 """Records, --check, and the files of the clocks, also where there is no room for them."""
 import shutil
 
-from runs import TKRUN, RunTest, call, needs_root, program
+from runs import TKRUN, RunTest, call, needs_mounts, program
 
 
 class Records(RunTest):
@@ -32,7 +32,7 @@ class Records(RunTest):
         return call(["unshare", "-m", "bash", "-c", command, "bash", self.folder, TKRUN,
                      *arguments, "--", program("killed"), "10"])
 
-    @needs_root("mounts a small disk")
+    @needs_mounts("makes a small disk")
     def test_a_full_disk(self):
         run = self.full_disk()
         self.assertEqual(run.returncode, 0, run.stderr)
@@ -40,7 +40,7 @@ class Records(RunTest):
         self.assertRegex(run.stderr, "the record ends before row [0-9]+: No space left on device|"
                                      "cannot write the record '.*': No space left on device")
 
-    @needs_root("mounts a small disk")
+    @needs_mounts("makes a small disk")
     def test_what_a_full_disk_lost_is_not_checked(self):
         run = self.full_disk("--check")
         self.assertIn("back 0, errors 0", run.stdout)
@@ -54,7 +54,7 @@ class Records(RunTest):
         self.assertEqual(run.returncode, 4, run.stderr)
         self.assertIn("check: there is no record", run.stderr)
 
-    @needs_root("hides /dev/shm")
+    @needs_mounts("hides /dev/shm")
     def test_no_shared_memory_folder(self):
         command = "mount -t tmpfs -o ro tmpfs /dev/shm && exec $1 --quiet --counter sleeps --start 5 -- date +%s"
         run = call(["unshare", "-m", "sh", "-c", command, "sh", TKRUN])

@@ -2,8 +2,9 @@
 import os
 import shutil
 import subprocess
+import unittest
 
-from runs import OTHER, STILL, TKRUN, RunTest, call, needs, needs_root, program
+from runs import CAN_FILTER, OTHER, STILL, TKRUN, RunTest, call, needs, needs_root, program
 
 GO = """package main
 
@@ -20,6 +21,7 @@ func main() {
 """
 
 
+@unittest.skipUnless(CAN_FILTER, "the kernel lets no filter ask tkrun")
 class Static(RunTest):
     def test_reads_and_sets(self):
         for counter in ["raw", "tsc"]:
