@@ -5,13 +5,19 @@
 
 #include <stdlib.h>
 
-static bool is_alive(const struct tree *tree, int32_t thread)
+static bool is_listed(const struct tree *tree, int32_t thread)
 {
 	for (size_t i = 0; i < tree->count; i++) {
 		if (tree->threads[i].thread == thread)
 			return true;
 	}
 	return false;
+}
+
+/* Returns whether a thread has begun since the tree was scanned. */
+static bool is_new(struct tree *tree, int32_t thread)
+{
+	return !tree_scan(tree) || is_listed(tree, thread);
 }
 
 /* Returns the cycles until the first of the waiting threads' times, and NEVER
@@ -28,7 +34,9 @@ static uint64_t first_waiter(struct run *run)
 
 		if (!thread)
 			continue;
-		if (!is_alive(&run->tree, abs(thread))) {
+		if (!is_listed(&run->tree, abs(thread))) {
+			if (is_new(&run->tree, abs(thread)))
+				return 0; /* not all wait any more */
 			atomic_store(&waiter->thread, 0);
 			continue;
 		}
