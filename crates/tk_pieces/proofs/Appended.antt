@@ -1,13 +1,24 @@
--- Pieces that are appended one by one: the facts at the end, and the facts if a piece has a fault.
-use Rattle.std.proofs.Common.{◌≡◌, ℕ, ◌<◌, ◌≤◌, List, refl, length, get_or, Ok, Err, Result, sym, subst, arith, inl, inr}
-use Rattle.std.specs.Prelude.{ℤ, pos, IsOk}
+-- Pieces that are appended one by one: the facts if a piece has a fault.
+use Rattle.std.proofs.Common.{◌≡◌, ℕ, ◌<◌, ◌≤◌, List, refl, length, Ok, Err, Result, sym, subst, arith, inl, inr}
+use Rattle.std.specs.Prelude.{ℤ, pos, slice_index, IsOk}
 use Rattle.std.proofs.lemmas.Bool.{cases_lt}
 use Rattle.tk_clock.specs.declared.clock_id.ClockId.{ClockId}
 use Rattle.tk_clock.specs.Journal.{Journal}
 use Rattle.tk_keeper.specs.declared.trace_error.TraceError.{TraceError}
 use Rattle.tk_keeper.specs.declared.trace_error.TraceError.TheVariants as errors
-use Rattle.tk_keeper.specs.Trace.{item_of, IsConverted, IsFault, IsFirstFault}
-use Rattle.tk_pieces.specs.Pieces.{Items, HoldFirst, IsFaultFrom}
+use Rattle.tk_keeper.specs.Trace.{item_of, IsFault, IsFirstFault}
+use Rattle.tk_pieces.specs.Pieces.{Items}
+
+-- the first item with a fault at or after place `at` and before place `count`, and `error` is its
+-- fault
+abbrev pub IsFaultFrom : Items → ℕ → ℕ → TraceError → Type 0
+IsFaultFrom item count at error =
+    (index : ℕ) × (at ≤ index) × (index < count) × (item index ≡ Err error)
+    × ((k : ℕ) → at ≤ k → k < index → IsOk (item k))
+
+-- the words contain the values of the items starting at the first one, in nanoseconds
+abbrev pub HoldFirst : Items → List ℕ → Type 0
+HoldFirst item words = (k : ℕ) → k < length words → item k ≡ Ok (pos (slice_index words k))
 
 module _ (journal : Journal) (clock : ClockId) (fronts stamps : List ℕ) where
   -- the first fault of a list is the reason why it isn't converted
@@ -37,13 +48,3 @@ module _ (journal : Journal) (clock : ClockId) (fronts stamps : List ℕ) where
           | inr later ↦ before k later early
         ]);
       })
-
-  -- all pieces are appended
-  pub ended : (item : Items) (count : ℕ) (values : List ℕ) →
-      item ≡ item_of journal clock fronts stamps → count ≡ length stamps →
-      HoldFirst item values → length values ≤ count → length stamps ≤ length values →
-      IsConverted journal clock fronts stamps values
-  ended item count values named counted so_far inside all = (
-    omega (arith, counted, inside, all),
-    λ k low. subst (λ i. i k ≡ Ok (pos (get_or values k 0))) named (so_far k (omega (arith, all))),
-  )

@@ -16,7 +16,8 @@ use Rattle.tk_keeper.specs.Past.{at_front, front_refusal}
 use Rattle.tk_keeper.specs.Read.{read_fault}
 use Rattle.tk_keeper.specs.Trace.{item_of, AreValues, IsTraced}
 use Rattle.tk_keeper.proofs.Stretches.{part_at}
-use Rattle.tk_pieces.specs.Pieces.{ArePieces, IsFaultFrom, IsPiece, IsTracedInPieces, further_on, refused_mark}
+use Rattle.tk_pieces.specs.Pieces.{ArePieces, IsPiece, IsTracedInPieces, further_on, refused_mark}
+use Rattle.tk_pieces.proofs.Appended.{IsFaultFrom}
 
 -- a value doesn't depend on the place of its item
 same_value : (index place : ℕ) (value v : ℤ) (stamp : Option ReadError)

@@ -1,5 +1,5 @@
 -- The result of converting a trace in pieces, on several threads.
-use Rattle.std.specs.Prelude.{◌≡◌, ℕ, ℤ, ◌+◌, ◌*◌, ◌<◌, ◌≤◌, ⊤, pos, List, length, slice_index, Result, Ok, Err, IsOk}
+use Rattle.std.specs.Prelude.{◌≡◌, ℕ, ℤ, ◌+◌, ◌*◌, ◌<◌, ◌≤◌, ⊤, pos, List, length, slice_index, Result, Ok, Err}
 use Rattle.std.specs.Fork.{slice_chunk}
 use Rattle.tk_clock.specs.declared.clock_id.ClockId.{ClockId}
 use Rattle.tk_clock.specs.Journal.{Journal}
@@ -21,26 +21,10 @@ IsTracedInPieces journal clock fronts stamps new (Err error) =
 abbrev pub Items : Type 0
 Items = ℕ → Result ℤ TraceError
 
--- these are the results of a trace's items, and the number of its items
-abbrev pub IsNamed : Items → ℕ → Journal → ClockId → List ℕ → List ℕ → Type 0
-IsNamed item count journal clock fronts stamps =
-    (item ≡ item_of journal clock fronts stamps) × (count ≡ length stamps)
-
 -- the words contain the values of the items starting at place `at`, in nanoseconds
 abbrev pub HoldFrom : Items → ℕ → List ℕ → Type 0
 HoldFrom item at words =
     (k : ℕ) → k < length words → item (at + k) ≡ Ok (pos (slice_index words k))
-
--- the words contain the values of the items starting at the first one, in nanoseconds
-abbrev pub HoldFirst : Items → List ℕ → Type 0
-HoldFirst item words = (k : ℕ) → k < length words → item k ≡ Ok (pos (slice_index words k))
-
--- the first item with a fault at or after place `at` and before place `count`, and `error` is its
--- fault
-abbrev pub IsFaultFrom : Items → ℕ → ℕ → TraceError → Type 0
-IsFaultFrom item count at error =
-    (index : ℕ) × (at ≤ index) × (index < count) × (item index ≡ Err error)
-    × ((k : ℕ) → at ≤ k → k < index → IsOk (item k))
 
 -- the first word of a piece in which an item has a fault
 abbrev pub refused_mark : ℕ

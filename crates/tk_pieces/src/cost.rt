@@ -5,7 +5,7 @@
 //! the keeper keeps, one for each `KEPT_EVERY` commands. A sample of the fronts gives their number.
 //! The times were measured on the machine that `bench/README.md` describes; no value of a trace
 //! depends on them.
-ghost use Rattle.std.specs.Prelude.{◌<◌, length, IsTrue};
+ghost use Rattle.std.specs.Prelude.{◌<◌, length, IfSome, IsTrue};
 
 use crate::input::Input;
 use rayon::current_num_threads;
@@ -48,7 +48,7 @@ const LANES: usize = 32;
 
 /// Returns whether several threads convert a list sooner than one does. `each_ns` is the estimated
 /// time of an item.
-pub(crate) fn is_long<R: Threads>(rt: &R, stamps: &[u64], each_ns: u64) -> bool
+fn is_long<R: Threads>(rt: &R, stamps: &[u64], each_ns: u64) -> bool
     ensures { IsTrue result → 0 < length stamps.now }
 {
     let count = stamps.len();
@@ -57,16 +57,23 @@ pub(crate) fn is_long<R: Threads>(rt: &R, stamps: &[u64], each_ns: u64) -> bool
         && current_num_threads(rt) > 1
 }
 
-/// Returns the number of items of a piece, if an item takes `each_ns`.
-pub(crate) fn piece_size(each_ns: u64) -> usize
-    ensures { 0 < result }
+/// Returns the number of items of a piece, if several threads convert a list sooner than one does.
+pub(crate) fn piece_size<R: Threads, A: Allocator + Copy>(
+    rt: &R,
+    input: Input<'_, A>,
+) -> Option<usize>
+    ensures { IfSome result (λ size. (0 < size) × (0 < length input.entry.stamps.now)) }
 {
+    let each_ns = estimated_ns(input);
+    if !is_long(rt, input.stamps, each_ns) {
+        return None;
+    }
     let items = PIECE_NS / each_ns.max(1);
-    (items as usize / LANES * LANES).max(LANES)
+    Some((items as usize / LANES * LANES).max(LANES))
 }
 
 /// Estimates the time of an item, in ns.
-pub(crate) fn estimated_ns<A: Allocator + Copy>(input: Input<'_, A>) -> u64 {
+fn estimated_ns<A: Allocator + Copy>(input: Input<'_, A>) -> u64 {
     let count = input.fronts.len();
     if count < ESTIMATED {
         return ITEM_NS;

@@ -10,11 +10,9 @@
 //! Units: stamps are readings, in cycles; clock times are in ns.
 #![tactic(auto)]
 
-mod ahead;
 mod cost;
 mod input;
 mod pieces;
-mod queues;
 mod stages;
 mod workers;
 

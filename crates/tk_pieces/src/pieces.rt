@@ -2,31 +2,22 @@
 //!
 //! Then the calling thread checks the pieces in order. If a piece has a fault, the calling thread
 //! converts the list again from the beginning of the first such piece to the fault. `stages` makes
-//! new lists, and `ahead` the longest ones.
+//! new lists.
 ghost use Rattle.std.specs.Prelude.{[], ◌≡◌, ◌+◌, ◌<◌, ◌≤◌, ◌^◌, length, MatchResult};
 ghost use Rattle.tk_keeper.specs.Trace.{AreValues, IsConverted, IsFault};
 ghost use Rattle.tk_pieces.specs.Input.{of_input};
 ghost use Rattle.tk_pieces.specs.Pieces.{ArePieces, IsPiece, IsTracedInPieces, further_on, place_of_fault};
 
-use crate::ahead::trace_ahead;
-use crate::cost::{estimated_ns, is_long, piece_size};
+use crate::cost::piece_size;
 use crate::input::Input;
 use crate::stages::convert_in_stages;
 use rayon::prelude::*;
 use std::alloc::Allocator;
-use std::marker::{Brand, Send, Sync};
+use std::marker::Sync;
 use std::sync::atomic::{AtomicUsize, Ordering};
 use std::thread::Threads;
 use tk_clock::ClockId;
 use tk_keeper::{Timekeeper, TraceError};
-
-/// For at least this number of items, 32 MB, the system maps the result's memory anew for each
-/// call. The first write to that memory takes longer than the conversion.
-const UNTOUCHED: usize = 4_194_304;
-
-/// If the estimated time of an item is at least this long, in ns, the conversion takes longer than
-/// the first write.
-const DEAR_NS: u64 = 16;
 
 /// The first word of a piece with a fault. No clock reaches this value.
 const REFUSED: u64 = u64::MAX;
@@ -36,8 +27,7 @@ const REFUSED: u64 = u64::MAX;
 ///
 /// The result equals the result of `Timekeeper::trace`, allocated by `alloc`. If several threads
 /// are likely to save time, the call uses them, at most two for each processor. They have ended
-/// when it returns. For 4,194,304 items or more it may also allocate buffers from the keeper's
-/// allocator. If that fails, it works without them.
+/// when it returns.
 ///
 /// # Errors
 ///
@@ -45,7 +35,7 @@ const REFUSED: u64 = u64::MAX;
 /// before it converts any item; for an empty list it reserves none. Otherwise the error of the
 /// first item with a fault in the whole list: `TraceError::Unknown`, `Folded`, `Invalid` or
 /// `Range`, tested in this order.
-pub fn trace_all<R: Threads + Sync, A: Allocator + Copy + Send + Sync, B: Allocator>(
+pub fn trace_all<R: Threads + Sync, A: Allocator + Copy + Sync, B: Allocator>(
     alloc: B,
     rt: &R,
     keeper: &Timekeeper<A>,
@@ -64,18 +54,13 @@ pub fn trace_all<R: Threads + Sync, A: Allocator + Copy + Send + Sync, B: Alloca
         stamps,
         clock,
     };
-    let each_ns = estimated_ns(input);
-    if !is_long(rt, stamps, each_ns) {
+    let Some(size) = piece_size(rt, input) else {
         return keeper.trace_in(alloc, fronts, stamps, clock);
-    }
+    };
     let Ok(values) = Vec::with_capacity(alloc, stamps.len()) else {
         return Err(TraceError::Memory);
     };
-    let size = piece_size(each_ns);
-    if stamps.len() < UNTOUCHED || each_ns >= DEAR_NS {
-        return convert_in_stages(rt, size, input, values);
-    }
-    trace_ahead::<Brand, R, A, B>(rt, size, input, values)
+    convert_in_stages(rt, size, input, values)
 }
 
 /// Converts stamps as `trace_all` does, and writes the values to `out`. All three slices have the
@@ -104,9 +89,8 @@ pub fn trace_all_into<R: Threads + Sync, A: Allocator + Copy + Sync>(
         stamps,
         clock,
     };
-    let each_ns = estimated_ns(input);
-    if is_long(rt, stamps, each_ns) {
-        return trace_in_pieces(rt, piece_size(each_ns), input, out);
+    if let Some(size) = piece_size(rt, input) {
+        return trace_in_pieces(rt, size, input, out);
     }
     keeper.trace_into(fronts, stamps, clock, out)
 }

@@ -2,8 +2,7 @@ use Rattle.std.proofs.Common.{◌≡◌, ℕ, List, ◌-◌, ◌<◌, ◌≤◌,
 use Rattle.std.proofs.lemmas.List.{take_all, take-append-le, length-append}
 use Rattle.std.proofs.Math.Seq.{take-append_seam}
 use Rattle.tk_keeper.specs.Trace.{item_of, AreValues}
-use Rattle.tk_pieces.specs.Pieces.{IsFaultFrom}
-use Rattle.tk_pieces.proofs.Appended.{stopped}
+use Rattle.tk_pieces.proofs.Appended.{IsFaultFrom, stopped}
 use Rattle.tk_pieces.proofs.Parts.{part_done, part_refused}
 use Rattle.tk_pieces.proofs.stages.convert_stage.Goals as goal
 
