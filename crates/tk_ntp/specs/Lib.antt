@@ -20,3 +20,4 @@ pub mod Advance
 pub mod Often
 pub mod Asked
 pub mod Applied
+pub mod Numbers

@@ -1,6 +1,7 @@
 ghost use Rattle.std.specs.Prelude.{◌≡◌, ◌+◌, ◌<◌, ◌≤◌, MatchOption, ◌⊎◌, pos, ◌-ℤ◌, ◌<ℤ◌, unsigned_abs};
 
 mod modes;
+mod numbers;
 mod replies;
 mod requests;
 mod seconds;

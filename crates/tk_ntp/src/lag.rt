@@ -3,8 +3,10 @@ ghost use Rattle.std.specs.Prelude.{◌≡◌, ◌+◌, ◌*◌, ◌/◌, ◌≤
 ghost use Rattle.std.specs.Int.{int_max};
 ghost use Rattle.tk_ntp.specs.Loops.{clamped_by};
 ghost use Rattle.tk_ntp.specs.Lag.{short_of, greatest_lag, lag_after, most_made_up, made_up};
+ghost use Rattle.tk_ntp.specs.Numbers.{lag_numbers};
 
 use crate::length::MAX_FREQUENCY;
+use crate::numbers::LagNumbers;
 use std::marker::Model;
 use tk_counter::{CounterDesc, NANOS_PER_SECOND};
 
@@ -92,6 +94,16 @@ impl Lag {
         ensures most { unsigned_abs result ≤ 2 ^ 123 }
     {
         (u128::from(self.high) * WORD + u128::from(self.low)) as i128 - BIAS
+    }
+
+    /// Returns the numbers that the lag is kept in.
+    pub fn numbers(&self) -> LagNumbers
+        ensures { result ≡ lag_numbers self.now }
+    {
+        LagNumbers {
+            high: self.high,
+            low: self.low,
+        }
     }
 
     /// Accounts for some cycles of a counter at the multiplier `mult`, while a second was asked to

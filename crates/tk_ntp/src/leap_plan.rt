@@ -1,8 +1,10 @@
 //! Keeps the leap second: a state that moves on as each second begins.
 ghost use Rattle.std.specs.Prelude.{◌≡◌, ◌<◌, ◌^◌, Some, None};
 ghost use Rattle.tk_ntp.specs.Leap.{plan_in, leap_in, announced, no_plan, over, is_due, number_of, state_numbered};
+ghost use Rattle.tk_ntp.specs.Numbers.{leap_numbers};
 
 use crate::leap::Leap;
+use crate::numbers::LeapNumbers;
 use std::marker::Model;
 
 /// Says what the leap second is doing. Unlike `TimeState`, it has no error.
@@ -134,6 +136,17 @@ impl LeapPlan {
         ensures { result ≡ is_due self.due sec }
     {
         self.is_due && self.due == sec
+    }
+
+    /// Returns the numbers that the plan is kept in.
+    pub(crate) fn numbers(self) -> LeapNumbers
+        ensures { result ≡ leap_numbers self }
+    {
+        LeapNumbers {
+            state: self.state,
+            is_due: u8::from(self.is_due),
+            due: self.due,
+        }
     }
 
     /// Returns the plan and the leap as the second `sec` of REALTIME begins. `insert` and `delete`

@@ -8,6 +8,7 @@
 //! | `Leap` | what REALTIME leaps by as a second begins |
 //! | `Steering`, `Lag` | a discipline with what its clock lags behind; the commands of a second |
 //! | `Rate`, `Change` | the frequency and the tick for a length, and the commands that set them |
+//! | `SteeredNumbers` .. | a discipline in plain numbers, as C code holds it |
 //! | `ADJ_OFFSET` .., `STA_PLL` .. | the bits of a request's `modes`, and of a status |
 #![tactic(auto)]
 
@@ -19,6 +20,7 @@ mod leap;
 mod leap_plan;
 mod length;
 mod loops;
+mod numbers;
 mod phase;
 mod rate;
 mod reply;
@@ -36,6 +38,7 @@ pub use change::Change;
 pub use discipline::Discipline;
 pub use lag::Lag;
 pub use leap::Leap;
+pub use numbers::{DisciplineNumbers, LagNumbers, LeapNumbers, SteeredNumbers, SteeringNumbers};
 pub use rate::Rate;
 pub use reply::{Reply, TimeState};
 pub use steered_clock::SteeredClock;

@@ -3,6 +3,7 @@ ghost use Rattle.std.specs.Prelude.{◌≡◌, MatchResult, MatchOption, Some, N
 mod advancing;
 mod asking;
 mod commanding;
+mod numbers;
 
 use crate::discipline::Discipline;
 use crate::steering::Steering;

@@ -5,6 +5,7 @@ use crate::change::Change;
 use crate::discipline::Discipline;
 use crate::lag::Lag;
 use crate::leap::Leap;
+use crate::numbers::SteeringNumbers;
 use crate::rate::Rate;
 use crate::reply::Reply;
 use crate::timex::Timex;
@@ -35,6 +36,7 @@ impl Steering {
     ghost use Rattle.tk_ntp.specs.Fault.{is_faulty};
     ghost use Rattle.tk_ntp.specs.Modes.{asked};
     ghost use Rattle.tk_ntp.specs.Ntp.{cleared};
+    ghost use Rattle.tk_ntp.specs.Numbers.{steering_numbers};
     ghost use Rattle.tk_ntp.specs.Reply.{reply_to};
     ghost use Rattle.tk_ntp.specs.Second.{leap_at};
     ghost use Rattle.tk_ntp.specs.Change.{multiplier_at, changed};
@@ -102,6 +104,16 @@ impl Steering {
         ensures near { IsNearUsual desc (multiplier_at desc result) }
     {
         Rate::of_length(self.needed(desc), self.ntp.tick())
+    }
+
+    /// Returns the numbers that the discipline and the lag are kept in.
+    pub fn numbers(&self) -> SteeringNumbers
+        ensures { result ≡ steering_numbers self.now }
+    {
+        SteeringNumbers {
+            ntp: self.ntp.numbers(),
+            lag: self.lag.numbers(),
+        }
     }
 
     /// Returns the length that the present second needs, in `2^-32` ns.
