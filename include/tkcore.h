@@ -3,9 +3,10 @@
  * tkcore.h - the timekeeping core of the Linux kernel, restated as a library for C.
  *
  * The library has three types: the description of a counter, the running clocks of a counter, and
- * a snapshot of the clocks. A snapshot converts the counter's readings into times. The library
- * never reads a counter: the caller passes the counter's reading to each call. Link with
- * libtkcore.a, which needs no other library: no runtime, no heap and no C library.
+ * a snapshot of the clocks. A snapshot converts the counter's readings into times. A fourth type,
+ * struct tkc_ntp, is clocks that are steered as by adjtimex(2). The library never reads a counter:
+ * the caller passes the counter's reading to each call. Link with libtkcore.a, which needs no other
+ * library: no runtime, no heap and no C library.
  *
  *     struct tkc_counter counter;
  *     struct tkc_clock clock;
@@ -41,8 +42,8 @@
  *     are in include/linux/time64.h and ktime.h.
  *   - The front of clocks is the number of commands that they have accepted. A change of counter is
  *     one of them. The front is 0 after tkc_clock_open. Clocks whose front is 2^63 - 1 or more
- *     refuse every command with TKC_FULL. Only tkc_clock_from_words can make a front above
- *     2^63 - 1.
+ *     refuse every command with TKC_FULL. The front of a tkc_ntp is the number of accepted calls.
+ *     Only tkc_clock_from_words can make a front above 2^63 - 1.
  *   - A reading is behind the last command's reading if it is more than half of 2^bits - 1 cycles
  *     ahead of it (clocksource_delta in kernel/time/timekeeping_internal.h). So apply at least one
  *     command, usually an UPDATE, in each half of the counter's range.
@@ -55,13 +56,15 @@
  *   rounds down to whole nanoseconds.
  *
  * Values
- *   A tkc_counter, a tkc_clock and a tkc_snapshot are plain bytes of the size below. They contain
- *   no pointer, may be copied by assignment or memcpy, and need no call to release them. C code
- *   must not write into them. As with any opaque type, a value that is passed to a call must be,
- *   byte for byte, a value that a call of this header made. All other arguments may be any numbers.
- *   A value can be stored as ten 64-bit words, for a shared page or a file. These words are
- *   meaningless without their counter; tkc_clock_save stores both. tkc_snapshot_from_words,
- *   tkc_clock_from_words and tkc_clock_load validate words, so later calls need no test.
+ *   A tkc_counter, a tkc_clock, a tkc_ntp and a tkc_snapshot are plain bytes of the size below.
+ *   They contain no pointer, may be copied by assignment or memcpy, and need no call to release
+ *   them. C code must not write into them. As with any opaque type, a value that is passed to a
+ *   call must be, byte for byte, a value that a call of this header made. All other arguments may
+ *   be any numbers.
+ *   A value except a tkc_ntp can be stored as ten 64-bit words, for a shared page or a file. These
+ *   words are meaningless without their counter; tkc_clock_save stores both.
+ *   tkc_snapshot_from_words, tkc_clock_from_words and tkc_clock_load validate words, so later calls
+ *   need no test.
  *
  * Pointers
  *   - No pointer may be NULL, except for an empty list of tkc_snapshot_convert: if `room` is 0,
@@ -77,9 +80,9 @@
  *   may. A kernel module must follow the list in docs/C.md, "In the Linux kernel". In short:
  *     - Link the archive of `tools/build_c --backend rattle`. The archive of LLVM uses the red zone
  *       below the stack pointer, and requires a stack that is aligned to 16 bytes.
- *     - All calls except tkc_snapshot_convert may then be made in any context.
- *       tkc_snapshot_convert uses SSE registers: call it between kernel_fpu_begin() and
- *       kernel_fpu_end(), and only if irq_fpu_usable().
+ *     - tkc_snapshot_convert, tkc_ntp_open, tkc_ntp_advance, tkc_ntp_apply and tkc_adjtimex use SSE
+ *       registers: call them between kernel_fpu_begin() and kernel_fpu_end(), and only if
+ *       irq_fpu_usable(). All other calls may then be made in any context.
  *   Two threads must not write one value at the same time, and no thread may write a value while
  *   another reads it. The caller's lock must prevent both (as timekeeper_lock does, and tk_core.seq
  *   for readers). tkcore_page.h contains a page for such readers. A reader in an NMI must not wait
@@ -87,8 +90,8 @@
  *
  * Codes
  *   A call that can fail returns TKC_OK when it is done, and otherwise the code of the first test
- *   that fails. A call that fails has written nothing, except for tkc_snapshot_convert, whose
- *   comment lists what it has written.
+ *   that fails. A call that fails has written nothing, except for tkc_snapshot_convert,
+ *   tkc_ntp_apply and tkc_adjtimex, whose comments list what they have written.
  */
 #ifndef TKC_H
 #define TKC_H
@@ -150,7 +153,7 @@ enum tkc_code {
 	 * arguments; BEHIND; RANGE; INVALID for the resulting REALTIME. A read is tested for
 	 * INVALID and then for RANGE. */
 
-	/* The front is 2^63 - 1 or more: no further command can be counted. */
+	/* The front is 2^63 - 1 or more: no further command or call can be counted. */
 	TKC_FULL = 1,
 	/* The clocks are asleep after a SUSPEND, and the command is not RESUME. */
 	TKC_ASLEEP = 2,
@@ -273,6 +276,125 @@ struct tkc_time {
 	int64_t sec;
 	uint32_t nsec;
 	uint32_t padding;
+};
+
+/* Clocks that a discipline steers, with their front (struct timekeeper, and the variables of
+ * kernel/time/ntp.c). */
+struct tkc_ntp {
+	uint64_t tkc_private[27];
+};
+
+/* A request of tkc_adjtimex, and its reply (struct timex in include/uapi/linux/timex.h). It has
+ * that struct's layout on x86-64, so a program's own may be passed: (struct tkc_timex *)&tx. A call
+ * reads and writes no padding. */
+struct tkc_timex {
+	/* Says which of the fields are given, by the bits of enum tkc_adj. Other bits count for
+	 * nothing. A reply leaves it unchanged. */
+	uint32_t modes;
+	uint32_t modes_padding;
+	/* The offset between the clock and its reference, in ns with TKC_STA_NANO, otherwise in us.
+	 * In a reply: the phase still to give. With TKC_ADJ_ADJTIME it is always in us. */
+	int64_t offset;
+	/* The frequency, in 2^-16 ppm. */
+	int64_t freq;
+	/* The greatest and the estimated error, in us. */
+	int64_t maxerror;
+	int64_t esterror;
+	/* The bits of enum tkc_sta. */
+	uint32_t status;
+	uint32_t status_padding;
+	/* The time constant of the PLL, or with TKC_ADJ_TAI the TAI offset in seconds. */
+	int64_t constant;
+	/* Only replies have these two: 1 us, and 32768000 2^-16 ppm. */
+	int64_t precision;
+	int64_t tolerance;
+	/* The step of TKC_ADJ_SETOFFSET, and in a reply REALTIME: seconds, and ns or us (tv_sec and
+	 * tv_usec of the field time). */
+	int64_t sec;
+	int64_t sub;
+	/* The tick, in us. */
+	int64_t tick;
+	/* The pulse per second, which the library doesn't have: replies set these fields to 0. */
+	int64_t ppsfreq;
+	int64_t jitter;
+	int32_t shift;
+	uint32_t shift_padding;
+	int64_t stabil;
+	int64_t jitcnt;
+	int64_t calcnt;
+	int64_t errcnt;
+	int64_t stbcnt;
+	/* Only replies have it: TAI minus REALTIME, in seconds. */
+	uint32_t tai;
+	uint32_t padding[11];
+};
+
+/* The bits of a request's modes (ADJ_OFFSET ..), in the order in which they act. */
+enum tkc_adj {
+	/* The step of REALTIME by sec s, which may be negative, plus sub: below 10^9 ns with
+	 * TKC_ADJ_NANO, otherwise below 10^6 us (ADJ_SETOFFSET). */
+	TKC_ADJ_SETOFFSET = 0x0100,
+	/* With TKC_ADJ_OFFSET: the call adjtime. REALTIME gains `offset` us, at most 500 a second,
+	 * and no other bit below acts. The reply's offset is what was left of the last call. With
+	 * 0x2000 (TKC_ADJ_NANO) the call only reads it. */
+	TKC_ADJ_ADJTIME = 0x8000,
+	TKC_ADJ_STATUS = 0x0010,
+	/* Offsets and times count in ns, or in us. With both bits they count in us. */
+	TKC_ADJ_NANO = 0x2000,
+	TKC_ADJ_MICRO = 0x1000,
+	/* freq is within 140737488355 in either direction, and takes effect up to 500 ppm. */
+	TKC_ADJ_FREQUENCY = 0x0002,
+	/* The errors are clamped to 0 to 16000000. */
+	TKC_ADJ_MAXERROR = 0x0004,
+	TKC_ADJ_ESTERROR = 0x0008,
+	/* The time constant, which is clamped to 0 to 10. If offsets count in us, it is 4 more. */
+	TKC_ADJ_TIMECONST = 0x0020,
+	/* The TAI offset, 0 to 100000. Any other number changes nothing. */
+	TKC_ADJ_TAI = 0x0080,
+	/* The offset, clamped to half a second in either direction. It acts only with
+	 * TKC_STA_PLL. */
+	TKC_ADJ_OFFSET = 0x0001,
+	/* The tick, 9000 to 11000. */
+	TKC_ADJ_TICK = 0x4000
+};
+
+/* The bits of a status (STA_PLL ..). TKC_ADJ_STATUS doesn't change the bits 0xff00, and keeps all
+ * other bits as they are given. */
+enum tkc_sta {
+	/* Offsets steer the clock. */
+	TKC_STA_PLL = 0x0001,
+	/* Offsets at least 256 s after the last one steer by the FLL too; without this bit, those
+	 * more than 2048 s after it. */
+	TKC_STA_FLL = 0x0008,
+	/* A second is inserted at the end of the day, or its last second is deleted. */
+	TKC_STA_INS = 0x0010,
+	TKC_STA_DEL = 0x0020,
+	/* The clock isn't synchronized. The library sets it at tkc_ntp_open, at a set or a step, if
+	 * TKC_STA_PLL is turned off, and when maxerror has grown to more than 16000000. */
+	TKC_STA_UNSYNC = 0x0040,
+	/* Offsets leave the frequency as it is. */
+	TKC_STA_FREQHOLD = 0x0080,
+	/* The clock's hardware is at fault. The library never sets it. */
+	TKC_STA_CLOCKERR = 0x1000,
+	/* Offsets and times count in ns. */
+	TKC_STA_NANO = 0x2000,
+	/* The last offset steered by the FLL. */
+	TKC_STA_MODE = 0x4000
+};
+
+/* The states of a steered clock, as adjtimex(2) returns them (TIME_OK ..). */
+enum tkc_time_state {
+	/* No leap second is announced. */
+	TKC_TIME_OK = 0,
+	/* A second will be inserted, or deleted, at the end of the day. */
+	TKC_TIME_INS = 1,
+	TKC_TIME_DEL = 2,
+	/* The inserted second is in progress. */
+	TKC_TIME_OOP = 3,
+	/* The leap second is over, and the status still asks for it. */
+	TKC_TIME_WAIT = 4,
+	/* The status has TKC_STA_UNSYNC or TKC_STA_CLOCKERR. */
+	TKC_TIME_ERROR = 5
 };
 
 /* Returns the version of the archive, to be compared with TKC_VERSION. A call whose comment names
@@ -525,6 +647,101 @@ void tkc_clock_save(uint64_t words[TKC_SAVED_WORDS], const struct tkc_clock *clo
  */
 TKC_MUST_CHECK
 enum tkc_code tkc_clock_load(struct tkc_clock *out, const uint64_t words[TKC_SAVED_WORDS]);
+
+/*
+ * The clocks of a tkc_ntp are steered by a discipline, as the kernel's are by adjtimex(2): requests
+ * give it offsets, frequencies and leap seconds, and it gives each second of REALTIME its length.
+ * docs/NTP.md says how to steer by it, and lists the differences from Linux.
+ *
+ * tkc_ntp_advance, tkc_adjtimex and, except for RESUME, tkc_ntp_apply first advance to their
+ * reading: each second of REALTIME that has begun since the last call begins at its own reading,
+ * with its leap second and its rate. So calling often or seldom leaves the same clocks. At the
+ * reading of a call, MONOTONIC may be less than a snapshot from before that call gives there.
+ * Readers in other threads should get a new snapshot for each second: set a timer to
+ * tkc_ntp_next_second.
+ *
+ * The reading of a call must not be before the reading of the call before it. TKC_BEHIND reports
+ * that only if it is behind the last command, and not every call gives the clocks a command. After
+ * a reading that goes back unnoticed, the discipline takes the whole range of the counter for
+ * elapsed, and the clocks may run 500 ppm off for 1000 s.
+ */
+
+/*
+ * Opens clocks as tkc_clock_open does, steered by a fresh discipline: its status is TKC_STA_UNSYNC,
+ * its time constant 2, and each second a nominal one (ntp_init in kernel/time/ntp.c). Phases are
+ * divided into hz parts of a second, 1 to 1024: with the kernel's HZ, replies are the kernel's to
+ * the last digit. Returns TKC_INVALID if tkc_clock_open does, or if hz is out of its range.
+ */
+TKC_MUST_CHECK
+enum tkc_code tkc_ntp_open(struct tkc_ntp *out, const struct tkc_counter *counter, uint64_t reading,
+			   int64_t sec, uint32_t nsec, uint32_t hz);
+
+/*
+ * Begins each second of REALTIME up to the reading (second_overflow in kernel/time/ntp.c), and adds
+ * 1 to the front.
+ *
+ * Returns, in this order, and changes nothing then:
+ *   TKC_FULL     the front is 2^63 - 1 or more
+ *   TKC_ASLEEP   the clocks are asleep
+ *   TKC_INVALID  the reading is above 2^bits - 1
+ *   TKC_BEHIND   the reading is behind the last command's
+ *   TKC_RANGE    a clock would be at or past its limit
+ */
+TKC_MUST_CHECK
+enum tkc_code tkc_ntp_advance(struct tkc_ntp *ntp, uint64_t reading);
+
+/*
+ * Advances to the reading, applies a command of tkc_clock_apply to the steered clocks, and adds 1
+ * to the front if it is accepted:
+ *   - FREQ and TICK are requests: TKC_ADJ_FREQUENCY with the frequency clamped to 32768000 in
+ *     either direction, and TKC_ADJ_TICK. The discipline then keeps steering.
+ *   - SET_TIME and STEP clear the discipline (ntp_clear in kernel/time/ntp.c): the phase, the rest
+ *     of adjtime, the errors and the second of a leap are forgotten.
+ *   - The seconds that SET_TIME, STEP and RESUME jump over never begin, and no leap second of
+ *     theirs happens.
+ *
+ * Returns, in this order:
+ *   TKC_BAD_COMMAND  no command has the number: nothing has changed
+ *   TKC_FULL, TKC_ASLEEP, TKC_INVALID, TKC_BEHIND or TKC_RANGE
+ *                    as tkc_ntp_advance, if the command is not RESUME: nothing has changed
+ *   as tkc_clock_apply
+ *                    the clocks refuse the command: they have only advanced
+ */
+TKC_MUST_CHECK
+enum tkc_code tkc_ntp_apply(struct tkc_ntp *ntp, uint64_t reading, uint32_t command, int64_t number,
+			    uint32_t nsec);
+
+/*
+ * Advances to the reading, does what a request asks for, and writes the reply into the same struct
+ * (do_adjtimex, and __do_adjtimex in kernel/time/ntp.c; adjtimex(2)). *state becomes the number of
+ * enum tkc_time_state that adjtimex(2) returns. Adds 1 to the front. Any struct may be passed: its
+ * fields are tested.
+ *
+ * Returns, in this order, and writes neither *timex nor *state then:
+ *   TKC_FULL     the front is 2^63 - 1 or more
+ *   TKC_INVALID  TKC_ADJ_ADJTIME without TKC_ADJ_OFFSET; or without TKC_ADJ_ADJTIME a tick out of
+ *                its range; or a step or a frequency out of its range (enum tkc_adj)
+ *   TKC_ASLEEP, TKC_INVALID, TKC_BEHIND or TKC_RANGE
+ *                as tkc_ntp_advance
+ *   as tkc_clock_apply
+ *                the clocks refuse the step of TKC_ADJ_SETOFFSET: they have only advanced
+ * In the first three cases nothing has changed.
+ */
+TKC_MUST_CHECK
+enum tkc_code tkc_adjtimex(struct tkc_timex *timex, uint32_t *state, struct tkc_ntp *ntp,
+			   uint64_t reading);
+
+/*
+ * Finds the reading at which the next second of REALTIME begins, to set a timer to. It searches the
+ * readings that tkc_snapshot_reading searches. Returns TKC_NOT_REACHED if REALTIME doesn't reach
+ * that second at any of them.
+ */
+TKC_MUST_CHECK
+enum tkc_code tkc_ntp_next_second(uint64_t *out, const struct tkc_ntp *ntp);
+
+/* Makes a snapshot of the steered clocks for readers, as tkc_clock_snapshot does. Use it for
+ * readings up to the beginning of the next second, or the next call. */
+TKC_NONNULL void tkc_ntp_snapshot(struct tkc_snapshot *out, const struct tkc_ntp *ntp);
 
 /* A parser that reads only declarations, such as cffi's, is given TKC_NO_INLINE. */
 #ifndef TKC_NO_INLINE

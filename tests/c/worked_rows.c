@@ -192,6 +192,7 @@ int main(void)
 	try_readings();
 	try_words();
 	try_saved();
+	try_ntp();
 	puts("worked_rows: each row has its code and its values");
 	return EXIT_SUCCESS;
 }

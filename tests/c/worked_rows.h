@@ -89,5 +89,6 @@ void try_far_lists(void);
 void try_readings(void);
 void try_words(void);
 void try_saved(void);
+void try_ntp(void);
 
 #endif

@@ -11,3 +11,7 @@ pub mod Restored
 pub mod Saved
 pub mod Version
 pub mod Lists
+pub mod Timex
+pub mod CallResults
+pub mod NtpStorage
+pub mod CountedNtp

@@ -6,8 +6,11 @@
 //! | `tkc_counter_*` | make counters from numbers or from a rate, and store a counter's numbers |
 //! | `tkc_clock_*` | open the running clocks, apply commands, change the counter, convert clocks to and from words, with their counter or without |
 //! | `tkc_snapshot_*` | read one time or a list of times, find the reading of a time, convert snapshots to and from words |
+//! | `tkc_ntp_*`, `tkc_adjtimex` | open steered clocks, advance them, apply commands, answer requests |
 //! | `tkc_version` | returns the archive's version |
 //! | `CountedClock` | the clocks with their count of commands, `struct tkc_clock` in C |
+//! | `CountedNtp`, `NtpStorage` | steered clocks with their count of calls, `struct tkc_ntp` in C |
+//! | `KernelTimex` | a request and its reply, `struct tkc_timex` in C |
 //! | `CounterStorage`, `ClockStorage`, `SnapshotStorage`, `TimeStorage` | memory that a value is written to |
 //! | `Code` | the codes that calls return |
 //!
@@ -19,13 +22,17 @@ mod change_counter;
 mod clocks;
 mod code;
 mod counted;
+mod counted_ntp;
 mod counters;
 mod general_registers;
 mod named;
+mod ntp;
+mod ntp_storage;
 mod reached;
 mod saved;
 mod snapshots;
 mod storage;
+mod timex;
 mod version;
 mod words;
 
@@ -33,14 +40,21 @@ pub use change_counter::tkc_clock_change_counter;
 pub use clocks::{tkc_clock_apply, tkc_clock_open, tkc_clock_snapshot};
 pub use code::Code;
 pub use counted::CountedClock;
+pub use counted_ntp::CountedNtp;
 pub use counters::{
     tkc_counter_from_hz, tkc_counter_from_khz, tkc_counter_new, tkc_counter_numbers,
     tkc_snapshot_counter,
 };
+pub use ntp::{
+    tkc_adjtimex, tkc_ntp_advance, tkc_ntp_apply, tkc_ntp_next_second, tkc_ntp_open,
+    tkc_ntp_snapshot,
+};
+pub use ntp_storage::NtpStorage;
 pub use reached::tkc_snapshot_reading;
 pub use saved::{SAVED_WORDS, tkc_clock_load, tkc_clock_save};
 pub use snapshots::{tkc_snapshot_convert, tkc_snapshot_get};
 pub use storage::{BaseStorage, ClockStorage, CounterStorage, SnapshotStorage, TimeStorage};
+pub use timex::KernelTimex;
 pub use version::tkc_version;
 pub use words::{
     tkc_clock_from_words, tkc_clock_words, tkc_snapshot_from_words, tkc_snapshot_words,

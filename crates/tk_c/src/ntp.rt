@@ -1,0 +1,188 @@
+//! Steers clocks by a discipline.
+ghost use Rattle.std.specs.Prelude.{◌≡◌, ◌<◌, MatchOption};
+ghost use Rattle.tk_clock.specs.Limits.{counted_most};
+ghost use Rattle.tk_clock.specs.declared.timespec.Timespec.{Timespec};
+ghost use Rattle.tk_ntp.specs.SteeredClock.{steered_refusal, steered_opened};
+ghost use Rattle.tk_c.specs.Codes.{number_of, code_of_refusal};
+ghost use Rattle.tk_c.specs.CountedNtp.{IsAdvancedTo, IsCommandCounted, IsNtpApplied, IsRequestCounted, IsNtpAnswered, IsNextSecond};
+ghost use Rattle.tk_c.specs.declared.code.Code.TheVariants.{Done};
+ghost use Rattle.tk_c.specs.Named.{command_named};
+ghost use Rattle.tk_c.specs.NtpStorage.{ntp_storage};
+ghost use Rattle.tk_c.specs.Storage.{snapshot_storage};
+
+use crate::code::Code;
+use crate::counted_ntp::{CountedNtp, count};
+use crate::general_registers::store_snapshot;
+use crate::named::command_named;
+use crate::ntp_storage::NtpStorage;
+use crate::storage::SnapshotStorage;
+use crate::timex::{KernelTimex, state_number};
+use tk_clock::{COUNTED_LIMIT, Command, Refusal, Timespec};
+use tk_counter::CounterDesc;
+use tk_ntp::SteeredClock;
+
+/// Opens clocks at a reading of the counter, steered by a fresh discipline, and writes them to `out`
+/// (`SteeredClock::open`).
+///
+/// REALTIME is `sec` s, 0 to 8,277,292,035, plus `nsec` ns, 0 to 999,999,999, at the reading. `hz` is
+/// the number of parts of a second that phases are divided into, 1 to 1024. No call is counted yet.
+///
+/// # Errors
+///
+/// Returns `Code::Invalid`, and doesn't write `out`, if the reading is above the mask, or the time or
+/// `hz` is out of its range.
+#[unsafe(no_mangle)]
+pub extern "C" fn tkc_ntp_open(
+    out: &mut NtpStorage,
+    counter: &CounterDesc,
+    reading: u64,
+    sec: i64,
+    nsec: u32,
+    hz: u32,
+) -> u32
+    ensures { let real : Timespec = record { sec = sec; nsec = nsec } in
+        MatchOption (steered_refusal counter.now reading real hz)
+        ((result ≡ number_of Done)
+        × (out.new ≡ ntp_storage 0 (steered_opened counter.now reading real hz)))
+        (λ refusal. (result ≡ number_of (code_of_refusal refusal)) × (out.new ≡ out.old)) }
+{
+    match SteeredClock::open(*counter, reading, Timespec { sec, nsec }, hz) {
+        Ok(steered) => {
+            *out = NtpStorage::from(CountedNtp { steered, front: 0 });
+            Code::Done.number()
+        }
+        Err(refusal) => Code::from(refusal).number(),
+    }
+}
+
+/// Lets each second of REALTIME up to a reading begin, and counts the call (`SteeredClock::advance`).
+///
+/// # Errors
+///
+/// Returns `Code::Full` if 2^63 - 1 calls were accepted, or the code of the test that an update at the
+/// reading fails: `Asleep`, `Invalid`, `Behind` or `Range`. Nothing changes then.
+#[unsafe(no_mangle)]
+pub extern "C" fn tkc_ntp_advance(ntp: &mut CountedNtp, reading: u64) -> u32
+    ensures { IsAdvancedTo ntp.old reading result ntp.new }
+{
+    if ntp.front >= COUNTED_LIMIT {
+        return Code::from(Refusal::Full).number();
+    }
+    let called = ntp.steered.advance(reading);
+    count(&mut ntp.front, called)
+}
+
+/// Applies the command with this number to the clocks, after the seconds up to its reading have
+/// begun, and counts it (`SteeredClock::apply`).
+///
+/// # Errors
+///
+/// Returns, in this order:
+///
+/// - `Code::BadCommand` if no command has the number `command`: nothing changes;
+/// - `Code::Full` if 2^63 - 1 calls were accepted: nothing changes;
+/// - the code of the first test that the reading or the command fails. If the command fails it, the
+///   seconds up to the reading have begun.
+#[unsafe(no_mangle)]
+pub extern "C" fn tkc_ntp_apply(
+    ntp: &mut CountedNtp,
+    reading: u64,
+    command: u32,
+    number: i64,
+    nsec: u32,
+) -> u32
+    ensures { IsNtpApplied ntp.old reading (command_named command number nsec) result ntp.new }
+{
+    let Some(cmd) = command_named(command, number, nsec) else {
+        return Code::BadCommand.number();
+    };
+    if ntp.front >= COUNTED_LIMIT {
+        return Code::from(Refusal::Full).number();
+    }
+    apply_counted(ntp, reading, cmd)
+}
+
+/// Applies a command, and counts it if it is accepted.
+fn apply_counted(ntp: &mut CountedNtp, reading: u64, cmd: Command) -> u32
+    requires { ntp.old.front < counted_most }
+    ensures { IsCommandCounted ntp.old reading cmd result ntp.new }
+{
+    let called = ntp.steered.apply(reading, cmd);
+    count(&mut ntp.front, called)
+}
+
+/// Does what a request asks for, after the seconds up to its reading have begun, writes the reply into
+/// `timex` and the clock's state to `state`, and counts the call (`SteeredClock::adjtimex`).
+///
+/// # Errors
+///
+/// Writes neither `timex` nor `state` then. Returns, in this order:
+///
+/// - `Code::Full` if 2^63 - 1 calls were accepted: nothing changes;
+/// - `Code::Invalid` if the request has a fault (`Timex::is_faulty`): nothing changes;
+/// - the code of the test that an update at the reading fails: nothing changes;
+/// - the code of the test that the request's step or TAI offset fails: the seconds up to the reading
+///   have begun.
+#[unsafe(no_mangle)]
+pub extern "C" fn tkc_adjtimex(
+    timex: &mut KernelTimex,
+    state: &mut u32,
+    ntp: &mut CountedNtp,
+    reading: u64,
+) -> u32
+    ensures { IsNtpAnswered ntp.old reading timex.old state.old result timex.new state.new ntp.new }
+{
+    if ntp.front >= COUNTED_LIMIT {
+        return Code::from(Refusal::Full).number();
+    }
+    ask_counted(timex, state, ntp, reading)
+}
+
+/// Does what a request asks for, and counts it if it is accepted.
+fn ask_counted(timex: &mut KernelTimex, state: &mut u32, ntp: &mut CountedNtp, reading: u64) -> u32
+    requires { ntp.old.front < counted_most }
+    ensures { IsRequestCounted ntp.old reading timex.old state.old result timex.new state.new
+        ntp.new }
+{
+    match ntp.steered.adjtimex(reading, &timex.request()) {
+        Ok(reply) => {
+            timex.answer(&reply);
+            *state = state_number(reply.state);
+            ntp.front += 1;
+            Code::Done.number()
+        }
+        Err(refusal) => Code::from(refusal).number(),
+    }
+}
+
+/// Writes the reading at which the next second of REALTIME begins to `out`
+/// (`SteeredClock::next_second`).
+///
+/// # Errors
+///
+/// Returns `Code::NotReached`, and doesn't write `out`, if REALTIME doesn't reach that second up to
+/// half the counter's range after the last command.
+#[unsafe(no_mangle)]
+pub extern "C" fn tkc_ntp_next_second(out: &mut u64, ntp: &CountedNtp) -> u32
+    ensures { IsNextSecond ntp.now out.old out.new result }
+{
+    match ntp.steered.next_second() {
+        Some(reading) => {
+            *out = reading;
+            Code::Done.number()
+        }
+        None => Code::NotReached.number(),
+    }
+}
+
+/// Writes a snapshot of the clocks to `out` (`SteeredClock::snapshot`). Its front is the number of
+/// accepted calls.
+#[unsafe(no_mangle)]
+pub extern "C" fn tkc_ntp_snapshot(out: &mut SnapshotStorage, ntp: &CountedNtp)
+    ensures { out.new ≡ snapshot_storage (record {
+      front = ntp.now.front;
+      base = ntp.now.steered.clock.base;
+    }) }
+{
+    store_snapshot(out, ntp.steered.snapshot(ntp.front));
+}

@@ -1,0 +1,169 @@
+#!/usr/bin/env python3
+"""Runs random records through ntp_orders.c and through the definitions in Python, and stops at the
+first answer or snapshot that differs.
+
+    tests/c/compare_ntp.py PROGRAM [RECORDS [SEED]]     RECORDS is 100,000 if not given
+"""
+import random
+import subprocess
+import sys
+from pathlib import Path
+
+sys.path.insert(0, str(Path(__file__).resolve().parents[1] / "model"))
+
+# pylint: disable=wrong-import-position
+import ntp
+from model import Counter, from_hz, is_settable
+from ntp_model import Refused, Steered
+
+COMMANDS = ["update", "set", "step", "freq", "tick", "tai", "suspend", "resume"]
+CLOCKS = {0: "realtime", 1: "monotonic", 7: "boottime", 11: "tai"}
+DAY_END = 1_483_228_800
+
+
+class Session:
+    """The clocks in Python, and their answers to records."""
+
+    def __init__(self):
+        self.steered = None
+
+    def answer(self, record):
+        word, *numbers = record.split(",")
+        try:
+            line = getattr(self, word)(*map(int, numbers))
+        except Refused as refused:
+            return self.with_words(f"no,TKC_{str(refused).upper()}")
+        if word in ("advance", "apply", "adjtimex", "get"):
+            self.steered.front += 1
+        return self.with_words(line)
+
+    def with_words(self, line):
+        if self.steered is None:
+            return line
+        words = self.steered.clock.words(self.steered.front)
+        return ",".join(map(str, [line, *words]))
+
+    def open(self, bits, mult, shift, reading, sec, nsec, hz):
+        if reading >= 2**bits or not is_settable(sec, nsec) or not 1 <= hz <= 1024:
+            raise Refused("invalid")
+        self.steered = Steered(Counter(bits, mult, shift), reading, sec * 10**9 + nsec, hz)
+        return "open"
+
+    def advance(self, reading):
+        self.steered.advance(reading)
+        return "ok"
+
+    def apply(self, reading, command, number, nsec):
+        if command > 7:
+            raise Refused("bad_command")
+        self.steered.apply(reading, COMMANDS[command], number, nsec)
+        return "ok"
+
+    def adjtimex(self, reading, *fields):
+        state, sec, sub, *others = self.steered.adjtimex(reading, ntp.Timex(*fields))
+        digits = 9 if self.steered.ntp.status & ntp.STA_NANO else 6
+        return ",".join(map(str, ["adj", state.lower(), f"{sec}.{sub:0{digits}}", *others]))
+
+    def get(self, clock, reading):
+        self.steered.advance(reading)
+        sec, nsec = divmod(self.steered.clock.value(CLOCKS[clock], reading), 10**9)
+        return f"at,{sec}.{nsec:09}"
+
+    def next(self):
+        reading = self.steered.next_second()
+        if reading is None:
+            raise Refused("not_reached")
+        return f"next,{reading}"
+
+
+class Records:
+    """Random records about the clocks of a session. Requests are those of ntp.py."""
+
+    def __init__(self, seed, session):
+        self.random, self.session = random.Random(seed), session
+        self.requests = ntp.Orders(seed + 1)
+
+    def next(self):
+        pick = self.random.randrange(100)
+        if self.session.steered is None or pick < 2:
+            return self.opening()
+        if pick < 55:
+            return ",".join(map(str, ["adjtimex", self.reading(), *self.requests.request()]))
+        if pick < 75:
+            return f"get,{self.random.choice(list(CLOCKS))},{self.reading()}"
+        if pick < 85:
+            return f"advance,{self.reading()}"
+        return self.command() if pick < 97 else "next"
+
+    def opening(self):
+        bits = self.random.choice([8, 16, 32, 56, 64, 64, 64])
+        counter = from_hz(bits, self.random.choice([1, 3, 32_768, 24 * 10**6, 10**9, 2_500_000_000]),
+                          self.random.choice([1, 60, 600]))
+        if self.random.randrange(3) == 0:
+            counter = Counter(bits, self.random.choice([256, 300, 2**20 + 1, 3_869_339_906]), self.random.randrange(33))
+        reading = self.random.choice([0, 2**bits - 1, self.random.randrange(2**bits), min(2**bits, 2**64 - 1)])
+        sec = self.random.choice([0, DAY_END - 3, DAY_END - 2, 1_700_000_000, 8_277_292_030, 8_277_292_036])
+        hz = self.random.choice([1, 100, 250, 1000, 1024, self.random.randrange(1026)])
+        return f"open,{bits},{counter.mult},{counter.shift},{reading},{sec},{self.random.choice([0, 999_999_999])},{hz}"
+
+    def reading(self):
+        """A reading some seconds after the last one; seldom one behind it, or above the mask."""
+        clock, pick = self.session.steered.clock, self.random.randrange(30)
+        counter = clock.counter
+        second = -(-(10**9 << counter.shift) // counter.mult)
+        if pick == 0:
+            last = (clock.last - self.random.randrange(1, 99)) % 2**64
+            return last if counter.bits == 64 else self.random.choice([2**counter.bits, 2**64 - 1, last])
+        if pick < 4:
+            following = self.session.steered.next_second()
+            return clock.last if following is None else following
+        most = self.random.choice([1, 1, second, second, 4 * second])
+        cycles = 300 * second if self.random.randrange(500) == 0 else self.random.randrange(most + 2)
+        return (clock.last + min(cycles, 2**counter.bits // 2 - 1)) % 2**counter.bits
+
+    def command(self):
+        command = self.random.choice(range(9))
+        if self.session.steered.clock.asleep and self.random.randrange(2):
+            command = 7
+        real = self.session.steered.clock.value("realtime", self.session.steered.clock.last) // 10**9
+        number = {1: real + self.random.randrange(-5, 100_000), 2: self.random.randrange(-100, 100),
+                  3: self.random.randrange(-40_000_000, 40_000_000), 4: self.random.randrange(8_999, 11_002),
+                  5: self.random.randrange(-1, 100_002), 7: self.random.randrange(100_000)}.get(command, 0)
+        if command == 1 and self.random.randrange(2):
+            number = real // 86_400 * 86_400 + 86_400 - self.random.randrange(1, 4)
+        nsec = self.random.choice([0, 999_999_999, self.random.randrange(10**9), 10**9])
+        return f"apply,{self.reading()},{command},{max(-2**63, min(2**63 - 1, number))},{nsec}"
+
+
+def records_of(seed, count):
+    """Returns random records and their answers."""
+    session = Session()
+    records = Records(seed, session)
+    given = []
+    for _ in range(count):
+        record = records.next()
+        given.append((record, session.answer(record)))
+    return given
+
+
+def compare(program, count, seed):
+    given = records_of(seed, count)
+    ran = subprocess.run([program], input="".join(record + "\n" for record, _ in given), capture_output=True,
+                         text=True, check=True)
+    lines = ran.stdout.splitlines()
+    for place, (record, wanted) in enumerate(given):
+        if place >= len(lines) or lines[place] != wanted:
+            found = lines[place] if place < len(lines) else ran.stderr
+            sys.exit(f"seed {seed}, record {place}: {record}\n  the library: {found}\n  the model:   {wanted}")
+
+
+def main():
+    count = int(sys.argv[2]) if len(sys.argv) > 2 else 100_000
+    seed = int(sys.argv[3]) if len(sys.argv) > 3 else random.randrange(2**32)
+    for first in range(0, count, 100_000):
+        compare(sys.argv[1], min(100_000, count - first), seed + first)
+    print(f"compare_ntp: {count} answers of seed {seed} are those of the definitions")
+
+
+if __name__ == "__main__":
+    main()

@@ -1,0 +1,222 @@
+"""The clocks of a counter, steered by a discipline, in unbounded integers: what the calls `tkc_ntp_..`
+and `tkc_adjtimex` of include/tkcore.h return. It shares no code with the library.
+
+The discipline is that of ntp.py. Here it gets a clock: the seconds of REALTIME begin at readings of the
+counter, and the length of each second becomes a tick and a frequency.
+"""
+from dataclasses import dataclass, replace
+
+import sys
+from pathlib import Path
+
+sys.path.insert(0, str(Path(__file__).resolve().parents[1] / "model"))
+
+# pylint: disable=wrong-import-position
+from model import NANOS, Counter, is_bad_setting, is_settable, limit, value_of
+from ntp import ADJTIME, FREQUENCY, MAX_FREQUENCY, NANO, OFFSET, ONE, PPM16, READONLY, SETOFFSET, TICK
+from ntp import Discipline, Timex, clamp
+
+NOMINAL = NANOS * ONE                               # the length of a nominal second
+TICK_RATE = 6_553_600                               # a tick of 1 us, in 2^-16 ppm
+FREQUENCY_LIMIT = 32_768_000
+RATES = 9_000 * TICK_RATE - FREQUENCY_LIMIT, 11_000 * TICK_RATE + FREQUENCY_LIMIT
+
+
+class Refused(Exception):
+    """Why a call is refused."""
+
+
+@dataclass
+class Clock:
+    """The running clocks; amounts are in 2^-shift ns."""
+    counter: Counter
+    last: int
+    real_offset: int
+    amount: int = 0
+    raw_amount: int = 0
+    boot_offset: int = 0
+    tai: int = 0
+    frequency: int = 0
+    tick: int = 10_000
+    asleep: bool = False
+
+    def mult(self):
+        return self.counter.multiplier(self.frequency, self.tick)
+
+    def cycles(self, reading):
+        """The cycles since the last command: none while asleep, or at a reading behind it."""
+        return 0 if self.asleep or self.counter.is_behind(self.last, reading) else self.counter.gap(self.last, reading)
+
+    def value(self, clock, reading):
+        monotonic = (self.amount + self.cycles(reading) * self.mult()) >> self.counter.shift
+        offsets = {"monotonic": 0, "realtime": self.real_offset, "boottime": self.boot_offset,
+                   "tai": self.real_offset + self.tai * NANOS}
+        return monotonic + offsets[clock]
+
+    def reading_of(self, time):
+        """The first reading from the last one on at which REALTIME is `time` or later, or None."""
+        missing = ((time - self.real_offset) << self.counter.shift) - self.amount
+        cycles = max(0, -(-missing // self.mult()))
+        if self.asleep and missing > 0 or cycles > (2**self.counter.bits - 1) // 2:
+            return None
+        return (self.last + cycles) % 2**self.counter.bits
+
+    def refusal(self, reading, word, fields):
+        """Why a command is refused, or None."""
+        if self.asleep != (word == "resume"):
+            return "asleep" if self.asleep else "awake"
+        if reading >= 2**self.counter.bits or is_bad_setting(word, fields):
+            return "invalid"
+        if word != "resume" and self.counter.is_behind(self.last, reading):
+            return "behind"
+        after = replace(self)
+        after.do(reading, word, fields)
+        tested = ["monotonic", "boottime"] + (["realtime", "tai"] if word not in ("set", "step") else [])
+        if any(after.value(clock, reading) >= limit(clock) for clock in tested):
+            return "range"
+        real = after.value("realtime", reading)
+        if word in ("set", "step") and (real < after.value("monotonic", reading) or not is_settable(*divmod(real, NANOS))):
+            return "invalid"
+        return None
+
+    def do(self, reading, word, fields):
+        value, cycles = value_of(word, fields), 0 if word == "resume" else self.cycles(reading)
+        self.amount += cycles * self.mult()
+        self.raw_amount += cycles * self.counter.mult
+        self.last = reading
+        if word == "set":
+            self.real_offset = value - (self.amount >> self.counter.shift)
+        elif word == "step":
+            self.real_offset += value
+        elif word == "resume":
+            self.real_offset, self.boot_offset, self.asleep = self.real_offset + value, self.boot_offset + value, False
+        elif word == "suspend":
+            self.asleep = True
+        elif word != "update":
+            setattr(self, {"freq": "frequency"}.get(word, word), value)
+
+    def words(self, front):
+        """The ten words of the clocks' snapshot."""
+        second = NANOS << self.counter.shift
+        return [front, self.last, self.mult(), self.amount % second, self.amount // second, self.real_offset,
+                self.boot_offset, self.tai * 2 + self.asleep, self.raw_amount % second, self.raw_amount // second]
+
+
+def rate_for(length, tick):
+    """The frequency and the tick that make a second this long, by the tick that was asked for."""
+    rate = clamp(length // PPM16, *RATES)
+    if abs(rate - tick * TICK_RATE) > FREQUENCY_LIMIT:
+        tick = clamp((rate + TICK_RATE // 2) // TICK_RATE, 9_000, 11_000)
+    return rate - tick * TICK_RATE, tick
+
+
+class Steered:
+    """Clocks and a discipline. `mark` is the reading that the lag was computed at, `next` the second of
+    REALTIME that begins next, `front` the number of accepted calls."""
+
+    def __init__(self, counter, reading, real, hz):
+        self.clock, self.ntp, self.front = Clock(counter, reading, real), Discipline(hz), 0
+        self.lag, self.mark, self.next = 0, reading, real // NANOS + 1
+
+    def command(self, reading, word, *fields):
+        refusal = self.clock.refusal(reading, word, fields)
+        if refusal:
+            raise Refused(refusal)
+        if word != "resume":
+            self.account(reading)
+        self.clock.do(reading, word, fields)
+
+    def account(self, reading):
+        """What the cycles since the mark should have added, minus what they did, is the lag's growth."""
+        counter = self.clock.counter
+        short = counter.mult * self.ntp.second_length() - self.clock.mult() * NOMINAL
+        most = (NANOS << counter.shift) * (NOMINAL // 2)
+        self.lag = clamp(self.lag + counter.gap(self.mark, reading) * short, -most, most)
+        self.mark = reading
+
+    def steer(self, reading):
+        """Sets the rate that the present second needs, unless the multiplier is the same."""
+        counter = self.clock.counter
+        most = MAX_FREQUENCY + 2 * NOMINAL // counter.mult
+        made_up = clamp(self.lag // (NANOS << counter.shift), -most, most)
+        frequency, tick = rate_for(self.ntp.second_length() + made_up, self.ntp.tick)
+        if counter.multiplier(frequency, tick) == self.clock.mult():
+            return
+        if tick != self.clock.tick:
+            self.command(reading, "tick", tick)
+        if frequency != self.clock.frequency:
+            self.command(reading, "freq", frequency)
+
+    def leap(self, reading, by):
+        """Makes a leap, if the clocks take it. Returns what REALTIME leaps by, in seconds."""
+        try:
+            self.command(reading, "step", by, 0)
+        except Refused:
+            return 0
+        if 0 <= self.clock.tai - by <= 100_000:
+            self.command(reading, "tai", self.clock.tai - by)
+        return by
+
+    def due(self, reading):
+        """The reading at which the next second begins, if it isn't after `reading`."""
+        at = self.clock.reading_of(self.next * NANOS)
+        return None if at is None or self.clock.cycles(at) > self.clock.cycles(reading) else at
+
+    def advance(self, reading):
+        """Lets each second up to a reading begin, at the reading at which it begins."""
+        self.test(reading)
+        while (at := self.due(reading)) is not None:
+            self.account(at)
+            leap = self.ntp.overflow(self.next)
+            self.next += 1
+            if leap:
+                self.next += self.leap(at, leap)
+            self.steer(at)
+
+    def test(self, reading):
+        refusal = self.clock.refusal(reading, "update", ())
+        if refusal:
+            raise Refused(refusal)
+
+    def apply(self, reading, word, *fields):
+        if word == "freq":
+            self.adjtimex(reading, Timex(FREQUENCY, freq=clamp(fields[0], -FREQUENCY_LIMIT, FREQUENCY_LIMIT)))
+            return
+        if word == "tick":
+            self.adjtimex(reading, Timex(TICK, tick=fields[0]))
+            return
+        if word != "resume":
+            self.advance(reading)
+        self.command(reading, word, *fields)
+        if word in ("set", "step"):
+            self.ntp.clear()
+            self.lag = 0
+        if word in ("set", "step", "resume"):
+            self.mark, self.next = reading, self.clock.value("realtime", reading) // NANOS + 1
+            self.steer(reading)
+
+    def adjtimex(self, reading, t):
+        """The fields of the reply, from the state to the TAI offset."""
+        if t.is_faulty():
+            raise Refused("invalid")
+        self.advance(reading)
+        if t.modes & SETOFFSET:
+            self.apply(reading, "step", t.sec, t.sub * (1 if t.modes & NANO else 1000))
+        sec, nsec = divmod(self.clock.value("realtime", reading), NANOS)
+        offset = None
+        if t.modes & ADJTIME:
+            offset = self.ntp.adjust
+            if not t.modes & READONLY:
+                self.ntp.adjust = t.offset
+        elif t.modes:
+            self.account(reading)
+            tai = self.ntp.request(t, sec, self.clock.tai)
+            if tai != self.clock.tai:
+                self.command(reading, "tai", tai)
+            if t.modes & (OFFSET | FREQUENCY | TICK):
+                self.steer(reading)
+        return self.ntp.reply(offset, sec, nsec, self.clock.tai)
+
+    def next_second(self):
+        """The reading at which the next second of REALTIME begins, or None."""
+        return self.clock.reading_of(self.next * NANOS)

@@ -1,0 +1,192 @@
+/* SPDX-License-Identifier: MIT OR Apache-2.0 */
+#include "ntp_records.h"
+#include "check.h"
+
+#include <inttypes.h>
+#include <stdio.h>
+#include <stdlib.h>
+#include <string.h>
+
+static const char *const states[] = { "ok", "ins", "del", "oop", "wait", "error" };
+
+/* A record's word and its numbers, as their 64 bits. */
+struct record {
+	char word[16];
+	uint64_t numbers[FIELDS];
+};
+
+static struct record parsed(const char *text)
+{
+	struct record record = { .word = "" };
+	size_t length = strcspn(text, ",");
+
+	check(length < sizeof(record.word));
+	memcpy(record.word, text, length);
+	text += length;
+	for (int i = 0; *text == ',' && i < FIELDS; i++) {
+		char *end;
+
+		record.numbers[i] = text[1] == '-' ?
+			(uint64_t)strtoll(text + 1, &end, 0) : strtoull(text + 1, &end, 0);
+		check(end > text + 1);
+		text = end;
+	}
+	check(!*text);
+	return record;
+}
+
+static void print_code(char *line, const char *done, uint32_t code)
+{
+	if (code)
+		snprintf(line, LINE_SIZE, "no,%s", tkc_code_name(code));
+	else
+		snprintf(line, LINE_SIZE, "%s", done);
+}
+
+static uint32_t make_counter(struct tkc_counter *counter, const struct record *record)
+{
+	const uint64_t *n = record->numbers;
+
+	if (!strcmp(record->word, "open"))
+		return tkc_counter_new(counter, (uint32_t)n[0], (uint32_t)n[1],
+				       (uint32_t)n[2]);
+	return tkc_counter_from_hz(counter, (uint32_t)n[0], n[1], (uint32_t)n[2]);
+}
+
+static void open_clocks(struct session *session, const struct record *record, char *line)
+{
+	const uint64_t *n = record->numbers;
+	struct tkc_ntp before = session->ntp;
+	uint32_t code;
+
+	check(!make_counter(&session->counter, record));
+	code = tkc_ntp_open(&session->ntp, &session->counter, n[3], (int64_t)n[4],
+			    (uint32_t)n[5], (uint32_t)n[6]);
+	check(!code || !memcmp(&session->ntp, &before, sizeof(before)));
+	print_code(line, "open", code);
+}
+
+static void advance(struct session *session, const struct record *record, char *line)
+{
+	struct tkc_ntp before = session->ntp;
+	uint32_t code = tkc_ntp_advance(&session->ntp, record->numbers[0]);
+
+	check(!code || !memcmp(&session->ntp, &before, sizeof(before)));
+	print_code(line, "ok", code);
+}
+
+static void apply_command(struct session *session, const struct record *record, char *line)
+{
+	const uint64_t *n = record->numbers;
+
+	print_code(line, "ok",
+		   tkc_ntp_apply(&session->ntp, n[0], (uint32_t)n[1], (int64_t)n[2],
+				 (uint32_t)n[3]));
+}
+
+/* Makes the request of a record, in a struct whose other fields are 0xa5. */
+static struct tkc_timex request_of(const struct record *record)
+{
+	const uint64_t *n = record->numbers;
+	struct tkc_timex timex;
+
+	memset(&timex, 0xa5, sizeof(timex));
+	timex.modes = (uint32_t)n[1];
+	timex.offset = (int64_t)n[2];
+	timex.freq = (int64_t)n[3];
+	timex.maxerror = (int64_t)n[4];
+	timex.esterror = (int64_t)n[5];
+	timex.status = (uint32_t)n[6];
+	timex.constant = (int64_t)n[7];
+	timex.tick = (int64_t)n[8];
+	timex.sec = (int64_t)n[9];
+	timex.sub = (int64_t)n[10];
+	return timex;
+}
+
+/* Checks the fields of a reply that don't depend on the clock. */
+static void check_fixed(const struct tkc_timex *timex, const struct tkc_timex *request)
+{
+	check(timex->modes == request->modes);
+	check(timex->precision == 1 && timex->tolerance == 32768000);
+	check(!timex->ppsfreq && !timex->jitter && !timex->shift && !timex->stabil);
+	check(!timex->jitcnt && !timex->calcnt && !timex->errcnt && !timex->stbcnt);
+	check(timex->modes_padding == 0xa5a5a5a5 && timex->status_padding == 0xa5a5a5a5 &&
+	      timex->shift_padding == 0xa5a5a5a5);
+	for (size_t i = 0; i < COUNT_OF(timex->padding); i++)
+		check(timex->padding[i] == 0xa5a5a5a5);
+}
+
+static void print_reply(char *line, uint32_t state, const struct tkc_timex *timex)
+{
+	check(state < COUNT_OF(states));
+	snprintf(line, LINE_SIZE,
+		 "adj,%s,%" PRId64 ".%0*" PRId64 ",%" PRId64 ",%" PRId64 ",%" PRId64 ",%" PRId64
+		 ",%" PRIu32 ",%" PRId64 ",%" PRId64 ",%" PRId32,
+		 states[state], timex->sec, timex->status & TKC_STA_NANO ? 9 : 6, timex->sub,
+		 timex->offset, timex->freq, timex->maxerror, timex->esterror, timex->status,
+		 timex->constant, timex->tick, timex->tai);
+}
+
+static void ask(struct session *session, const struct record *record, char *line)
+{
+	struct tkc_timex request = request_of(record), timex = request;
+	uint32_t state = 77;
+	uint32_t code = tkc_adjtimex(&timex, &state, &session->ntp, record->numbers[0]);
+
+	if (code) {
+		check(state == 77 && !memcmp(&timex, &request, sizeof(request)));
+		print_code(line, "", code);
+		return;
+	}
+	check_fixed(&timex, &request);
+	print_reply(line, state, &timex);
+}
+
+static void get(struct session *session, const struct record *record, char *line)
+{
+	uint64_t reading = record->numbers[1];
+	struct tkc_snapshot snapshot;
+	struct tkc_time time;
+	uint32_t code = tkc_ntp_advance(&session->ntp, reading);
+
+	tkc_ntp_snapshot(&snapshot, &session->ntp);
+	if (!code)
+		code = tkc_snapshot_get(&time, &snapshot, (uint32_t)record->numbers[0], reading);
+	if (code)
+		print_code(line, "", code);
+	else
+		snprintf(line, LINE_SIZE, "at,%" PRId64 ".%09" PRIu32, time.sec, time.nsec);
+}
+
+static void print_next(const struct session *session, char *line)
+{
+	uint64_t reading = 77;
+	uint32_t code = tkc_ntp_next_second(&reading, &session->ntp);
+
+	check(!code || reading == 77);
+	if (code)
+		print_code(line, "", code);
+	else
+		snprintf(line, LINE_SIZE, "next,%" PRIu64, reading);
+}
+
+void answer(struct session *session, const char *text, char line[LINE_SIZE])
+{
+	struct record record = parsed(text);
+
+	if (!strncmp(record.word, "open", 4))
+		open_clocks(session, &record, line);
+	else if (!strcmp(record.word, "advance"))
+		advance(session, &record, line);
+	else if (!strcmp(record.word, "apply"))
+		apply_command(session, &record, line);
+	else if (!strcmp(record.word, "adjtimex"))
+		ask(session, &record, line);
+	else if (!strcmp(record.word, "get"))
+		get(session, &record, line);
+	else if (!strcmp(record.word, "next"))
+		print_next(session, line);
+	else
+		check(!"a record");
+}

@@ -1,0 +1,37 @@
+/* SPDX-License-Identifier: MIT OR Apache-2.0 */
+/*
+ * Makes the calls on a tkc_ntp that records ask for, and writes what they return
+ * as lines. Fields are separated by commas, and numbers may be hexadecimal:
+ *
+ *	open,BITS,MULT,SHIFT,READING,SEC,NSEC,PARTS	open
+ *	openhz,BITS,HZ,MAXSEC,READING,SEC,NSEC,PARTS	open
+ *	advance,READING					ok
+ *	apply,READING,COMMAND,NUMBER,NSEC		ok
+ *	adjtimex,READING,MODES,OFFSET,FREQ,MAXERROR,ESTERROR,STATUS,CONSTANT,
+ *		TICK,SEC,SUB				adj,STATE,SEC.SUB,OFFSET,FREQ,
+ *							MAXERROR,ESTERROR,STATUS,
+ *							CONSTANT,TICK,TAI
+ *	get,CLOCK,READING				at,SEC.NSEC
+ *	next						next,READING
+ *
+ * PARTS is the discipline's hz. `get` advances first. A call that fails is
+ * answered `no,CODE`.
+ */
+#ifndef NTP_RECORDS_H
+#define NTP_RECORDS_H
+
+#include <tkcore.h>
+
+enum { LINE_SIZE = 512, FIELDS = 12 };
+
+/* The clocks that records are about. */
+struct session {
+	struct tkc_counter counter;
+	struct tkc_ntp ntp;
+};
+
+/* Answers a record, without an end of line. A call that fails must write
+ * nothing. */
+void answer(struct session *session, const char *record, char line[LINE_SIZE]);
+
+#endif
