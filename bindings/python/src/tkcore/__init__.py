@@ -10,12 +10,14 @@ Times are whole nanoseconds, readings and stamps are cycles of the counter, and 
 2^-16 ppm. A refused call raises the exception of its code, such as Behind.
 """
 from ._library import NANOS, VERSION
-from .clock import Clock, Command
+from .clock import Clock
+from .commands import Command
 from .counter import Counter
 from .errors import (Asleep, Awake, BadAdjust, BadBits, BadBuffer, BadClock, BadCommand, BadLayout,
                      BadMult, BadRate, BadRoom, BadShift, BadWords, Behind, Busy, Error, Full,
                      Invalid, NotReached, OtherVersion, Range, Refused)
 from .journal import Journal
+from .ntp import Mode, Reply, Status, SteeredClock, TimeState, Timex
 from .page import Latch, Page
 from .snapshot import ClockId, Snapshot
 
@@ -24,6 +26,7 @@ __version__ = VERSION
 __all__ = [
     "Asleep", "Awake", "BadAdjust", "BadBits", "BadBuffer", "BadClock", "BadCommand", "BadLayout",
     "BadMult", "BadRate", "BadRoom", "BadShift", "BadWords", "Behind", "Busy", "Clock", "ClockId",
-    "Command", "Counter", "Error", "Full", "Invalid", "Journal", "Latch", "NANOS", "NotReached",
-    "OtherVersion", "Page", "Range", "Refused", "Snapshot",
+    "Command", "Counter", "Error", "Full", "Invalid", "Journal", "Latch", "Mode", "NANOS",
+    "NotReached", "OtherVersion", "Page", "Range", "Refused", "Reply", "Snapshot", "Status",
+    "SteeredClock", "TimeState", "Timex",
 ]

@@ -33,6 +33,24 @@ class ClockValue(ctypes.Structure):
     _fields_ = [("tkc_private", c_uint64 * 13)]
 
 
+class NtpValue(ctypes.Structure):
+    """`struct tkc_ntp`."""
+
+    _fields_ = [("tkc_private", c_uint64 * 27)]
+
+
+class TimexValue(ctypes.Structure):
+    """`struct tkc_timex`."""
+
+    _fields_ = [
+        ("modes", c_uint32), ("modes_padding", c_uint32), ("offset", c_int64), ("freq", c_int64),
+        ("maxerror", c_int64), ("esterror", c_int64), ("status", c_uint32),
+        ("status_padding", c_uint32), ("constant", c_int64), ("precision", c_int64),
+        ("tolerance", c_int64), ("sec", c_int64), ("sub", c_int64), ("tick", c_int64),
+        ("pulse", c_int64 * 8), ("tai", c_uint32), ("padding", c_uint32 * 11),
+    ]
+
+
 class SnapshotValue(ctypes.Structure):
     """`struct tkc_snapshot`."""
 
@@ -52,6 +70,7 @@ SavedWords = c_uint64 * SAVED_WORDS
 ReadCounter = ctypes.CFUNCTYPE(c_uint64, c_void_p)
 
 _COUNTER, _CLOCK, _SNAPSHOT = map(POINTER, (CounterValue, ClockValue, SnapshotValue))
+_NTP = POINTER(NtpValue)
 _NUMBER, _WORDS = POINTER(c_uint32), POINTER(c_uint64)
 _MAKE = [_COUNTER, c_uint32, c_uint64, c_uint32]
 _LOOK = [c_void_p, c_uint32, ReadCounter, _SNAPSHOT, _WORDS]
@@ -75,6 +94,12 @@ _CALLS = {
     "tkc_clock_save": (None, [_WORDS, _CLOCK]),
     "tkc_clock_load": (c_uint32, [_CLOCK, _WORDS]),
     "tkc_snapshot_counter": (None, [_COUNTER, _SNAPSHOT]),
+    "tkc_ntp_open": (c_uint32, [_NTP, _COUNTER, c_uint64, c_int64, c_uint32, c_uint32]),
+    "tkc_ntp_advance": (c_uint32, [_NTP, c_uint64]),
+    "tkc_ntp_apply": (c_uint32, [_NTP, c_uint64, c_uint32, c_int64, c_uint32]),
+    "tkc_adjtimex": (c_uint32, [POINTER(TimexValue), _NUMBER, _NTP, c_uint64]),
+    "tkc_ntp_next_second": (c_uint32, [_WORDS, _NTP]),
+    "tkc_ntp_snapshot": (None, [_SNAPSHOT, _NTP]),
     "tkcp_layout": (None, [_WORDS]),
     "tkcp_page_init": (None, [c_void_p, _SNAPSHOT]),
     "tkcp_page_init_clock": (None, [c_void_p, _CLOCK]),
@@ -104,7 +129,7 @@ def _version_of(number: int) -> str:
 
 def _check(calls: Any, path: str) -> None:
     """Raises OtherVersion unless the shared object has the values that this package declares."""
-    layout = (c_uint64 * 6)()
+    layout = (c_uint64 * 8)()
     major, minor, _ = map(int, VERSION.split("."))
     try:
         calls.tkc_version.restype = c_uint32
@@ -115,8 +140,9 @@ def _check(calls: Any, path: str) -> None:
     if any(number >> 8 != major << 8 | minor for number in (found, layout[0])):
         raise OtherVersion(f"{path} is of version {_version_of(found)}, made with headers of "
                            f"{_version_of(layout[0])}: this package needs {major}.{minor}", found)
-    sizes = [ctypes.sizeof(value) for value in (CounterValue, ClockValue, SnapshotValue)]
-    if list(layout)[1:] != [*sizes, PAGE_SIZE, LATCH_SIZE]:
+    counter, clock, snapshot, ntp, timex = map(
+        ctypes.sizeof, (CounterValue, ClockValue, SnapshotValue, NtpValue, TimexValue))
+    if list(layout)[1:] != [counter, clock, snapshot, PAGE_SIZE, LATCH_SIZE, ntp, timex]:
         raise OtherVersion(f"{path} has values of other sizes", list(layout)[1:])
 
 

@@ -6,7 +6,7 @@
 #include <tkcore_page.h>
 
 /* The version of the headers, and the sizes of values, which the package's declarations must have. */
-void tkcp_layout(uint64_t layout[6])
+void tkcp_layout(uint64_t layout[8])
 {
 	layout[0] = TKC_VERSION;
 	layout[1] = sizeof(struct tkc_counter);
@@ -14,6 +14,8 @@ void tkcp_layout(uint64_t layout[6])
 	layout[3] = sizeof(struct tkc_snapshot);
 	layout[4] = sizeof(struct tkc_page);
 	layout[5] = sizeof(struct tkc_latch);
+	layout[6] = sizeof(struct tkc_ntp);
+	layout[7] = sizeof(struct tkc_timex);
 }
 
 void tkcp_page_init(struct tkc_page *page, const struct tkc_snapshot *snapshot)

@@ -1,0 +1,141 @@
+# SPDX-License-Identifier: MIT OR Apache-2.0
+"""The commands that clocks accept."""
+from __future__ import annotations
+
+import enum
+from typing import Any, NoReturn, Tuple
+
+from ._library import I64, NANOS, U32, U64, fit
+from .counter import Counter
+from .errors import BY_CODE, BadCommand, Behind, Full, Invalid
+
+_NSECS = (0, NANOS - 1)
+SETTABLE = (0, 8_277_292_035)
+
+
+class Command(enum.IntEnum):
+    """The commands, with their numbers in tkcore.h."""
+
+    UPDATE = 0
+    SET_TIME = 1
+    STEP = 2
+    FREQ = 3
+    TICK = 4
+    TAI_OFFSET = 5
+    SUSPEND = 6
+    RESUME = 7
+
+
+# The range of a command's number, and whether it has nanoseconds too.
+_NUMBERS = {
+    Command.SET_TIME: (SETTABLE, True), Command.STEP: (I64, True), Command.FREQ: (I64, False),
+    Command.TICK: ((9_000, 11_000), False), Command.TAI_OFFSET: ((0, 100_000), False),
+    Command.RESUME: ((0, 9_223_372_035), True),
+}
+
+
+class Commanded:
+    """Clocks that accept commands: those of `Clock` and of `SteeredClock`."""
+
+    __slots__ = ()
+
+    counter: Counter
+
+    def _call_apply(self, reading: int, command: int, number: int, nsec: int) -> int:
+        """Calls the library. Returns its code."""
+        raise NotImplementedError
+
+    def _front_and_last(self) -> Tuple[int, int]:
+        """Returns the front, and the reading of the last command."""
+        raise NotImplementedError
+
+    def apply(self, reading: int, command: int, number: int = 0, nsec: int = 0) -> None:
+        """Applies a command at a reading of 0 to 2^bits - 1 cycles, with the arguments that
+        tkcore.h documents.
+
+        Raises, in this order: BadCommand, Full, Asleep or Awake, Invalid for a number that is out
+        of its range, Behind, Range, and Invalid for a time that REALTIME may not be set to.
+        """
+        readings = (0, self.counter.max_reading)
+        code = self._call_apply(
+            fit(reading, U64, Invalid, "reading", readings),
+            fit(command, U32, BadCommand, "command", (0, 7)),
+            fit(number, I64, Invalid, "number"), fit(nsec, U32, Invalid, "nsec", _NSECS))
+        if code:
+            self._refuse(code, reading, command, number, nsec)
+
+    def update(self, reading: int) -> None:
+        """Only brings the clocks forward to the reading. Raises what `apply` does."""
+        self.apply(reading, Command.UPDATE)
+
+    def set_time(self, reading: int, time: int) -> None:
+        """Sets REALTIME to a time in ns since 1970, below 8277292036 s and not below MONOTONIC.
+
+        Raises what `apply` does.
+        """
+        self.apply(reading, Command.SET_TIME, *split(time, SETTABLE, "time"))
+
+    def step(self, reading: int, amount: int) -> None:
+        """Moves REALTIME by an amount in ns, which may be negative. The result must be in the range
+        of `set_time`.
+
+        Raises what `apply` does.
+        """
+        self.apply(reading, Command.STEP, *split(amount, I64, "amount"))
+
+    def set_frequency(self, reading: int, frequency: int) -> None:
+        """Sets the frequency, in 2^-16 ppm: 65536 is one part in a million. A frequency beyond 500
+        ppm takes effect as that limit.
+
+        Raises what `apply` does.
+        """
+        self.apply(reading, Command.FREQ, frequency)
+
+    def set_tick(self, reading: int, tick: int) -> None:
+        """Sets the tick, 9000 to 11000 us. Raises what `apply` does."""
+        self.apply(reading, Command.TICK, tick)
+
+    def set_tai_offset(self, reading: int, offset: int) -> None:
+        """Sets TAI minus REALTIME, 0 to 100000 s. Raises what `apply` does."""
+        self.apply(reading, Command.TAI_OFFSET, offset)
+
+    def suspend(self, reading: int) -> None:
+        """Puts the clocks to sleep: none moves until `resume`. Raises what `apply` does."""
+        self.apply(reading, Command.SUSPEND)
+
+    def resume(self, reading: int, slept: int) -> None:
+        """Wakes the clocks, which count again starting at the reading. BOOTTIME, REALTIME and TAI
+        advance by the suspension, 0 s to below 9223372036 s, in ns.
+
+        Raises what `apply` does, except for Behind.
+        """
+        self.apply(reading, Command.RESUME, *split(slept, _NUMBERS[Command.RESUME][0], "slept"))
+
+    def _refuse_reading(self, code: int, reading: int) -> None:
+        """Raises the exception of a code that is about the reading or the count of calls."""
+        front, start = self._front_and_last()
+        last = self.counter.max_reading
+        if code == Full.code:
+            raise Full("the number of accepted commands", front, (0, 2**63 - 2))
+        if code == Invalid.code:
+            fit(reading, (0, last), Invalid, "reading")
+        if code == Behind.code:
+            raise Behind("reading", reading, (start, (start + last // 2) & last))
+
+    def _refuse(self, code: int, reading: int, command: int, number: int, nsec: int) -> NoReturn:
+        """Raises the exception of a code, with the argument that it is for."""
+        if code == BadCommand.code:
+            raise BadCommand("command", command, (0, 7))
+        self._refuse_reading(code, reading)
+        if code == Invalid.code:
+            within, has_nsec = _NUMBERS.get(Command(command), (I64, False))
+            fit(number, within, Invalid, "number")
+            fit(nsec, _NSECS if has_nsec else U32, Invalid, "nsec")
+            raise Invalid("REALTIME may not be set to this time, or moved to it")
+        raise BY_CODE[code](f"{Command(command).name} is refused")
+
+
+def split(time: int, seconds: Tuple[int, int], what: str) -> Tuple[int, int]:
+    """Returns a time in ns as seconds, which must be in a range, and nanoseconds."""
+    within = (seconds[0] * NANOS, seconds[1] * NANOS + NANOS - 1)
+    return divmod(fit(time, within, Invalid, what), NANOS)

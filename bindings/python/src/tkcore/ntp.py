@@ -1,0 +1,180 @@
+# SPDX-License-Identifier: MIT OR Apache-2.0
+"""Clocks that a discipline steers, as the kernel's are by adjtimex(2)."""
+from __future__ import annotations
+
+import enum
+from ctypes import byref, c_uint32, c_uint64
+from dataclasses import dataclass
+from typing import NoReturn, Tuple
+
+from ._library import (CALLS, I64, U32, U64, NtpValue, SnapshotValue, TimexValue, fit, raise_code)
+from .commands import SETTABLE, Commanded, split
+from .counter import Counter
+from .errors import BY_CODE, Invalid
+from .snapshot import Snapshot
+
+
+class Mode(enum.IntFlag):
+    """The bits of `Timex.modes`, with their numbers in adjtimex(2)."""
+
+    OFFSET = 0x0001
+    FREQUENCY = 0x0002
+    MAXERROR = 0x0004
+    ESTERROR = 0x0008
+    STATUS = 0x0010
+    TIMECONST = 0x0020
+    TAI = 0x0080
+    SETOFFSET = 0x0100
+    MICRO = 0x1000
+    NANO = 0x2000
+    TICK = 0x4000
+    ADJTIME = 0x8000
+
+
+class Status(enum.IntFlag):
+    """The bits of `Timex.status`, with their numbers in adjtimex(2)."""
+
+    PLL = 0x0001
+    FLL = 0x0008
+    INS = 0x0010
+    DEL = 0x0020
+    UNSYNC = 0x0040
+    FREQHOLD = 0x0080
+    CLOCKERR = 0x1000
+    NANO = 0x2000
+    MODE = 0x4000
+
+
+class TimeState(enum.IntEnum):
+    """The states of a steered clock: the results of adjtimex(2)."""
+
+    OK = 0
+    INS = 1
+    DEL = 2
+    OOP = 3
+    WAIT = 4
+    ERROR = 5
+
+
+@dataclass(frozen=True)
+class Timex:
+    """A request to steer clocks, or the fields of its reply, as in adjtimex(2).
+
+    `modes` says which of the other fields of a request are given. `offset`, and `sub`, the part of a
+    second after `sec`, are in ns or in us. `freq` is in 2^-16 ppm; `maxerror`, `esterror` and `tick`
+    are in us. `constant` is the time constant, or the TAI offset in s. A request's time is the step
+    of Mode.SETOFFSET, a reply's is REALTIME.
+    """
+
+    modes: int = 0
+    offset: int = 0
+    freq: int = 0
+    maxerror: int = 0
+    esterror: int = 0
+    status: int = 0
+    constant: int = 0
+    tick: int = 0
+    sec: int = 0
+    sub: int = 0
+
+
+@dataclass(frozen=True)
+class Reply:
+    """The reply to a request: the clock's state, TAI minus REALTIME in s, and the other fields."""
+
+    state: TimeState
+    tai: int
+    timex: Timex
+
+
+_WORDS = ("modes", "status")
+_NUMBERS = ("offset", "freq", "maxerror", "esterror", "constant", "tick", "sec", "sub")
+
+
+class SteeredClock(Commanded):
+    """The running clocks of a counter, opened at a reading with REALTIME at `realtime` ns since
+    1970, and steered by a fresh discipline.
+
+    Phases are divided into `hz` parts of a second, 1 to 1024: with the kernel's HZ, replies are the
+    kernel's to the last digit. Every call but `next_second` and `snapshot` first lets the seconds of
+    REALTIME up to its reading begin, each at its own reading, with its leap second and its rate. A
+    command that is refused, and so is a request's step, leaves clocks that have only advanced. FREQ
+    and TICK are requests to the discipline.
+
+    Don't let two threads use one SteeredClock without a lock. A Snapshot may be shared.
+
+    Raises Invalid if the reading, `realtime` or `hz` is out of its range.
+    """
+
+    __slots__ = ("_value", "counter")
+
+    counter: Counter
+
+    def __init__(self, counter: Counter, reading: int, realtime: int, hz: int = 250) -> None:
+        value = NtpValue()
+        reading = fit(reading, U64, Invalid, "reading", (0, counter.max_reading))
+        sec, nsec = split(realtime, SETTABLE, "realtime")
+        hz = fit(hz, (1, 1024), Invalid, "hz")
+        code = CALLS.tkc_ntp_open(byref(value), byref(counter._value), reading, sec, nsec, hz)
+        raise_code(code, "reading", reading, (0, counter.max_reading))
+        self._value, self.counter = value, counter
+
+    def advance(self, reading: int) -> None:
+        """Lets each second of REALTIME up to a reading begin.
+
+        Raises, in this order: Full, Asleep, Invalid, Behind, Range. Nothing has changed then.
+        """
+        code = CALLS.tkc_ntp_advance(byref(self._value), self._reading(reading))
+        if code:
+            self._refuse_call(code, reading)
+
+    def adjtimex(self, reading: int, request: Timex) -> Reply:
+        """Does what a request asks for at a reading, and returns the reply (adjtimex(2)).
+
+        Raises, in this order: Full; Invalid for a request that is faulty; Asleep, Invalid, Behind or
+        Range for the reading; Invalid or Range for the step of Mode.SETOFFSET.
+        """
+        timex, state = TimexValue(), c_uint32()
+        for name in _WORDS:
+            setattr(timex, name, fit(getattr(request, name), U32, Invalid, name))
+        for name in _NUMBERS:
+            setattr(timex, name, fit(getattr(request, name), I64, Invalid, name))
+        code = CALLS.tkc_adjtimex(byref(timex), byref(state), byref(self._value),
+                                  self._reading(reading))
+        if code:
+            self._refuse_call(code, reading)
+        fields = {name: getattr(timex, name) for name in _WORDS + _NUMBERS}
+        return Reply(TimeState(state.value), timex.tai, Timex(**fields))
+
+    def next_second(self) -> int:
+        """Returns the reading at which the next second of REALTIME begins, to set a timer to.
+
+        Raises NotReached if REALTIME doesn't reach it within half of the counter's range.
+        """
+        reading = c_uint64()
+        code = CALLS.tkc_ntp_next_second(byref(reading), byref(self._value))
+        raise_code(code, "REALTIME doesn't reach the next second")
+        return reading.value
+
+    def snapshot(self) -> Snapshot:
+        """Returns a snapshot of the clocks, for reads up to the beginning of the next second."""
+        value = SnapshotValue()
+        CALLS.tkc_ntp_snapshot(byref(value), byref(self._value))
+        return Snapshot._of_value(value, self.counter)
+
+    def _reading(self, reading: int) -> int:
+        return fit(reading, U64, Invalid, "reading", (0, self.counter.max_reading))
+
+    def _refuse_call(self, code: int, reading: int) -> NoReturn:
+        self._refuse_reading(code, reading)
+        raise BY_CODE[code]("the request or the reading is refused")
+
+    def _call_apply(self, reading: int, command: int, number: int, nsec: int) -> int:
+        return CALLS.tkc_ntp_apply(byref(self._value), reading, command, number, nsec)
+
+    def _front_and_last(self) -> Tuple[int, int]:
+        front, last = self.snapshot().words()[:2]
+        return front, last
+
+    def __repr__(self) -> str:
+        return f"<SteeredClock of {self.counter!r}, {self.snapshot()!r}>"
