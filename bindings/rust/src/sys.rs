@@ -12,6 +12,12 @@ use core::sync::atomic::AtomicU64;
 use crate::snapshot::COPY;
 use crate::{ClockWords, Refusal, Timespec, SAVED_WORDS, WORDS};
 
+mod ntp;
+
+pub(crate) use ntp::{
+    adjtimex, ntp_advance, ntp_apply, ntp_next_second, ntp_open, ntp_snapshot, NtpValue,
+};
+
 /// The version of the header that these declarations follow, as `TKC_VERSION`.
 const DECLARED_VERSION: u32 = 0x0000_0200; // 0.2.0
 

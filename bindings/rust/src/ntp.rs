@@ -1,0 +1,234 @@
+// SPDX-License-Identifier: MIT OR Apache-2.0
+
+use core::fmt;
+
+use crate::{sys, Command, Counter, Refusal, Snapshot, Timespec};
+
+/// The bits of a request's `modes` (`ADJ_OFFSET` .. of adjtimex(2)).
+pub mod mode {
+    /// `offset` is given.
+    pub const OFFSET: u32 = 0x0001;
+    /// `freq` is given.
+    pub const FREQUENCY: u32 = 0x0002;
+    /// `maxerror` is given.
+    pub const MAXERROR: u32 = 0x0004;
+    /// `esterror` is given.
+    pub const ESTERROR: u32 = 0x0008;
+    /// `status` is given.
+    pub const STATUS: u32 = 0x0010;
+    /// `constant` is the time constant.
+    pub const TIMECONST: u32 = 0x0020;
+    /// `constant` is the TAI offset, in seconds.
+    pub const TAI: u32 = 0x0080;
+    /// REALTIME is stepped by `sec` and `sub`.
+    pub const SETOFFSET: u32 = 0x0100;
+    /// Offsets and times are in microseconds.
+    pub const MICRO: u32 = 0x1000;
+    /// Offsets and times are in nanoseconds.
+    pub const NANO: u32 = 0x2000;
+    /// `tick` is given.
+    pub const TICK: u32 = 0x4000;
+    /// The request is the call adjtime, together with `OFFSET`; with `NANO` it only reads.
+    pub const ADJTIME: u32 = 0x8000;
+}
+
+/// The bits of a status (`STA_PLL` .. of adjtimex(2)).
+pub mod status {
+    /// Offsets steer the clock.
+    pub const PLL: u32 = 0x0001;
+    /// Offsets that come at least 256 s after the last one steer by the FLL too.
+    pub const FLL: u32 = 0x0008;
+    /// A second is inserted at the end of the day.
+    pub const INS: u32 = 0x0010;
+    /// The last second of the day is deleted.
+    pub const DEL: u32 = 0x0020;
+    /// The clock is not synchronized.
+    pub const UNSYNC: u32 = 0x0040;
+    /// Offsets leave the frequency as it is.
+    pub const FREQHOLD: u32 = 0x0080;
+    /// The clock's hardware is at fault.
+    pub const CLOCKERR: u32 = 0x1000;
+    /// Offsets and times are in nanoseconds.
+    pub const NANO: u32 = 0x2000;
+    /// The last offset steered by the FLL.
+    pub const MODE: u32 = 0x4000;
+}
+
+/// A request to steer clocks, or the fields of its reply (`struct timex` of adjtimex(2)).
+///
+/// `modes` says which of the other fields of a request are given. A request may have any numbers.
+#[derive(Clone, Copy, Debug, Default, PartialEq, Eq, Hash)]
+pub struct Timex {
+    /// The bits of [`mode`].
+    pub modes: u32,
+    /// The offset between the clock and its reference, in ns or us. In a reply: the phase still to
+    /// give.
+    pub offset: i64,
+    /// The frequency, in 2^-16 ppm.
+    pub freq: i64,
+    /// The greatest error, in us.
+    pub maxerror: i64,
+    /// The estimated error, in us.
+    pub esterror: i64,
+    /// The bits of [`status`].
+    pub status: u32,
+    /// The time constant of the PLL, or the TAI offset in seconds.
+    pub constant: i64,
+    /// The tick, in us.
+    pub tick: i64,
+    /// The seconds of a request's step, or of REALTIME in a reply.
+    pub sec: i64,
+    /// The part of a second after `sec`, in ns or us.
+    pub sub: i64,
+}
+
+/// The state of a steered clock: the result of adjtimex(2).
+#[derive(Clone, Copy, Debug, PartialEq, Eq, Hash)]
+pub enum TimeState {
+    /// No leap second is announced.
+    Ok,
+    /// A second will be inserted at the end of the day.
+    Ins,
+    /// The last second of the day will be deleted.
+    Del,
+    /// The inserted second is in progress.
+    Oop,
+    /// The leap second is over, and the status still asks for it.
+    Wait,
+    /// The clock is not synchronized, or its hardware is at fault.
+    Error,
+}
+
+impl TimeState {
+    pub(crate) fn of_number(number: u32) -> TimeState {
+        match number {
+            0 => TimeState::Ok,
+            1 => TimeState::Ins,
+            2 => TimeState::Del,
+            3 => TimeState::Oop,
+            4 => TimeState::Wait,
+            _ => TimeState::Error,
+        }
+    }
+}
+
+/// The reply to a request.
+#[derive(Clone, Copy, Debug, PartialEq, Eq, Hash)]
+pub struct Reply {
+    /// The clock's state.
+    pub state: TimeState,
+    /// TAI minus REALTIME, in seconds.
+    pub tai: u32,
+    /// The other fields. `modes` is the request's, and the time is REALTIME's.
+    pub timex: Timex,
+}
+
+/// The running clocks of a counter, steered by a discipline as the kernel's are by adjtimex(2).
+///
+/// Every call except [`next_second`](SteeredClock::next_second) and
+/// [`snapshot`](SteeredClock::snapshot) first lets the seconds of REALTIME up to its reading begin,
+/// each at its own reading, with its leap second and its rate. So calling often or seldom leaves the
+/// same clocks.
+///
+/// ```
+/// use tkcore::{mode, status, Counter, Refusal, SteeredClock, TimeState, Timespec, Timex};
+///
+/// let counter = Counter::from_hz(64, 1_000_000_000, 600)?;
+/// let start = Timespec { sec: 1_700_000_000, nsec: 0 };
+/// let mut clock = SteeredClock::open(&counter, 0, start, 250)?;
+/// let reply = clock.adjtimex(0, &Timex {
+///     modes: mode::OFFSET | mode::STATUS | mode::TIMECONST | mode::MAXERROR | mode::NANO,
+///     offset: 100_000_000,
+///     status: status::PLL,
+///     constant: 6,
+///     ..Timex::default()
+/// })?;
+/// assert_eq!(reply.state, TimeState::Ok);
+/// let later = clock.adjtimex(1_500_000_000, &Timex::default())?;
+/// assert_eq!(later.timex.offset, 99_609_375);
+/// # Ok::<(), Refusal>(())
+/// ```
+#[derive(Clone)]
+pub struct SteeredClock {
+    value: sys::NtpValue,
+    counter: Counter,
+}
+
+impl SteeredClock {
+    /// Opens clocks as [`Clock::open`](crate::Clock::open) does, with a fresh discipline. Phases are
+    /// divided into `hz` parts of a second, 1 to 1024: with the kernel's HZ, replies are the kernel's
+    /// to the last digit.
+    ///
+    /// # Errors
+    ///
+    /// `Invalid` if the reading, `start` or `hz` is out of its range.
+    pub fn open(
+        counter: &Counter,
+        reading: u64,
+        start: Timespec,
+        hz: u32,
+    ) -> Result<SteeredClock, Refusal> {
+        let value = sys::ntp_open(&counter.value, reading, start, hz).map_err(Refusal::of_code)?;
+        Ok(SteeredClock { value, counter: *counter })
+    }
+
+    /// Lets each second of REALTIME up to a reading begin.
+    ///
+    /// # Errors
+    ///
+    /// In this order: `Full`, `Asleep`, `Invalid`, `Behind`, `Range`. Nothing has changed then.
+    #[inline]
+    pub fn advance(&mut self, reading: u64) -> Result<(), Refusal> {
+        sys::ntp_advance(&mut self.value, reading).map_err(Refusal::of_code)
+    }
+
+    /// Advances, and applies a command. `Freq` and `Tick` are requests to the discipline, and
+    /// `SetTime` and `Step` clear it.
+    ///
+    /// # Errors
+    ///
+    /// Those of `advance` (not for `Resume`), and then those of
+    /// [`Clock::apply`](crate::Clock::apply): the clocks have only advanced.
+    #[inline]
+    pub fn apply(&mut self, reading: u64, command: Command) -> Result<(), Refusal> {
+        sys::ntp_apply(&mut self.value, reading, command.arguments()).map_err(Refusal::of_code)
+    }
+
+    /// Advances, does what a request asks for, and returns the reply (adjtimex(2)).
+    ///
+    /// # Errors
+    ///
+    /// In this order: `Full`; `Invalid` for a request that is faulty; those of `advance`; then those
+    /// of the step of [`mode::SETOFFSET`], and the clocks have only advanced.
+    pub fn adjtimex(&mut self, reading: u64, request: &Timex) -> Result<Reply, Refusal> {
+        sys::adjtimex(&mut self.value, reading, request).map_err(Refusal::of_code)
+    }
+
+    /// Returns the reading at which the next second of REALTIME begins, to set a timer to.
+    ///
+    /// # Errors
+    ///
+    /// `NotReached` if REALTIME doesn't reach it within half of the counter's range.
+    pub fn next_second(&self) -> Result<u64, Refusal> {
+        sys::ntp_next_second(&self.value).map_err(Refusal::of_code)
+    }
+
+    /// Returns the counter of the clocks.
+    #[must_use]
+    pub fn counter(&self) -> &Counter {
+        &self.counter
+    }
+
+    /// Returns a snapshot of the clocks, for reads up to the beginning of the next second.
+    #[inline]
+    #[must_use]
+    pub fn snapshot(&self) -> Snapshot {
+        Snapshot { value: sys::ntp_snapshot(&self.value), counter: self.counter }
+    }
+}
+
+impl fmt::Debug for SteeredClock {
+    fn fmt(&self, out: &mut fmt::Formatter<'_>) -> fmt::Result {
+        out.debug_struct("SteeredClock").field("snapshot", &self.snapshot()).finish()
+    }
+}

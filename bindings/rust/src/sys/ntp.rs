@@ -1,0 +1,144 @@
+// SPDX-License-Identifier: MIT OR Apache-2.0
+//! The calls on steered clocks.
+
+use core::mem::MaybeUninit;
+
+use super::{made, CounterValue, SnapshotValue};
+use crate::{Reply, TimeState, Timespec, Timex};
+
+/// `struct tkc_ntp`
+#[repr(C)]
+#[derive(Clone, Copy)]
+pub(crate) struct NtpValue([u64; 27]);
+
+/// `struct tkc_timex`
+#[repr(C)]
+#[derive(Default)]
+struct TimexValue {
+    modes: u32,
+    modes_padding: u32,
+    offset: i64,
+    freq: i64,
+    maxerror: i64,
+    esterror: i64,
+    status: u32,
+    status_padding: u32,
+    constant: i64,
+    precision: i64,
+    tolerance: i64,
+    sec: i64,
+    sub: i64,
+    tick: i64,
+    pulse: [i64; 8],
+    tai: u32,
+    padding: [u32; 11],
+}
+
+const _: () = assert!(size_of::<TimexValue>() == 208);
+
+extern "C" {
+    fn tkc_ntp_open(
+        out: *mut NtpValue,
+        counter: *const CounterValue,
+        reading: u64,
+        sec: i64,
+        nsec: u32,
+        hz: u32,
+    ) -> u32;
+    fn tkc_ntp_advance(ntp: *mut NtpValue, reading: u64) -> u32;
+    fn tkc_ntp_apply(ntp: *mut NtpValue, reading: u64, command: u32, number: i64, nsec: u32)
+        -> u32;
+    fn tkc_adjtimex(
+        timex: *mut TimexValue,
+        state: *mut u32,
+        ntp: *mut NtpValue,
+        reading: u64,
+    ) -> u32;
+    fn tkc_ntp_next_second(out: *mut u64, ntp: *const NtpValue) -> u32;
+    fn tkc_ntp_snapshot(out: *mut SnapshotValue, ntp: *const NtpValue);
+}
+
+/// Returns the code of a call, unless it is 0.
+#[inline]
+fn done(code: u32) -> Result<(), u32> {
+    match code {
+        0 => Ok(()),
+        code => Err(code),
+    }
+}
+
+pub(crate) fn ntp_open(
+    counter: &CounterValue,
+    reading: u64,
+    start: Timespec,
+    hz: u32,
+) -> Result<NtpValue, u32> {
+    // SAFETY: `out` is valid for a write, and the counter is a value.
+    made(|out| unsafe { tkc_ntp_open(out, counter, reading, start.sec, start.nsec, hz) })
+}
+
+#[inline]
+pub(crate) fn ntp_advance(ntp: &mut NtpValue, reading: u64) -> Result<(), u32> {
+    // SAFETY: the clocks are a value, and nobody else has them.
+    done(unsafe { tkc_ntp_advance(ntp, reading) })
+}
+
+#[inline]
+pub(crate) fn ntp_apply(
+    ntp: &mut NtpValue,
+    reading: u64,
+    (command, number, nsec): (u32, i64, u32),
+) -> Result<(), u32> {
+    // SAFETY: the clocks are a value, and nobody else has them.
+    done(unsafe { tkc_ntp_apply(ntp, reading, command, number, nsec) })
+}
+
+pub(crate) fn adjtimex(ntp: &mut NtpValue, reading: u64, request: &Timex) -> Result<Reply, u32> {
+    let mut timex = TimexValue {
+        modes: request.modes,
+        offset: request.offset,
+        freq: request.freq,
+        maxerror: request.maxerror,
+        esterror: request.esterror,
+        status: request.status,
+        constant: request.constant,
+        sec: request.sec,
+        sub: request.sub,
+        tick: request.tick,
+        ..TimexValue::default()
+    };
+    let mut state = 0;
+    // SAFETY: both are references to plain numbers, the clocks are a value, and nobody else has them.
+    done(unsafe { tkc_adjtimex(&mut timex, &mut state, ntp, reading) })?;
+    Ok(Reply { state: TimeState::of_number(state), tai: timex.tai, timex: fields(&timex) })
+}
+
+fn fields(timex: &TimexValue) -> Timex {
+    Timex {
+        modes: timex.modes,
+        offset: timex.offset,
+        freq: timex.freq,
+        maxerror: timex.maxerror,
+        esterror: timex.esterror,
+        status: timex.status,
+        constant: timex.constant,
+        tick: timex.tick,
+        sec: timex.sec,
+        sub: timex.sub,
+    }
+}
+
+pub(crate) fn ntp_next_second(ntp: &NtpValue) -> Result<u64, u32> {
+    // SAFETY: `out` is valid for a write, and the clocks are a value.
+    made(|out| unsafe { tkc_ntp_next_second(out, ntp) })
+}
+
+#[inline]
+pub(crate) fn ntp_snapshot(ntp: &NtpValue) -> SnapshotValue {
+    let mut out = MaybeUninit::uninit();
+    // SAFETY: `out` is valid for a write, the clocks are a value, and the call writes all of `out`.
+    unsafe {
+        tkc_ntp_snapshot(out.as_mut_ptr(), ntp);
+        out.assume_init()
+    }
+}
