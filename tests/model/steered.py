@@ -310,12 +310,13 @@ class SteeredOrders(Orders):
         return self.command()
 
     def opening(self):
-        self.sec = self.random.choice([0, 5, 1_483_228_790, 1_700_000_000, SETTABLE_END - 1])
+        if self.sec and self.random.randrange(5) == 0:      # refused: the clocks stay
+            return f"open,64,8388608,23,0,{self.random.choice([0, SETTABLE_END])},0,{self.random.choice([0, 1025])}"
+        self.sec = self.random.choice([5, 1_483_228_790, 1_700_000_000, SETTABLE_END - 1])
         self.bits, mult, shift = self.random.choice(self.COUNTERS)
         self.second = max(1, (NANOS << shift) // mult)      # the cycles of a second
         self.reading = self.random.choice([0, self.random.randrange(min(2**self.bits, 2**62))])
-        hz = self.random.choice([1, 100, 250, 250, 1000, 1000, self.random.randrange(1, 1025), 0])
-        self.sec = self.sec or 1
+        hz = self.random.choice([1, 100, 250, 250, 1000, 1000, self.random.randrange(1, 1025)])
         nsec = self.random.choice([0, 500_000_000, self.random.randrange(NANOS)])
         return f"open,{self.bits},{mult},{shift},{self.reading},{self.sec},{nsec},{hz}"
 
