@@ -25,9 +25,14 @@ struct start {
 	uint64_t environment, auxiliary; /* addresses */
 };
 
+/* Returns a word of a process, or 0 if the process was killed meanwhile. */
 static uint64_t peek(pid_t process, uint64_t address)
 {
-	return (uint64_t)ptrace(PTRACE_PEEKDATA, process, address, 0);
+	long word;
+
+	errno = 0;
+	word = ptrace(PTRACE_PEEKDATA, process, address, 0);
+	return errno ? 0 : (uint64_t)word;
 }
 
 /* The stack has the number of arguments, the arguments, a 0, the environment,
