@@ -159,15 +159,21 @@ static int sleep_on(struct machine *m, const struct seccomp_notif *ask)
 			   ask->data.args[2]);
 }
 
-/* As calls_ntp.c: the library has no adjtimex yet. */
+/* A call that was interrupted is made again: a step by ADJ_SETOFFSET may then
+ * happen twice. */
 static int steer(struct machine *m, const struct seccomp_notif *ask,
-		 uint64_t address)
+		 uint64_t address, int64_t *value)
 {
-	uint32_t modes;
+	struct timex timex;
+	int state;
 
-	if (fetch(ask, address, &modes, sizeof(modes)))
+	if (fetch(ask, address, &timex, sizeof(timex)))
 		return EFAULT;
-	return modes && machine_denies_set(m) ? EPERM : EOPNOTSUPP;
+	state = machine_adjtimex(m, &timex);
+	if (state < 0)
+		return -state;
+	*value = state;
+	return put(ask, address, &timex, sizeof(timex));
 }
 
 static int make_call(struct machine *m, const struct seccomp_notif *ask,
@@ -190,11 +196,11 @@ static int make_call(struct machine *m, const struct seccomp_notif *ask,
 	case SYS_clock_nanosleep:
 		return sleep_on(m, ask);
 	case SYS_adjtimex:
-		return steer(m, ask, ask->data.args[0]);
+		return steer(m, ask, ask->data.args[0], value);
 	case SYS_clock_adjtime:
 		if (ask->data.args[0] != CLOCK_REALTIME)
 			return EOPNOTSUPP;
-		return steer(m, ask, ask->data.args[1]);
+		return steer(m, ask, ask->data.args[1], value);
 	default:
 		return CALL_HOST;
 	}

@@ -1,9 +1,5 @@
 /* SPDX-License-Identifier: MIT OR Apache-2.0 */
-/*
- * The calls that steer a clock. The library has no adjtimex yet: all of them
- * fail with EOPNOTSUPP, or with EPERM if the program may not set the clocks.
- * `adjust` is the one place where it will be called.
- */
+/* The calls that steer a clock. */
 #define _GNU_SOURCE
 #include "calls.h"
 
@@ -11,13 +7,23 @@
 #include <sys/time.h>
 #include <sys/timex.h>
 
+enum { MICROS = 1000000 };
+
 static int adjust(const char *call, struct timex *tx)
 {
-	struct machine *m = machine();
-	bool is_denied = tx->modes && (m->shared->denies_set || !m->control);
+	struct timex in = *tx;
+	int result = machine_adjtimex(machine(), tx);
 
-	return logged(call, refuse(is_denied ? EPERM : EOPNOTSUPP), "modes=%#x",
-		      tx->modes);
+	if (result < 0)
+		result = refuse(-result);
+	if (!in.modes)
+		return result;
+	return logged(call, result,
+		      "modes=%#x offset=%ld freq=%ld tick=%ld status=%#x "
+		      "constant=%ld time=%ld.%ld",
+		      in.modes, in.offset, in.freq, in.tick,
+		      (unsigned int)in.status, in.constant, in.time.tv_sec,
+		      in.time.tv_usec);
 }
 
 EXPORT int adjtimex(struct timex *tx)
@@ -44,6 +50,13 @@ EXPORT int clock_adjtime(clockid_t clock, struct timex *tx)
 	return adjust("clock_adjtime", tx);
 }
 
+/* glibc's limits, within which an offset in us is 32 bits */
+static bool is_too_far(const struct timeval *span)
+{
+	return span->tv_sec > INT32_MAX / MICROS - 2 ||
+	       span->tv_sec < INT32_MIN / MICROS + 2;
+}
+
 EXPORT int adjtime(const struct timeval *in, struct timeval *out)
 {
 	struct timex tx = { .modes = in ? ADJ_OFFSET_SINGLESHOT
@@ -51,18 +64,32 @@ EXPORT int adjtime(const struct timeval *in, struct timeval *out)
 
 	if (!machine())
 		return REAL(adjtime)(in, out);
-	if (!in) /* reads what is left, which every program may */
-		tx.modes = 0;
-	return adjust("adjtime", &tx);
+	if (in && is_too_far(in))
+		return refuse(EINVAL);
+	if (in)
+		tx.offset = in->tv_sec * MICROS + in->tv_usec;
+	if (adjust("adjtime", &tx) < 0)
+		return -1;
+	if (out)
+		*out = (struct timeval){ tx.offset / MICROS,
+					 tx.offset % MICROS };
+	return 0;
 }
 
 EXPORT int ntp_gettimex(struct ntptimeval *out)
 {
 	struct timex tx = { 0 };
+	int result;
 
 	if (!machine())
 		return REAL(ntp_gettimex)(out);
-	return adjust("ntp_gettimex", &tx);
+	result = adjust("ntp_gettimex", &tx);
+	if (result >= 0)
+		*out = (struct ntptimeval){ .time = tx.time,
+					    .maxerror = tx.maxerror,
+					    .esterror = tx.esterror,
+					    .tai = tx.tai };
+	return result;
 }
 
 /* The header redirects ntp_gettime to ntp_gettimex. The older function stores

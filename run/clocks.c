@@ -167,6 +167,7 @@ void open_machine(struct run *run)
 	shared->has_stamps = run->options.has_stamps;
 	machine_init_lock(run->machine.control);
 	shared->base = machine_host(shared->kind);
-	tkc_page_init_clock(&shared->page, &run->plan.clock);
+	machine_init_clocks(&run->machine, &run->plan.counter,
+			    &run->plan.clocks);
 	shared->layout = MACHINE_LAYOUT;
 }

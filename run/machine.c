@@ -2,16 +2,11 @@
 #define _GNU_SOURCE
 #include "machine.h"
 
-#include "rows.h"
-
-#include <errno.h>
 #include <fcntl.h>
 #include <stdio.h>
 #include <sys/mman.h>
 #include <sys/stat.h>
 #include <unistd.h>
-
-enum { LOCK_NAP_NANOS = 20000 }; /* between two tries to take the lock */
 
 static void *map_file(const char *folder, const char *name, size_t size,
 		      bool is_read_only)
@@ -106,141 +101,6 @@ uint64_t machine_reading(const struct shared_page *shared)
 
 	fence_reading();
 	return reading;
-}
-
-/* After a writer has died, makes the page whole with the clocks of its last
- * publication. The caller has the lock. */
-static void recover(struct machine *machine)
-{
-	struct tkc_page *page = &machine->shared->page;
-	struct tkc_clock clock;
-
-	if (!tkc_page_clock(page, &clock))
-		tkc_page_recover(page, &clock);
-	atomic_fetch_add(&machine->control->recovered, 1);
-	pthread_mutex_consistent(&machine->control->lock);
-}
-
-/* A handler that reads a clock while its thread writes would wait forever, so
- * signals are blocked. Nobody waits in the kernel for the lock: if a waiter of
- * a robust mutex is killed when it is woken, nobody else may be woken. */
-void machine_lock(struct machine *machine, sigset_t *saved)
-{
-	sigset_t all;
-	int error;
-
-	sigfillset(&all);
-	pthread_sigmask(SIG_SETMASK, &all, saved);
-	for (unsigned int turns = 1;; turns++) {
-		error = pthread_mutex_trylock(&machine->control->lock);
-		if (error != EBUSY)
-			break;
-		if (turns % 128)
-			__builtin_ia32_pause();
-		else
-			host_nap(LOCK_NAP_NANOS);
-	}
-	if (error == EOWNERDEAD)
-		recover(machine);
-}
-
-void machine_unlock(struct machine *machine, const sigset_t *saved)
-{
-	pthread_mutex_unlock(&machine->control->lock);
-	pthread_sigmask(SIG_SETMASK, saved, NULL);
-}
-
-void machine_try_recover(struct machine *machine)
-{
-	sigset_t all, saved;
-	int error;
-
-	if (!machine->control)
-		return; /* tkrun does it at its next update */
-	sigfillset(&all);
-	pthread_sigmask(SIG_SETMASK, &all, &saved);
-	error = pthread_mutex_trylock(&machine->control->lock);
-	if (error == EOWNERDEAD)
-		recover(machine);
-	if (!error || error == EOWNERDEAD)
-		pthread_mutex_unlock(&machine->control->lock);
-	pthread_sigmask(SIG_SETMASK, &saved, NULL);
-}
-
-/* Records what became of orders at a reading: all of them if they were
- * accepted, or a single one that was refused. */
-static void record_orders(struct machine *machine, const struct order *orders,
-			  size_t count, enum tkc_code code, uint64_t front,
-			  uint64_t reading)
-{
-	if (!machine->control->rows.every || (code && count > 1))
-		return;
-	for (size_t i = 0; i < count; i++) {
-		struct record_row row = { .kind = orders[i].command,
-					  .code = code,
-					  .nsec = orders[i].nsec,
-					  .front = front - (count - 1 - i),
-					  .reading = reading,
-					  .number = orders[i].number };
-
-		rows_add(machine, &row);
-	}
-}
-
-static uint64_t front_of(const struct tkc_clock *clock)
-{
-	uint64_t words[TKC_WORDS];
-	int64_t frequency, tick;
-
-	tkc_clock_words(words, &frequency, &tick, clock);
-	return words[0];
-}
-
-/* Applies the orders to a copy of the clocks. One store in
- * tkc_page_publish_clock makes it the clocks of all. */
-enum tkc_code machine_apply(struct machine *machine, const struct order *orders,
-			    size_t count)
-{
-	struct tkc_page *page = &machine->shared->page;
-	struct tkc_clock clocks, changed;
-	bool is_update = true;
-	uint64_t reading;
-	uint32_t code = tkc_page_clock(page, &clocks);
-
-	if (code)
-		return TKC_BAD_WORDS;
-	changed = clocks;
-	tkc_page_begin(page);
-	reading = machine_reading(machine->shared);
-	for (size_t i = 0; i < count && !code; i++) {
-		code = tkc_clock_apply(&changed, reading, orders[i].command,
-				       orders[i].number, orders[i].nsec);
-		is_update = is_update && orders[i].command == TKC_CMD_UPDATE;
-	}
-	if (code)
-		changed = clocks;
-	record_orders(machine, orders, count, code, front_of(&changed),
-		      reading);
-	tkc_page_publish_clock(page, &changed);
-	atomic_fetch_add(code ? &machine->control->refused
-			      : &machine->control->accepted,
-			 count);
-	if (!code && !is_update)
-		machine_wake(machine);
-	return code;
-}
-
-enum tkc_code machine_command(struct machine *machine, uint32_t command,
-			      int64_t number, uint32_t nsec)
-{
-	struct order order = { 0, command, nsec, number };
-	enum tkc_code code;
-	sigset_t saved;
-
-	machine_lock(machine, &saved);
-	code = machine_apply(machine, &order, 1);
-	machine_unlock(machine, &saved);
-	return code;
 }
 
 bool machine_is_asleep(const struct machine *machine)

@@ -18,6 +18,7 @@
 #include <stdbool.h>
 #include <stddef.h>
 #include <sys/time.h>
+#include <sys/timex.h>
 #include <tkcore_page.h>
 
 enum {
@@ -28,6 +29,12 @@ enum {
 #define NEVER UINT64_MAX
 
 enum counter_kind { COUNTER_RAW, COUNTER_TSC, COUNTER_SLEEPS };
+
+/* The reading at which the next second of REALTIME begins, if the counter gets
+ * there. The discipline may change the rate then. */
+struct next_second {
+	_Atomic uint64_t reading, is_known;
+};
 
 /*
  * What every process reads. A reading of the counter is
@@ -44,6 +51,9 @@ struct shared_page {
 	uint64_t update_nanos;	/* the span between two updates */
 
 	_Alignas(64) struct tkc_page page;
+	struct next_second seconds[2]; /* of the page's copies */
+	/* at the end of the day 1 s is inserted, or deleted (-1), or none (0) */
+	_Atomic int32_t leap;
 	_Alignas(64) _Atomic uint64_t cycles;
 	_Alignas(64) _Atomic uint32_t generation; /* sleepers look again */
 };
@@ -74,11 +84,14 @@ struct rows {
 	_Atomic uint32_t wanted;
 	atomic_bool is_full; /* no room will be made */
 	uint64_t every;	     /* 0: no record */
+	atomic_bool is_over; /* a call steered the clocks */
 	char path[4096];
 };
 
 struct control {
 	_Alignas(64) pthread_mutex_t lock;
+	struct tkc_ntp clocks[2];
+	_Atomic uint32_t present; /* which of them are the clocks */
 	_Atomic int32_t zone[2]; /* the time zone of settimeofday */
 	_Atomic uint64_t accepted, refused, reads, recovered;
 	_Atomic uint32_t attached;
@@ -124,12 +137,22 @@ enum tkc_code machine_read(struct machine *machine, uint32_t clock,
  * host does. */
 int machine_clock(clockid_t clock);
 
+/* Reads the latest snapshot, and the counter in its second. Returns the codes
+ * of tkc_page_look. */
+enum tkc_code machine_look(struct machine *machine, struct tkc_snapshot *out,
+			   uint64_t *reading);
+
 /* Counts the reads of this thread that aren't counted yet. */
 void machine_count_rest(struct machine *machine);
 
 /* Takes the lock of the clocks, with all signals blocked, and gives it back. */
 void machine_lock(struct machine *machine, sigset_t *saved);
 void machine_unlock(struct machine *machine, const sigset_t *saved);
+
+/* Makes clocks those of the machine, with their first publication. */
+void machine_init_clocks(struct machine *machine,
+			 const struct tkc_counter *counter,
+			 const struct tkc_ntp *clocks);
 
 /* Takes over from a process that died amid a command, if one did. */
 void machine_try_recover(struct machine *machine);
@@ -153,25 +176,34 @@ int machine_set_zone(struct machine *machine, const struct timezone *zone);
 /* Stores the time zone. */
 void machine_zone(const struct machine *machine, struct timezone *out);
 
+/* Does what a struct timex asks for, and stores the reply. Returns the state of
+ * the clocks, or minus an errno. */
+int machine_adjtimex(struct machine *machine, struct timex *timex);
+
 /* Returns whether the clocks are asleep after a SUSPEND. */
 bool machine_is_asleep(const struct machine *machine);
 
 /* Returns whether a reading is at or past another. */
-bool machine_is_past(const struct machine *machine, uint64_t reading,
-		     uint64_t other);
+static inline bool machine_is_past(const struct machine *machine,
+				   uint64_t reading, uint64_t other)
+{
+	uint64_t mask = machine->shared->mask;
+
+	return ((reading - other) & mask) <= mask / 2;
+}
 
 /*
  * Returns the cycles until a clock reaches a time: 0 if it has, and NEVER if no
  * cycles bring it there. If the time is further away than half of the counter's
  * range, they are fewer, and the caller asks again after them.
  */
-uint64_t machine_cycles_left(const struct machine *machine, uint32_t clock,
+uint64_t machine_cycles_left(struct machine *machine, uint32_t clock,
 			     int64_t sec, uint32_t nsec);
 
 /* Returns the same in ns of the host. With COUNTER_SLEEPS, what isn't 0 is
  * NEVER, since no time of the host brings the clocks there. */
-uint64_t machine_left(const struct machine *machine, uint32_t clock,
-		      int64_t sec, uint32_t nsec);
+uint64_t machine_left(struct machine *machine, uint32_t clock, int64_t sec,
+		      uint32_t nsec);
 
 /* Sleeps until a clock reaches a time. Returns 0 or EINTR. */
 int machine_sleep(struct machine *machine, uint32_t clock, int64_t sec,

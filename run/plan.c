@@ -9,6 +9,10 @@
 #include <stdlib.h>
 #include <string.h>
 
+/* The parts of a second into which the discipline divides phases: those of
+ * Debian's kernels. */
+enum { TICKS_HZ = 250 };
+
 /* Reads a script's bytes, and ends tkrun if it can't. */
 static char *read_file(const char *path, size_t *length)
 {
@@ -62,9 +66,8 @@ static void read_script(struct plan *plan, const char *path)
 		fail(STATUS_WRONG, "--script: record %zu: %s", fault.record,
 		     fault.text);
 	plan->counter = script.counter;
-	plan->clock = script.clock;
 	plan->hz = rate_of(&plan->counter);
-	tkc_clock_words(words, &frequency, &tick, &plan->clock);
+	tkc_clock_words(words, &frequency, &tick, &script.clock);
 	plan->first = words[1];
 	plan->open_sec = (int64_t)(words[5] / NANOS);
 	plan->open_nsec = (uint32_t)(words[5] % NANOS);
@@ -113,16 +116,15 @@ void plan_make(struct plan *plan, const struct options *options, double hz)
 	if (options->describes_counter && !is_same(&counter, &plan->counter))
 		fail(STATUS_WRONG,
 		     "--script opens another counter than the options describe");
-	if (options->script)
-		return;
-	set_start(plan, options);
+	if (!options->script)
+		set_start(plan, options);
 	plan->start_sec = plan->open_sec;
 	plan->open_sec -= (int64_t)ceil(options->uptime);
 	if (plan->open_sec < 0 && options->uptime)
 		fail(STATUS_WRONG,
 		     "--uptime: the clocks would have run before 1970");
-	if (tkc_clock_open(&plan->clock, &plan->counter, 0, plan->open_sec,
-			   plan->open_nsec))
+	if (tkc_ntp_open(&plan->clocks, &plan->counter, plan->first,
+			 plan->open_sec, plan->open_nsec, TICKS_HZ))
 		fail(STATUS_WRONG, "the clocks can't start at second %lld",
 		     (long long)plan->open_sec);
 }

@@ -8,7 +8,7 @@
 /* The opening of the clocks, and the orders that are still to come. */
 struct plan {
 	struct tkc_counter counter;
-	struct tkc_clock clock;
+	struct tkc_ntp clocks;
 	double hz; /* the rate that the counter is described with */
 	uint64_t first;
 	int64_t start_sec, open_sec; /* REALTIME; the opening is before an uptime */

@@ -7,7 +7,11 @@
 
 #include <sched.h>
 
-enum { READS_IN_COUNT = 256 }; /* a thread's reads that are counted at once */
+enum {
+	READS_IN_COUNT = 256, /* a thread's reads that are counted at once */
+	BEGIN_TRIES = 100,    /* to let a second begin */
+	BEGIN_NAP_NANOS = 200000,
+};
 
 /* What a read seldom does isn't inlined, so that the rest is fast. */
 #define SELDOM __attribute__((noinline, cold))
@@ -35,6 +39,8 @@ struct coarse {
 /* A snapshot that is kept as long as the page's sequence stays. */
 struct kept {
 	uint64_t sequence, front;
+	uint64_t next; /* the reading at which the next second begins */
+	bool has_next;
 	struct tkc_snapshot snapshot;
 	struct coarse real, monotonic;
 };
@@ -74,6 +80,44 @@ static inline const tkc_word *after(const tkc_word *word, uint64_t reading)
 	return word + reading;
 }
 
+/*
+ * Lets the clocks begin the next second of REALTIME, with its rate, before a
+ * time in it is read: by the old rate, it might be after a time that is read
+ * later. A process of another user waits until tkrun does it. Returns whether
+ * to look again.
+ */
+SELDOM static bool begin_second(struct machine *machine, unsigned int *tries)
+{
+	if (++*tries > BEGIN_TRIES)
+		return false;
+	if (machine->control)
+		return !machine_command(machine, TKC_CMD_UPDATE, 0, 0);
+	host_nap(BEGIN_NAP_NANOS);
+	return true;
+}
+
+static inline bool is_after_second(const struct machine *machine,
+				   const struct kept *kept, uint64_t reading)
+{
+	return kept->has_next &&
+	       machine_is_past(machine, reading, kept->next);
+}
+
+/* Loads what a snapshot is made of. */
+static inline void load_copy(const struct shared_page *shared,
+			     uint64_t sequence, uint64_t *words,
+			     struct kept *kept)
+{
+	const struct next_second *next = &shared->seconds[sequence / 2 % 2];
+
+	tkc_words_load(shared->page.copies[sequence / 2 % 2], words,
+		       TKC_LATCH_WORDS);
+	kept->sequence = NO_SEQUENCE;
+	kept->next = atomic_load_explicit(&next->reading, memory_order_relaxed);
+	kept->has_next =
+		atomic_load_explicit(&next->is_known, memory_order_relaxed);
+}
+
 /* tkc_page_look, with a snapshot that is made only after a command. */
 static inline enum tkc_code look(struct machine *machine, struct kept *kept,
 				 uint64_t *reading)
@@ -81,7 +125,8 @@ static inline enum tkc_code look(struct machine *machine, struct kept *kept,
 	struct shared_page *shared = machine->shared;
 	const struct tkc_page *page = &shared->page;
 	uint64_t words[TKC_LATCH_WORDS], sequence;
-	unsigned int turns = 0;
+	unsigned int turns = 0, tries = 0;
+	enum tkc_code code = TKC_OK;
 
 	for (;;) {
 		sequence = atomic_load_explicit(&page->sequence,
@@ -91,14 +136,15 @@ static inline enum tkc_code look(struct machine *machine, struct kept *kept,
 			continue;
 		}
 		if (sequence != kept->sequence)
-			tkc_words_load(page->copies[sequence / 2 % 2], words,
-				       TKC_LATCH_WORDS);
+			load_copy(shared, sequence, words, kept);
 		*reading = machine_early_reading(shared);
 		if (tkc_page_moved(after(&page->sequence, *reading), sequence))
 			continue;
-		return sequence == kept->sequence
-			       ? TKC_OK
-			       : keep(kept, sequence, words);
+		if (sequence != kept->sequence)
+			code = keep(kept, sequence, words);
+		if (code || !is_after_second(machine, kept, *reading) ||
+		    !begin_second(machine, &tries))
+			return code;
 	}
 }
 
@@ -214,6 +260,16 @@ enum tkc_code machine_read(struct machine *machine, uint32_t clock,
 	code = read_kept(machine, &own_kept, clock, out);
 	atomic_signal_fence(memory_order_seq_cst);
 	is_kept_busy = 0;
+	return code;
+}
+
+enum tkc_code machine_look(struct machine *machine, struct tkc_snapshot *out,
+			   uint64_t *reading)
+{
+	struct kept kept = { .sequence = NO_SEQUENCE };
+	enum tkc_code code = look(machine, &kept, reading);
+
+	*out = kept.snapshot;
 	return code;
 }
 

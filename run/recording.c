@@ -130,10 +130,11 @@ static bool list_rows(struct list *list, const struct record_row *rows,
 }
 
 /* Ends the list before the first command that is missing, since later values
- * depend on it. `front` is the opening's. Returns the number of this command,
- * or 0 if none is missing. */
-static uint64_t end_at_gap(struct list *list, uint64_t front)
+ * depend on it. Returns the number of this command, or 0 if none is missing. */
+static uint64_t end_at_gap(struct list *list)
 {
+	uint64_t front = 0; /* of the opening */
+
 	for (uint64_t i = 0; i < list->count; i++) {
 		front += is_accepted(list->rows[i]);
 		if (list->rows[i]->front != front) {
@@ -142,15 +143,6 @@ static uint64_t end_at_gap(struct list *list, uint64_t front)
 		}
 	}
 	return 0;
-}
-
-static uint64_t opening_front(const struct plan *plan)
-{
-	uint64_t words[TKC_WORDS];
-	int64_t frequency, tick;
-
-	tkc_clock_words(words, &frequency, &tick, &plan->clock);
-	return words[0];
 }
 
 static uint64_t front_of(const struct machine *machine)
@@ -184,7 +176,7 @@ bool recording_write(struct recording *recording, struct machine *machine,
 	    !list_rows(&list, memory, count, front_of(machine)))
 		error = ENOMEM;
 	if (!error) {
-		recording->gap = end_at_gap(&list, opening_front(plan));
+		recording->gap = end_at_gap(&list);
 		error = parts_write(recording, plan, &list);
 	}
 	if (error)

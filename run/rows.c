@@ -70,6 +70,8 @@ void rows_add(struct machine *machine, const struct record_row *row)
 	struct rows *rows = &machine->control->rows;
 	struct record_row *slot = NULL;
 
+	if (atomic_load_explicit(&rows->is_over, memory_order_relaxed))
+		return;
 	if (!atomic_load_explicit(&rows->lost, memory_order_relaxed))
 		slot = find_row(rows);
 	if (!slot) {

@@ -7,43 +7,43 @@
 #include <sys/syscall.h>
 #include <unistd.h>
 
-/* The longest wait before a sleeper looks again. */
-static const uint64_t LONGEST = 3600 * (uint64_t)NANOS;
+/* The longest wait before a sleeper looks again: the rate may have changed. */
+static const uint64_t LONGEST = 10 * (uint64_t)NANOS;
 
-bool machine_is_past(const struct machine *machine, uint64_t reading,
-		     uint64_t other)
+enum { DAY_SEC = 86400 };
+
+/* Returns the second at which a second of REALTIME would begin without a leap
+ * second at the end of the day. */
+static int64_t without_leap(const struct machine *machine, int64_t now,
+			    int64_t sec)
 {
-	uint64_t mask = machine->shared->mask;
+	int64_t tomorrow = (now / DAY_SEC + 1) * DAY_SEC;
 
-	return ((reading - other) & mask) <= mask / 2;
+	return sec < tomorrow ? sec : sec + atomic_load(&machine->shared->leap);
 }
 
-static uint64_t read_counter(void *context)
-{
-	return machine_reading(context);
-}
-
-uint64_t machine_cycles_left(const struct machine *machine, uint32_t clock,
+uint64_t machine_cycles_left(struct machine *machine, uint32_t clock,
 			     int64_t sec, uint32_t nsec)
 {
 	uint64_t reading, then, mask = machine->shared->mask;
 	struct tkc_snapshot snapshot;
 	struct tkc_time now;
 
-	if (tkc_page_look(&machine->shared->page, read_counter, machine->shared,
-			  &snapshot, &reading) ||
+	if (machine_look(machine, &snapshot, &reading) ||
 	    tkc_snapshot_get(&now, &snapshot, clock, reading))
 		return NEVER;
 	if (now.sec > sec || (now.sec == sec && now.nsec >= nsec))
 		return 0;
+	if (clock == TKC_CLOCK_REALTIME)
+		sec = without_leap(machine, now.sec, sec);
 	if (tkc_snapshot_reading(&then, &snapshot, clock, sec, nsec))
 		return machine_is_asleep(machine) ? NEVER : mask / 4;
 	then = (then - reading) & mask;
 	return then > mask / 2 ? 0 : then;
 }
 
-uint64_t machine_left(const struct machine *machine, uint32_t clock,
-		      int64_t sec, uint32_t nsec)
+uint64_t machine_left(struct machine *machine, uint32_t clock, int64_t sec,
+		      uint32_t nsec)
 {
 	uint64_t left = machine_cycles_left(machine, clock, sec, nsec);
 	double nanos = (double)left * machine->shared->nanos_per_cycle;

@@ -1,6 +1,6 @@
 /* SPDX-License-Identifier: MIT OR Apache-2.0 */
 /*
- * Makes each call that reads, sets or steers a clock, and prints what is wrong.
+ * Makes each call that reads or sets a clock, and prints what is wrong.
  * The clocks have started at 2001-09-09, 1000000000. With the argument "deny",
  * each call that sets them must fail with EPERM.
  */
@@ -13,7 +13,6 @@
 #include <sys/syscall.h>
 #include <sys/time.h>
 #include <sys/timeb.h>
-#include <sys/timex.h>
 #include <time.h>
 #include <unistd.h>
 
@@ -142,33 +141,12 @@ static void check_denied(void)
 	CHECK(settimeofday(NULL, &zone) && errno == EPERM);
 }
 
-/* They fail with EPERM if setting is denied, and else with EOPNOTSUPP. */
-static void check_steering(int error)
-{
-	struct timex tx = { .modes = ADJ_FREQUENCY };
-	struct timeval span = { 1, 0 };
-	struct ntptimeval all;
-
-	CHECK(adjtimex(&tx) == -1 && errno == error);
-	CHECK(ntp_adjtime(&tx) == -1 && errno == error);
-	CHECK(clock_adjtime(CLOCK_REALTIME, &tx) == -1 && errno == error);
-	CHECK(syscall(SYS_adjtimex, &tx) == -1 && errno == error);
-	CHECK(syscall(SYS_clock_adjtime, CLOCK_REALTIME, &tx) == -1 &&
-	      errno == error);
-	CHECK(adjtime(&span, NULL) == -1 && errno == error);
-	CHECK(ntp_gettime(&all) == -1 && errno == EOPNOTSUPP);
-	tx.modes = 0;
-	CHECK(adjtimex(&tx) == -1 && errno == EOPNOTSUPP);
-	CHECK(clock_adjtime(CLOCK_MONOTONIC, &tx) == -1 && errno == EOPNOTSUPP);
-}
-
 int main(int count, char **words)
 {
 	bool is_denied = count > 1 && !strcmp(words[1], "deny");
 
 	check_reads(START);
 	check_monotonic();
-	check_steering(is_denied ? EPERM : EOPNOTSUPP);
 	if (is_denied) {
 		check_denied();
 		check_reads(START);

@@ -23,6 +23,18 @@ class Calls(RunTest):
         self.assertTrue(any(line.endswith("clock_settime 2147483640.000000005 = EPERM")
                             for line in lines), lines)
 
+    def test_steering(self):
+        options = ["--counter", "sleeps", "--start", 1000000000]
+        self.assertEqual(self.run_on(*options, "--", program("steers")), "")
+        self.assertEqual(self.run_on(*options, "--deny-set", "--", program("steers"), "deny"), "")
+
+    def test_a_record_ends_before_steering(self):
+        run = self.start("--counter", "sleeps", "--start", 1000000000, "--check", "--",
+                         program("steers"))
+        self.assertEqual(run.returncode, 4, run.stderr)
+        self.assertIn("the record ends before the first call that steered the clocks", run.stderr)
+        self.assertIn("check: tkcore gives each of the first", run.stderr)
+
     def waits(self, *arguments, least):
         """Runs a program that prints waits, and returns how long each was."""
         lines = [line.split() for line in self.run_on("--check", *arguments).splitlines()]

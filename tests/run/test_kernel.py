@@ -46,6 +46,17 @@ class Kernel(RunTest):
     def test_set_tz(self):
         self.assertEqual(self.selftest("set-tz", options=STILL).count("[OK]"), 2)
 
+    def test_steering(self):
+        for name in ["valid-adjtimex", "adjtick", "set-tai", "raw_skew"]:
+            with self.subTest(name):
+                self.assertIn("[OK]", self.selftest(name, options=STILL))
+
+    def test_leap_a_day(self):
+        for options in [STILL, ["--speed", 10]]:
+            with self.subTest(options):
+                self.assertIn("Leap complete", self.selftest("leap-a-day", "-i", "1",
+                                                             options=options))
+
     def test_threadtest(self):
         self.assertIn("[OK]", self.selftest("threadtest", "-t", "5", "-n", "4",
                                             options=["--speed", 5]))

@@ -33,6 +33,12 @@ class Static(RunTest):
         self.assertEqual(self.run_on("--start", 1000000000, "--deny-set", "--",
                                      program("static_reads"), "deny"), "")
 
+    def test_steering(self):
+        options = ["--counter", "sleeps", "--start", 1000000000]
+        self.assertEqual(self.run_on(*options, "--", program("static_steers")), "")
+        self.assertEqual(self.run_on(*options, "--deny-set", "--", program("static_steers"),
+                                     "deny"), "")
+
     def test_sleeps(self):
         for name in ["nanosleep", "clock_nanosleep", "absolute_sleep", "usleep", "sleep"]:
             with self.subTest(name):

@@ -1,0 +1,257 @@
+/* SPDX-License-Identifier: MIT OR Apache-2.0 */
+/* How a process commands the clocks, and publishes them. */
+#define _GNU_SOURCE
+#include "machine.h"
+
+#include "rows.h"
+
+#include <errno.h>
+
+enum { LOCK_NAP_NANOS = 20000 }; /* between two tries to take the lock */
+
+static struct tkc_ntp *present_clocks(struct control *control)
+{
+	return &control->clocks[atomic_load(&control->present) % 2];
+}
+
+/* Returns the leap second that the clocks will make: 1 if a second is inserted,
+ * -1 if one is deleted, or 0. An unsynchronized clock doesn't say whether it has
+ * made it already. */
+static int32_t leap_of(const struct tkc_ntp *clocks,
+		       const struct tkc_snapshot *snapshot)
+{
+	struct tkc_timex timex = { 0 };
+	struct tkc_ntp copy = *clocks;
+	uint64_t words[TKC_WORDS];
+	uint32_t state;
+
+	tkc_snapshot_words(words, snapshot);
+	if (tkc_adjtimex(&timex, &state, &copy, words[1]))
+		return 0; /* asleep */
+	if (state == TKC_TIME_INS ||
+	    (state == TKC_TIME_ERROR && timex.status & TKC_STA_INS))
+		return 1;
+	if (state == TKC_TIME_DEL ||
+	    (state == TKC_TIME_ERROR && timex.status & TKC_STA_DEL))
+		return -1;
+	return 0;
+}
+
+/* Publishes the present clocks. The page's copy that isn't read gets their next
+ * second, too. */
+static void publish(struct machine *machine)
+{
+	struct tkc_ntp *clocks = present_clocks(machine->control);
+	struct tkc_page *page = &machine->shared->page;
+	uint64_t sequence = atomic_load(&page->sequence) | 1, reading = 0;
+	struct next_second *next =
+		&machine->shared->seconds[(sequence + 1) / 2 % 2];
+	struct tkc_snapshot snapshot;
+	bool is_known = !tkc_ntp_next_second(&reading, clocks);
+	int32_t leap, was;
+
+	tkc_ntp_snapshot(&snapshot, clocks);
+	leap = leap_of(clocks, &snapshot);
+	atomic_store(&next->reading, reading);
+	atomic_store(&next->is_known, is_known);
+	was = atomic_exchange(&machine->shared->leap, leap);
+	tkc_page_publish(page, &snapshot);
+	if (leap != was)
+		machine_wake(machine);
+}
+
+void machine_init_clocks(struct machine *machine,
+			 const struct tkc_counter *counter,
+			 const struct tkc_ntp *clocks)
+{
+	struct tkc_snapshot snapshot;
+
+	machine->control->clocks[0] = *clocks;
+	tkc_ntp_snapshot(&snapshot, clocks);
+	tkc_page_init(&machine->shared->page, counter, &snapshot);
+	tkc_page_begin(&machine->shared->page);
+	publish(machine);
+}
+
+/* After a writer has died, publishes the present clocks again. The caller has
+ * the lock. */
+static void recover(struct machine *machine)
+{
+	tkc_page_begin(&machine->shared->page);
+	publish(machine);
+	atomic_fetch_add(&machine->control->recovered, 1);
+	pthread_mutex_consistent(&machine->control->lock);
+}
+
+/* A handler that reads a clock while its thread writes would wait forever, so
+ * signals are blocked. Nobody waits in the kernel for the lock: if a waiter of
+ * a robust mutex is killed when it is woken, nobody else may be woken. */
+void machine_lock(struct machine *machine, sigset_t *saved)
+{
+	sigset_t all;
+	int error;
+
+	sigfillset(&all);
+	pthread_sigmask(SIG_SETMASK, &all, saved);
+	for (unsigned int turns = 1;; turns++) {
+		error = pthread_mutex_trylock(&machine->control->lock);
+		if (error != EBUSY)
+			break;
+		if (turns % 128)
+			__builtin_ia32_pause();
+		else
+			host_nap(LOCK_NAP_NANOS);
+	}
+	if (error == EOWNERDEAD)
+		recover(machine);
+}
+
+void machine_unlock(struct machine *machine, const sigset_t *saved)
+{
+	pthread_mutex_unlock(&machine->control->lock);
+	pthread_sigmask(SIG_SETMASK, saved, NULL);
+}
+
+void machine_try_recover(struct machine *machine)
+{
+	sigset_t all, saved;
+	int error;
+
+	if (!machine->control)
+		return; /* tkrun does it at its next update */
+	sigfillset(&all);
+	pthread_sigmask(SIG_SETMASK, &all, &saved);
+	error = pthread_mutex_trylock(&machine->control->lock);
+	if (error == EOWNERDEAD)
+		recover(machine);
+	if (!error || error == EOWNERDEAD)
+		pthread_mutex_unlock(&machine->control->lock);
+	pthread_sigmask(SIG_SETMASK, &saved, NULL);
+}
+
+/* Records what became of orders at a reading: all of them if they were
+ * accepted, or a single one that was refused. */
+static void record_orders(struct machine *machine, const struct order *orders,
+			  size_t count, enum tkc_code code, uint64_t front,
+			  uint64_t reading)
+{
+	if (!machine->control->rows.every || (code && count > 1))
+		return;
+	for (size_t i = 0; i < count; i++) {
+		struct record_row row = { .kind = orders[i].command,
+					  .code = code,
+					  .nsec = orders[i].nsec,
+					  .front = front - (count - 1 - i),
+					  .reading = reading,
+					  .number = orders[i].number };
+
+		rows_add(machine, &row);
+	}
+}
+
+static uint64_t front_of(const struct tkc_ntp *clocks)
+{
+	struct tkc_snapshot snapshot;
+	uint64_t words[TKC_WORDS];
+
+	tkc_ntp_snapshot(&snapshot, clocks);
+	tkc_snapshot_words(words, &snapshot);
+	return words[0];
+}
+
+/* Makes changed clocks the clocks of all, by one store. */
+static void switch_clocks(struct machine *machine,
+			  const struct tkc_ntp *changed)
+{
+	struct control *control = machine->control;
+	uint32_t other = atomic_load(&control->present) + 1;
+
+	control->clocks[other % 2] = *changed;
+	atomic_store(&control->present, other);
+}
+
+/* Applies the orders to a copy of the clocks. */
+enum tkc_code machine_apply(struct machine *machine, const struct order *orders,
+			    size_t count)
+{
+	struct tkc_ntp changed = *present_clocks(machine->control);
+	enum tkc_code code = TKC_OK;
+	bool is_update = true;
+	uint64_t reading;
+
+	tkc_page_begin(&machine->shared->page);
+	reading = machine_reading(machine->shared);
+	for (size_t i = 0; i < count && !code; i++) {
+		code = tkc_ntp_apply(&changed, reading, orders[i].command,
+				     orders[i].number, orders[i].nsec);
+		is_update = is_update && orders[i].command == TKC_CMD_UPDATE;
+	}
+	if (code)
+		changed = *present_clocks(machine->control);
+	record_orders(machine, orders, count, code, front_of(&changed),
+		      reading);
+	if (!code)
+		switch_clocks(machine, &changed);
+	publish(machine);
+	atomic_fetch_add(code ? &machine->control->refused
+			      : &machine->control->accepted,
+			 count);
+	if (!code && !is_update)
+		machine_wake(machine);
+	return code;
+}
+
+/* A record ends before the first request: tkcore has none of them. */
+static enum tkc_code adjust(struct machine *machine, struct timex *timex,
+			    uint32_t *state)
+{
+	struct control *control = machine->control;
+	struct tkc_ntp changed = *present_clocks(control);
+	unsigned int modes = timex->modes;
+	enum tkc_code code;
+
+	tkc_page_begin(&machine->shared->page);
+	code = tkc_adjtimex((struct tkc_timex *)timex, state, &changed,
+			    machine_reading(machine->shared));
+	if (!code && modes) {
+		atomic_store(&control->rows.is_over, true);
+		switch_clocks(machine, &changed);
+	}
+	publish(machine);
+	if (modes)
+		atomic_fetch_add(code ? &control->refused : &control->accepted,
+				 1);
+	return code;
+}
+
+_Static_assert(sizeof(struct timex) == sizeof(struct tkc_timex), "layout");
+
+int machine_adjtimex(struct machine *machine, struct timex *timex)
+{
+	bool only_reads = !timex->modes || timex->modes == ADJ_OFFSET_SS_READ;
+	enum tkc_code code;
+	uint32_t state = 0;
+	sigset_t saved;
+
+	if (!machine->control || (!only_reads && machine_denies_set(machine)))
+		return -EPERM;
+	machine_lock(machine, &saved);
+	code = adjust(machine, timex, &state);
+	machine_unlock(machine, &saved);
+	if (!code && !only_reads)
+		machine_wake(machine);
+	return code ? -(code == TKC_ASLEEP ? EAGAIN : EINVAL) : (int)state;
+}
+
+enum tkc_code machine_command(struct machine *machine, uint32_t command,
+			      int64_t number, uint32_t nsec)
+{
+	struct order order = { 0, command, nsec, number };
+	enum tkc_code code;
+	sigset_t saved;
+
+	machine_lock(machine, &saved);
+	code = machine_apply(machine, &order, 1);
+	machine_unlock(machine, &saved);
+	return code;
+}
