@@ -167,7 +167,6 @@ void open_machine(struct run *run)
 	shared->has_stamps = run->options.has_stamps;
 	machine_init_lock(run->machine.control);
 	shared->base = machine_host(shared->kind);
-	machine_init_clocks(&run->machine, &run->plan.counter,
-			    &run->plan.clocks);
+	machine_init_clocks(&run->machine, &run->plan.clocks);
 	shared->layout = MACHINE_LAYOUT;
 }

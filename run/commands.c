@@ -60,15 +60,13 @@ static void publish(struct machine *machine)
 		machine_wake(machine);
 }
 
-void machine_init_clocks(struct machine *machine,
-			 const struct tkc_counter *counter,
-			 const struct tkc_ntp *clocks)
+void machine_init_clocks(struct machine *machine, const struct tkc_ntp *clocks)
 {
 	struct tkc_snapshot snapshot;
 
 	machine->control->clocks[0] = *clocks;
 	tkc_ntp_snapshot(&snapshot, clocks);
-	tkc_page_init(&machine->shared->page, counter, &snapshot);
+	tkc_page_init(&machine->shared->page, &snapshot);
 	tkc_page_begin(&machine->shared->page);
 	publish(machine);
 }

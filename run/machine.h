@@ -151,7 +151,6 @@ void machine_unlock(struct machine *machine, const sigset_t *saved);
 
 /* Makes clocks those of the machine, with their first publication. */
 void machine_init_clocks(struct machine *machine,
-			 const struct tkc_counter *counter,
 			 const struct tkc_ntp *clocks);
 
 /* Takes over from a process that died amid a command, if one did. */
