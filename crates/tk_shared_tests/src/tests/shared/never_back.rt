@@ -190,11 +190,12 @@ fn four_play<L: Named + Send + Sync, C: Counter, R: Threads + Wait + Sync>(
     mut callers: Vec<Caller<L>>,
     board: &Board,
 ) {
-    let pairs = (last_two(&mut callers), last_two(&mut callers));
-    let (Some((one, two)), Some((three, four))) = pairs else {
+    let (Some(first), Some(second)) = (last_two(&mut callers), last_two(&mut callers)) else {
         board.fails();
         return;
     };
+    let (one, two) = first;
+    let (three, four) = second;
     let _ = thread::join(
         rt,
         move || two_play(rt, keeper, one, two, board),
