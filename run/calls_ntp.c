@@ -16,7 +16,7 @@ static int adjust(const char *call, struct timex *tx)
 
 	if (result < 0)
 		result = refuse(-result);
-	if (!in.modes)
+	if (!in.modes || in.modes == ADJ_OFFSET_SS_READ)
 		return result;
 	return logged(call, result,
 		      "modes=%#x offset=%ld freq=%ld tick=%ld status=%#x "

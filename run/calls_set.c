@@ -30,13 +30,13 @@ EXPORT int settimeofday(const struct timeval *time, const struct timezone *zone)
 
 	if (!m)
 		return REAL(settimeofday)(time, zone);
+	if (time && (time->tv_usec < 0 || time->tv_usec >= 1000000))
+		return set_time("settimeofday", time->tv_sec, -1);
 	error = zone ? machine_set_zone(m, zone) : 0;
 	if (error)
 		return refuse(error);
 	if (!time)
 		return 0;
-	if (time->tv_usec < 0 || time->tv_usec >= 1000000)
-		return set_time("settimeofday", time->tv_sec, -1);
 	return set_time("settimeofday", time->tv_sec, time->tv_usec * 1000);
 }
 

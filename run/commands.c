@@ -168,13 +168,20 @@ static void switch_clocks(struct machine *machine,
 	atomic_store(&control->present, other);
 }
 
+/* Whether a command is a request to the discipline, which may give the clocks
+ * another rate at each later second. */
+static bool is_steering(uint32_t command)
+{
+	return command == TKC_CMD_FREQ || command == TKC_CMD_TICK;
+}
+
 /* Applies the orders to a copy of the clocks. */
 enum tkc_code machine_apply(struct machine *machine, const struct order *orders,
 			    size_t count)
 {
 	struct tkc_ntp changed = *present_clocks(machine->control);
 	enum tkc_code code = TKC_OK;
-	bool is_update = true;
+	bool is_update = true, is_steered = false;
 	uint64_t reading;
 
 	tkc_page_begin(&machine->shared->page);
@@ -183,9 +190,12 @@ enum tkc_code machine_apply(struct machine *machine, const struct order *orders,
 		code = tkc_ntp_apply(&changed, reading, orders[i].command,
 				     orders[i].number, orders[i].nsec);
 		is_update = is_update && orders[i].command == TKC_CMD_UPDATE;
+		is_steered = is_steered || is_steering(orders[i].command);
 	}
 	if (code)
 		changed = *present_clocks(machine->control);
+	else if (is_steered)
+		atomic_store(&machine->control->rows.is_over, true);
 	record_orders(machine, orders, count, code, front_of(&changed),
 		      reading);
 	if (!code)
@@ -199,24 +209,24 @@ enum tkc_code machine_apply(struct machine *machine, const struct order *orders,
 	return code;
 }
 
-/* A record ends before the first request: tkcore has none of them. */
+/* A record ends before the first request that changes something: tkcore has no
+ * record for one. */
 static enum tkc_code adjust(struct machine *machine, struct timex *timex,
-			    uint32_t *state)
+			    bool only_reads, uint32_t *state)
 {
 	struct control *control = machine->control;
 	struct tkc_ntp changed = *present_clocks(control);
-	unsigned int modes = timex->modes;
 	enum tkc_code code;
 
 	tkc_page_begin(&machine->shared->page);
 	code = tkc_adjtimex((struct tkc_timex *)timex, state, &changed,
 			    machine_reading(machine->shared));
-	if (!code && modes) {
+	if (!code && !only_reads) {
 		atomic_store(&control->rows.is_over, true);
 		switch_clocks(machine, &changed);
 	}
 	publish(machine);
-	if (modes)
+	if (!only_reads)
 		atomic_fetch_add(code ? &control->refused : &control->accepted,
 				 1);
 	return code;
@@ -234,7 +244,7 @@ int machine_adjtimex(struct machine *machine, struct timex *timex)
 	if (!machine->control || (!only_reads && machine_denies_set(machine)))
 		return -EPERM;
 	machine_lock(machine, &saved);
-	code = adjust(machine, timex, &state);
+	code = adjust(machine, timex, only_reads, &state);
 	machine_unlock(machine, &saved);
 	if (!code && !only_reads)
 		machine_wake(machine);

@@ -84,7 +84,7 @@ struct rows {
 	_Atomic uint32_t wanted;
 	atomic_bool is_full; /* no room will be made */
 	uint64_t every;	     /* 0: no record */
-	atomic_bool is_over; /* a call steered the clocks */
+	atomic_bool is_over; /* a call or a script steered the clocks */
 	char path[4096];
 };
 
