@@ -187,8 +187,9 @@ impl SteeredClock {
     ///
     /// # Errors
     ///
-    /// Those of `advance` (not for `Resume`), and then those of
-    /// [`Clock::apply`](crate::Clock::apply): the clocks have only advanced.
+    /// `Full`; `Invalid` for a tick that is out of its range; the other errors of `advance`, except
+    /// for `Resume`; then the errors of [`Clock::apply`](crate::Clock::apply), and the clocks have
+    /// only advanced.
     #[inline]
     pub fn apply(&mut self, reading: u64, command: Command) -> Result<(), Refusal> {
         sys::ntp_apply(&mut self.value, reading, command.arguments()).map_err(Refusal::of_code)
@@ -198,8 +199,9 @@ impl SteeredClock {
     ///
     /// # Errors
     ///
-    /// In this order: `Full`; `Invalid` for a request that is faulty; those of `advance`; then those
-    /// of the step of [`mode::SETOFFSET`], and the clocks have only advanced.
+    /// In this order: `Full`; `Invalid` for a request that is faulty; the other errors of `advance`;
+    /// the errors of the step of [`mode::SETOFFSET`], and the clocks have only advanced; then
+    /// `Range` for REALTIME or the TAI offset, and the step was made.
     pub fn adjtimex(&mut self, reading: u64, request: &Timex) -> Result<Reply, Refusal> {
         sys::adjtimex(&mut self.value, reading, request).map_err(Refusal::of_code)
     }

@@ -3,7 +3,7 @@
 from __future__ import annotations
 
 import enum
-from typing import Any, NoReturn, Tuple
+from typing import NoReturn, Tuple
 
 from ._library import I64, NANOS, U32, U64, fit
 from .counter import Counter
@@ -54,7 +54,9 @@ class Commanded:
         tkcore.h documents.
 
         Raises, in this order: BadCommand, Full, Asleep or Awake, Invalid for a number that is out
-        of its range, Behind, Range, and Invalid for a time that REALTIME may not be set to.
+        of its range, Behind, Range, and Invalid for a time that REALTIME may not be set to. A
+        SteeredClock first raises what its `advance` does, unless the command is RESUME, or a TICK
+        that is out of its range.
         """
         readings = (0, self.counter.max_reading)
         code = self._call_apply(

@@ -96,10 +96,11 @@ class SteeredClock(Commanded):
     1970, and steered by a fresh discipline.
 
     Phases are divided into `hz` parts of a second, 1 to 1024: with the kernel's HZ, replies are the
-    kernel's to the last digit. Every call but `next_second` and `snapshot` first lets the seconds of
-    REALTIME up to its reading begin, each at its own reading, with its leap second and its rate. A
-    command that is refused, and so is a request's step, leaves clocks that have only advanced. FREQ
-    and TICK are requests to the discipline.
+    kernel's to the last digit. Every call except `next_second`, `snapshot` and `resume` first lets
+    the seconds of REALTIME up to its reading begin, each at its own reading, with its leap second
+    and its rate. A refused command or step leaves clocks that have only advanced. FREQ and TICK are
+    requests to the discipline. `update` the clocks at least once in each half of the counter's
+    range.
 
     Don't let two threads use one SteeredClock without a lock. A Snapshot may be shared.
 
@@ -132,7 +133,8 @@ class SteeredClock(Commanded):
         """Does what a request asks for at a reading, and returns the reply (adjtimex(2)).
 
         Raises, in this order: Full; Invalid for a request that is faulty; Asleep, Invalid, Behind or
-        Range for the reading; Invalid or Range for the step of Mode.SETOFFSET.
+        Range for the reading; Invalid or Range for the step of Mode.SETOFFSET; Range for REALTIME or
+        the TAI offset, after the step.
         """
         timex, state = TimexValue(), c_uint32()
         for name in _WORDS:
@@ -175,6 +177,15 @@ class SteeredClock(Commanded):
     def _front_and_last(self) -> Tuple[int, int]:
         front, last = self.snapshot().words()[:2]
         return front, last
+
+    def __copy__(self) -> SteeredClock:
+        clock = SteeredClock.__new__(SteeredClock)
+        clock._value = NtpValue.from_buffer_copy(self._value)
+        clock.counter = self.counter
+        return clock
+
+    def __reduce__(self) -> NoReturn:
+        raise TypeError("a SteeredClock can't be pickled: it has no words")
 
     def __repr__(self) -> str:
         return f"<SteeredClock of {self.counter!r}, {self.snapshot()!r}>"
