@@ -43,7 +43,8 @@
  *   - The front of clocks is the number of commands that they have accepted. A change of counter is
  *     one of them. The front is 0 after tkc_clock_open. Clocks whose front is 2^63 - 1 or more
  *     refuse every command with TKC_FULL. The front of a tkc_ntp is the number of accepted calls.
- *     Only tkc_clock_from_words can make a front above 2^63 - 1.
+ *     Only words can make clocks with a front above 2^63 - 1 (tkc_clock_from_words,
+ *     tkc_clock_load).
  *   - A reading is behind the last command's reading if it is more than half of 2^bits - 1 cycles
  *     ahead of it (clocksource_delta in kernel/time/timekeeping_internal.h). So apply at least one
  *     command, usually an UPDATE, in each half of the counter's range.
@@ -61,8 +62,8 @@
  *   them. C code must not write into them. As with any opaque type, a value that is passed to a
  *   call must be, byte for byte, a value that a call of this header made. All other arguments may
  *   be any numbers.
- *   A value except a tkc_ntp can be stored as ten 64-bit words, for a shared page or a file. These
- *   words are meaningless without their counter; tkc_clock_save stores both.
+ *   A tkc_clock or a tkc_snapshot can be stored as ten 64-bit words, for a shared page or a file.
+ *   These words are meaningless without their counter; tkc_clock_save stores both.
  *   tkc_snapshot_from_words, tkc_clock_from_words and tkc_clock_load validate words, so later calls
  *   need no test.
  *
@@ -347,7 +348,8 @@ enum tkc_adj {
 	/* The errors are clamped to 0 to 16000000. */
 	TKC_ADJ_MAXERROR = 0x0004,
 	TKC_ADJ_ESTERROR = 0x0008,
-	/* The time constant, which is clamped to 0 to 10. If offsets count in us, it is 4 more. */
+	/* The time constant, which is clamped to 0 to 10. If offsets count in us, it is 4
+	 * more, at most 10. */
 	TKC_ADJ_TIMECONST = 0x0020,
 	/* The TAI offset, 0 to 100000. Any other number changes nothing. */
 	TKC_ADJ_TAI = 0x0080,
@@ -358,8 +360,8 @@ enum tkc_adj {
 	TKC_ADJ_TICK = 0x4000
 };
 
-/* The bits of a status (STA_PLL ..). TKC_ADJ_STATUS doesn't change the bits 0xff00, and keeps all
- * other bits as they are given. */
+/* The bits of a status (STA_PLL ..). TKC_ADJ_STATUS doesn't change the bits 0xff00, except that
+ * turning TKC_STA_PLL off clears them. All other bits become those that are given. */
 enum tkc_sta {
 	/* Offsets steer the clock. */
 	TKC_STA_PLL = 0x0001,
@@ -369,8 +371,8 @@ enum tkc_sta {
 	/* A second is inserted at the end of the day, or its last second is deleted. */
 	TKC_STA_INS = 0x0010,
 	TKC_STA_DEL = 0x0020,
-	/* The clock isn't synchronized. The library sets it at tkc_ntp_open, at a set or a step, if
-	 * TKC_STA_PLL is turned off, and when maxerror has grown to more than 16000000. */
+	/* The clock isn't synchronized. The library sets it at tkc_ntp_open, at a set or a step, and
+	 * when maxerror has grown to more than 16000000. */
 	TKC_STA_UNSYNC = 0x0040,
 	/* Offsets leave the frequency as it is. */
 	TKC_STA_FREQHOLD = 0x0080,
@@ -655,10 +657,15 @@ enum tkc_code tkc_clock_load(struct tkc_clock *out, const uint64_t words[TKC_SAV
  *
  * tkc_ntp_advance, tkc_adjtimex and, except for RESUME, tkc_ntp_apply first advance to their
  * reading: each second of REALTIME that has begun since the last call begins at its own reading,
- * with its leap second and its rate. So calling often or seldom leaves the same clocks. At the
- * reading of a call, MONOTONIC may be less than a snapshot from before that call gives there.
+ * with its leap second and its rate. So advancing often or seldom leaves the same clocks, apart from
+ * the front, if no call is refused. At the reading of a call, MONOTONIC may be less than a snapshot
+ * from before that call gives there.
  * Readers in other threads should get a new snapshot for each second: set a timer to
  * tkc_ntp_next_second.
+ *
+ * A call gives the clocks a command only if their rate, their time or the TAI offset changes. So
+ * apply TKC_CMD_UPDATE by tkc_ntp_apply at least once in each half of the counter's range. Otherwise
+ * a reading counts as behind, and tkc_ntp_next_second finds no reading.
  *
  * The reading of a call must not be before the reading of the call before it. TKC_BEHIND reports
  * that only if it is behind the last command, and not every call gives the clocks a command. After
@@ -702,10 +709,13 @@ enum tkc_code tkc_ntp_advance(struct tkc_ntp *ntp, uint64_t reading);
  *
  * Returns, in this order:
  *   TKC_BAD_COMMAND  no command has the number: nothing has changed
- *   TKC_FULL, TKC_ASLEEP, TKC_INVALID, TKC_BEHIND or TKC_RANGE
+ *   TKC_FULL         the front is 2^63 - 1 or more: nothing has changed
+ *   TKC_INVALID      a TICK is out of its range: nothing has changed
+ *   TKC_ASLEEP, TKC_INVALID, TKC_BEHIND or TKC_RANGE
  *                    as tkc_ntp_advance, if the command is not RESUME: nothing has changed
  *   as tkc_clock_apply
- *                    the clocks refuse the command: they have only advanced
+ *                    the clocks refuse the command: they have only advanced, and a refused
+ *                    RESUME changes nothing
  */
 TKC_MUST_CHECK
 enum tkc_code tkc_ntp_apply(struct tkc_ntp *ntp, uint64_t reading, uint32_t command, int64_t number,
@@ -725,6 +735,8 @@ enum tkc_code tkc_ntp_apply(struct tkc_ntp *ntp, uint64_t reading, uint32_t comm
  *                as tkc_ntp_advance
  *   as tkc_clock_apply
  *                the clocks refuse the step of TKC_ADJ_SETOFFSET: they have only advanced
+ *   TKC_RANGE    REALTIME, or TAI with the offset of TKC_ADJ_TAI, would be at or past its limit:
+ *                the clocks have advanced, and made the step if there is one
  * In the first three cases nothing has changed.
  */
 TKC_MUST_CHECK

@@ -16,7 +16,8 @@
  *
  * Which one
  *   - A page: MONOTONIC never goes back for any reader, if the clocks get a command at least once
- *     in each half of the counter's range (tkcore.h, "Limits"). For this the writer reads the
+ *     in each half of the counter's range (tkcore.h, "Limits"). It may go back over snapshots of a
+ *     tkc_ntp, whose commands may be earlier than their publication. For this the writer reads the
  *     counter after tkc_page_begin, and tkc_page_now reads it before the reader's second load of
  *     the sequence. A reader waits while a writer is inside, that is between tkc_page_begin and
  *     tkc_page_publish. So a handler that may interrupt the writer must not wait: it may call
@@ -88,7 +89,9 @@
  *   on the same page and latch:
  *
  *     tkc_page_begin(&page);
- *     code = tkc_clock_change_counter(&clock, read_old(NULL), &new_counter, read_new(NULL));
+ *     reading = read_old(NULL);
+ *     first = read_new(NULL);
+ *     code = tkc_clock_change_counter(&clock, reading, &new_counter, first);
  *     tkc_page_publish_clock(&page, &clock);               also if the change was refused
  *
  *   Every reader then gets the snapshot with its own counter, in other processes too, and also if
