@@ -5,7 +5,7 @@
 use super::{act, assert_same, look};
 use std::test::Fail;
 use tk_clock::{ClockId, Command};
-use tk_script::{Script, ScriptError, Stamps};
+use tk_script::{Row, Script, ScriptError, Stamps};
 
 const SCRIPT: &[u8] = b"openhz,32,24000000,600,0,1700000000,0
 get,18446744073709551615,monotonic_coarse
@@ -19,23 +19,32 @@ update,0
 update,0
 ";
 
+/// Returns an update at reading 0. (The prover of the borrow checker fails on a row that is copied
+/// often.)
+fn update() -> Row {
+    act(0, Command::Update)
+}
+
+/// Returns the rows of `SCRIPT`.
+fn rows() -> [Row; 9] {
+    [
+        look(u64::MAX, ClockId::MonotonicCoarse),
+        act(u64::MAX, Command::Freq(i64::MIN)),
+        update(),
+        update(),
+        update(),
+        update(),
+        update(),
+        update(),
+        update(),
+    ]
+}
+
 #[test]
 fn reads_a_script_where_memory_is_there(rt: HostRuntime) -> Result<(), Fail> {
     match Script::from_bytes(rt.alloc(), SCRIPT) {
         Ok(script) => {
-            let update = act(0, Command::Update);
-            let rows = [
-                look(u64::MAX, ClockId::MonotonicCoarse),
-                act(u64::MAX, Command::Freq(i64::MIN)),
-                update,
-                update,
-                update,
-                update,
-                update,
-                update,
-                update,
-            ];
-            assert_same(&rt, &script.rows.as_slice(), &rows.as_slice());
+            assert_same(&rt, &script.rows.as_slice(), &rows().as_slice());
             Ok(())
         }
         Err(error) => {
