@@ -40,4 +40,13 @@ class Counters(RunTest):
     def test_a_frequency_and_a_tick(self):
         script = self.file("s", "openhz,64,1000000000,1,0,0,0\nfreq,0,32768000\n"
                                 "tick,1000000000,11000\n")
-        self.assertEqual(self.slept(100, "--script", script, "--counter", "sleeps"), 100)
+        options = ["--script", script, "--counter", "sleeps"]
+        command = ["--", "/usr/bin/perl", "-e", CODE, 100]
+        self.assertEqual(float(self.run_on(*options, *command)), 100)
+        run = self.start(*options, "--check", *command)  # no record of what the discipline makes up
+        self.assertEqual((run.returncode, float(run.stdout)), (4, 100))
+        self.assertIn("the record ends before the first call that steered the clocks", run.stderr)
+
+    def test_the_rest_of_adjtime_is_only_a_read(self):
+        code = "syscall(159, my $t = pack('L x4 q25', 0xa001)); print 1"
+        self.assertEqual(self.run_on("--check", "--", "/usr/bin/perl", "-e", code), "1")
