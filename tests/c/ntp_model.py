@@ -175,6 +175,8 @@ class Steered:
 
     def test(self, reading):
         refusal = self.clock.refusal(reading, "update", ())
+        if refusal is None and self.clock.counter.is_behind(self.mark, reading):
+            refusal = "behind"
         if refusal:
             raise Refused(refusal)
 

@@ -191,12 +191,15 @@ class Steered:
         self.steer(reading)
 
     def advance(self, reading):
+        counter = self.clock.counter
         refusal = self.clock.refusal(reading, "update")
+        if refusal is None and counter.gap(self.mark, reading) > counter.half():
+            refusal = "Behind"
         if refusal:
             raise Refused(refusal)
         while True:
             at = self.clock.reading_at(self.next)
-            counter, last = self.clock.counter, self.clock.last
+            last = self.clock.last
             if at is None or counter.gap(last, reading) < counter.gap(last, at):
                 return
             self.begin(at)
@@ -303,15 +306,17 @@ class SteeredOrders(Orders):
         if pick == 0 or self.sec == 0:
             return self.opening()
         self.reading = (self.reading + self.gap()) % 2**self.bits
+        reading = (self.reading - self.back()) % 2**self.bits
         if pick < 60:
-            return f"advance,{self.reading}"
+            return f"advance,{reading}"
         if pick < 150:
-            return ",".join(map(str, ("ask", self.reading, *self.request())))
-        return self.command()
+            return ",".join(map(str, ("ask", reading, *self.request())))
+        return self.command(reading)
 
     def opening(self):
         if self.sec and self.random.randrange(5) == 0:      # refused: the clocks stay
             return f"open,64,8388608,23,0,{self.random.choice([0, SETTABLE_END])},0,{self.random.choice([0, 1025])}"
+        self.asleep = False
         self.sec = self.random.choice([5, 1_483_228_790, 1_700_000_000, SETTABLE_END - 1])
         self.bits, mult, shift = self.random.choice(self.COUNTERS)
         self.second = max(1, (NANOS << shift) // mult)      # the cycles of a second
@@ -322,13 +327,18 @@ class SteeredOrders(Orders):
 
     def gap(self):
         pick = self.random.randrange(20)
-        if pick == 0:
-            return -self.random.randrange(3)
-        if pick == 1 and self.random.randrange(20) == 0:
+        if pick == 0 and self.random.randrange(20) == 0:
             return min(self.second * self.random.choice([600, DAY // 8]), 2**(self.bits - 1) - 1)
         if pick < 6:
             return 0
         return self.random.randrange(1 + min(self.second * self.random.choice([1, 1, 3, 10]), 2**(self.bits - 1) - 1))
+
+    def back(self):
+        """The cycles that a reading goes back by: seldom any."""
+        if self.random.randrange(10):
+            return 0
+        most = min(self.reading, 2**63 - 1) if self.bits == 64 else 2**(self.bits - 1) - 1
+        return min(self.random.choice([1, 2, self.random.randrange(1 + 2 * self.second)]), most)
 
     def request(self):
         fields = super().request()
@@ -336,9 +346,10 @@ class SteeredOrders(Orders):
             fields[0], fields[5] = STATUS, self.random.choice([STA_INS, STA_DEL, STA_PLL | STA_INS, STA_PLL | STA_DEL, 0])
         return fields
 
-    def command(self):
-        word = self.random.choice(["update", "update", "set", "step", "freq", "tick", "tai", "suspend", "resume",
-                                   "resume"])
+    def command(self, reading):
+        words = ["update", "update", "set", "step", "freq", "tick", "tai", "suspend", "resume"]
+        word = self.random.choice(words + 30 * ["resume"] if self.asleep else words)
+        self.asleep = word == "suspend" or self.asleep and word != "resume"
         if word in ("update", "suspend"):
             numbers = []
         elif word in ("freq", "tick", "tai"):
@@ -347,9 +358,11 @@ class SteeredOrders(Orders):
             day = self.random.randrange(1, 20_000) * DAY
             numbers = [self.random.choice([day - self.random.randrange(1, 6), self.number()]),
                        self.random.randrange(NANOS)]
+        elif word == "resume" and self.random.randrange(10):
+            numbers = [self.random.choice([0, 1, 3, 100_000]), self.random.randrange(NANOS)]
         else:
             numbers = [self.random.choice([0, 1, -1, 3, self.number()]), self.random.choice([0, self.random.randrange(NANOS), NANOS])]
-        return ",".join(map(str, (word, self.reading, *numbers)))
+        return ",".join(map(str, (word, reading, *numbers)))
 
 
 def compare(program, count, seed):

@@ -2,16 +2,15 @@
 use Rattle.std.specs.Prelude.{◌≡◌, ℕ, ⊤, pos, Bool, true, false, Option, Some, None, Result, Ok, Err, MatchOption}
 use Rattle.tk_counter.specs.Counter.{clamped}
 use Rattle.tk_clock.specs.declared.command.Command.{Command}
-use Rattle.tk_clock.specs.declared.command.Command.TheVariants.{Freq, Tick, Update}
+use Rattle.tk_clock.specs.declared.command.Command.TheVariants.{Freq, Tick}
 use Rattle.tk_clock.specs.declared.refusal.Refusal.{Refusal}
 use Rattle.tk_clock.specs.Command.{is_resume}
-use Rattle.tk_clock.specs.Refusal.{state_refusal}
 use Rattle.tk_ntp.specs.declared.timex.Timex.{Timex}
 use Rattle.tk_ntp.specs.declared.reply.Reply.{Reply}
 use Rattle.tk_ntp.specs.Advance.{IsAdvanced}
 use Rattle.tk_ntp.specs.Asked.{IsCommanded, IsAnswered}
 use Rattle.tk_ntp.specs.Bits.{adj_frequency, adj_tick}
-use Rattle.tk_ntp.specs.SteeredClock.{SteeredClock}
+use Rattle.tk_ntp.specs.SteeredClock.{SteeredClock, reading_refusal}
 
 -- a request without modes
 abbrev pub no_request : Timex
@@ -44,7 +43,7 @@ without_reply (Err refusal) = Err refusal
 -- begin first
 abbrev pub IsFollowed : ℕ → Command → SteeredClock → Result ⊤ Refusal → SteeredClock → Type 0
 IsFollowed reading cmd before result after =
-    MatchOption (state_refusal before.clock reading Update)
+    MatchOption (reading_refusal reading before)
     ((advanced : SteeredClock) × IsAdvanced reading before advanced
     × IsCommanded reading cmd advanced result after)
     (λ refusal. (result ≡ Err refusal) × (after ≡ before))

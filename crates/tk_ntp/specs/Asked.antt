@@ -2,7 +2,7 @@
 -- (do_settimeofday64, do_adjtimex, kernel/time/timekeeping.c).
 use Rattle.std.specs.Prelude.{◌≡◌, ℕ, ◌+◌, ◌/◌, ◌^◌, ⊤, pos, Bool, not, ◌&&◌, nat_eq, unsigned_abs, Option, Some, None, option_map, Result, Err, MatchOption, MatchResult, if◌then◌else◌}
 use Rattle.tk_clock.specs.declared.command.Command.{Command}
-use Rattle.tk_clock.specs.declared.command.Command.TheVariants.{Step, Tai, Update}
+use Rattle.tk_clock.specs.declared.command.Command.TheVariants.{Step, Tai}
 use Rattle.tk_clock.specs.declared.clock_id.ClockId.TheVariants.{Realtime}
 use Rattle.tk_clock.specs.declared.refusal.Refusal.{Refusal}
 use Rattle.tk_clock.specs.declared.refusal.Refusal.TheVariants.{Invalid}
@@ -21,7 +21,7 @@ use Rattle.tk_ntp.specs.Modes.{asked, asked_tai}
 use Rattle.tk_ntp.specs.Ntp.{cleared}
 use Rattle.tk_ntp.specs.Reply.{reply_to}
 use Rattle.tk_ntp.specs.Request.{step_of}
-use Rattle.tk_ntp.specs.SteeredClock.{SteeredClock, accounted_to, steered_at}
+use Rattle.tk_ntp.specs.SteeredClock.{SteeredClock, reading_refusal, accounted_to, steered_at}
 
 -- the second of REALTIME that begins next, by clocks that a command has just changed
 abbrev pub second_after : State → ℕ
@@ -148,7 +148,7 @@ IsAsked reading request before result after =
 abbrev pub first_fault : ℕ → Timex → SteeredClock → Option Refusal
 first_fault reading request steered =
     first_of (if is_faulty request then Some Invalid else None)
-    (state_refusal steered.clock reading Update)
+    (reading_refusal reading steered)
 
 -- the result of a request at a reading, and the state after it: the seconds up to the reading begin
 -- first

@@ -1,5 +1,5 @@
 -- The numbers that a discipline is kept in.
-use Rattle.std.specs.Prelude.{ℕ, ◌/◌, ◌%◌, ◌^◌, ℤ, ◌-ℤ◌, unsigned_abs, if◌then◌else◌}
+use Rattle.std.specs.Prelude.{◌/◌, ◌%◌, ◌^◌, ℤ, ◌-ℤ◌, unsigned_abs, if◌then◌else◌}
 use Rattle.tk_ntp.specs.declared.numbers.LagNumbers.{LagNumbers}
 use Rattle.tk_ntp.specs.declared.numbers.LeapNumbers.{LeapNumbers}
 use Rattle.tk_ntp.specs.declared.numbers.DisciplineNumbers.{DisciplineNumbers}

@@ -3,11 +3,12 @@
 use Rattle.std.specs.Prelude.{ℕ, ◌+◌, pos, ◌&&◌, nat_le, nat_lt, unsigned_abs, Option, Some, None, if◌then◌else◌}
 use Rattle.tk_counter.specs.Counter.{Counter, gap}
 use Rattle.tk_clock.specs.declared.command.Command.{Command}
+use Rattle.tk_clock.specs.declared.command.Command.TheVariants.{Update}
 use Rattle.tk_clock.specs.declared.refusal.Refusal.{Refusal}
 use Rattle.tk_clock.specs.declared.refusal.Refusal.TheVariants.{Invalid}
 use Rattle.tk_clock.specs.declared.timespec.Timespec.{Timespec}
 use Rattle.tk_clock.specs.Journal.{opened}
-use Rattle.tk_clock.specs.Refusal.{first_of, opening_refusal, state_refusal}
+use Rattle.tk_clock.specs.Refusal.{first_of, opening_refusal, order_refusal, state_refusal}
 use Rattle.tk_clock.specs.State.{State, state_of, effect}
 use Rattle.tk_ntp.specs.declared.rate.Rate.{Rate}
 use Rattle.tk_ntp.specs.declared.change.Change.{Change}
@@ -39,6 +40,13 @@ steered_opened counter reading real hz = record {
   next = unsigned_abs real.sec + 1;
   mark = reading;
 }
+
+-- why a call at a reading is refused: the clocks refuse an update there, or the reading is behind
+-- the one up to which the lag is accounted for
+abbrev pub reading_refusal : ℕ → SteeredClock → Option Refusal
+reading_refusal reading steered =
+    first_of (state_refusal steered.clock reading Update)
+    (order_refusal steered.clock.base.counter steered.mark reading Update)
 
 -- the lag is accounted for up to a reading, at the multiplier and the length in force
 abbrev pub accounted_to : ℕ → SteeredClock → SteeredClock

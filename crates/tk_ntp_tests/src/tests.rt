@@ -7,6 +7,7 @@ use tk_ntp::{Discipline, Leap, Reply, TimeState, Timex};
 mod leaps;
 mod loops;
 mod rates;
+mod readings;
 mod requests;
 
 /// A discipline at a second of REALTIME.

@@ -1,9 +1,9 @@
 //! Lets the seconds of REALTIME begin.
-ghost use Rattle.std.specs.Prelude.{◌≡◌, ◌<◌, ◌≤◌, MatchResult, MatchOption, IfOk, Some, None};
-ghost use Rattle.tk_clock.specs.declared.command.Command.TheVariants.{Update};
+ghost use Rattle.std.specs.Prelude.{◌≡◌, ◌<◌, ◌≤◌, nat_lt, MatchResult, MatchOption, IfOk, Some, None};
+ghost use Rattle.tk_counter.specs.Counter.{half, gap};
 ghost use Rattle.tk_clock.specs.Limits.{clock_end};
-ghost use Rattle.tk_clock.specs.Refusal.{state_refusal};
 ghost use Rattle.tk_ntp.specs.Second.{leap_at};
+ghost use Rattle.tk_ntp.specs.SteeredClock.{reading_refusal};
 ghost use Rattle.tk_ntp.specs.Often.{IsAtOnce};
 ghost use Rattle.tk_ntp.specs.Advance.{leapt, with_next_second, second_begun_at, IsDue, IsNoneDue, IsAdvanced, seconds_left};
 
@@ -20,17 +20,19 @@ impl SteeredClock {
     ///
     /// # Errors
     ///
-    /// Returns what `Clock::apply` returns for `Update` at `reading`. Nothing changes then.
+    /// Returns the first of these that applies. Nothing changes then.
     ///
     /// - `Asleep`: the clocks are asleep.
     /// - `Invalid`: `reading` is above the mask.
     /// - `Behind`: `reading` is behind the last command's.
     /// - `Range`: a clock would be at its limit or beyond it.
+    /// - `Behind`: `reading` is behind the beginning of the present second, or behind the last
+    ///   request that had modes.
     pub fn advance(&mut self, reading: u64) -> Result<(), Refusal>
         ensures answer { MatchResult result
-            (λ _. (state_refusal self.old.clock reading Command.Update ≡ None)
+            (λ _. (reading_refusal reading self.old ≡ None)
             × IsAdvanced reading self.old self.new)
-            (λ refusal. (state_refusal self.old.clock reading Command.Update ≡ Some refusal)
+            (λ refusal. (reading_refusal reading self.old ≡ Some refusal)
             × (self.new ≡ self.old)) }
         // no second up to the reading is left
         ensures none { IfOk result (λ _. IsNoneDue self.new reading) }
@@ -42,14 +44,27 @@ impl SteeredClock {
         Ok(())
     }
 
-    /// Returns the refusal of an update at a reading.
+    /// Returns the refusal of a call at a reading.
     fn test(&self, reading: u64) -> Result<(), Refusal>
         ensures { MatchResult result
-            (λ _. state_refusal self.now.clock reading Command.Update ≡ None)
-            (λ refusal. state_refusal self.now.clock reading Command.Update ≡ Some refusal) }
+            (λ _. reading_refusal reading self.now ≡ None)
+            (λ refusal. reading_refusal reading self.now ≡ Some refusal) }
     {
         let mut clock = self.clock;
-        clock.apply(reading, Command::Update)
+        clock.apply(reading, Command::Update)?;
+        if self.is_behind(reading) {
+            return Err(Refusal::Behind);
+        }
+        Ok(())
+    }
+
+    /// Returns whether a reading is behind the one up to which the lag is accounted for.
+    fn is_behind(&self, reading: u64) -> bool
+        ensures { let counter = self.now.clock.base.counter in
+            result ≡ nat_lt (half counter) (gap counter self.now.mark reading) }
+    {
+        let desc = self.desc();
+        desc.is_behind(desc.gap(self.mark, reading))
     }
 
     /// Lets each second of REALTIME up to a reading begin.

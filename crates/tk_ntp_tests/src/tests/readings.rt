@@ -1,0 +1,78 @@
+//! Readings that go back on steered clocks.
+use super::request;
+use std::process::Abort;
+use std::test::Fail;
+use tk_clock::{Command, Refusal, Timespec};
+use tk_counter::CounterDesc;
+use tk_ntp::{SteeredClock, Timex};
+
+/// Opens clocks of a counter of 1 GHz at the reading 0, at the beginning of a second.
+fn opened() -> Result<SteeredClock, Fail> {
+    let desc = CounterDesc::new(64, 8_388_608, 23).or(Err("a counter of 1 GHz"))?;
+    let real = Timespec {
+        sec: 1_700_000_000,
+        nsec: 0,
+    };
+    Ok(SteeredClock::open(desc, 0, real, 250).or(Err("a time of REALTIME"))?)
+}
+
+/// Checks that no call accepts a reading.
+fn refuses(rt: &impl Abort, steered: &mut SteeredClock, reading: u64) {
+    let behind = Err(Refusal::Behind);
+    assert_eq!(rt; steered.advance(reading), behind);
+    for cmd in [Command::Update, Command::Tick(10_001), Command::Suspend] {
+        assert_eq!(rt; steered.apply(reading, cmd), behind);
+    }
+    for modes in [0, 0x10] {
+        let asked = steered.adjtimex(reading, &request(modes));
+        assert_eq!(rt; asked.is_ok(), false);
+    }
+}
+
+#[test]
+fn a_reading_behind_the_last_request_is_refused(rt: HostRuntime) -> Result<(), Fail> {
+    let mut steered = opened()?;
+    let fast = Timex {
+        freq: 33 * 65_536 + 7,
+        ..request(0x2)
+    };
+    let status = Timex {
+        status: 1,
+        ..request(0x10)
+    };
+    let _ = steered.adjtimex(1000, &fast).or(Err("no fault"))?;
+    let _ = steered.adjtimex(2000, &status).or(Err("no fault"))?;
+    // the last command was at 1000: the status needs none
+    for reading in [1999, 1500, 1001, 1000, 999, u64::MAX] {
+        refuses(&rt, &mut steered, reading);
+    }
+    assert_eq!(rt; steered.advance(2000), Ok(()));
+    assert_eq!(rt; steered.advance(1_000_000_000), Ok(()));
+    let now = steered.snapshot(0);
+    assert_eq!(rt; now.last(), 999_967_100);
+    // 33 ppm, and one unit for the rest of the first second
+    assert_eq!(rt; now.mult(), 8_388_885);
+    Ok(())
+}
+
+#[test]
+fn a_reading_behind_the_present_second_is_refused(rt: HostRuntime) -> Result<(), Fail> {
+    let mut steered = opened()?;
+    assert_eq!(rt; steered.advance(1_500_000_000), Ok(()));
+    // the second needs no command
+    assert_eq!(rt; steered.snapshot(0).last(), 0);
+    refuses(&rt, &mut steered, 999_999_999);
+    assert_eq!(rt; steered.advance(1_000_000_000), Ok(()));
+    assert_eq!(rt; steered.next_second(), Some(2_000_000_000));
+    Ok(())
+}
+
+#[test]
+fn a_call_that_changes_nothing_refuses_no_reading(rt: HostRuntime) -> Result<(), Fail> {
+    let mut steered = opened()?;
+    let _ = steered.adjtimex(2000, &request(0)).or(Err("no fault"))?;
+    assert_eq!(rt; steered.advance(1999), Ok(()));
+    assert_eq!(rt; steered.apply(1998, Command::Update), Ok(()));
+    refuses(&rt, &mut steered, 1997);
+    Ok(())
+}
