@@ -667,10 +667,9 @@ enum tkc_code tkc_clock_load(struct tkc_clock *out, const uint64_t words[TKC_SAV
  * apply TKC_CMD_UPDATE by tkc_ntp_apply at least once in each half of the counter's range. Otherwise
  * a reading counts as behind, and tkc_ntp_next_second finds no reading.
  *
- * The reading of a call must not be before the reading of the call before it. TKC_BEHIND reports
- * that only if it is behind the last command, and not every call gives the clocks a command. After
- * a reading that goes back unnoticed, the discipline takes the whole range of the counter for
- * elapsed, and the clocks may run 500 ppm off for 1000 s.
+ * TKC_BEHIND refuses a reading that is behind the last command, the beginning of the present
+ * second, or the last request with modes other than those of TKC_ADJ_ADJTIME. Earlier calls that
+ * changed nothing refuse no reading.
  */
 
 /*
@@ -691,7 +690,8 @@ enum tkc_code tkc_ntp_open(struct tkc_ntp *out, const struct tkc_counter *counte
  *   TKC_FULL     the front is 2^63 - 1 or more
  *   TKC_ASLEEP   the clocks are asleep
  *   TKC_INVALID  the reading is above 2^bits - 1
- *   TKC_BEHIND   the reading is behind the last command's
+ *   TKC_BEHIND   the reading is behind the last command's, the beginning of the present second, or
+ *                the last request with modes
  *   TKC_RANGE    a clock would be at or past its limit
  */
 TKC_MUST_CHECK

@@ -2,17 +2,17 @@
 use Rattle.std.specs.Prelude.{◌≡◌, ◌⊎◌, ℕ, ◌+◌, ⊤, nat_le, Option, Some, None, Result, MatchOption, MatchResult, if◌then◌else◌}
 use Rattle.tk_clock.specs.declared.clock_id.ClockId.TheVariants.{Realtime}
 use Rattle.tk_clock.specs.declared.command.Command.{Command}
-use Rattle.tk_clock.specs.declared.command.Command.TheVariants.{Update}
 use Rattle.tk_clock.specs.declared.refusal.Refusal.{Refusal}
 use Rattle.tk_clock.specs.declared.refusal.Refusal.TheVariants.{Full}
 use Rattle.tk_clock.specs.Limits.{counted_most}
 use Rattle.tk_clock.specs.Reach.{IsFirstReached, IsNeverReached}
-use Rattle.tk_clock.specs.Refusal.{state_refusal, first_of}
+use Rattle.tk_clock.specs.Refusal.{first_of}
 use Rattle.tk_clock.specs.Time.{nanoseconds}
 use Rattle.tk_ntp.specs.declared.reply.Reply.{Reply}
 use Rattle.tk_ntp.specs.Advance.{IsAdvanced, second_time}
 use Rattle.tk_ntp.specs.Applied.{IsApplied, without_reply}
 use Rattle.tk_ntp.specs.Asked.{IsAnswered}
+use Rattle.tk_ntp.specs.SteeredClock.{reading_refusal}
 use Rattle.tk_c.specs.declared.counted_ntp.CountedNtp.{CountedNtp}
 use Rattle.tk_c.specs.declared.timex.KernelTimex.{KernelTimex}
 use Rattle.tk_c.specs.declared.code.Code.TheVariants.{Done, BadCommand, NotReached}
@@ -31,7 +31,7 @@ IsRefused refusal old code new = (code ≡ number_of (code_of_refusal refusal)) 
 -- the code of an advance, and the clocks after it
 abbrev pub IsAdvancedTo : CountedNtp → ℕ → ℕ → CountedNtp → Type 0
 IsAdvancedTo old reading code new =
-    MatchOption (first_of (full_refusal old.front) (state_refusal old.steered.clock reading Update))
+    MatchOption (first_of (full_refusal old.front) (reading_refusal reading old.steered))
     ((code ≡ number_of Done) × IsAdvanced reading old.steered new.steered
     × (new.front ≡ old.front + 1))
     (λ refusal. IsRefused refusal old code new)

@@ -59,8 +59,8 @@ pub extern "C" fn tkc_ntp_open(
 ///
 /// # Errors
 ///
-/// Returns `Code::Full` if 2^63 - 1 calls were accepted, or the code of the test that an update at the
-/// reading fails: `Asleep`, `Invalid`, `Behind` or `Range`. Nothing changes then.
+/// Returns `Code::Full` if 2^63 - 1 calls were accepted, or the code of the reading's refusal:
+/// `Asleep`, `Invalid`, `Behind` or `Range`. Nothing changes then.
 #[unsafe(no_mangle)]
 pub extern "C" fn tkc_ntp_advance(ntp: &mut CountedNtp, reading: u64) -> u32
     ensures { IsAdvancedTo ntp.old reading result ntp.new }
