@@ -107,12 +107,12 @@ class Records:
         return f"open,{bits},{counter.mult},{counter.shift},{reading},{sec},{self.random.choice([0, 999_999_999])},{hz}"
 
     def reading(self):
-        """A reading some seconds after the last one; seldom one behind it, or above the mask."""
+        """A reading some seconds after the last one; seldom one behind it or the account, or above the mask."""
         clock, pick = self.session.steered.clock, self.random.randrange(30)
         counter = clock.counter
         second = -(-(10**9 << counter.shift) // counter.mult)
         if pick == 0:
-            last = (clock.last - self.random.randrange(1, 99)) % 2**64
+            last = (self.random.choice([clock.last, self.session.steered.mark]) - self.random.randrange(1, 99)) % 2**64
             return last if counter.bits == 64 else self.random.choice([2**counter.bits, 2**64 - 1, last])
         if pick < 4:
             following = self.session.steered.next_second()
