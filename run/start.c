@@ -82,20 +82,15 @@ static void drop_sys_time(void)
 	syscall(SYS_capset, &header, data);
 }
 
-/* What the child reports before the program runs. */
-struct report {
-	bool is_filter; /* else the program can't be run */
-	int error;
-};
-
-/* Sends a report with a file, or with none if it is negative. */
-static void send_report(int socket, struct report report, int file)
+/* Sends an errno or 0, with a file, or with none if it is negative: what became
+ * of the filter if there is to be one, and then why the program can't be run. */
+static void send_report(int socket, int error, int file)
 {
 	union {
 		struct cmsghdr head;
 		char bytes[CMSG_SPACE(sizeof(int))];
 	} part = { .head = { CMSG_LEN(sizeof(int)), SOL_SOCKET, SCM_RIGHTS } };
-	struct iovec text = { &report, sizeof(report) };
+	struct iovec text = { &error, sizeof(error) };
 	struct msghdr message = { .msg_iov = &text, .msg_iovlen = 1 };
 
 	if (file >= 0) {
@@ -108,34 +103,37 @@ static void send_report(int socket, struct report report, int file)
 
 /* Receives a report. Returns false if there is none, since the program runs.
  * `file` becomes the file that came with it, or -1. */
-static bool receive_report(int socket, struct report *report, int *file)
+static bool receive_report(int socket, int *error, int *file)
 {
 	union {
 		struct cmsghdr head;
 		char bytes[CMSG_SPACE(sizeof(int))];
 	} part = { 0 };
-	struct iovec text = { report, sizeof(*report) };
+	struct iovec text = { error, sizeof(*error) };
 	struct msghdr message = { .msg_iov = &text,
 				  .msg_iovlen = 1,
 				  .msg_control = &part,
 				  .msg_controllen = sizeof(part) };
 
 	*file = -1;
-	if (recvmsg(socket, &message, MSG_CMSG_CLOEXEC) != sizeof(*report))
+	if (recvmsg(socket, &message, MSG_CMSG_CLOEXEC) != sizeof(*error))
 		return false;
 	if (CMSG_FIRSTHDR(&message))
 		memcpy(file, CMSG_DATA(&part.head), sizeof(*file));
 	return true;
 }
 
-static void install_filter(int socket)
+/* Installs the filter. Without one nothing holds the child back until tkrun has
+ * read the report, so with --static it ends here. */
+static void install_filter(int socket, bool is_static)
 {
 	int file = filter_install();
 
-	send_report(socket, (struct report){ true, file < 0 ? -file : 0 },
-		    file);
+	send_report(socket, file < 0 ? -file : 0, file);
 	if (file >= 0)
 		close(file);
+	else if (is_static)
+		_exit(STATUS_FAILED);
 }
 
 /* Becomes the program, or reports an error. */
@@ -149,10 +147,10 @@ static void become_program(const struct run *run, int socket, bool has_filter)
 	else
 		unsetenv("TKRUN_LOG");
 	if (has_filter)
-		install_filter(socket);
+		install_filter(socket, run->options.is_static);
 	drop_sys_time();
 	execvp(*program, program);
-	send_report(socket, (struct report){ false, errno }, -1);
+	send_report(socket, errno, -1);
 	_exit(STATUS_NOT_FOUND);
 }
 
@@ -176,56 +174,64 @@ static bool is_static_program(const char *program)
 	return false;
 }
 
-/* Answers the calls that the child makes until it runs the program, or reports
- * that it can't. Returns an errno, or 0. */
+/* Lets the child execute the program, or report that it can't. Returns an errno,
+ * or 0. */
 static int serve_start(struct run *run, int socket)
 {
 	struct pollfd files[2] = { { socket, POLLIN, 0 },
-				   { run->listener, POLLIN, 0 } };
-	struct seccomp_notif ask;
-	struct report report;
+				   { run->execs, POLLIN, 0 } };
 	siginfo_t info;
-	int file;
+	int error, file;
 
 	for (;;) {
 		poll(files, 2, 1);
-		if (files[1].revents & POLLIN &&
-		    filter_next(run->listener, &ask)) {
-			if (is_exec(&ask))
-				exec_follow(run->listener, &ask);
-			else
-				answer(&run->machine, run->listener, &ask);
-		}
+		serve_execs(run);
 		info.si_pid = 0;
 		if (!waitid(P_PID, (id_t)run->child, &info,
 			    WSTOPPED | WNOHANG | __WALL) &&
 		    info.si_pid)
 			exec_stopped(run->child, W_STOPCODE(info.si_status));
 		if (files[0].revents)
-			return receive_report(socket, &report, &file)
-				       ? report.error
-				       : 0;
+			return receive_report(socket, &error, &file) ? error
+								     : 0;
 	}
 }
 
-/* Takes the filter's listener, and starts the threads that answer. Without a
- * filter the program reads the host's clocks, which --static doesn't allow. */
+static void stop_child(const struct run *run)
+{
+	kill(run->child, SIGKILL);
+	waitpid(run->child, NULL, __WALL);
+}
+
+/* Starts the threads that answer the calls. */
+static void answer_calls(struct run *run)
+{
+	if (sleepers_start(&run->machine, run->listener))
+		run->execs = answers_start(&run->machine, run->listener);
+	if (run->execs >= 0)
+		return;
+	stop_child(run);
+	fail(STATUS_FAILED, "cannot start a thread");
+}
+
+/* Takes the filter's listener, and answers its calls. Without a filter the
+ * program reads the host's clocks, which --static doesn't allow. */
 static void take_filter(struct run *run, int socket)
 {
-	struct report report = { .error = EIO };
-	const char *reason = NULL;
+	int error = EIO;
 
-	receive_report(socket, &report, &run->listener);
-	if (run->listener < 0)
-		reason = strerror(report.error);
-	else if (!sleepers_start(&run->machine, run->listener))
-		reason = "cannot start a thread";
-	if (reason && run->options.is_static) {
-		kill(run->child, SIGKILL);
-		waitpid(run->child, NULL, 0);
+	receive_report(socket, &error, &run->listener);
+	if (run->listener >= 0) {
+		answer_calls(run);
+	} else if (run->options.is_static) {
+		stop_child(run);
 		fail(STATUS_FAILED,
 		     "--static: the kernel lets no filter ask tkrun: %s",
-		     reason);
+		     strerror(error));
+	} else if (!run->options.is_quiet) {
+		fprintf(stderr,
+			"tkrun: '%s' is static, and reads the host's clocks: the kernel lets no filter ask tkrun: %s\n",
+			*run->options.program, strerror(error));
 	}
 }
 
@@ -265,8 +271,6 @@ void start_program(struct run *run, const sigset_t *signals)
 		error = serve_start(run, ends[0]);
 	close(ends[0]);
 	check_start(run, error);
-	if (run->listener >= 0)
-		run->execs = answers_start(&run->machine, run->listener);
 }
 
 void serve_execs(struct run *run)
