@@ -61,11 +61,23 @@ static void warn_now_and_then(struct run *run)
 
 static void note_child(struct run *run, pid_t child, int status)
 {
-	if (WIFSTOPPED(status))
+	if (WIFSTOPPED(status)) {
 		exec_stopped(child, status);
-	else if (child == run->child)
+	} else if (child == run->child) {
 		run->status = WIFEXITED(status) ? WEXITSTATUS(status)
 						: 128 + WTERMSIG(status);
+		run->child = 0;
+	}
+}
+
+/* Passes a signal on to the program, or to what it left when it ended: another
+ * process may have its number then. */
+static void pass_signal(struct run *run, int number)
+{
+	if (run->child)
+		kill(run->child, number);
+	else
+		tree_signal(&run->tree, number);
 }
 
 /* Waits for all processes, and passes SIGTERM and SIGHUP on. The program's
@@ -89,7 +101,7 @@ static void drive(struct run *run, const sigset_t *signals)
 					  (long)(left % NANOS) };
 		number = sigtimedwait(signals, NULL, &wait);
 		if (number == SIGTERM || number == SIGHUP)
-			kill(run->child, number);
+			pass_signal(run, number);
 	}
 }
 

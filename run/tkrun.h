@@ -18,7 +18,7 @@ struct run {
 	char folder[PATH_MAX - 64];
 	char scratch[PATH_MAX]; /* the folder of a record that isn't kept */
 	uint64_t started, warned;
-	pid_t child;
+	pid_t child; /* the program, or 0 when it has ended */
 	int status;
 	int listener; /* by which the kernel asks, or -1 */
 	int execs;    /* from which programs to execute come, or -1 */

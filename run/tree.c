@@ -5,6 +5,7 @@
 #include <dirent.h>
 #include <errno.h>
 #include <fcntl.h>
+#include <signal.h>
 #include <stdio.h>
 #include <stdlib.h>
 #include <string.h>
@@ -121,7 +122,8 @@ static bool add_process(struct tree *tree, int32_t process, int depth)
 		is_done = grow((void **)&tree->processes, tree->process_count,
 			       &tree->process_room, sizeof(*tree->processes));
 		if (is_done)
-			tree->processes[tree->process_count++] = process;
+			tree->processes[tree->process_count++] =
+				(struct process){ process, depth };
 	}
 	while (is_done && (entry = readdir(tasks))) {
 		if (*entry->d_name == '.')
@@ -177,6 +179,16 @@ bool tree_is_quiet(struct tree *tree)
 	free(second.threads);
 	free(second.processes);
 	return is_quiet;
+}
+
+void tree_signal(struct tree *tree, int number)
+{
+	if (!tree_scan(tree))
+		return;
+	for (size_t i = 0; i < tree->process_count; i++) {
+		if (tree->processes[i].depth == 1)
+			kill(tree->processes[i].process, number);
+	}
 }
 
 /* A program that was seen in a process. */
@@ -263,11 +275,13 @@ void tree_warn(struct tree *tree)
 	if (!tree_scan(tree))
 		return;
 	for (size_t i = 0; i < tree->process_count; i++) {
-		program = find_program(tree->processes[i], &is_new);
+		int32_t process = tree->processes[i].process;
+
+		program = find_program(process, &is_new);
 		if (!program || is_new || program->is_known)
 			continue;
 		program->is_known = true;
-		if (!has_library(tree->processes[i]))
-			warn(tree->processes[i], program->file);
+		if (!has_library(process))
+			warn(process, program->file);
 	}
 }

@@ -13,10 +13,16 @@ struct thread_state {
 	bool is_waiting; /* for anything: it isn't running or about to */
 };
 
+/* A process, and the number of its ancestors up to tkrun. */
+struct process {
+	int32_t process;
+	int depth;
+};
+
 struct tree {
 	struct thread_state *threads;
 	size_t count, room;
-	int32_t *processes;
+	struct process *processes;
 	size_t process_count, process_room;
 };
 
@@ -27,6 +33,10 @@ bool tree_scan(struct tree *tree);
 /* Returns whether all threads wait: each did at two scans, and has left no
  * processor in between. `tree` then contains the threads. */
 bool tree_is_quiet(struct tree *tree);
+
+/* Sends a signal to tkrun's children. Only tkrun can reap them, so their numbers
+ * are theirs. */
+void tree_signal(struct tree *tree, int number);
 
 /*
  * Looks for processes that have not loaded libtkrun.so, and prints the name of

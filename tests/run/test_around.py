@@ -1,7 +1,9 @@
 """Runs side by side and inside of each other, signals, other users, and programs without the
 library."""
+import pathlib
 import shutil
 import subprocess
+import time
 
 from runs import IS_ROOT, OTHER, STILL, TKRUN, RunTest, call, needs_root, program
 
@@ -30,6 +32,16 @@ class Around(RunTest):
         self.assertEqual(run.stdout.readline(), "up\n")
         run.terminate()
         self.assertEqual(run.wait(20), 143)
+        run.stdout.close()
+
+    def test_a_signal_after_the_program_ends_what_it_left(self):
+        run = subprocess.Popen([TKRUN, "--quiet", "--", "bash", "-c",
+                                "sleep 100 & echo $$; exit 7"], stdout=subprocess.PIPE, text=True)
+        process = int(run.stdout.readline())
+        while pathlib.Path(f"/proc/{process}").exists():
+            time.sleep(0.01)
+        run.terminate()
+        self.assertEqual(run.wait(20), 7)
         run.stdout.close()
 
     def test_warnings_of_programs_without_the_library(self):
