@@ -8,16 +8,26 @@
 
 #include <elf.h>
 #include <errno.h>
+#include <fcntl.h>
 #include <stdio.h>
 #include <string.h>
 #include <sys/ptrace.h>
 #include <sys/stat.h>
+#include <sys/syscall.h>
 #include <sys/uio.h>
 #include <sys/user.h>
 #include <sys/wait.h>
 #include <unistd.h>
 
-enum { TEXT_MOST = 4096, PAGE_BYTES = 4096 };
+enum { TEXT_MOST = 4096, PAGE_BYTES = 4096, MISSED_MOST = 16 };
+
+/* Programs without the library whose vDSO couldn't be hidden. `missed_count`
+ * counts those that found no place, too. */
+static struct missed {
+	char name[256];
+	int error;
+} missed[MISSED_MOST];
+static size_t missed_count;
 
 /* Of a program that is about to start: its stack's pointers. */
 struct start {
@@ -25,14 +35,17 @@ struct start {
 	uint64_t environment, auxiliary; /* addresses */
 };
 
-/* Returns a word of a process, or 0 if the process was killed meanwhile. */
+/* Returns a word of a process, or 0 if it can't be read: the process may have
+ * been killed meanwhile. */
 static uint64_t peek(pid_t process, uint64_t address)
 {
-	long word;
+	uint64_t word = 0;
+	struct iovec here = { &word, sizeof(word) };
+	struct iovec there = { (void *)address, sizeof(word) };
 
-	errno = 0;
-	word = ptrace(PTRACE_PEEKDATA, process, address, 0);
-	return errno ? 0 : (uint64_t)word;
+	if (process_vm_readv(process, &here, 1, &there, 1, 0) != sizeof(word))
+		return 0;
+	return word;
 }
 
 /* The stack has the number of arguments, the arguments, a 0, the environment,
@@ -132,9 +145,96 @@ static void hide_vdso(pid_t process)
 		ptrace(PTRACE_POKEDATA, process, place, AT_IGNORE);
 }
 
+/* Stores the name of the file that a call executes, as tkrun can open it, or
+ * nothing if it can't be read. */
+static void executed_file(const struct seccomp_notif *ask, char *path,
+			  size_t size)
+{
+	bool is_at = ask->data.nr == SYS_execveat;
+	int folder = is_at ? (int)ask->data.args[0] : AT_FDCWD;
+	char name[TEXT_MOST];
+
+	read_text((pid_t)ask->pid, ask->data.args[is_at], name, sizeof(name));
+	if (*name == '/' || (!*name && folder == AT_FDCWD))
+		snprintf(path, size, "%s", name);
+	else if (folder == AT_FDCWD)
+		snprintf(path, size, "/proc/%u/cwd/%s", ask->pid, name);
+	else
+		snprintf(path, size, "/proc/%u/fd/%d%s%s", ask->pid, folder,
+			 *name ? "/" : "", name);
+}
+
+/* Returns whether a call executes a program that can't load the library. If the
+ * call's memory can't be read, it counts as one. */
+static bool lacks_library(const struct seccomp_notif *ask, const char *path)
+{
+	struct start start = {
+		.process = (pid_t)ask->pid,
+		.environment =
+			ask->data.args[ask->data.nr == SYS_execveat ? 3 : 2],
+	};
+
+	if (*path && access(path, X_OK))
+		return false; /* the call will fail */
+	return is_static_file(path) || !has_preload(&start);
+}
+
+/* Names a program for a warning: by its file, or else by what executes it. */
+static void name_program(const struct seccomp_notif *ask, const char *path,
+			 char *name, size_t size)
+{
+	char comm[64] = "";
+	FILE *file;
+
+	snprintf(name, size, "%.*s", (int)size - 1, path);
+	if (*path)
+		return;
+	snprintf(comm, sizeof(comm), "/proc/%u/comm", ask->pid);
+	file = fopen(comm, "re");
+	if (file && fgets(comm, sizeof(comm), file))
+		comm[strcspn(comm, "\n")] = 0;
+	if (file)
+		fclose(file);
+	snprintf(name, size, "a program that %s executed", comm);
+}
+
+static void note_missed(const struct seccomp_notif *ask, int error)
+{
+	char path[2 * TEXT_MOST], name[sizeof(missed->name)];
+
+	executed_file(ask, path, sizeof(path));
+	if (!lacks_library(ask, path))
+		return;
+	name_program(ask, path, name, sizeof(name));
+	for (size_t i = 0; i < missed_count && i < MISSED_MOST; i++) {
+		if (!strcmp(missed[i].name, name))
+			return;
+	}
+	if (missed_count < MISSED_MOST) {
+		missed[missed_count].error = error;
+		strcpy(missed[missed_count].name, name);
+	}
+	missed_count++;
+}
+
+void exec_print_missed(void)
+{
+	for (size_t i = 0; i < missed_count && i < MISSED_MOST; i++)
+		fprintf(stderr,
+			"tkrun: '%s' couldn't be traced, so it read the host's clocks: %s\n",
+			missed[i].name, strerror(missed[i].error));
+	if (missed_count > MISSED_MOST)
+		fprintf(stderr,
+			"tkrun: %zu more programs couldn't be traced\n",
+			missed_count - MISSED_MOST);
+}
+
+/* A thread that is gone has nothing to execute. */
 void exec_follow(int listener, const struct seccomp_notif *ask)
 {
-	ptrace(PTRACE_SEIZE, ask->pid, 0, PTRACE_O_TRACEEXEC);
+	if (ptrace(PTRACE_SEIZE, ask->pid, 0, PTRACE_O_TRACEEXEC) &&
+	    errno != ESRCH)
+		note_missed(ask, errno);
 	filter_continue(listener, ask->id);
 }
 

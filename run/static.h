@@ -50,8 +50,12 @@ int answers_start(struct machine *machine, int listener);
 /* Lets the sleeps be looked at, since the counter has moved. */
 void sleepers_wake(void);
 
-/* Lets a thread execute a program, and follows it until it has. */
+/* Lets a thread execute a program, and follows it until it has. A program
+ * without the library that can't be followed is noted. */
 void exec_follow(int listener, const struct seccomp_notif *ask);
+
+/* Prints the names of the programs that were noted. */
+void exec_print_missed(void);
 
 /* Handles the stop of a thread that is followed. */
 void exec_stopped(pid_t thread, int status);

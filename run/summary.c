@@ -46,6 +46,7 @@ void print_summary(const struct run *run)
 			"tkrun: took over %" PRIu64
 			" times from a process that died amid a command\n",
 			control->recovered);
+	exec_print_missed();
 	print_host_waits(control);
 }
 

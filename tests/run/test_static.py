@@ -82,6 +82,14 @@ class Static(RunTest):
         self.assertEqual((run.returncode, run.stdout), (125, ""))
         self.assertIn("--static: the kernel lets no filter ask tkrun", run.stderr)
 
+    def test_what_cannot_be_traced(self):
+        for words, is_named in [([program("static_reads"), "deny"], True), (["date"], False)]:
+            with self.subTest(words):
+                run = self.start("--static", "--", program("traced"), *words)
+                self.assertEqual(f"tkrun: '{words[0]}' couldn't be traced, so it read the host's "
+                                 "clocks: Operation not permitted" in run.stderr, is_named,
+                                 run.stderr)
+
     @needs_root("becomes another user")
     def test_another_user(self):
         shared = self.share()
