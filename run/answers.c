@@ -1,11 +1,13 @@
 /* SPDX-License-Identifier: MIT OR Apache-2.0 */
 /* Answers the system calls of programs without the library. */
 #define _GNU_SOURCE
+#include "log.h"
 #include "static.h"
 
 #include <errno.h>
 #include <fcntl.h>
 #include <signal.h>
+#include <stdio.h>
 #include <sys/ioctl.h>
 #include <sys/syscall.h>
 #include <sys/time.h>
@@ -14,6 +16,7 @@
 
 static struct machine *answered;
 static int answered_by, execs[2];
+static const char *answers_log; /* of --log, or NULL */
 
 /* Copies to a thread's memory. Returns 0 or an errno. */
 static int put(const struct seccomp_notif *ask, uint64_t address,
@@ -88,17 +91,51 @@ static int read_second(struct machine *m, const struct seccomp_notif *ask,
 	return put(ask, ask->data.args[0], &now.sec, sizeof(now.sec));
 }
 
+/* Returns the process of a thread, or the thread if it is gone. */
+static int process_of(int thread)
+{
+	char path[64], line[128];
+	int process = thread;
+	FILE *file;
+
+	snprintf(path, sizeof(path), "/proc/%d/status", thread);
+	file = fopen(path, "re");
+	while (file && fgets(line, sizeof(line), file) &&
+	       !sscanf(line, "Tgid: %d", &process))
+		;
+	if (file)
+		fclose(file);
+	return process;
+}
+
+/* A call that a thread has made, for --log. */
+static struct logged_call asked_call(const struct seccomp_notif *ask,
+				     const char *name, int result)
+{
+	int thread = (int)ask->pid;
+
+	return (struct logged_call){ answers_log,
+				     answers_log ? process_of(thread) : thread,
+				     name, result };
+}
+
 /* A call that was interrupted is made again, and a set of the time twice is the
  * same set. */
 static int set_clock(struct machine *m, const struct seccomp_notif *ask)
 {
+	int clock = (int)ask->data.args[0], error;
 	struct timespec time;
 
-	if (ask->data.args[0] != CLOCK_REALTIME)
+	if (clock != CLOCK_REALTIME) {
+		log_clock(asked_call(ask, "clock_settime", -EINVAL), clock);
 		return EINVAL;
+	}
 	if (fetch(ask, ask->data.args[1], &time, sizeof(time)))
 		return EFAULT;
-	return machine_set_time(m, time.tv_sec, time.tv_nsec);
+	error = machine_set_time(m, time.tv_sec, time.tv_nsec);
+	log_time(asked_call(ask, "clock_settime", -error), time.tv_sec,
+		 time.tv_nsec);
+	return error;
 }
 
 static int set_micros(struct machine *m, const struct seccomp_notif *ask)
@@ -106,17 +143,15 @@ static int set_micros(struct machine *m, const struct seccomp_notif *ask)
 	uint64_t times = ask->data.args[0], zones = ask->data.args[1];
 	struct timezone zone;
 	struct timeval time;
-	int error = 0;
+	int error;
 
 	if ((times && fetch(ask, times, &time, sizeof(time))) ||
 	    (zones && fetch(ask, zones, &zone, sizeof(zone))))
 		return EFAULT;
-	if (times && (time.tv_usec < 0 || time.tv_usec >= 1000000))
-		return EINVAL;
-	if (zones)
-		error = machine_set_zone(m, &zone);
-	if (!error && times)
-		error = machine_set_time(m, time.tv_sec, time.tv_usec * 1000);
+	error = machine_set_micros(m, times ? &time : NULL,
+				   zones ? &zone : NULL);
+	if (times)
+		log_micros(asked_call(ask, "settimeofday", -error), &time);
 	return error;
 }
 
@@ -126,24 +161,19 @@ static int sleep_until(struct machine *m, const struct seccomp_notif *ask,
 		       int clock, bool is_absolute, uint64_t address)
 {
 	struct timespec time;
-	struct tkc_time now = { 0 };
 
 	if (clock < 0)
 		return CALL_HOST;
 	if (fetch(ask, address, &time, sizeof(time)))
 		return EFAULT;
-	if (time.tv_sec < 0 || time.tv_nsec < 0 || time.tv_nsec >= NANOS)
+	if (time.tv_sec < 0 || is_bad(&time))
 		return EINVAL;
 	if (!is_absolute && clock != CLOCK_BOOTTIME)
 		clock = CLOCK_MONOTONIC;
-	if (!is_absolute && machine_read(m, (uint32_t)clock, &now))
+	if (!is_absolute && !machine_after(m, clock, &time, &time))
 		return EINVAL;
-	time.tv_nsec += now.nsec;
-	if (time.tv_sec > INT64_MAX - now.sec - 1)
-		time.tv_sec = INT64_MAX - now.sec - 1;
-	time.tv_sec += now.sec + time.tv_nsec / NANOS;
 	if (!sleepers_add(ask, (uint32_t)clock, time.tv_sec,
-			  (uint32_t)(time.tv_nsec % NANOS)))
+			  (uint32_t)time.tv_nsec))
 		return ENOMEM;
 	return CALL_LATER;
 }
@@ -162,14 +192,16 @@ static int sleep_on(struct machine *m, const struct seccomp_notif *ask)
 /* A call that was interrupted is made again: a step by ADJ_SETOFFSET may then
  * happen twice. */
 static int steer(struct machine *m, const struct seccomp_notif *ask,
-		 uint64_t address, int64_t *value)
+		 const char *name, uint64_t address, int64_t *value)
 {
-	struct timex timex;
+	struct timex timex, in;
 	int state;
 
 	if (fetch(ask, address, &timex, sizeof(timex)))
 		return EFAULT;
+	in = timex;
 	state = machine_adjtimex(m, &timex);
+	log_request(asked_call(ask, name, state), &in);
 	if (state < 0)
 		return -state;
 	*value = state;
@@ -196,11 +228,11 @@ static int make_call(struct machine *m, const struct seccomp_notif *ask,
 	case SYS_clock_nanosleep:
 		return sleep_on(m, ask);
 	case SYS_adjtimex:
-		return steer(m, ask, ask->data.args[0], value);
+		return steer(m, ask, "adjtimex", ask->data.args[0], value);
 	case SYS_clock_adjtime:
 		if (ask->data.args[0] != CLOCK_REALTIME)
 			return EOPNOTSUPP;
-		return steer(m, ask, ask->data.args[1], value);
+		return steer(m, ask, "clock_adjtime", ask->data.args[1], value);
 	default:
 		return CALL_HOST;
 	}
@@ -245,10 +277,11 @@ static void *answer_all(void *unused)
 	return unused;
 }
 
-int answers_start(struct machine *machine, int listener)
+int answers_start(struct machine *machine, int listener, const char *log)
 {
 	pthread_t thread;
 
+	answers_log = log;
 	answered = machine;
 	answered_by = listener;
 	if (pipe2(execs, O_CLOEXEC | O_NONBLOCK) ||

@@ -3,11 +3,7 @@
 #include "calls.h"
 
 #include <dlfcn.h>
-#include <fcntl.h>
-#include <stdarg.h>
-#include <stdio.h>
 #include <stdlib.h>
-#include <string.h>
 #include <unistd.h>
 
 enum {
@@ -71,33 +67,10 @@ int refuse(int error)
 	return -1;
 }
 
-int logged(const char *call, int result, const char *form, ...)
+struct logged_call this_call(const char *name, int result)
 {
-	const char *path = getenv("TKRUN_LOG");
-	char line[512];
-	va_list list;
-	int file, length, error = errno;
-
-	if (!path)
-		return result;
-	length = snprintf(line, sizeof(line), "%d %s ", getpid(), call);
-	va_start(list, form);
-	length += vsnprintf(line + length, sizeof(line) - (size_t)length, form,
-			    list);
-	va_end(list);
-	if (result < 0)
-		length += snprintf(line + length, sizeof(line) - (size_t)length,
-				   " = %s\n", strerrorname_np(error));
-	else
-		length += snprintf(line + length, sizeof(line) - (size_t)length,
-				   " = %d\n", result);
-	file = open(path, O_WRONLY | O_APPEND | O_CLOEXEC);
-	if (file >= 0) {
-		(void)!write(file, line, (size_t)length);
-		close(file);
-	}
-	errno = error;
-	return result;
+	return (struct logged_call){ getenv("TKRUN_LOG"), getpid(), name,
+				     result };
 }
 
 void note_host(struct machine *m, enum host_wait wait)
@@ -106,37 +79,10 @@ void note_host(struct machine *m, enum host_wait wait)
 		atomic_fetch_or(&m->control->host_waits, 1U << wait);
 }
 
-bool is_bad(const struct timespec *time)
-{
-	return time->tv_nsec < 0 || time->tv_nsec >= NANOS;
-}
-
 struct timespec host_deadline(uint64_t left, uint64_t most)
 {
-	uint64_t until =
-		host_nanos(CLOCK_MONOTONIC) + (left < most ? left : most);
-
-	return (struct timespec){ (time_t)(until / NANOS),
-				  (long)(until % NANOS) };
-}
-
-bool time_after(struct machine *m, int clock, const struct timespec *span,
-		struct timespec *out)
-{
-	struct timespec after = *span;
-	struct tkc_time now;
-
-	if (after.tv_sec < 0 || is_bad(&after) ||
-	    machine_read(m, (uint32_t)clock, &now))
-		return false;
-	after.tv_nsec += now.nsec;
-	/* no clock runs as long as that */
-	if (after.tv_sec > INT64_MAX - now.sec - 1)
-		after.tv_sec = INT64_MAX - now.sec - 1;
-	after.tv_sec += now.sec + after.tv_nsec / NANOS;
-	after.tv_nsec %= NANOS;
-	*out = after;
-	return true;
+	return span_of(host_nanos(CLOCK_MONOTONIC) +
+		       (left < most ? left : most));
 }
 
 struct timespec time_until(struct machine *m, int clock,

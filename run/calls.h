@@ -6,6 +6,7 @@
 #ifndef CALLS_H
 #define CALLS_H
 
+#include "log.h"
 #include "machine.h"
 
 #include <errno.h>
@@ -30,25 +31,14 @@ struct machine *machine(void);
 /* Sets errno and returns -1. */
 int refuse(int error);
 
-/* Writes a line of --log, and returns the result. errno stays. */
-__attribute__((format(printf, 3, 4))) int logged(const char *call, int result,
-						 const char *form, ...);
+/* A call that this process has made, for --log. */
+struct logged_call this_call(const char *name, int result);
 
 /* Notes that a wait is the host's, for tkrun's warning. */
 void note_host(struct machine *m, enum host_wait wait);
 
-/* Returns whether the nanoseconds are none of 0 to 999999999. */
-bool is_bad(const struct timespec *time);
-
 /* The host's MONOTONIC, `left` ns later and at most `most` ns later. */
 struct timespec host_deadline(uint64_t left, uint64_t most);
-
-/*
- * Returns when a clock's time comes that is `span` later, on the clock.
- * Returns false if the clock has no time, or the span is no time.
- */
-bool time_after(struct machine *m, int clock, const struct timespec *span,
-		struct timespec *out);
 
 /* Returns time - now, and 0 if that is negative. */
 struct timespec time_until(struct machine *m, int clock,

@@ -19,7 +19,7 @@ static bool wait_span(struct wait *wait, const struct timespec *span)
 	struct timespec until;
 
 	if (!m || !span || (!span->tv_sec && !span->tv_nsec) ||
-	    !time_after(m, CLOCK_MONOTONIC, span, &until))
+	    !machine_after(m, CLOCK_MONOTONIC, span, &until))
 		return false;
 	wait_begin(wait, m, CLOCK_MONOTONIC, &until);
 	return true;
@@ -27,10 +27,7 @@ static bool wait_span(struct wait *wait, const struct timespec *span)
 
 static struct timespec next_slice(struct wait *wait)
 {
-	uint64_t slice = wait_slice(wait);
-
-	return (struct timespec){ (time_t)(slice / NANOS),
-				  (long)(slice % NANOS) };
+	return span_of(wait_slice(wait));
 }
 
 static struct timespec millis_span(int millis)
@@ -126,7 +123,7 @@ EXPORT int select(int count, fd_set *restrict in, fd_set *restrict out,
 		wait = (struct timespec){ span->tv_sec +
 						  span->tv_usec / 1000000,
 					  span->tv_usec % 1000000 * 1000 };
-	is_span = span && time_after(m, CLOCK_MONOTONIC, &wait, &until);
+	is_span = span && machine_after(m, CLOCK_MONOTONIC, &wait, &until);
 	ready = pselect(count, in, out, other, span ? &wait : NULL, NULL);
 	if (is_span) {
 		wait = time_until(m, CLOCK_MONOTONIC, &until);

@@ -26,7 +26,7 @@ static long wait_until(struct machine *m, const long *a, int clock,
 	long result;
 
 	if (is_bad(&time) || time.tv_sec < 0 ||
-	    (is_span && !time_after(m, CLOCK_MONOTONIC, &time, &time)))
+	    (is_span && !machine_after(m, CLOCK_MONOTONIC, &time, &time)))
 		return refuse(EINVAL);
 	operation |= a[1] & FUTEX_PRIVATE_FLAG;
 	wait_begin(&wait, m, clock, &time);

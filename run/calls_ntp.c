@@ -14,16 +14,8 @@ static int adjust(const char *call, struct timex *tx)
 	struct timex in = *tx;
 	int result = machine_adjtimex(machine(), tx);
 
-	if (result < 0)
-		result = refuse(-result);
-	if (!in.modes || in.modes == ADJ_OFFSET_SS_READ)
-		return result;
-	return logged(call, result,
-		      "modes=%#x offset=%ld freq=%ld tick=%ld status=%#x "
-		      "constant=%ld time=%ld.%ld",
-		      in.modes, in.offset, in.freq, in.tick,
-		      (unsigned int)in.status, in.constant, in.time.tv_sec,
-		      in.time.tv_usec);
+	log_request(this_call(call, result), &in);
+	return result < 0 ? refuse(-result) : result;
 }
 
 EXPORT int adjtimex(struct timex *tx)

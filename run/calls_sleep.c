@@ -12,7 +12,7 @@ static int sleep_for(struct machine *m, int clock, const struct timespec *span,
 	struct timespec until;
 	int error;
 
-	if (!time_after(m, clock, span, &until))
+	if (!machine_after(m, clock, span, &until))
 		return EINVAL;
 	error = machine_sleep(m, (uint32_t)clock, until.tv_sec,
 			      (uint32_t)until.tv_nsec);

@@ -42,7 +42,7 @@ static struct span span_begin(struct machine *m, long address)
 {
 	struct span span = { .span = (struct timespec *)address };
 
-	span.is_limit = span.span && time_after(m, CLOCK_MONOTONIC, span.span,
+	span.is_limit = span.span && machine_after(m, CLOCK_MONOTONIC, span.span,
 						&span.until);
 	return span;
 }

@@ -236,7 +236,7 @@ _Static_assert(sizeof(struct timex) == sizeof(struct tkc_timex), "layout");
 
 int machine_adjtimex(struct machine *machine, struct timex *timex)
 {
-	bool only_reads = !timex->modes || timex->modes == ADJ_OFFSET_SS_READ;
+	bool only_reads = request_only_reads(timex);
 	enum tkc_code code;
 	uint32_t state = 0;
 	sigset_t saved;
@@ -248,7 +248,7 @@ int machine_adjtimex(struct machine *machine, struct timex *timex)
 	machine_unlock(machine, &saved);
 	if (!code && !only_reads)
 		machine_wake(machine);
-	return code ? -(code == TKC_ASLEEP ? EAGAIN : EINVAL) : (int)state;
+	return code ? -machine_error(code) : (int)state;
 }
 
 enum tkc_code machine_command(struct machine *machine, uint32_t command,

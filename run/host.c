@@ -34,16 +34,14 @@ uint64_t host_nanos(clockid_t clock)
 
 void host_nap(uint64_t nanos)
 {
-	struct timespec span = { (time_t)(nanos / NANOS),
-				 (long)(nanos % NANOS) };
+	struct timespec span = span_of(nanos);
 
 	host_call(SYS_nanosleep, (long)&span, 0, 0, 0, 0, HOST_SLEEP);
 }
 
 int host_futex_wait(_Atomic uint32_t *futex, uint32_t value, uint64_t until)
 {
-	struct timespec time = { (time_t)(until / NANOS),
-				 (long)(until % NANOS) };
+	struct timespec time = span_of(until);
 	long result;
 	int type;
 

@@ -3,6 +3,7 @@
 #ifndef HOST_H
 #define HOST_H
 
+#include <stdbool.h>
 #include <stdint.h>
 #include <sys/types.h>
 #include <time.h>
@@ -11,6 +12,19 @@ enum { NANOS = 1000000000 };
 
 /* The host's clock_gettime. libtkrun.so sets it to the C library's. */
 extern int (*host_gettime)(clockid_t, struct timespec *);
+
+/* Returns a span, or a time, of these ns. */
+static inline struct timespec span_of(uint64_t nanos)
+{
+	return (struct timespec){ (time_t)(nanos / NANOS),
+				  (long)(nanos % NANOS) };
+}
+
+/* Returns whether the nanoseconds are none of 0 to 999999999. */
+static inline bool is_bad(const struct timespec *time)
+{
+	return time->tv_nsec < 0 || time->tv_nsec >= NANOS;
+}
 
 /* Makes a system call. Returns its result, or minus an error. */
 long host_call(long number, long a, long b, long c, long d, long e, long f);

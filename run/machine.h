@@ -168,12 +168,23 @@ enum tkc_code machine_command(struct machine *machine, uint32_t command,
 /* Returns whether a process may not set the clocks. */
 bool machine_denies_set(const struct machine *machine);
 
-/* Set REALTIME or the time zone. Return 0 or an errno. */
+/* Returns the errno of a code: EAGAIN after a SUSPEND, or EINVAL, or 0. */
+int machine_error(enum tkc_code code);
+
+/* Set REALTIME, or as settimeofday does, where NULL sets nothing. Return 0 or an
+ * errno. */
 int machine_set_time(struct machine *machine, int64_t sec, int64_t nsec);
-int machine_set_zone(struct machine *machine, const struct timezone *zone);
+int machine_set_micros(struct machine *machine, const struct timeval *time,
+		       const struct timezone *zone);
 
 /* Stores the time zone. */
 void machine_zone(const struct machine *machine, struct timezone *out);
+
+/* Returns whether a request asks only for the reply. */
+static inline bool request_only_reads(const struct timex *request)
+{
+	return !request->modes || request->modes == ADJ_OFFSET_SS_READ;
+}
 
 /* Does what a struct timex asks for, and stores the reply. Returns the state of
  * the clocks, or minus an errno. */
@@ -190,6 +201,11 @@ static inline bool machine_is_past(const struct machine *machine,
 
 	return ((reading - other) & mask) <= mask / 2;
 }
+
+/* Stores the time of a clock that is `span` later. Returns false if the clock has
+ * no time, or the span is none. */
+bool machine_after(struct machine *machine, int clock,
+		   const struct timespec *span, struct timespec *out);
 
 /*
  * Returns the cycles until a clock reaches a time: 0 if it has, and NEVER if no

@@ -7,7 +7,7 @@
 #include <stdlib.h>
 #include <sys/time.h>
 
-static int error_of(enum tkc_code code)
+int machine_error(enum tkc_code code)
 {
 	switch (code) {
 	case TKC_OK:
@@ -30,11 +30,11 @@ int machine_set_time(struct machine *machine, int64_t sec, int64_t nsec)
 		return EPERM;
 	if (nsec < 0 || nsec >= NANOS)
 		return EINVAL;
-	return error_of(machine_command(machine, TKC_CMD_SET_TIME, sec,
-					(uint32_t)nsec));
+	return machine_error(machine_command(machine, TKC_CMD_SET_TIME, sec,
+					     (uint32_t)nsec));
 }
 
-int machine_set_zone(struct machine *machine, const struct timezone *zone)
+static int set_zone(struct machine *machine, const struct timezone *zone)
 {
 	if (machine_denies_set(machine))
 		return EPERM;
@@ -43,6 +43,20 @@ int machine_set_zone(struct machine *machine, const struct timezone *zone)
 	machine->control->zone[0] = zone->tz_minuteswest;
 	machine->control->zone[1] = zone->tz_dsttime;
 	return 0;
+}
+
+int machine_set_micros(struct machine *machine, const struct timeval *time,
+		       const struct timezone *zone)
+{
+	int error = 0;
+
+	if (time && (time->tv_usec < 0 || time->tv_usec >= 1000000))
+		return EINVAL;
+	if (zone)
+		error = set_zone(machine, zone);
+	if (error || !time)
+		return error;
+	return machine_set_time(machine, time->tv_sec, time->tv_usec * 1000);
 }
 
 void machine_zone(const struct machine *machine, struct timezone *out)

@@ -207,7 +207,8 @@ static void stop_child(const struct run *run)
 static void answer_calls(struct run *run)
 {
 	if (sleepers_start(&run->machine, run->listener))
-		run->execs = answers_start(&run->machine, run->listener);
+		run->execs = answers_start(&run->machine, run->listener,
+					   run->options.log);
 	if (run->execs >= 0)
 		return;
 	stop_child(run);

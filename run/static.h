@@ -44,8 +44,8 @@ bool sleepers_start(struct machine *machine, int listener);
 
 /* Starts the thread that answers. It passes on what executes a program: tkrun
  * reads it from the file that this returns, when SIGCHLD comes. Returns -1 if
- * it can't. */
-int answers_start(struct machine *machine, int listener);
+ * it can't. `log` is the file of --log, or NULL. */
+int answers_start(struct machine *machine, int listener, const char *log);
 
 /* Lets the sleeps be looked at, since the counter has moved. */
 void sleepers_wake(void);

@@ -81,7 +81,7 @@ static uint64_t host_period(struct machine *m, uint64_t period)
 	struct timespec span = span_of(period), until;
 	uint64_t left;
 
-	if (!period || !time_after(m, CLOCK_MONOTONIC, &span, &until))
+	if (!period || !machine_after(m, CLOCK_MONOTONIC, &span, &until))
 		return 0;
 	left = machine_left(m, CLOCK_MONOTONIC, until.tv_sec,
 			    (uint32_t)until.tv_nsec);
@@ -211,7 +211,7 @@ static bool set_next(struct machine *m, struct timer *timer, bool is_absolute,
 		return true;
 	if (timer->clock != CLOCK_BOOTTIME)
 		timer->clock = CLOCK_MONOTONIC;
-	return time_after(m, timer->clock, value, &timer->next);
+	return machine_after(m, timer->clock, value, &timer->next);
 }
 
 int timer_set(struct machine *m, struct timer *timer, bool is_absolute,

@@ -80,12 +80,6 @@ static inline timer_t kernel_timer(int number)
 	return (timer_t)(intptr_t)number;
 }
 
-static inline struct timespec span_of(uint64_t nanos)
-{
-	return (struct timespec){ (time_t)(nanos / NANOS),
-				  (long)(nanos % NANOS) };
-}
-
 /* Returns the time that is `nanos` ns later. */
 static inline struct timespec later(struct timespec time, uint64_t nanos)
 {

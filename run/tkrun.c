@@ -97,8 +97,7 @@ static void drive(struct run *run, const sigset_t *signals)
 		if (ended < 0 && errno == ECHILD)
 			return;
 		warn_now_and_then(run);
-		wait = (struct timespec){ (time_t)(left / NANOS),
-					  (long)(left % NANOS) };
+		wait = span_of(left);
 		number = sigtimedwait(signals, NULL, &wait);
 		if (number == SIGTERM || number == SIGHUP)
 			pass_signal(run, number);

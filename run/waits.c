@@ -22,6 +22,25 @@ static int64_t without_leap(const struct machine *machine, int64_t now,
 	return sec < tomorrow ? sec : sec + atomic_load(&machine->shared->leap);
 }
 
+bool machine_after(struct machine *machine, int clock,
+		   const struct timespec *span, struct timespec *out)
+{
+	struct timespec after = *span;
+	struct tkc_time now;
+
+	if (after.tv_sec < 0 || is_bad(&after) ||
+	    machine_read(machine, (uint32_t)clock, &now))
+		return false;
+	after.tv_nsec += now.nsec;
+	/* no clock runs as long as that */
+	if (after.tv_sec > INT64_MAX - now.sec - 1)
+		after.tv_sec = INT64_MAX - now.sec - 1;
+	after.tv_sec += now.sec + after.tv_nsec / NANOS;
+	after.tv_nsec %= NANOS;
+	*out = after;
+	return true;
+}
+
 uint64_t machine_cycles_left(struct machine *machine, uint32_t clock,
 			     int64_t sec, uint32_t nsec)
 {

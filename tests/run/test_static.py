@@ -90,6 +90,29 @@ class Static(RunTest):
                                  "clocks: Operation not permitted" in run.stderr, is_named,
                                  run.stderr)
 
+    def log(self, name, *options):
+        """The lines of --log, without the number of the process."""
+        log = self.folder / name
+        self.run_on("--start", 1000000000, *options, "--log", log, "--", program(name))
+        lines = [line.split(" ", 1) for line in log.read_text().splitlines()]
+        self.assertEqual(len({process for process, _ in lines}), 1)
+        return [call for _, call in lines]
+
+    def test_the_log(self):
+        # the C library refuses bad fractions of a second itself, and makes one system call of three
+        self.assertEqual(self.log("static_reads"), [
+            "clock_settime -1.000000000 = EINVAL", "clock_settime 8277292036.000000000 = EINVAL",
+            "clock_settime clock 1 = EINVAL", "clock_settime 2147483640.000000005 = 0",
+            "clock_settime 2147483840.000000000 = 0", "clock_settime 2147484040.000000000 = 0",
+            "clock_settime 2147483640.000000005 = 0"])
+
+    def test_the_log_of_steering(self):
+        # adjtime sets only these fields
+        dynamic, static = (
+            [(call.split()[1:3], call.split()[-1]) for call in self.log(name, *STILL)]
+            for name in ["steers", "static_steers"])
+        self.assertEqual(static, dynamic)
+
     @needs_root("becomes another user")
     def test_another_user(self):
         shared = self.share()
