@@ -144,7 +144,7 @@ static void parse_option(struct options *o, const char *name)
 	else if (!strcmp(name, "ahead"))
 		o->ahead = decimal(name, value, -1e9, 1e9);
 	else if (!strcmp(name, "uptime"))
-		o->uptime = decimal(name, value, 0, 900000000);
+		o->uptime = decimal(name, value, 0, UPTIME_MOST);
 	else if (!strcmp(name, "script"))
 		o->script = value;
 	else if (!strcmp(name, "record"))

@@ -14,6 +14,10 @@ enum {
 	STATUS_NOT_FOUND = 127, /* there is no PROGRAM */
 };
 
+/* The longest uptime, in s: the clocks begin each of its seconds, which takes
+ * some 50 ns for one. Each count of ms or jiffies that wraps does before it. */
+enum { UPTIME_MOST = 50000000 };
+
 struct options {
 	enum counter_kind counter;
 	uint64_t hz; /* 0: the counter's own rate */
