@@ -17,6 +17,7 @@ INT64_MIN, INT64_MAX, UINT32_MAX = -2**63, 2**63 - 1, 2**32 - 1
 NAMES = {"INT64_MIN": INT64_MIN, "INT64_MAX": INT64_MAX, "UINT32_MAX": UINT32_MAX,
          "UINT64_MAX": 2**64 - 1, "false": False, "true": True}
 CALLS = int(os.environ.get("TKCORE_CALLS", "20000"))  # how many random calls a test makes
+BAD_CALLS = max(CALLS, 100_000)  # how many calls with any arguments
 
 
 def seeded():

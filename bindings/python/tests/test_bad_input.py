@@ -1,6 +1,7 @@
 # SPDX-License-Identifier: MIT OR Apache-2.0
 """Bad buffers, numbers out of range, other versions, and random arguments: each gives an exception
 of this package with the value and its range, and no crash."""
+import ctypes
 import os
 import shutil
 import subprocess
@@ -13,8 +14,8 @@ from array import array
 from pathlib import Path
 
 import tkcore
-from support import CALLS, commanded, opened, seeded
-from tkcore import ClockId
+from support import BAD_CALLS, commanded, nanosecond_counter, opened, seeded
+from tkcore import ClockId, NANOS
 
 try:
     import numpy
@@ -24,9 +25,13 @@ except ImportError:
 STAMPS = array("Q", [9000, 9100, 9200])
 TIMES = [7000, 7100, 7200]
 OTHER = """
-unsigned tkc_version(void) { return 0x000300; }
-void tkcp_layout(unsigned long *layout) { layout[0] = 0x000300; }
+unsigned tkc_version(void) {{ return {}; }}
+void tkcp_layout(unsigned long *layout) {{ layout[0] = {}; }}
 """
+BIG_ENDIAN = ctypes.c_uint64.__ctype_be__ * 3
+# The exceptions that name a number and the range that it is out of.
+WITH_RANGE = (tkcore.Invalid, tkcore.BadBits, tkcore.BadShift, tkcore.BadMult, tkcore.BadAdjust,
+              tkcore.BadRate, tkcore.BadCommand, tkcore.BadRoom)
 
 
 class Buffers(unittest.TestCase):
@@ -54,6 +59,20 @@ class Buffers(unittest.TestCase):
             if stamps is not None:
                 with self.assertRaises(tkcore.BadBuffer, msg=stamps):
                     self.convert(STAMPS, stamps)
+
+    def test_another_type_or_order(self):
+        for other, layout in ((array("q", [-1, 2, 3]), "q"), (array("I", [1, 2, 3]), "I"),
+                              (array("d", [1.0, 2.0, 3.0]), "d"), (b"12345678", "B"),
+                              (BIG_ENDIAN(1, 2, 3), memoryview(BIG_ENDIAN()).format)):
+            for arguments, name in (((other,), "stamps"), ((STAMPS, other), "out")):
+                if isinstance(other, bytes) and name == "out":
+                    continue  # (it is read-only)
+                with self.assertRaises(tkcore.BadBuffer) as raised:
+                    self.convert(*arguments)
+                self.assertEqual((raised.exception.value, raised.exception.range),
+                                 (layout, ("Q", "Q")))
+                self.assertEqual(str(raised.exception), f"the format of the elements of {name} is "
+                                                        f"{layout} instead of Q")
 
     def test_no_read_only_memory_is_written(self):
         for out in (memoryview(STAMPS.tobytes()).cast("Q"),
@@ -134,6 +153,66 @@ class Buffers(unittest.TestCase):
         self.assertGreater(rounds, 50)
 
 
+class Arguments:
+    """Random calls on clocks, with any arguments."""
+
+    EDGES = [-1, 0, 1, 7, 2**31, 2**32, 2**63 - 1, 2**63, 2**64 - 1, 2**64, 10**30]
+
+    def __init__(self, rng):
+        self.rng = rng
+        self.clock = self.steered = None
+        some, near = self.some, self.near
+
+        def number():
+            return rng.choice([some(), rng.randrange(8)])
+
+        self.calls = [
+            lambda: (self.clock.apply, some(), number(), some(), some()),
+            lambda: (self.clock.step, some(), some()),
+            lambda: (self.clock.set_time, some(), some()),
+            lambda: (self.clock.resume, some(), some()),
+            lambda: (self.clock.change_counter, some(), self.steered.counter, some()),
+            lambda: (self.clock.snapshot().get, some(), number()),
+            lambda: (self.clock.snapshot().reading_at, some(), number()),
+            lambda: (self.clock.snapshot().convert, array("Q", [abs(some()) % 2**64, 5]), number()),
+            lambda: (tkcore.Counter, some(), some(), some()),
+            lambda: (tkcore.Counter.from_hz, some(), some(), some()),
+            lambda: (tkcore.Clock, self.clock.counter, some(), some()),
+            lambda: (tkcore.Clock.load, self.words()),
+            lambda: (tkcore.Clock.from_words, self.clock.counter, self.words(), some(), some()),
+            lambda: (tkcore.Snapshot.from_words, self.clock.counter, self.words()),
+            lambda: (tkcore.SteeredClock, self.steered.counter, near(), some(), number()),
+            lambda: (self.steered.advance, near()),
+            lambda: (self.steered.apply, near(), number(), some(), some()),
+            lambda: (self.steered.step, near(), some()),
+            lambda: (self.steered.next_second,),
+        ] + [lambda: (self.steered.adjtimex, near(), self.request())] * 4
+
+    def open(self):
+        self.clock = opened()
+        self.steered = tkcore.SteeredClock(nanosecond_counter(), 0, 10**18)
+
+    def some(self):
+        rng = self.rng
+        return rng.choice([lambda: rng.choice(self.EDGES), lambda: rng.randrange(20),
+                           lambda: rng.randrange(2**32), lambda: rng.randrange(2**64),
+                           lambda: -rng.randrange(2**63)])()
+
+    def near(self):
+        """Returns a reading of the steered clocks, often one that they accept."""
+        if self.rng.randrange(4) == 0:
+            return self.some()
+        return (self.steered.snapshot().words()[1] + self.rng.randrange(2**30)) % 2**32
+
+    def words(self):
+        return [self.some() for _ in range(self.rng.choice([9, 10, 10, 11, 15]))]
+
+    def request(self):
+        modes, *others = (self.some() for _ in range(10))
+        return tkcore.Timex(modes & self.rng.randrange(2**32), *others[:6],
+                            self.rng.choice([others[6], 10_000]), *others[7:])
+
+
 class Numbers(unittest.TestCase):
     def refused(self, error, value, within, call, *arguments):
         with self.assertRaises(error, msg=arguments) as raised:
@@ -161,6 +240,15 @@ class Numbers(unittest.TestCase):
             self.refused(tkcore.Invalid, reading, readings, tkcore.Clock, clock.counter, reading, 0)
         for tick in (8999, 11_001, 2**63 - 1):
             self.refused(tkcore.Invalid, tick, (9000, 11_000), clock.set_tick, 5, tick)
+        latest = 8_277_292_036 * NANOS - 1
+        self.refused(tkcore.Invalid, -1, (0, latest), clock.set_time, 5, -1)
+        # (at 5 ns of MONOTONIC, and of REALTIME after 1700000000 s)
+        self.refused(tkcore.Invalid, 4, (5, latest), clock.set_time, 5, 4)
+        within = (-1_700_000_000 * NANOS, latest - 1_700_000_000 * NANOS - 5)
+        for amount in (within[0] - 1, within[1] + 1, -2**62, 2**63 - 1):
+            self.refused(tkcore.Invalid, amount, within, clock.step, 5, amount)
+        for amount in within:
+            opened().step(5, amount)
         self.refused(tkcore.Invalid, -1, (0, 100_000), clock.set_tai_offset, 5, -1)
         clock.update(1000)
         self.refused(tkcore.Behind, 999, (1000, 1000 + 2**31 - 1), clock.update, 999)
@@ -172,35 +260,26 @@ class Numbers(unittest.TestCase):
 
     def test_random_arguments(self):
         rng = seeded()
-        edges = [-1, 0, 1, 7, 2**31, 2**32, 2**63 - 1, 2**63, 2**64 - 1, 2**64, 10**30]
-
-        def some():
-            return rng.choice([rng.choice(edges), rng.randrange(20), rng.randrange(2**32),
-                               rng.randrange(2**64), -rng.randrange(2**63)])
-
+        given = Arguments(rng)
         refused = 0
-        clock = opened()
-        for _ in range(CALLS):
-            snapshot = clock.snapshot()
-            words = [some() for _ in range(rng.choice([9, 10, 10, 11]))]
-            call, *arguments = rng.choice([
-                (clock.apply, some(), rng.choice([some(), rng.randrange(8)]), some(), some()),
-                (clock.step, some(), some()), (clock.set_time, some(), some()),
-                (clock.resume, some(), some()), (snapshot.get, some(), rng.choice([some(), 1])),
-                (snapshot.reading_at, some(), rng.choice([some(), 1])),
-                (snapshot.convert, array("Q", [abs(some()) % 2**64, 5]), rng.choice([some(), 1])),
-                (tkcore.Counter, some(), some(), some()),
-                (tkcore.Counter.from_hz, some(), some(), some()),
-                (tkcore.Clock, clock.counter, some(), some()),
-                (tkcore.Snapshot.from_words, clock.counter, words),
-                (tkcore.Clock.from_words, clock.counter, words, some(), some()),
-            ])
+        for number in range(BAD_CALLS):
+            if number % 100 == 0:
+                given.open()
+            call, *arguments = rng.choice(given.calls)()
             try:
                 call(*arguments)
-            except tkcore.Error:
+            except tkcore.Error as error:
                 refused += 1
-        self.assertLess(refused, CALLS)
-        print(f"\n{CALLS} random calls: {refused} were refused, all by an exception of the package")
+                self.check_range(error, arguments)
+        self.assertLess(refused, BAD_CALLS)
+        print(f"\n{BAD_CALLS} random calls: {refused} raised an exception of the package")
+
+    def check_range(self, error, arguments):
+        """An exception that is for a number has a number that is out of its range."""
+        if isinstance(error, WITH_RANGE):
+            self.assertFalse(error.range[0] <= error.value <= error.range[1], (error, arguments))
+        if isinstance(error, tkcore.Behind):
+            self.assertEqual((error.what, error.value), ("reading", arguments[0]))
 
 
 class Versions(unittest.TestCase):
@@ -214,13 +293,14 @@ class Versions(unittest.TestCase):
     def test_a_library_of_another_version(self):
         with tempfile.TemporaryDirectory() as folder:
             source, library = Path(folder, "other.c"), Path(folder, "other.so")
-            source.write_text(OTHER)
-            subprocess.run(["cc", "-shared", "-fPIC", source, "-o", library], check=True)
-            self.assertRegex(self.imports(library),
-                             "^OtherVersion .* 0.3.0, made with headers of 0.3.0: .* needs 0.2")
-            source.write_text("int nothing;")
-            subprocess.run(["cc", "-shared", "-fPIC", source, "-o", library], check=True)
-            self.assertRegex(self.imports(library), "^OtherVersion .* isn't the shared object")
+            for text, reason in (
+                    (OTHER.format(0x300, 0x300), "the version of .* is 0.3.0 instead of 0.2.0 to"),
+                    (OTHER.format(0x200, 0x300), "the version of the headers of .* is 0.3.0 in"),
+                    (OTHER.format(0x200, 0x200), r"the list of sizes and layouts of .* is \[0, 0"),
+                    ("int nothing;", ".* isn't the shared object of this package")):
+                source.write_text(text)
+                subprocess.run(["cc", "-shared", "-fPIC", source, "-o", library], check=True)
+                self.assertRegex(self.imports(library), f"^OtherVersion {reason}")
             self.assertRegex(self.imports(Path(folder, "none.so")), "^ImportError ")
 
 

@@ -3,11 +3,25 @@
 import copy
 import mmap
 import pickle
+import subprocess
+import sys
+import tempfile
 import unittest
 
 import tkcore
 from support import CALLS, opened, seeded
 from tkcore import ClockId
+
+
+PAGE_LAYOUT, LATCH_LAYOUT = 0x746b637061676502, 0x746b636c61746302  # of tkcore_page.h
+OTHER_PROCESS = """
+import mmap, sys, tkcore
+with open(sys.argv[1], "r+b") as file:
+    memory = mmap.mmap(file.fileno(), tkcore.Page.SIZE)
+clock = tkcore.Clock(tkcore.Counter(32, 16_777_216, 24), 0, 1_700_000_000 * tkcore.NANOS)
+tkcore.Page.create(clock, memory)
+memory[0] += 1
+"""
 
 
 class Pages(unittest.TestCase):
@@ -26,15 +40,30 @@ class Pages(unittest.TestCase):
 
     def test_another_layout(self):
         memory = mmap.mmap(-1, 512)
-        with self.assertRaises(tkcore.BadLayout):
-            tkcore.Page.attach(memory)
-        tkcore.Page.create(opened(), memory).close()
-        with self.assertRaises(tkcore.BadLayout):
-            tkcore.Latch.attach(memory)
+        page, latch = PAGE_LAYOUT, LATCH_LAYOUT
+        self.refused(0, page, lambda: tkcore.Page.attach(memory))
+        written = tkcore.Page.create(opened(), memory)
+        self.refused(page, latch, lambda: tkcore.Latch.attach(memory))
         for number in (1, 3):  # the former layout, and a later one
             memory[0] = number
-            with self.assertRaises(tkcore.BadLayout):
-                tkcore.Page.attach(memory)
+            self.refused(page + number - 2, page, lambda: tkcore.Page.attach(memory))
+            self.refused(page + number - 2, page, written.clock)
+
+    def refused(self, found, wanted, call):
+        with self.assertRaises(tkcore.BadLayout) as raised:
+            call()
+        self.assertEqual((raised.exception.value, raised.exception.range),
+                         (found, (wanted, wanted)))
+
+    def test_a_page_that_another_process_left_with_another_layout(self):
+        with tempfile.NamedTemporaryFile() as file:
+            file.write(bytes(tkcore.Page.SIZE))
+            file.flush()
+            subprocess.run([sys.executable, "-c", OTHER_PROCESS, file.name], check=True)
+            memory = mmap.mmap(file.fileno(), tkcore.Page.SIZE)
+            self.refused(PAGE_LAYOUT + 1, PAGE_LAYOUT, lambda: tkcore.Page.attach(memory))
+            memory[0] = PAGE_LAYOUT % 256
+            self.assertEqual(tkcore.Page.attach(memory).read(), opened().snapshot())
 
     def test_words_of_no_writer(self):
         memory = mmap.mmap(-1, 512)

@@ -1,6 +1,7 @@
 # SPDX-License-Identifier: MIT OR Apache-2.0
 """Steered clocks: the tables of tests/c/worked_ntp.c, random requests against the definitions in
 Python, and arguments that no clock takes."""
+import copy
 import re
 import sys
 import unittest
@@ -109,6 +110,43 @@ class Arguments(unittest.TestCase):
             self.clock.adjtimex(0, Timex(freq=1.5))
         with self.assertRaises(tkcore.Invalid):
             self.clock.advance(-1)
+
+    def test_numbers_of_requests(self):
+        """Requests that are refused for a number. At the reading 5000005, 5 s of MONOTONIC have
+        passed."""
+        counter, steps = tkcore.Counter.from_hz(32, 1_000_000), (-1_700_000_000 * 10**9,
+                                                                 6_577_292_031 * 10**9 - 1)
+        freqs = (-140_737_488_355, 140_737_488_355)
+        clock = SteeredClock(counter, 5, 1_700_000_000 * tkcore.NANOS, 1000)
+        rows = [
+            (8, Timex(Mode.ADJTIME | Mode.MAXERROR), "modes, with ADJTIME,", 32772, (32773, 32773)),
+            (8, Timex(Mode.TICK, tick=8999), "tick", 8999, (9000, 11_000)),
+            (8, Timex(Mode.TICK, tick=11_001), "tick", 11_001, (9000, 11_000)),
+            (8, Timex(Mode.SETOFFSET, sub=-1), "sub", -1, (0, 999_999)),
+            (8, Timex(Mode.SETOFFSET, sub=10**6), "sub", 10**6, (0, 999_999)),
+            (8, Timex(Mode.SETOFFSET | Mode.NANO, sub=10**9), "sub", 10**9, (0, 999_999_999)),
+            (8, Timex(Mode.FREQUENCY, freq=freqs[1] + 1), "freq", freqs[1] + 1, freqs),
+            (8, Timex(Mode.FREQUENCY, freq=freqs[0] - 1), "freq", freqs[0] - 1, freqs),
+            (8, Timex(Mode.TICK | Mode.FREQUENCY, tick=5, freq=freqs[1] + 1), "tick", 5,
+             (9000, 11_000)),
+            (2**32, Timex(), "reading", 2**32, (0, 2**32 - 1)),
+            (5_000_005, Timex(Mode.SETOFFSET | Mode.NANO, sec=-1_700_000_001, sub=999_999_999),
+             "the step of REALTIME, in ns,", steps[0] - 1, steps),
+            (5_000_005, Timex(Mode.SETOFFSET, sec=6_577_292_031), "the step of REALTIME, in ns,",
+             steps[1] + 1, steps),
+        ]
+        for reading, request, *wanted in rows:
+            with self.subTest(wanted), self.assertRaises(tkcore.Invalid) as raised:
+                copy.copy(clock).adjtimex(reading, request)
+            found = raised.exception
+            self.assertEqual([found.what, found.value, found.range], wanted)
+        for request in (Timex(Mode.ADJTIME | Mode.OFFSET), Timex(Mode.TICK, tick=9000),
+                        Timex(Mode.TICK, tick=11_000), Timex(Mode.SETOFFSET, sub=999_999),
+                        Timex(Mode.SETOFFSET | Mode.NANO, sub=999_999_999),
+                        Timex(Mode.FREQUENCY, freq=freqs[0]), Timex(Mode.FREQUENCY, freq=freqs[1]),
+                        Timex(Mode.SETOFFSET, sec=-1_700_000_000),
+                        Timex(Mode.SETOFFSET | Mode.NANO, sec=6_577_292_030, sub=999_999_999)):
+            copy.copy(clock).adjtimex(5_000_005, request)
 
     def test_opening(self):
         counter = tkcore.Counter.from_hz(32, 1_000_000)

@@ -81,7 +81,7 @@ def numbers(exporter: Any, name: str, is_written: bool) -> Memory:
     if memory.view.itemsize == 8 and layout[-1] in "QL" and layout[:-1] in ("", "@", "=", "<"):
         return memory
     memory.release()
-    raise BadBuffer(f'{name} has elements of another type than "Q", unsigned 64 bits: "{layout}"')
+    raise BadBuffer(f"the format of the elements of {name}", layout, ("Q", "Q"))
 
 
 def check_apart(stamps: Memory, out: Memory) -> None:

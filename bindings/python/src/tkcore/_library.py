@@ -65,6 +65,7 @@ class TimeValue(ctypes.Structure):
 
 PAGE_SIZE = 8 * (2 + 2 * SAVED_WORDS)
 LATCH_SIZE = 8 * (2 + 2 * (WORDS + 3))
+PAGE_LAYOUT, LATCH_LAYOUT = 0x746b_6370_6167_6502, 0x746b_636c_6174_6302
 Words = c_uint64 * WORDS
 SavedWords = c_uint64 * SAVED_WORDS
 ReadCounter = ctypes.CFUNCTYPE(c_uint64, c_void_p)
@@ -129,21 +130,25 @@ def _version_of(number: int) -> str:
 
 def _check(calls: Any, path: str) -> None:
     """Raises OtherVersion unless the shared object has the values that this package declares."""
-    layout = (c_uint64 * 8)()
-    major, minor, _ = map(int, VERSION.split("."))
+    layout = (c_uint64 * 10)()
+    major, minor, _ = VERSION.split(".")
     try:
         calls.tkc_version.restype = c_uint32
         calls.tkcp_layout(layout)
         found = calls.tkc_version()
     except AttributeError:
         raise OtherVersion(f"{path} isn't the shared object of this package") from None
-    if any(number >> 8 != major << 8 | minor for number in (found, layout[0])):
-        raise OtherVersion(f"{path} is of version {_version_of(found)}, made with headers of "
-                           f"{_version_of(layout[0])}: this package needs {major}.{minor}", found)
+    within = (f"{major}.{minor}.0", f"{major}.{minor}.255")
+    for what, version in (("", _version_of(found)), ("the headers of ", _version_of(layout[0]))):
+        if version.split(".")[:2] != [major, minor]:
+            raise OtherVersion(f"the version of {what}{path}", version, within)
     counter, clock, snapshot, ntp, timex = map(
         ctypes.sizeof, (CounterValue, ClockValue, SnapshotValue, NtpValue, TimexValue))
-    if list(layout)[1:] != [counter, clock, snapshot, PAGE_SIZE, LATCH_SIZE, ntp, timex]:
-        raise OtherVersion(f"{path} has values of other sizes", list(layout)[1:])
+    wanted = [counter, clock, snapshot, PAGE_SIZE, LATCH_SIZE, ntp, timex, PAGE_LAYOUT,
+              LATCH_LAYOUT]
+    if layout[1:] != wanted:
+        raise OtherVersion(f"the list of sizes and layouts of {path}", layout[1:],
+                           (wanted, wanted))
 
 
 def _declare(library: Any, calls: dict) -> None:

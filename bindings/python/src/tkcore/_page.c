@@ -5,8 +5,9 @@
  */
 #include <tkcore_page.h>
 
-/* The version of the headers, and the sizes of values, which the package's declarations must have. */
-void tkcp_layout(uint64_t layout[8])
+/* The version of the headers, and the sizes of values and the layouts that the package's
+ * declarations must have. */
+void tkcp_layout(uint64_t layout[10])
 {
 	layout[0] = TKC_VERSION;
 	layout[1] = sizeof(struct tkc_counter);
@@ -16,6 +17,8 @@ void tkcp_layout(uint64_t layout[8])
 	layout[5] = sizeof(struct tkc_latch);
 	layout[6] = sizeof(struct tkc_ntp);
 	layout[7] = sizeof(struct tkc_timex);
+	layout[8] = TKC_PAGE_LAYOUT;
+	layout[9] = TKC_LATCH_LAYOUT;
 }
 
 void tkcp_page_init(struct tkc_page *page, const struct tkc_snapshot *snapshot)

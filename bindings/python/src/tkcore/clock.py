@@ -120,10 +120,6 @@ class Clock(Commanded):
     def _call_apply(self, reading: int, command: int, number: int, nsec: int) -> int:
         return CALLS.tkc_clock_apply(byref(self._value), reading, command, number, nsec)
 
-    def _front_and_last(self) -> Tuple[int, int]:
-        front, last = self.words()[0][:2]
-        return front, last
-
     def __repr__(self) -> str:
         words, frequency, tick = self.words()
         return f"Clock.from_words({self.counter!r}, {words!r}, {frequency}, {tick})"

@@ -8,9 +8,11 @@ from typing import NoReturn, Tuple
 from ._library import I64, NANOS, U32, U64, fit
 from .counter import Counter
 from .errors import BY_CODE, BadCommand, Behind, Full, Invalid
+from .snapshot import ClockId, Snapshot
 
 _NSECS = (0, NANOS - 1)
 SETTABLE = (0, 8_277_292_035)
+TICKS = (9_000, 11_000)
 
 
 class Command(enum.IntEnum):
@@ -29,7 +31,7 @@ class Command(enum.IntEnum):
 # The range of a command's number, and whether it has nanoseconds too.
 _NUMBERS = {
     Command.SET_TIME: (SETTABLE, True), Command.STEP: (I64, True), Command.FREQ: (I64, False),
-    Command.TICK: ((9_000, 11_000), False), Command.TAI_OFFSET: ((0, 100_000), False),
+    Command.TICK: (TICKS, False), Command.TAI_OFFSET: ((0, 100_000), False),
     Command.RESUME: ((0, 9_223_372_035), True),
 }
 
@@ -45,9 +47,14 @@ class Commanded:
         """Calls the library. Returns its code."""
         raise NotImplementedError
 
+    def snapshot(self) -> Snapshot:
+        """Returns a snapshot of the clocks, for reads."""
+        raise NotImplementedError
+
     def _front_and_last(self) -> Tuple[int, int]:
         """Returns the front, and the reading of the last command."""
-        raise NotImplementedError
+        front, last = self.snapshot().words()[:2]
+        return front, last
 
     def apply(self, reading: int, command: int, number: int = 0, nsec: int = 0) -> None:
         """Applies a command at a reading of 0 to 2^bits - 1 cycles, with the arguments that
@@ -133,8 +140,19 @@ class Commanded:
             within, has_nsec = _NUMBERS.get(Command(command), (I64, False))
             fit(number, within, Invalid, "number")
             fit(nsec, _NSECS if has_nsec else U32, Invalid, "nsec")
-            raise Invalid("REALTIME may not be set to this time, or moved to it")
+            self._refuse_time(reading, number * NANOS + nsec, command == Command.STEP)
         raise BY_CODE[code](f"{Command(command).name} is refused")
+
+    def _refuse_time(self, reading: int, time: int, is_step: bool) -> NoReturn:
+        """Raises Invalid for a time, or an amount of a step, in ns: REALTIME may be set neither
+        below MONOTONIC at the reading nor to its limit."""
+        snapshot = self.snapshot()
+        monotonic = snapshot.get(reading, ClockId.MONOTONIC)
+        ahead = snapshot.words()[5]  # REALTIME minus MONOTONIC, in ns
+        start = monotonic + ahead if is_step else 0
+        within = (monotonic - start, SETTABLE[1] * NANOS + NANOS - 1 - start)
+        what = "the step of REALTIME, in ns," if is_step else "REALTIME, in ns,"
+        raise Invalid(what, time, within)
 
 
 def split(time: int, seconds: Tuple[int, int], what: str) -> Tuple[int, int]:

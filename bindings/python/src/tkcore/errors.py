@@ -10,13 +10,13 @@ class Error(Exception):
 
     `code` is the number of the code in C, or None if the library wasn't called. `value` is the
     argument that was refused, and `range` its least and its greatest value, if one argument was the
-    reason.
+    reason. They are text for a version, and for the format of a buffer's elements.
     """
 
     code: ClassVar[Optional[int]] = None
 
     def __init__(self, what: str, value: Any = None,
-                 range: Optional[Tuple[int, int]] = None) -> None:
+                 range: Optional[Tuple[Any, Any]] = None) -> None:
         super().__init__(what)
         self.what = what
         self.value = value
@@ -27,7 +27,9 @@ class Error(Exception):
             return self.what
         if self.range is None:
             return f"{self.what} is {self.value}"
-        return f"{self.what} is {self.value} instead of {self.range[0]} to {self.range[1]}"
+        least, most = self.range
+        return f"{self.what} is {self.value} instead of " + (
+            f"{least}" if least == most else f"{least} to {most}")
 
     def __reduce__(self) -> Any:
         return type(self), (self.what, self.value, self.range)

@@ -5,10 +5,11 @@ from __future__ import annotations
 import enum
 from ctypes import byref, c_uint32, c_uint64
 from dataclasses import dataclass
-from typing import NoReturn, Tuple
+from typing import NoReturn
 
-from ._library import (CALLS, I64, U32, U64, NtpValue, SnapshotValue, TimexValue, fit, raise_code)
-from .commands import SETTABLE, Commanded, split
+from ._library import (CALLS, I64, NANOS, U32, U64, NtpValue, SnapshotValue, TimexValue, fit,
+                       raise_code)
+from .commands import SETTABLE, TICKS, Commanded, split
 from .counter import Counter
 from .errors import BY_CODE, Invalid
 from .snapshot import Snapshot
@@ -89,6 +90,22 @@ class Reply:
 
 _WORDS = ("modes", "status")
 _NUMBERS = ("offset", "freq", "maxerror", "esterror", "constant", "tick", "sec", "sub")
+_FREQS = (-140_737_488_355, 140_737_488_355)  # whose products with the kernel's PPM_SCALE are int64
+
+
+def _check_request(request: Timex) -> None:
+    """Raises Invalid for the first field that makes a request faulty, in the order of
+    timekeeping_validate_timex in the kernel's kernel/time/timekeeping.c."""
+    modes = request.modes
+    if modes & Mode.ADJTIME:
+        wanted = int(modes) | int(Mode.OFFSET)
+        fit(modes, (wanted, wanted), Invalid, "modes, with ADJTIME,")
+    elif modes & Mode.TICK:
+        fit(request.tick, TICKS, Invalid, "tick")
+    if modes & Mode.SETOFFSET:
+        fit(request.sub, (0, (NANOS if modes & Mode.NANO else 10**6) - 1), Invalid, "sub")
+    if modes & Mode.FREQUENCY:
+        fit(request.freq, _FREQS, Invalid, "freq")
 
 
 class SteeredClock(Commanded):
@@ -134,7 +151,8 @@ class SteeredClock(Commanded):
 
         Raises, in this order: Full; Invalid for a request that is faulty; Asleep, Invalid, Behind or
         Range for the reading; Invalid or Range for the step of Mode.SETOFFSET; Range for REALTIME or
-        the TAI offset, after the step.
+        the TAI offset, after the step. Invalid has the number that is out of its range: of a field,
+        of the reading, or of the step in ns.
         """
         timex, state = TimexValue(), c_uint32()
         for name in _WORDS:
@@ -143,6 +161,8 @@ class SteeredClock(Commanded):
             setattr(timex, name, fit(getattr(request, name), I64, Invalid, name))
         code = CALLS.tkc_adjtimex(byref(timex), byref(state), byref(self._value),
                                   self._reading(reading))
+        if code == Invalid.code:
+            self._refuse_request(reading, request)
         if code:
             self._refuse_call(code, reading)
         fields = {name: getattr(timex, name) for name in _WORDS + _NUMBERS}
@@ -167,16 +187,19 @@ class SteeredClock(Commanded):
     def _reading(self, reading: int) -> int:
         return fit(reading, U64, Invalid, "reading", (0, self.counter.max_reading))
 
+    def _refuse_request(self, reading: int, request: Timex) -> NoReturn:
+        """Raises Invalid for the first number that the library refused."""
+        _check_request(request)
+        fit(reading, (0, self.counter.max_reading), Invalid, "reading")
+        sub = request.sub if request.modes & Mode.NANO else 1000 * request.sub
+        self._refuse_time(reading, request.sec * NANOS + sub, True)
+
     def _refuse_call(self, code: int, reading: int) -> NoReturn:
         self._refuse_reading(code, reading)
         raise BY_CODE[code]("the request or the reading is refused")
 
     def _call_apply(self, reading: int, command: int, number: int, nsec: int) -> int:
         return CALLS.tkc_ntp_apply(byref(self._value), reading, command, number, nsec)
-
-    def _front_and_last(self) -> Tuple[int, int]:
-        front, last = self.snapshot().words()[:2]
-        return front, last
 
     def __copy__(self) -> SteeredClock:
         clock = SteeredClock.__new__(SteeredClock)

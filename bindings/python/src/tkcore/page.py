@@ -9,14 +9,15 @@ import mmap
 import time as _time
 from contextlib import contextmanager
 from ctypes import byref, c_uint64
-from typing import Any, Callable, Iterator, List, Optional, Tuple, Type, TypeVar, Union
+from typing import (Any, Callable, Iterator, List, NoReturn, Optional, Tuple, Type, TypeVar,
+                    Union)
 
 from ._buffers import Memory
-from ._library import (CALLS, LATCH_SIZE, PAGE_SIZE, U64, ClockValue, ReadCounter,
-                       SnapshotValue, fit, raise_code)
+from ._library import (CALLS, LATCH_LAYOUT, LATCH_SIZE, PAGE_LAYOUT, PAGE_SIZE, U64, ClockValue,
+                       ReadCounter, SnapshotValue, fit, raise_code)
 from .clock import Clock
 from .counter import Counter
-from .errors import BadBuffer, Busy, Error
+from .errors import BY_CODE, BadBuffer, BadLayout, Busy, Error
 from .snapshot import Snapshot
 
 _TRIES = 1_000  # a call in C makes at most this many, so that signals are handled
@@ -29,6 +30,7 @@ class _Shared:
     """The part that a page and a latch have in common."""
 
     SIZE = 0
+    _layout = 0
     _calls: Tuple[Any, Any]
 
     def __init__(self) -> None:
@@ -58,9 +60,15 @@ class _Shared:
         Raises BadBuffer, and BadLayout if the buffer contains none of this layout.
         """
         shared = cls._over(buffer, False)
-        raise_code(cls._calls[0](shared._at),
-                   f"the memory contains no {cls.__name__.lower()} of this layout")
+        code = cls._calls[0](shared._at)
+        if code:
+            shared._refuse_layout(code)
         return shared
+
+    def _refuse_layout(self, code: int) -> NoReturn:
+        """Raises the exception of a code for memory that contains no page or no latch."""
+        raise BY_CODE[code](f"the layout of the {type(self).__name__.lower()}",
+                            c_uint64.from_address(self._at).value, (self._layout, self._layout))
 
     def close(self) -> None:
         """Lets the buffer go. May be called again."""
@@ -155,6 +163,7 @@ class Page(_Shared):
     """
 
     SIZE = PAGE_SIZE
+    _layout = PAGE_LAYOUT
     _calls = (CALLS.tkcp_page_attach, CALLS.tkcp_page_look)
 
     @classmethod
@@ -201,8 +210,10 @@ class Page(_Shared):
         snapshot was published.
         """
         value = ClockValue()
-        raise_code(CALLS.tkcp_page_clock(self._there(), byref(value)),
-                   "no clocks can be rebuilt from this page")
+        code = CALLS.tkcp_page_clock(self._there(), byref(value))
+        if code == BadLayout.code:
+            self._refuse_layout(code)
+        raise_code(code, "no clocks can be rebuilt from this page")
         return Clock._with_counter(value)
 
     def recover(self, clock: Clock) -> None:
@@ -216,6 +227,7 @@ class Latch(_Shared):
     change of the rate times the time since the writer's reading."""
 
     SIZE = LATCH_SIZE
+    _layout = LATCH_LAYOUT
     _calls = (CALLS.tkcp_latch_attach, CALLS.tkcp_latch_look)
 
     @classmethod
