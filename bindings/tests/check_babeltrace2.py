@@ -2,7 +2,7 @@
 # SPDX-License-Identifier: MIT OR Apache-2.0
 """Writes the stored trace of perf as CTF, and compares the times that babeltrace2 prints for it by
 the plugin of examples/babeltrace2 with those of the definitions, across a step, a frequency, a tick
-and a setting of the clocks.
+and a setting of the clocks, also after a change of counter.
 
 It needs babeltrace2 and bt2 (Debian's babeltrace2 and python3-bt2).
 """
@@ -88,6 +88,29 @@ def printed(trace, *params):
         capture_output=True, text=True, check=False)
 
 
+def check_times(trace, script, items):
+    """Compares the times of each clock with those of the definitions."""
+    cycles = [stamp for _, stamp in model.items_of(items)]
+    for clock in ("realtime", "monotonic", "tai"):
+        found = printed(trace, f'script="{script}"', f'clock="{clock}"')
+        assert found.returncode == 0, found.stderr
+        times = re.findall(r"^\[(\d+)\.(\d{9})\] sample: .*?(\d+)", found.stdout, re.M)
+        assert [int(stamp) for _, _, stamp in times] == cycles, found.stdout[:200]
+        wanted = model.trace(clock, script.read_bytes(), items)
+        assert [sec + nsec for sec, nsec, _ in times] == wanted, f"other times of {clock}"
+
+
+def after_a_change(work, script, items):
+    """Returns a script that changes to the counter of another one, and the stamps after that."""
+    opening, *records = script.read_text().splitlines()
+    _, bits, _, _, reading, _, _ = opening.split(",")
+    changed = Path(work, "changed.csv")
+    changed.write_text("\n".join(["openhz,32,24000000,60,7,1600000000,5", "tai,20000000,36",
+                                  f"counter,24000007,{bits},2147483648,31,{reading}", *records]))
+    return changed, "".join(f"{front + 2},{stamp}\n"
+                            for front, stamp in model.items_of(items)).encode()
+
+
 def main():
     script, items = PERF / "record.csv", (PERF / "record.stamps").read_bytes()
     cycles = [int(found) for found in
@@ -96,16 +119,13 @@ def main():
     with tempfile.TemporaryDirectory() as work:
         trace = Path(work, "trace")
         write_ctf(trace, cycles)
-        for clock in ("realtime", "monotonic", "tai"):
-            found = printed(trace, f'script="{script}"', f'clock="{clock}"')
-            assert found.returncode == 0, found.stderr
-            times = re.findall(r"^\[(\d+)\.(\d{9})\] sample: .*?(\d+)", found.stdout, re.M)
-            assert [int(stamp) for _, _, stamp in times] == cycles, found.stdout[:200]
-            wanted = model.trace(clock, script.read_bytes(), items)
-            assert [sec + nsec for sec, nsec, _ in times] == wanted, f"other times of {clock}"
-        late = Path(work, "late.csv")
+        check_times(trace, script, items)
+        check_times(trace, *after_a_change(work, script, items))
+        late, wide = Path(work, "late.csv"), Path(work, "wide.csv")
         late.write_text(f"openhz,64,1000000000,1,{cycles[0] + 1},1700000000,0\n")
+        wide.write_text("openhz,64,1000000000,1,0,1700000000,0\ncounter,5,65,2147483648,31,0\n")
         for reason, *params in (("Invalid: reading is", f'script="{late}"'),
+                                ("BadBits: bits is 65 instead of 8 to 64", f'script="{wide}"'),
                                 ("FileNotFoundError", 'script="/none"'),
                                 ("the parameter script isn't a string", "script=5"),
                                 ("the parameter script is missing",),

@@ -6,13 +6,14 @@ time of the trace's own clock class.
         --component sink.tkcore.times --params 'script="trace.csv", clock="realtime"'
 
 The script describes the trace's clock, and contains a record for each change of the clocks
-(docs/TRACERS.md). `clock` is the word of a clock, realtime if it isn't given. An event's line is
+(docs/TRACERS.md). If it changes the counter, the trace's clock is its last one. `clock` is the word
+of a clock, realtime if it isn't given. An event's line is
 
     [SECONDS.NANOSECONDS] NAME: PAYLOAD
 
 The sink ends with an error if the script has a fault, if an event has no clock or is before the
-script's opening, or if the clock is at its limit. It needs Debian's python3-bt2, and the package
-tkcore.
+script's opening or its last change of counter, or if the clock is at its limit. It needs Debian's
+python3-bt2, and the package tkcore.
 """
 import sys
 

@@ -12,7 +12,7 @@ from ._buffers import numbers
 from ._library import NANOS
 from .clock import Clock
 from .counter import Counter
-from .errors import BadBuffer, Invalid
+from .errors import BadBuffer, Error, Invalid
 from .snapshot import Snapshot
 
 # The method of each record of a command, and how its fields after the reading make the argument.
@@ -32,7 +32,8 @@ class Journal:
     """The clocks of a counter at each command, so that a stamp is read by the last command before
     it. A command comes before a stamp if its reading is not after it.
 
-    The readings must not go down, so a counter that wraps needs a journal for each turn.
+    The readings must not go down, so a counter that wraps needs a journal for each turn. All stamps
+    are readings of the last counter: a change of counter forgets the snapshots before it.
     """
 
     def __init__(self, clock: Clock, reading: int) -> None:
@@ -45,7 +46,8 @@ class Journal:
     def from_script(cls, lines: Iterable[str]) -> Journal:
         """Returns the journal of a script of tkcore (docs/TKCORE.md), without its `get` records.
 
-        Raises ValueError at a record that is none, and the exception of a refused command.
+        Raises ValueError at a record that is none, and the exception of numbers that describe no
+        counter or of a refused command.
         """
         journal: Optional[Journal] = None
         for number, (word, *fields) in enumerate(filter(None, csv.reader(lines)), 1):
@@ -55,9 +57,9 @@ class Journal:
                     journal = cls._opened(word, *values)
                 elif word != "get":
                     journal._apply(word, *values)
-            except (KeyError, TypeError, ValueError) as error:
-                if isinstance(error, Invalid):
-                    raise
+            except Error:
+                raise
+            except (KeyError, TypeError, ValueError):
                 raise ValueError(f"record {number} is no record of a script: {word}") from None
         if journal is None:
             raise ValueError("the script has no record")
@@ -70,6 +72,10 @@ class Journal:
         return cls(Clock(make(bits, rate, last), reading, sec * NANOS + nsec), reading)
 
     def _apply(self, word: str, reading: int, *fields: int) -> None:
+        if word == "counter":
+            bits, mult, shift, first = fields
+            self.change_counter(reading, Counter(bits, mult, shift), first)
+            return
         call, arguments = _COMMANDS[word]
         self.add(reading, lambda: call(self.clock, reading, *arguments(*fields)))
 
@@ -84,8 +90,19 @@ class Journal:
         self.readings.append(reading)
         self.snapshots.append(self.clock.snapshot())
 
+    def change_counter(self, reading: int, counter: Counter, first: int) -> None:
+        """Lets `clock` go on over another counter, as `Clock.change_counter` does. The journal
+        begins anew at the reading `first`: all stamps are readings of its last counter.
+
+        Raises what `Clock.change_counter` does.
+        """
+        self.clock.change_counter(reading, counter, first)
+        self.readings = array("Q", [first])
+        self.snapshots = [self.clock.snapshot()]
+
     def snapshot_at(self, reading: int) -> Snapshot:
-        """Returns the snapshot for a reading. Raises Invalid if it is before the opening."""
+        """Returns the snapshot for a reading. Raises Invalid if it is before the opening, or before
+        the last change of counter."""
         front = bisect_right(self.readings, reading) - 1
         if front < 0:
             raise Invalid("reading", reading, (self.readings[0], self.clock.counter.max_reading))
