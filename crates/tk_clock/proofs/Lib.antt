@@ -24,6 +24,7 @@ pub mod Words
 pub mod Reaching
 pub mod Lines
 pub mod Reach
+pub mod Further
 pub mod Reading
 pub mod Lists
 pub mod Rescaling

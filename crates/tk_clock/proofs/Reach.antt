@@ -32,7 +32,7 @@ order a b = grind arith
 
 module _ (base : ReadBase) (clock : ClockId) (nanos : ℤ) where
   -- a read below the limit is not refused
-  reads_below : (reading : ℕ) → reading ≤ mask base.counter →
+  pub reads_below : (reading : ℕ) → reading ≤ mask base.counter →
       base_value base clock reading <ℤ limit clock → read_refusal base clock reading ≡ None
   reads_below reading read low =
       let within : nat_lt (mask base.counter) reading ≡ false = le-ltb _ _ read in

@@ -20,4 +20,5 @@ pub mod Words
 pub mod Read
 pub mod Origin
 pub mod Reach
+pub mod Further
 pub mod ChangeCounter

@@ -1,4 +1,4 @@
-ghost use Rattle.std.specs.Prelude.{◌≡◌, ℕ, ◌/◌, ◌%◌, ◌^◌, ◌<◌, pos, ◌≤ℤ◌, MatchOption, MatchResult, Some, None};
+ghost use Rattle.std.specs.Prelude.{◌≡◌, ℕ, ◌/◌, ◌%◌, ◌^◌, ◌<◌, pos, ◌≤ℤ◌, MatchOption, MatchResult, Some, None, IsTrue, ◌↔◌};
 
 mod known_words;
 mod words;
@@ -46,6 +46,7 @@ impl Snapshot {
     ghost use Rattle.tk_clock.specs.Refusal.{read_refusal};
     ghost use Rattle.tk_clock.specs.State.{base_value};
     ghost use Rattle.tk_clock.specs.Reach.{IsFirstReached, IsNeverReached, IsReadAt, GivesAgain};
+    ghost use Rattle.tk_clock.specs.Further.{IsFurther};
     ghost use Rattle.tk_clock.specs.Time.{nanoseconds};
     ghost use Rattle.tk_counter.specs.Counter.{second};
 
@@ -113,6 +114,19 @@ impl Snapshot {
             GivesAgain self.now.base clock nanos reading result }
     {
         self.base.reading_at(clock, time)
+    }
+
+    /// Returns whether `time` is further away than `reading_at` searches: the clock counts, `time` is
+    /// below its limit, and `get` returns an earlier time at every reading up to half the counter's
+    /// range after the last command.
+    ///
+    /// So if `reading_at` returns `None`, this says whether the clock may reach `time` later: look
+    /// again, in a later snapshot, from that half of the range on. Otherwise the clocks are asleep,
+    /// the clock is a coarse one, or it reaches its limit first.
+    pub fn is_further(&self, clock: ClockId, time: Timespec) -> bool
+        ensures { IsTrue result ↔ IsFurther self.now.base clock (nanoseconds time) }
+    {
+        self.base.is_further(clock, time)
     }
 
     /// Returns the description of the counter that the readings come from.

@@ -1,5 +1,5 @@
 //! Finds the first reading at which a clock has reached a time.
-ghost use Rattle.std.specs.Prelude.{◌≡◌, ℕ, ◌+◌, ◌*◌, ◌^◌, ◌<◌, ◌≤◌, ◌≤ℤ◌, ◌<ℤ◌, ◌/◌, MatchOption};
+ghost use Rattle.std.specs.Prelude.{◌≡◌, ℕ, ◌+◌, ◌*◌, ◌^◌, ◌<◌, ◌≤◌, ◌≤ℤ◌, ◌<ℤ◌, ◌/◌, MatchOption, IsTrue, ◌↔◌};
 
 use super::ReadBase;
 use crate::clock_id::ClockId;
@@ -17,6 +17,7 @@ impl ReadBase {
     ghost use Rattle.tk_clock.specs.Origin.{mult_of, value_after};
     ghost use Rattle.tk_clock.specs.Running.{IsWithin};
     ghost use Rattle.tk_clock.specs.Reach.{IsFirstReached, IsNeverReached, IsReadAt, GivesAgain};
+    ghost use Rattle.tk_clock.specs.Further.{IsFurther};
 
     /// Returns the first reading, up to half the counter's range after the last one, at which a
     /// read of the clock returns `time` or a later time. Returns `None` if there is no such
@@ -38,6 +39,23 @@ impl ReadBase {
         match self.get(clock, reading) {
             Ok(_) => Some(reading),
             Err(_) => None,
+        }
+    }
+
+    /// Returns whether the clock counts, `time` is below its limit, and a read at every reading up to
+    /// half the counter's range after the last one returns an earlier time.
+    pub fn is_further(&self, clock: ClockId, time: Timespec) -> bool
+        requires { IsWithin self.now }
+        ensures { IsTrue result ↔ IsFurther self.now clock (nanoseconds time) }
+    {
+        let origin = self.origin(clock);
+        let nanos = nanos_from_zero(time);
+        if origin.mult == 0 || nanos >= u128::from(origin.limit) {
+            return false;
+        }
+        match self.nanos(clock, self.reading_after(self.desc.half())) {
+            Ok(last) => u128::from(last) < nanos,
+            Err(_) => false,
         }
     }
 
