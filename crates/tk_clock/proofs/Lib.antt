@@ -17,6 +17,7 @@ pub mod Forwarding
 pub mod Rates
 pub mod Ranges
 pub mod Values
+pub mod Uptime
 pub mod Steering
 pub mod Effects
 pub mod Settings

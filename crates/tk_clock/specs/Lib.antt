@@ -22,3 +22,4 @@ pub mod Origin
 pub mod Reach
 pub mod Further
 pub mod ChangeCounter
+pub mod Uptime

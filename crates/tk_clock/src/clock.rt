@@ -4,6 +4,7 @@ mod change_counter;
 mod effects;
 mod parts;
 mod settings;
+mod uptime;
 
 use crate::amount::Amount;
 use crate::command::Command;

@@ -1,5 +1,6 @@
 ghost use Rattle.std.specs.Prelude.{◌≡◌, ◌*◌, ◌^◌, ◌<◌, pos, ◌≤ℤ◌, ◌<ℤ◌, nat_lt};
 ghost use Rattle.tk_clock.specs.Limits.{settable_end, is_settable, is_suspension, is_well_formed, sets_real};
+ghost use Rattle.tk_clock.specs.Uptime.{is_uptime};
 
 use crate::command::Command;
 use crate::timespec::Timespec;
@@ -57,6 +58,13 @@ pub(crate) fn is_settable(time: Timespec) -> bool
     ensures { result ≡ is_settable time }
 {
     time.sec >= 0 && time.sec < SETTABLE_END && is_below_a_second(time.nsec)
+}
+
+/// Returns whether clocks may be opened with this uptime, up to the limit of MONOTONIC.
+pub(crate) fn is_uptime(uptime: Timespec) -> bool
+    ensures { result ≡ is_uptime uptime }
+{
+    uptime.sec >= 0 && is_below_a_second(uptime.nsec)
 }
 
 /// Returns whether a suspension may have this length.

@@ -1,11 +1,12 @@
 //! Makes the read base after a command. The functions return another base and leave their own
 //! unchanged, except for `take_forward`, which changes its base.
-ghost use Rattle.std.specs.Prelude.{◌≡◌, ◌*◌, ◌/◌, ◌^◌, ◌≤◌, MatchOption, pos, ◌≤ℤ◌, ◌+ℤ◌, ◌<ℤ◌, not, int_lt, true, false};
-ghost use Rattle.tk_counter.specs.Counter.{mask, fastest};
+ghost use Rattle.std.specs.Prelude.{◌≡◌, ◌*◌, ◌/◌, ◌^◌, ◌<◌, ◌≤◌, MatchOption, pos, ◌≤ℤ◌, ◌+ℤ◌, ◌<ℤ◌, not, int_lt, true, false};
+ghost use Rattle.tk_counter.specs.Counter.{mask, fastest, second};
 ghost use Rattle.tk_clock.specs.Limits.{is_past_limit, clock_end, monotonic_end, greatest_tai};
-ghost use Rattle.tk_clock.specs.Amount.{IsAmountOf};
+ghost use Rattle.tk_clock.specs.Amount.{IsAmountOf, units_of};
 ghost use Rattle.tk_clock.specs.State.{base_value, forwarded};
 ghost use Rattle.tk_clock.specs.Running.{IsFar, IsRated, slowest};
+ghost use Rattle.tk_clock.specs.Uptime.{with_uptime};
 
 use super::ReadBase;
 use crate::amount::{Amount, NARROW_CYCLES};
@@ -120,6 +121,21 @@ impl ReadBase {
     {
         ReadBase {
             real_offset: offset,
+            ..self
+        }
+    }
+
+    /// Returns the base with MONOTONIC and MONOTONIC_RAW at an amount, and REALTIME `real_offset` ns
+    /// after MONOTONIC.
+    pub fn with_uptime(self, amount: Amount, real_offset: u64) -> ReadBase
+        requires rest { amount.frac < second self.counter }
+        requires low { amount.sec < monotonic_end }
+        ensures { result ≡ with_uptime self (units_of self.counter amount) (pos real_offset) }
+    {
+        ReadBase {
+            monotonic: amount,
+            raw: amount,
+            real_offset,
             ..self
         }
     }
