@@ -14,7 +14,7 @@ sys.path.insert(0, str(Path(__file__).resolve().parents[1] / "model"))
 # pylint: disable=wrong-import-position
 import ntp
 from model import Counter, from_hz, is_settable
-from ntp_model import Refused, Steered
+from steered_clock import Refused, Steered
 
 COMMANDS = ["update", "set", "step", "freq", "tick", "tai", "suspend", "resume"]
 CLOCKS = {0: "realtime", 1: "monotonic", 7: "boottime", 11: "tai"}

@@ -4,7 +4,7 @@
  * 6.1.192 with HZ 250, gave the same replies. They differ only in REALTIME, and
  * only where a second began at a tick after its beginning: by at most 1 us in
  * these rows, and by a second at the very midnight of a leap second. Such times
- * are those of tests/c/ntp_model.py.
+ * are those of tests/model/steered_clock.py.
  */
 #include "ntp_records.h"
 #include "worked_rows.h"

@@ -1,24 +1,19 @@
-"""The clocks of a counter, steered by a discipline, in unbounded integers: what the calls `tkc_ntp_..`
-and `tkc_adjtimex` of include/tkcore.h return. It shares no code with the library.
+"""The clocks of a counter, steered by a discipline, in unbounded integers: what the calls of `SteeredClock`
+in crates/tk_ntp return, and `tkc_ntp_..` and `tkc_adjtimex` of include/tkcore.h. It shares no code with them.
 
 The discipline is that of ntp.py. Here it gets a clock: the seconds of REALTIME begin at readings of the
 counter, and the length of each second becomes a tick and a frequency.
 """
 from dataclasses import dataclass, replace
 
-import sys
-from pathlib import Path
-
-sys.path.insert(0, str(Path(__file__).resolve().parents[1] / "model"))
-
-# pylint: disable=wrong-import-position
 from model import NANOS, Counter, is_bad_setting, is_settable, limit, value_of
-from ntp import ADJTIME, FREQUENCY, MAX_FREQUENCY, NANO, OFFSET, ONE, PPM16, READONLY, SETOFFSET, TICK
-from ntp import Discipline, Timex, clamp
+from ntp import (ADJTIME, FREQUENCY, MAX_FREQUENCY, NANO, OFFSET, ONE, PPM16, READONLY, SETOFFSET, TAI, TICK,
+                 Discipline, Timex, clamp)
 
 NOMINAL = NANOS * ONE                               # the length of a nominal second
 TICK_RATE = 6_553_600                               # a tick of 1 us, in 2^-16 ppm
 FREQUENCY_LIMIT = 32_768_000
+TAI_LIMIT = 100_000                                 # s
 RATES = 9_000 * TICK_RATE - FREQUENCY_LIMIT, 11_000 * TICK_RATE + FREQUENCY_LIMIT
 
 
@@ -59,7 +54,8 @@ class Clock:
         cycles = max(0, -(-missing // self.mult()))
         if self.asleep and missing > 0 or cycles > (2**self.counter.bits - 1) // 2:
             return None
-        return (self.last + cycles) % 2**self.counter.bits
+        reading = (self.last + cycles) % 2**self.counter.bits
+        return reading if self.value("realtime", reading) < limit("realtime") else None
 
     def refusal(self, reading, word, fields):
         """Why a command is refused, or None."""
@@ -143,19 +139,25 @@ class Steered:
         if counter.multiplier(frequency, tick) == self.clock.mult():
             return
         if tick != self.clock.tick:
-            self.command(reading, "tick", tick)
+            self.give(reading, "tick", tick)
         if frequency != self.clock.frequency:
-            self.command(reading, "freq", frequency)
+            self.give(reading, "freq", frequency)
 
     def leap(self, reading, by):
         """Makes a leap, if the clocks take it. Returns what REALTIME leaps by, in seconds."""
-        try:
-            self.command(reading, "step", by, 0)
-        except Refused:
+        if not self.give(reading, "step", by, 0):
             return 0
-        if 0 <= self.clock.tai - by <= 100_000:
-            self.command(reading, "tai", self.clock.tai - by)
+        if 0 <= self.clock.tai - by <= TAI_LIMIT:
+            self.give(reading, "tai", self.clock.tai - by)
         return by
+
+    def give(self, reading, word, *fields):
+        """Gives a command. Returns whether the clocks take it."""
+        try:
+            self.command(reading, word, *fields)
+        except Refused:
+            return False
+        return True
 
     def due(self, reading):
         """The reading at which the next second begins, if it isn't after `reading`."""
@@ -204,17 +206,20 @@ class Steered:
         self.advance(reading)
         if t.modes & SETOFFSET:
             self.apply(reading, "step", t.sec, t.sub * (1 if t.modes & NANO else 1000))
-        sec, nsec = divmod(self.clock.value("realtime", reading), NANOS)
+        real = self.clock.value("realtime", reading)
+        if real >= limit("realtime"):
+            raise Refused("range")
+        sec, nsec = divmod(real, NANOS)
         offset = None
         if t.modes & ADJTIME:
             offset = self.ntp.adjust
             if not t.modes & READONLY:
                 self.ntp.adjust = t.offset
         elif t.modes:
+            if t.modes & TAI and 0 <= t.constant <= TAI_LIMIT and t.constant != self.clock.tai:
+                self.command(reading, "tai", t.constant)
             self.account(reading)
-            tai = self.ntp.request(t, sec, self.clock.tai)
-            if tai != self.clock.tai:
-                self.command(reading, "tai", tai)
+            self.ntp.request(t, sec, self.clock.tai)
             if t.modes & (OFFSET | FREQUENCY | TICK):
                 self.steer(reading)
         return self.ntp.reply(offset, sec, nsec, self.clock.tai)
