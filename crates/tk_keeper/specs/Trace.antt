@@ -35,15 +35,21 @@ pub record IsFirstFault (journal : Journal) (clock : ClockId) (fronts stamps : L
   pub fault : item_of journal clock fronts stamps index ≡ Err error
   pub before : (k : ℕ) → k < index → IsOk (item_of journal clock fronts stamps k)
 
--- a trace that is converted into the caller's memory: all its items, or the items before the first
--- fault
-abbrev pub IsTraced : Journal → ClockId → List ℕ → List ℕ → List ℕ → List ℕ →
+-- a trace that is converted into the caller's memory up to a place: all items before it, or the items
+-- before the first fault
+abbrev pub IsTracedTo : ℕ → Journal → ClockId → List ℕ → List ℕ → List ℕ → List ℕ →
     Result ⊤ TraceError → Type 0
-IsTraced journal clock fronts stamps old new (Ok done) =
-    IsWritten journal clock fronts stamps (length stamps) old new
-IsTraced journal clock fronts stamps old new (Err error) =
+IsTracedTo end journal clock fronts stamps old new (Ok done) =
+    IsWritten journal clock fronts stamps end old new
+IsTracedTo end journal clock fronts stamps old new (Err error) =
     (index : ℕ) × IsFirstFault journal clock fronts stamps index error
     × IsWritten journal clock fronts stamps index old new
+
+-- the same, for all items
+abbrev pub IsTraced : Journal → ClockId → List ℕ → List ℕ → List ℕ → List ℕ →
+    Result ⊤ TraceError → Type 0
+IsTraced journal clock fronts stamps =
+    IsTracedTo (length stamps) journal clock fronts stamps
 
 -- a trace that is converted whole: the value of each item, in order
 abbrev pub IsConverted : Journal → ClockId → List ℕ → List ℕ → List ℕ → Type 0

@@ -1,21 +1,26 @@
 -- The result of converting a trace in pieces, on several threads.
-use Rattle.std.specs.Prelude.{◌≡◌, ℕ, ℤ, ◌+◌, ◌*◌, ◌<◌, ◌≤◌, ⊤, pos, List, length, slice_index, Result, Ok, Err}
+use Rattle.std.specs.Prelude.{◌≡◌, ℕ, ℤ, ◌+◌, ◌*◌, ◌<◌, ⊤, pos, List, length, slice_index, Result, Ok, Err}
 use Rattle.std.specs.Fork.{slice_chunk}
 use Rattle.tk_clock.specs.declared.clock_id.ClockId.{ClockId}
 use Rattle.tk_clock.specs.Journal.{Journal}
 use Rattle.tk_keeper.specs.declared.trace_error.TraceError.{TraceError}
-use Rattle.tk_keeper.specs.declared.trace_error.TraceError.TheVariants as errors
 use Rattle.tk_keeper.specs.Trace.{item_of, AreValues, IsFirstFault}
 
--- a trace that is converted into the caller's memory: all its items, or the items before the first
--- fault; the contents of the memory at the fault and after it are not specified
-abbrev pub IsTracedInPieces : Journal → ClockId → List ℕ → List ℕ → List ℕ →
+-- a trace that is converted into the caller's memory up to a place: all items before it, or the items
+-- before the first fault; the contents of the memory at the fault and after it are not specified
+abbrev pub IsTracedUpTo : ℕ → Journal → ClockId → List ℕ → List ℕ → List ℕ →
     Result ⊤ TraceError → Type 0
-IsTracedInPieces journal clock fronts stamps new (Ok done) =
-    AreValues journal clock fronts stamps (length stamps) new
-IsTracedInPieces journal clock fronts stamps new (Err error) =
+IsTracedUpTo end journal clock fronts stamps new (Ok done) =
+    AreValues journal clock fronts stamps end new
+IsTracedUpTo end journal clock fronts stamps new (Err error) =
     (index : ℕ) × IsFirstFault journal clock fronts stamps index error
     × AreValues journal clock fronts stamps index new
+
+-- the same, for all items
+abbrev pub IsTracedInPieces : Journal → ClockId → List ℕ → List ℕ → List ℕ →
+    Result ⊤ TraceError → Type 0
+IsTracedInPieces journal clock fronts stamps =
+    IsTracedUpTo (length stamps) journal clock fronts stamps
 
 -- the result of each item of a trace, by its place
 abbrev pub Items : Type 0
@@ -36,24 +41,8 @@ abbrev pub IsPiece : Journal → ClockId → List ℕ → List ℕ → ℕ → L
 IsPiece journal clock fronts stamps at piece =
     slice_index piece 0 < refused_mark → HoldFrom (item_of journal clock fronts stamps) at piece
 
--- all pieces of the list, by the number of items of a piece
-abbrev pub ArePieces : ℕ → Journal → ClockId → List ℕ → List ℕ → List ℕ → Type 0
-ArePieces size journal clock fronts stamps out =
-    (n : ℕ) → n * size < length stamps →
-    IsPiece journal clock fronts stamps (n * size) (slice_chunk out size n)
-
--- the place that a fault reports
-abbrev pub place_of_fault : TraceError → ℕ
-place_of_fault (errors.Unknown index) = index
-place_of_fault (errors.Folded index) = index
-place_of_fault (errors.Invalid index) = index
-place_of_fault (errors.Range index) = index
-place_of_fault errors.Memory = 0
-
--- the same fault, of an item that is `by` places later
-abbrev pub further_on : TraceError → ℕ → TraceError
-further_on (errors.Unknown index) by = errors.Unknown (by + index)
-further_on (errors.Folded index) by = errors.Folded (by + index)
-further_on (errors.Invalid index) by = errors.Invalid (by + index)
-further_on (errors.Range index) by = errors.Range (by + index)
-further_on errors.Memory by = errors.Memory
+-- all pieces of the list starting at place `first`, by the number of items of a piece
+abbrev pub ArePieces : ℕ → ℕ → Journal → ClockId → List ℕ → List ℕ → List ℕ → Type 0
+ArePieces size first journal clock fronts stamps out =
+    (n : ℕ) → n * size < length out →
+    IsPiece journal clock fronts stamps (first + n * size) (slice_chunk out size n)

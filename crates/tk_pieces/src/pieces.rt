@@ -1,12 +1,12 @@
 //! Divides a long list into pieces, which threads convert in place.
 //!
 //! Then the calling thread checks the pieces in order. If a piece has a fault, the calling thread
-//! converts the list again from the beginning of the first such piece to the fault. `stages` makes
-//! new lists.
-ghost use Rattle.std.specs.Prelude.{[], ◌≡◌, ◌+◌, ◌<◌, ◌≤◌, ◌^◌, length, MatchResult};
+//! converts the list again from the beginning of the first such piece to the fault. All indices are
+//! places in the whole list, so a fault is returned as the keeper found it. `stages` makes new lists.
+ghost use Rattle.std.specs.Prelude.{◌≡◌, ◌+◌, ◌<◌, ◌≤◌, drop, length, MatchResult};
 ghost use Rattle.tk_keeper.specs.Trace.{AreValues, IsConverted, IsFault};
 ghost use Rattle.tk_pieces.specs.Input.{of_input};
-ghost use Rattle.tk_pieces.specs.Pieces.{ArePieces, IsPiece, IsTracedInPieces, further_on, place_of_fault};
+ghost use Rattle.tk_pieces.specs.Pieces.{ArePieces, IsPiece, IsTracedInPieces, IsTracedUpTo};
 
 use crate::cost::piece_size;
 use crate::input::Input;
@@ -90,36 +90,55 @@ pub fn trace_all_into<R: Threads + Sync, A: Allocator + Copy + Sync>(
         clock,
     };
     if let Some(size) = piece_size(rt, input) {
-        return trace_in_pieces(rt, size, input, out);
+        return trace_in_pieces(rt, size, input, 0, out);
     }
     keeper.trace_into(fronts, stamps, clock, out)
 }
 
-/// Converts stamps as `trace_all_into` does, in pieces of `size` items, for any number of items.
+/// Converts the stamps starting at index `first`, as far as `out` reaches, in pieces of `size` items,
+/// for any number of items. `out` contains the values of the items before `first` already.
 pub(crate) fn trace_in_pieces<R: Threads + Sync, A: Allocator + Copy + Sync>(
     rt: &R,
     size: usize,
     input: Input<'_, A>,
+    first: usize,
     out: &mut [u64],
 ) -> Result<(), TraceError>
     requires filled { 0 < size }
-    requires room { length input.stamps.now ≡ length out.old }
-    ensures { of_input IsTracedInPieces input.entry out.new result }
+    requires inside { length out.old ≤ length input.stamps.now }
+    requires order { first ≤ length out.old }
+    requires so_far { of_input AreValues input first out.old }
+    ensures { of_input (IsTracedUpTo (length out.old)) input.entry out.new result }
 {
-    convert_pieces(rt, size, input, out);
-    first_fault(size, input, out)
+    let (_, rest) = out.split_at_mut(first);
+    convert_pieces(rt, size, input, first, rest);
+    let count = out.len();
+    let mut at = first;
+    'pieces: while at < count {
+        if out[at] >= REFUSED {
+            let keeper = input.keeper;
+            return keeper.trace_from(input.fronts, input.stamps, input.clock, at, out);
+        }
+        if count - at <= size {
+            break;
+        }
+        at += size;
+    }
+    Ok(())
 }
 
-/// Converts all pieces in parallel. After a piece with a fault, it only marks the later ones.
+/// Converts the items starting at index `first` into `out`, all pieces in parallel. After a piece
+/// with a fault, it only marks the later ones.
 fn convert_pieces<R: Threads + Sync, A: Allocator + Copy + Sync>(
     rt: &R,
     size: usize,
     input: Input<'_, A>,
+    first: usize,
     out: &mut [u64],
 )
     requires filled { 0 < size }
-    requires room { length input.stamps.now ≡ length out.old }
-    ensures { of_input (ArePieces size) input.entry out.new }
+    requires inside { first + length out.old ≤ length input.stamps.now }
+    ensures { of_input (ArePieces size first) input.entry out.new }
 {
     let refused = AtomicUsize::new(usize::MAX);
     par_chunks_mut_for_each(
@@ -128,24 +147,25 @@ fn convert_pieces<R: Threads + Sync, A: Allocator + Copy + Sync>(
         size,
         |at: usize, piece: &mut [u64]|
             requires { (0 < length piece.old)
-                × (at + length piece.old ≤ length input.stamps.now) }
-            ensures { of_input IsPiece input.entry at piece.new }
-        { convert_piece(input, at, &refused, piece) },
+                × (first + at + length piece.old ≤ length input.stamps.now) }
+            ensures { of_input IsPiece input.entry (first + at) piece.new }
+        { convert_piece(input, first, at, &refused, piece) },
     );
 }
 
-/// Converts the piece that begins at index `at`, and marks it if one of its items has a fault.
-/// `refused` is the index at which a piece with a fault begins, if one was found: pieces after it
-/// are only marked.
+/// Converts the piece that begins `at` items after index `first`, and marks it if one of its items
+/// has a fault. `refused` is the value of `at` of a piece with a fault, if one was found: pieces
+/// after it are only marked.
 fn convert_piece<A: Allocator + Copy>(
     input: Input<'_, A>,
+    first: usize,
     at: usize,
     refused: &AtomicUsize,
     piece: &mut [u64],
 )
     requires filled { 0 < length piece.old }
-    requires inside { at + length piece.old ≤ length input.stamps.now }
-    ensures { of_input IsPiece input.entry at piece.new }
+    requires inside { first + at + length piece.old ≤ length input.stamps.now }
+    ensures { of_input IsPiece input.entry (first + at) piece.new }
 {
     let Input {
         keeper,
@@ -153,74 +173,13 @@ fn convert_piece<A: Allocator + Copy>(
         stamps,
         clock,
     } = input;
-    let end = at + piece.len();
+    let start = first + at;
+    let end = start + piece.len();
     if at <= refused.load(Ordering::SeqCst) {
-        match keeper.trace_into(&fronts[at..end], &stamps[at..end], clock, piece) {
+        match keeper.trace_into(&fronts[start..end], &stamps[start..end], clock, piece) {
             Ok(()) => return,
             Err(_) => refused.store(at, Ordering::SeqCst),
         }
     }
     piece[0] = REFUSED;
-}
-
-/// Checks the pieces in order, and converts again, starting at the first marked one.
-fn first_fault<A: Allocator + Copy>(
-    size: usize,
-    input: Input<'_, A>,
-    out: &mut [u64],
-) -> Result<(), TraceError>
-    requires filled { 0 < size }
-    requires room { length input.stamps.now ≡ length out.old }
-    requires pieces { of_input (ArePieces size) input out.old }
-    ensures { of_input IsTracedInPieces input.entry out.new result }
-{
-    let count = input.stamps.len();
-    let mut at = 0;
-    'pieces: while at < count {
-        if out[at] >= REFUSED {
-            return rest(input, at, out);
-        }
-        if count - at <= size {
-            return Ok(());
-        }
-        at += size;
-    }
-    Ok(())
-}
-
-/// Converts the items starting at index `at`. The items before it are converted already.
-fn rest<A: Allocator + Copy>(
-    input: Input<'_, A>,
-    at: usize,
-    out: &mut [u64],
-) -> Result<(), TraceError>
-    requires room { length input.stamps.now ≡ length out.old }
-    requires inside { at ≤ length input.stamps.now }
-    requires before { of_input AreValues input at out.old }
-    ensures { of_input IsTracedInPieces input.entry out.new result }
-{
-    let (_, fronts) = input.fronts.split_at(at);
-    let (_, stamps) = input.stamps.split_at(at);
-    let (_, late_out) = out.split_at_mut(at);
-    match input
-        .keeper
-        .trace_into(fronts, stamps, input.clock, late_out)
-    {
-        Ok(()) => Ok(()),
-        Err(error) => Err(moved(error, at)),
-    }
-}
-
-/// Converts the fault of a part that begins at the item `by` into a fault of the whole list.
-pub(crate) fn moved(error: TraceError, by: usize) -> TraceError
-    requires { by + place_of_fault error < 2 ^ 64 }
-    ensures { result ≡ further_on error by }
-{
-    match error {
-        TraceError::Unknown { index } => TraceError::Unknown { index: by + index },
-        TraceError::Folded { index } => TraceError::Folded { index: by + index },
-        TraceError::Invalid { index } => TraceError::Invalid { index: by + index },
-        TraceError::Range { index } => TraceError::Range { index: by + index },
-        TraceError::Memory => TraceError::Memory,
-    }
 }

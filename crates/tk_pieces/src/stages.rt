@@ -5,7 +5,7 @@ ghost use Rattle.tk_keeper.specs.Trace.{AreValues, IsConverted, IsFault};
 ghost use Rattle.tk_pieces.specs.Input.{of_input};
 
 use crate::input::Input;
-use crate::pieces::{moved, trace_in_pieces};
+use crate::pieces::trace_in_pieces;
 use std::alloc::Allocator;
 use std::marker::Sync;
 use std::thread::Threads;
@@ -52,20 +52,10 @@ fn convert_stage<R: Threads + Sync, A: Allocator + Copy + Sync, B: Allocator>(
         × of_input AreValues input.entry (length values.new.items) values.new.items) }
     ensures refused { IfErr result (λ error. of_input IsFault input.entry error) }
 {
-    let at = values.len();
-    let end = at.saturating_add(most).min(input.stamps.len());
+    let first = values.len();
+    let end = first.saturating_add(most).min(input.stamps.len());
     let Ok(()) = values.resize(end, 0) else {
         return Err(TraceError::Memory);
     };
-    let stage = Input {
-        keeper: input.keeper,
-        fronts: &input.fronts[at..end],
-        stamps: &input.stamps[at..end],
-        clock: input.clock,
-    };
-    let (_, out) = values.as_mut_slice().split_at_mut(at);
-    match trace_in_pieces(rt, size, stage, out) {
-        Ok(()) => Ok(()),
-        Err(error) => Err(moved(error, at)),
-    }
+    trace_in_pieces(rt, size, input, first, values.as_mut_slice())
 }

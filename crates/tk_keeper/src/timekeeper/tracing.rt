@@ -4,7 +4,7 @@ ghost use Rattle.tk_clock.specs.State.{base_value};
 ghost use Rattle.tk_clock.specs.declared.clock_id.ClockId.{ClockId};
 ghost use Rattle.tk_keeper.specs.Item.{item};
 ghost use Rattle.tk_keeper.specs.Past.{IsAt};
-ghost use Rattle.tk_keeper.specs.Trace.{AreValues, IsWritten, IsFirstFault, IsConverted, IsFault, IsTraced, ConvertsItems};
+ghost use Rattle.tk_keeper.specs.Trace.{AreValues, IsWritten, IsFirstFault, IsConverted, IsFault, IsTraced, IsTracedTo, ConvertsItems};
 
 use super::Timekeeper;
 use super::past::Cursor;
@@ -102,9 +102,34 @@ impl<A: Allocator + Copy> Timekeeper<A> {
         requires room { length stamps.now ≡ length out.old }
         ensures { IsTraced self.now.journal clock fronts.now stamps.now out.old out.new result }
     {
+        self.trace_from(fronts, stamps, clock, 0, out)
+    }
+
+    /// Goes on with `trace_into`: converts the stamps starting at index `first`, as far as `out`
+    /// reaches. `out` contains the values of the items before `first` already, at their own places.
+    ///
+    /// # Errors
+    ///
+    /// Returns the error of the first item with a fault, as `trace_into` does, with its index in the
+    /// whole list. The items before it are written, and the rest of `out` doesn't change.
+    pub fn trace_from(
+        &self,
+        fronts: &[u64],
+        stamps: &[u64],
+        clock: ClockId,
+        first: usize,
+        out: &mut [u64],
+    ) -> Result<(), TraceError>
+        requires beside { length fronts.now ≡ length stamps.now }
+        requires inside { length out.old ≤ length stamps.now }
+        requires order { first ≤ length out.old }
+        requires so_far { AreValues self.now.journal clock fronts.now stamps.now first out.old }
+        ensures { IsTracedTo (length out.old) self.now.journal clock fronts.now stamps.now
+            out.old out.new result }
+    {
         let mut cursor = self.beginning();
-        let mut first = 0;
-        'stretches: while first < fronts.len() {
+        let mut first = first;
+        'stretches: while first < out.len() {
             let snapshot = self.item_snapshot(&mut cursor, first, fronts[first])?;
             first = self.trace_run(&snapshot, clock, fronts, stamps, first, out)?;
         }

@@ -11,8 +11,8 @@ const OLD: u64 = 77;
 /// The most items of a trace here.
 const MOST: usize = 10_000;
 
-/// Checks the answer of both calls: the values, or the first fault. The memory after the values
-/// must be unchanged.
+/// Checks the answers of all three calls, one of which goes on after half of the items: the values, or
+/// the first fault. The memory after the values must be unchanged.
 pub(super) fn traced(
     rt: &impl Abort,
     keeper: &Timekeeper,
@@ -27,16 +27,31 @@ pub(super) fn traced(
     let (out, _) = memory.split_at_mut(stamps.len());
     let done = keeper.trace_into(fronts, stamps, clock, out);
     assert_same(rt, &done, &answer);
+    written(rt, out, values);
+    let mut memory = [OLD; MOST];
+    let (out, _) = memory.split_at_mut(stamps.len());
+    let half = out.len() / 2;
+    let (begun, _) = out.split_at_mut(half);
+    let done = match keeper.trace_from(fronts, stamps, clock, 0, begun) {
+        Ok(()) => keeper.trace_from(fronts, stamps, clock, half, out),
+        fault => fault,
+    };
+    assert_same(rt, &done, &answer);
+    written(rt, out, values);
+    match keeper.trace(fronts, stamps, clock) {
+        Ok(list) => assert_same(rt, &(list.as_slice(), Ok(())), &(values, answer)),
+        Err(error) => assert_same(rt, &Err(error), &answer),
+    }
+}
+
+/// Checks that the caller's memory contains the values, and after them what it contained.
+fn written(rt: &impl Abort, out: &[u64], values: &[u64]) {
     for place in 0..out.len() {
         assert_same(
             rt,
             &out.get(place),
             &Some(values.get(place).unwrap_or(&OLD)),
         );
-    }
-    match keeper.trace(fronts, stamps, clock) {
-        Ok(list) => assert_same(rt, &(list.as_slice(), Ok(())), &(values, answer)),
-        Err(error) => assert_same(rt, &Err(error), &answer),
     }
 }
 

@@ -1,7 +1,7 @@
 use Rattle.std.proofs.Common.{get_or, arith}
 use Rattle.std.proofs.lemmas.Result.{err_from_is_err_and}
 use Rattle.tk_keeper.proofs.Stretches.{first_fault, written_after}
-use Rattle.tk_keeper.proofs.timekeeper.Timekeeper.trace_into.Goals as goal
+use Rattle.tk_keeper.proofs.timekeeper.Timekeeper.trace_from.Goals as goal
 
 pub returns-in_err-snapshot : goal.returns-in_err-snapshot
 returns-in_err-snapshot g c =
@@ -11,7 +11,8 @@ returns-in_err-snapshot g c =
     rw (p.1, p.2) (
       first,
       first_fault c.args.self.now.journal c.args.clock c.args.fronts.now c.args.stamps.now
-          c.stretches.out first _ (omega (arith, c.stretches-test.true, c.requires.beside))
+          c.stretches.out first _
+          (omega (arith, c.stretches-test.true, c.stretches.auto.out, c.requires.inside))
           written.values
           (c.in_err-snapshot.ensures.converts c.args.clock (get_or c.args.stamps.now first 0)),
       written,
@@ -35,7 +36,7 @@ stretches-preserved g c =
     let further = c.in_ok-first.ensures in
     record {
       cursor = c.item_snapshot.ensures.cursor;
-      inside = omega (arith, further.1, c.stretches.auto.out, c.requires.beside, c.requires.room);
+      inside = omega (arith, further.1, c.trace_run.auto.out);
       written =
           written_after c.args.self.now.journal c.args.clock c.args.fronts.now c.args.stamps.now
           c.stretches.first c.in_ok-first.first c.args.out.now c.stretches.out c.trace_run.new.out
