@@ -5,7 +5,7 @@ use Rattle.std.proofs.lemmas.Int.{ints}
 use Rattle.std.proofs.lemmas.Grind.{common_steps}
 use Rattle.tk_counter.specs.Counter.{Counter, mask, half, gap, multiplier}
 use Rattle.tk_clock.specs.declared.command.Command.{Command}
-use Rattle.tk_clock.specs.declared.command.Command.TheVariants.{Update, SetTime, Step, Freq, Tick, Tai, Suspend, Resume}
+use Rattle.tk_clock.specs.declared.command.Command.TheVariants.{Update, SetTime, Step, Freq, Tick, Tai, Leap, Suspend, Resume}
 use Rattle.tk_clock.specs.declared.clock_id.ClockId.{ClockId}
 use Rattle.tk_clock.specs.declared.clock_id.ClockId.TheVariants.{Monotonic}
 use Rattle.tk_clock.specs.declared.refusal.Refusal.{Refusal}
@@ -88,6 +88,7 @@ effect-last state reading (Step by) = refl
 effect-last state reading (Freq frequency) = refl
 effect-last state reading (Tick tick) = refl
 effect-last state reading (Tai seconds) = refl
+effect-last state reading (Leap by tai) = refl
 effect-last state reading Suspend = refl
 effect-last state reading (Resume away) = refl
 
@@ -105,6 +106,8 @@ monotonic-after state reading (Tick tick) awake =
     base_monotonic-last (effect state reading (Tick tick)).base
 monotonic-after state reading (Tai seconds) awake =
     base_monotonic-last (effect state reading (Tai seconds)).base
+monotonic-after state reading (Leap by tai) awake =
+    base_monotonic-last (effect state reading (Leap by tai)).base
 monotonic-after state reading Suspend awake =
     base_monotonic-last (effect state reading Suspend).base
 monotonic-after state reading (Resume away) awake = absurd cc
@@ -159,6 +162,7 @@ plain_good before (Step by) plain = absurd cc
 plain_good before (Freq frequency) plain = refl
 plain_good before (Tick tick) plain = refl
 plain_good before (Tai seconds) plain = refl
+plain_good before (Leap by tai) plain = absurd cc
 plain_good before Suspend plain = refl
 plain_good before (Resume away) plain = refl
 

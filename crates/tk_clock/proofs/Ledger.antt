@@ -6,7 +6,7 @@ use Rattle.std.specs.Option.{option_map_or}
 use Rattle.tk_counter.specs.Counter.{Counter, gap, multiplier}
 use Rattle.tk_clock.specs.declared.command.Entry.{Entry}
 use Rattle.tk_clock.specs.declared.command.Command.{Command}
-use Rattle.tk_clock.specs.declared.command.Command.TheVariants.{Update, SetTime, Step, Freq, Tick, Tai, Suspend, Resume}
+use Rattle.tk_clock.specs.declared.command.Command.TheVariants.{Update, SetTime, Step, Freq, Tick, Tai, Leap, Suspend, Resume}
 use Rattle.tk_clock.specs.Command.{is_resume, boot_amount, tai_set, frequency_set, tick_set, sets_multiplier}
 use Rattle.tk_clock.specs.Journal.{Journal, followed_by, is_asleep, last_reading}
 use Rattle.tk_clock.specs.Monotonic.{monotonic, monotonic_units, current_multiplier, current_frequency, current_tick}
@@ -179,6 +179,10 @@ ledger journal who reading (Tick tick) awake =
 ledger journal who reading (Tai seconds) awake =
     let entry : Entry = record { who = who; reading = reading; cmd = Tai seconds } in
     forward journal entry _ _ awake refl (real_offset-followed_by journal entry ∙ no_more _)
+    (is_asleep-followed_by journal entry ∙ awake)
+ledger journal who reading (Leap by tai) awake =
+    let entry : Entry = record { who = who; reading = reading; cmd = Leap by tai } in
+    forward journal entry _ _ awake refl (real_offset-followed_by journal entry)
     (is_asleep-followed_by journal entry ∙ awake)
 ledger journal who reading Suspend awake =
     let entry : Entry = record { who = who; reading = reading; cmd = Suspend } in

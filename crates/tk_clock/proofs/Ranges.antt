@@ -7,7 +7,7 @@ use Rattle.tk_clock.specs.Limits.{is_settable, is_suspension, is_well_formed, cl
 use Rattle.tk_clock.specs.State.{State}
 use Rattle.tk_clock.specs.Effect.{IsEarly}
 use Rattle.tk_clock.proofs.Effects.{ready}
-use Rattle.tk_clock.specs.declared.command.Command.TheVariants.{SetTime, Step, Tick, Tai, Resume}
+use Rattle.tk_clock.specs.declared.command.Command.TheVariants.{SetTime, Step, Tick, Tai, Leap, Resume}
 use Rattle.tk_counter.specs.Counter.{least_tick, greatest_tick}
 
 -- a time within bounds of seconds
@@ -59,6 +59,13 @@ pub tick-between : (state : State) (reading : ℕ) (tick : ℤ) → IsEarly stat
 unfolding is_well_formed
 tick-between state reading tick early =
     let well = (ready state reading (Tick tick) early).well in
+    (grind (arith, common_steps, well), grind (arith, common_steps, well))
+
+pub leap-between : (state : State) (reading : ℕ) (by tai : ℤ) →
+    IsEarly state reading (Leap by tai) → (pos 0 ≤ℤ tai) × (tai ≤ℤ pos greatest_tai)
+unfolding is_well_formed
+leap-between state reading by tai early =
+    let well = (ready state reading (Leap by tai) early).well in
     (grind (arith, common_steps, well), grind (arith, common_steps, well))
 
 pub tai-between : (state : State) (reading : ℕ) (seconds : ℤ) →

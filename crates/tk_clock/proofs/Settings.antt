@@ -1,18 +1,19 @@
 -- Setting and stepping REALTIME, in terms of the forwarded base.
 use Rattle.std.proofs.Common.{◌≡◌, ℕ, ◌+◌, ◌*◌, ◌^◌, ◌<◌, ◌∙◌, refl, sym, ap, subst, arith, Bool, true, false, ◌⊎◌, inl, inr}
-use Rattle.std.specs.Prelude.{ℤ, pos, ◌≤ℤ◌, ◌<ℤ◌, ◌+ℤ◌, ◌-ℤ◌, int_lt, Some, None, not, ◌&&◌, ◌||◌}
+use Rattle.std.specs.Prelude.{ℤ, pos, ◌≤ℤ◌, ◌<ℤ◌, ◌+ℤ◌, ◌-ℤ◌, ◌*ℤ◌, int_lt, Some, None, not, ◌&&◌, ◌||◌}
 use Rattle.std.proofs.lemmas.Int.{ints}
 use Rattle.std.proofs.lemmas.Grind.{common_steps}
 use Rattle.tk_counter.specs.Counter.{multiplier}
 use Rattle.tk_clock.specs.declared.timespec.Timespec.{Timespec}
 use Rattle.tk_clock.specs.declared.command.Command.{Command}
-use Rattle.tk_clock.specs.declared.command.Command.TheVariants.{SetTime, Step}
+use Rattle.tk_clock.specs.declared.command.Command.TheVariants.{SetTime, Step, Leap}
 use Rattle.tk_clock.specs.declared.clock_id.ClockId.{ClockId}
 use Rattle.tk_clock.specs.declared.clock_id.ClockId.TheVariants.{Realtime, Monotonic, Boottime, Tai as TaiClock}
 use Rattle.tk_clock.specs.declared.refusal.Refusal.TheVariants.{Invalid, Range}
+use Rattle.tk_clock.specs.Command.{is_resume, steps_real, real_amount}
 use Rattle.tk_clock.specs.Time.{nanoseconds}
 use Rattle.tk_clock.specs.State.{ReadBase, State, base_monotonic, base_value, forwarded, effect}
-use Rattle.tk_clock.specs.Limits.{limit, is_past_limit, is_bad_setting, sets_real, settable_end, greatest_tai}
+use Rattle.tk_clock.specs.Limits.{limit, is_past_limit, is_bad_step, is_bad_setting, sets_real, settable_end, greatest_tai}
 use Rattle.tk_clock.specs.Refusal.{state_value_refusal}
 use Rattle.tk_clock.specs.Effect.{IsEarly, IsForwarded}
 use Rattle.tk_clock.specs.Running.{IsRunning, IsRated}
@@ -105,6 +106,9 @@ setting_past state now (SetTime time) b sets e past =
 setting_past state now (Step by) b sets e past =
     subst (λ (f : ReadBase). is_past_limit (λ clock. base_value f clock now.last) (Step by)
     ≡ b) e.stated past
+setting_past state now (Leap by tai) b sets e past =
+    subst (λ (f : ReadBase). is_past_limit (λ clock. base_value f clock now.last) (Leap by tai)
+    ≡ b) e.stated past
 setting_past state now _ b sets e past = absurd cc
 
 pub setting_range : {state : State} {now : ReadBase} (cmd : Command) → sets_real cmd ≡ true →
@@ -170,22 +174,43 @@ pub set_state : (state : State) (now : ReadBase) (time : Timespec) (offset : ℕ
 set_state state now time offset e stated =
     setting_state state now offset (λ base. nanoseconds time -ℤ pos (now_of base)) e stated
 
--- REALTIME after a step, in nanoseconds
-abbrev pub stepped : ReadBase → Timespec → ℤ
-stepped now by = pos (now_of now) +ℤ now.real_offset +ℤ nanoseconds by
+-- REALTIME after it is moved by an amount, in nanoseconds
+abbrev pub stepped : ReadBase → ℤ → ℤ
+stepped now by = pos (now_of now) +ℤ now.real_offset +ℤ by
 
-step_setting : (state : State) (now : ReadBase) (by : Timespec) (b : Bool) →
-    IsEarly state now.last (Step by) → IsForwarded state now →
+-- a command that moves REALTIME by an amount is tested by that amount, and is no resume
+step_tested : (before : ClockId → ℤ) (cmd : Command) → steps_real cmd ≡ true →
+    is_bad_setting before cmd ≡ is_bad_step before (real_amount cmd)
+unfolding is_bad_setting
+step_tested before (Step by) steps = refl
+step_tested before (Leap by tai) steps = refl
+step_tested before _ steps = absurd cc
+
+step_sets : (cmd : Command) → steps_real cmd ≡ true → sets_real cmd ≡ true
+step_sets (Step by) steps = refl
+step_sets (Leap by tai) steps = refl
+step_sets _ steps = absurd cc
+
+step_awake : (cmd : Command) → steps_real cmd ≡ true → is_resume cmd ≡ false
+step_awake (Step by) steps = refl
+step_awake (Leap by tai) steps = refl
+step_awake _ steps = absurd cc
+
+step_setting : (state : State) (now : ReadBase) (cmd : Command) (by : ℤ) (b : Bool) →
+    IsEarly state now.last cmd → IsForwarded state now → steps_real cmd ≡ true →
+    real_amount cmd ≡ by →
     (int_lt (stepped now by) (pos (now_of now))
     || not (int_lt (stepped now by) (pos (settable_end * 10 ^ 9)))) ≡ b →
-    is_bad_setting (λ clock. base_value state.base clock now.last) (Step by) ≡ b
-unfolding is_bad_setting
-step_setting state now by b early e stated =
+    is_bad_setting (λ clock. base_value state.base clock now.last) cmd ≡ b
+step_setting state now cmd by b early e steps amount stated =
+    let before : ClockId → ℤ = λ clock. base_value state.base clock now.last in
     let test : ℕ → ℤ → Bool = λ n offset.
-    int_lt (pos n +ℤ offset +ℤ nanoseconds by) (pos n)
-    || not (int_lt (pos n +ℤ offset +ℤ nanoseconds by) (pos (settable_end * 10 ^ 9))) in
-    ap (λ n. test n state.base.real_offset)
-    (same_now state now (Step by) e (monotonic-before state now.last (Step by) early refl))
+    int_lt (pos n +ℤ offset +ℤ by) (pos n)
+    || not (int_lt (pos n +ℤ offset +ℤ by) (pos (settable_end * 10 ^ 9))) in
+    step_tested before cmd steps
+    ∙ ap (is_bad_step before) amount
+    ∙ ap (λ n. test n state.base.real_offset)
+    (same_now state now cmd e (monotonic-before state now.last cmd early (step_awake cmd steps)))
     ∙ ap (λ (f : ReadBase). test (now_of now) f.real_offset) (sym e.stated)
     ∙ stated
 
@@ -204,24 +229,32 @@ good_step x low high above below =
     ap (λ b. b || not (int_lt x high)) (not_below x low above)
     ∙ ap (λ b. not b) (is_below x high below)
 
-pub step_invalid : (state : State) (now : ReadBase) (by : Timespec) →
-    IsEarly state now.last (Step by) → IsForwarded state now →
-    is_past_limit (λ clock. base_value now clock now.last) (Step by) ≡ false →
+pub step_range : {state : State} {now : ReadBase} (cmd : Command) → steps_real cmd ≡ true →
+    IsForwarded state now →
+    is_past_limit (λ clock. base_value now clock now.last) cmd ≡ true →
+    state_value_refusal state now.last cmd ≡ Some Range
+step_range cmd steps e past = setting_range cmd (step_sets cmd steps) e past
+
+pub step_invalid : (state : State) (now : ReadBase) (cmd : Command) (by : ℤ) →
+    IsEarly state now.last cmd → IsForwarded state now → steps_real cmd ≡ true →
+    real_amount cmd ≡ by →
+    is_past_limit (λ clock. base_value now clock now.last) cmd ≡ false →
     (stepped now by <ℤ pos (now_of now)) ⊎ (pos (settable_end * 10 ^ 9) ≤ℤ stepped now by) →
-    state_value_refusal state now.last (Step by) ≡ Some Invalid
-step_invalid state now by early e past out =
-    stated_invalid _ _ _ (setting_past state now (Step by) false refl e past)
-    (step_setting state now by true early e
+    state_value_refusal state now.last cmd ≡ Some Invalid
+step_invalid state now cmd by early e steps amount past out =
+    stated_invalid _ _ _ (setting_past state now cmd false (step_sets cmd steps) e past)
+    (step_setting state now cmd by true early e steps amount
     (bad_step (stepped now by) (pos (now_of now)) (pos (settable_end * 10 ^ 9)) out))
 
-pub step_none : (state : State) (now : ReadBase) (by : Timespec) →
-    IsEarly state now.last (Step by) → IsForwarded state now →
-    is_past_limit (λ clock. base_value now clock now.last) (Step by) ≡ false →
+pub step_none : (state : State) (now : ReadBase) (cmd : Command) (by : ℤ) →
+    IsEarly state now.last cmd → IsForwarded state now → steps_real cmd ≡ true →
+    real_amount cmd ≡ by →
+    is_past_limit (λ clock. base_value now clock now.last) cmd ≡ false →
     pos (now_of now) ≤ℤ stepped now by → stepped now by <ℤ pos (settable_end * 10 ^ 9) →
-    state_value_refusal state now.last (Step by) ≡ None
-step_none state now by early e past above below =
-    stated_none _ _ _ (setting_past state now (Step by) false refl e past)
-    (step_setting state now by false early e
+    state_value_refusal state now.last cmd ≡ None
+step_none state now cmd by early e steps amount past above below =
+    stated_none _ _ _ (setting_past state now cmd false (step_sets cmd steps) e past)
+    (step_setting state now cmd by false early e steps amount
     (good_step (stepped now by) (pos (now_of now)) (pos (settable_end * 10 ^ 9)) above below))
 
 pub step_state : (state : State) (now : ReadBase) (by : Timespec) (offset : ℕ) →
@@ -232,14 +265,30 @@ pub step_state : (state : State) (now : ReadBase) (by : Timespec) (offset : ℕ)
 step_state state now by offset e stated =
     setting_state state now offset (λ base. base.real_offset +ℤ nanoseconds by) e stated
 
+-- a leap second as nanoseconds
+pub leap_nanoseconds : (by : ℤ) →
+    by *ℤ pos (10 ^ 9) ≡ nanoseconds (record { sec = by; nsec = 0 })
+leap_nanoseconds by = omega (arith, ints)
+
+pub leap_state : (state : State) (now : ReadBase) (by tai : ℤ) (offset : ℕ) →
+    IsForwarded state now →
+    pos offset ≡ now.real_offset +ℤ by *ℤ pos (10 ^ 9) →
+    (let after : State = record state { base = record now { real_offset = pos offset; tai = tai } }
+    in after ≡ effect state now.last (Leap by tai))
+leap_state state now by tai offset e stated =
+    let put : ℤ → ReadBase → State = λ real base.
+    record state { base = record base { real_offset = real; tai = tai } } in
+    ap (λ z. put z now) stated
+    ∙ ap (λ (b : ReadBase). put (b.real_offset +ℤ by *ℤ pos (10 ^ 9)) b) e.stated
+
 -- clocks still run after REALTIME is set to a time to which it may be set
 pub IsRunning-set : (base now : ReadBase) (frequency tick : ℤ) (offset : ℕ) →
-    IsRunning base frequency tick → now ≡ forwarded base now.last → IsRated now →
-    now_of now + offset < settable_end * 10 ^ 9 → now.tai ≤ℤ pos greatest_tai →
+    IsRunning base frequency tick → now.counter ≡ base.counter → now.mult ≡ base.mult →
+    IsRated now → now_of now + offset < settable_end * 10 ^ 9 → now.tai ≤ℤ pos greatest_tai →
     base_value now Boottime now.last <ℤ limit Boottime →
     IsRunning (record now { real_offset = pos offset }) frequency tick
-IsRunning-set base now frequency tick offset held e rated low tai boot =
+IsRunning-set base now frequency tick offset held counter mult rated low tai boot =
     let after : ReadBase = record now { real_offset = pos offset } in
-    IsRunning-within base after frequency tick held (ap (λ (b : ReadBase). b.counter) e)
-    (ap (λ (b : ReadBase). b.mult) e) rated (rw (real-last after) (omega (arith, ints))) boot
+    IsRunning-within base after frequency tick held counter mult rated
+    (rw (real-last after) (omega (arith, ints))) boot
     (rw (tai-last after) (omega (arith, ints, tai)))

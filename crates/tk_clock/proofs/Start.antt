@@ -7,7 +7,7 @@ use Rattle.std.specs.Option.{option_map_or}
 use Rattle.tk_counter.specs.Counter.{Counter, multiplier}
 use Rattle.tk_clock.specs.declared.command.Entry.{Entry}
 use Rattle.tk_clock.specs.declared.command.Command.{Command}
-use Rattle.tk_clock.specs.declared.command.Command.TheVariants.{Update, SetTime, Step, Freq, Tick, Tai, Suspend, Resume}
+use Rattle.tk_clock.specs.declared.command.Command.TheVariants.{Update, SetTime, Step, Freq, Tick, Tai, Leap, Suspend, Resume}
 use Rattle.tk_clock.specs.Command.{frequency_set, tick_set, sets_multiplier}
 use Rattle.tk_clock.specs.Journal.{Journal, prefix, followed_by}
 use Rattle.tk_clock.specs.Monotonic.{current_multiplier, current_frequency, current_tick}
@@ -37,6 +37,7 @@ steered counter (Step by) mult frequency tick e = e
 steered counter (Freq other) mult frequency tick e = refl
 steered counter (Tick other) mult frequency tick e = refl
 steered counter (Tai seconds) mult frequency tick e = e
+steered counter (Leap by tai) mult frequency tick e = e
 steered counter Suspend mult frequency tick e = e
 steered counter (Resume away) mult frequency tick e = e
 

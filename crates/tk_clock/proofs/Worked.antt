@@ -5,7 +5,7 @@ use Rattle.tk_counter.specs.Counter.{Counter}
 use Rattle.tk_clock.specs.declared.timespec.Timespec.{Timespec}
 use Rattle.tk_clock.specs.declared.command.Entry.{Entry}
 use Rattle.tk_clock.specs.declared.command.Command.{Command}
-use Rattle.tk_clock.specs.declared.command.Command.TheVariants.{Update, SetTime, Step, Freq, Tick, Tai, Suspend, Resume}
+use Rattle.tk_clock.specs.declared.command.Command.TheVariants.{Update, SetTime, Step, Freq, Tick, Tai, Leap, Suspend, Resume}
 use Rattle.tk_clock.specs.declared.clock_id.ClockId.TheVariants.{Realtime, Monotonic, Boottime, Tai as TaiClock, MonotonicCoarse, MonotonicRaw}
 use Rattle.tk_clock.specs.declared.refusal.Refusal.TheVariants.{Asleep, Awake, Invalid, Behind, Range}
 use Rattle.tk_clock.specs.declared.refusal.ReadError.TheVariants.{Invalid as InvalidReading, Range as PastLimit}
@@ -169,6 +169,75 @@ negative-tai : first_refusal (journal_of []) (at 0 (Tai (negsuc 0))) ≡ Some In
 unfolding is_well_formed is_past_limit is_bad_setting
 negative-tai = refl
 
+-- a leap second moves REALTIME and the TAI offset at once: TAI is the same before it and after it
+
+abbrev before_leap : Journal
+before_leap = journal_of (at 0 (Tai (pos 37)) ∷ [])
+
+before_leap-values : (clock_value before_leap Realtime 1000 ≡ pos 1700000000000001000)
+    × (clock_value before_leap TaiClock 1000 ≡ pos 1700000037000001000)
+before_leap-values = (refl, refl)
+
+abbrev inserted : Journal
+inserted = journal_of (at 0 (Tai (pos 37)) ∷ at 1000 (Leap (negsuc 0) (pos 38)) ∷ [])
+
+inserted-accepted : first_refusal before_leap (at 1000 (Leap (negsuc 0) (pos 38))) ≡ None
+unfolding is_well_formed is_past_limit is_bad_setting
+inserted-accepted = refl
+
+inserted-values : (clock_value inserted Monotonic 1000 ≡ pos 1000)
+    × (clock_value inserted Realtime 1000 ≡ pos 1699999999000001000)
+    × (clock_value inserted TaiClock 1000 ≡ pos 1700000037000001000)
+inserted-values = (refl, refl, refl)
+
+abbrev deleted : Journal
+deleted = journal_of (at 0 (Tai (pos 37)) ∷ at 1000 (Leap (pos 1) (pos 36)) ∷ [])
+
+deleted-values : (clock_value deleted Monotonic 1000 ≡ pos 1000)
+    × (clock_value deleted Realtime 1000 ≡ pos 1700000001000001000)
+    × (clock_value deleted TaiClock 1000 ≡ pos 1700000037000001000)
+deleted-values = (refl, refl, refl)
+
+-- it is a single second, and its TAI offset is in the range of Tai
+
+leap_of_nothing : first_refusal before_leap (at 1000 (Leap (pos 0) (pos 37))) ≡ Some Invalid
+unfolding is_well_formed is_past_limit is_bad_setting
+leap_of_nothing = refl
+
+leap_of_two : first_refusal before_leap (at 1000 (Leap (negsuc 1) (pos 39))) ≡ Some Invalid
+unfolding is_well_formed is_past_limit is_bad_setting
+leap_of_two = refl
+
+leap_past_tai : first_refusal before_leap (at 1000 (Leap (negsuc 0) (pos 100001))) ≡ Some Invalid
+unfolding is_well_formed is_past_limit is_bad_setting
+leap_past_tai = refl
+
+leap_below_tai : first_refusal before_leap (at 1000 (Leap (pos 1) (negsuc 0))) ≡ Some Invalid
+unfolding is_well_formed is_past_limit is_bad_setting
+leap_below_tai = refl
+
+-- REALTIME stays at or above MONOTONIC, and below settable_end
+
+leap_below : first_refusal (journal_of (at 2000000000 (SetTime (time (pos 2) 999999999)) ∷ []))
+    (at 2000000000 (Leap (negsuc 0) (pos 1))) ≡ Some Invalid
+unfolding is_settable is_well_formed is_past_limit is_bad_setting
+leap_below = refl
+
+leap_to_monotonic : first_refusal (journal_of (at 2000000000 (SetTime (time (pos 3) 0)) ∷ []))
+    (at 2000000000 (Leap (negsuc 0) (pos 1))) ≡ None
+unfolding is_settable is_well_formed is_past_limit is_bad_setting
+leap_to_monotonic = refl
+
+leap_past_end : first_refusal (journal_of (at 0 (SetTime (time (pos 8277292035) 0)) ∷ []))
+    (at 0 (Leap (pos 1) (pos 0))) ≡ Some Invalid
+unfolding is_settable is_well_formed is_past_limit is_bad_setting
+leap_past_end = refl
+
+leap_below_end : first_refusal (journal_of (at 0 (SetTime (time (pos 8277292034) 999999999)) ∷ []))
+    (at 0 (Leap (pos 1) (pos 0))) ≡ None
+unfolding is_settable is_well_formed is_past_limit is_bad_setting
+leap_below_end = refl
+
 -- while asleep, the clocks don't advance and accept only a resume
 
 abbrev asleep : Journal
@@ -180,6 +249,10 @@ asleep-update = refl
 
 abbrev resumed : Journal
 resumed = journal_of (at 1000 Suspend ∷ at 5 (Resume (time (pos 5) 500000000)) ∷ [])
+
+asleep-leap : first_refusal asleep (at 2000 (Leap (negsuc 0) (pos 38))) ≡ Some Asleep
+unfolding is_well_formed is_past_limit is_bad_setting
+asleep-leap = refl
 
 resumed-accepted : first_refusal asleep (at 5 (Resume (time (pos 5) 500000000))) ≡ None
 unfolding is_suspension is_well_formed is_past_limit is_bad_setting

@@ -1,7 +1,7 @@
 -- The effects of commands on the clocks (kernel/time/timekeeping.c).
-use Rattle.std.specs.Prelude.{ℤ, pos, Bool, true, false, Option, Some, None}
+use Rattle.std.specs.Prelude.{◌^◌, ℤ, pos, ◌*ℤ◌, Bool, true, false, Option, Some, None}
 use Rattle.tk_clock.specs.declared.command.Command.{Command}
-use Rattle.tk_clock.specs.declared.command.Command.TheVariants.{SetTime, Step, Freq, Tick, Tai, Suspend, Resume}
+use Rattle.tk_clock.specs.declared.command.Command.TheVariants.{SetTime, Step, Freq, Tick, Tai, Leap, Suspend, Resume}
 use Rattle.tk_clock.specs.Time.{nanoseconds}
 
 -- whether the command puts the clocks to sleep (timekeeping_suspend)
@@ -30,9 +30,11 @@ sets_multiplier (Freq frequency) = true
 sets_multiplier (Tick tick) = true
 sets_multiplier _ = false
 
--- the TAI offset that the command sets, in seconds (adjtimex(2), ADJ_TAI)
+-- the TAI offset that the command sets, in seconds (adjtimex(2), ADJ_TAI; after a leap second,
+-- accumulate_nsecs_to_secs)
 abbrev pub tai_set : Command → Option ℤ
 tai_set (Tai seconds) = Some seconds
+tai_set (Leap by tai) = Some tai
 tai_set _ = None
 
 -- REALTIME as the command sets it, in nanoseconds (do_settimeofday64)
@@ -41,11 +43,19 @@ time_set (SetTime time) = Some (nanoseconds time)
 time_set _ = None
 
 -- the amount by which the command moves REALTIME against MONOTONIC, in nanoseconds
--- (timekeeping_inject_offset); a setting of the time is not counted here
+-- (timekeeping_inject_offset; a leap second, accumulate_nsecs_to_secs); a setting of the time is not
+-- counted here
 abbrev pub real_amount : Command → ℤ
 real_amount (Step by) = nanoseconds by
+real_amount (Leap by tai) = by *ℤ pos (10 ^ 9)
 real_amount (Resume away) = nanoseconds away
 real_amount _ = pos 0
+
+-- whether the command moves REALTIME by an amount of its own, and not by a suspension
+abbrev pub steps_real : Command → Bool
+steps_real (Step by) = true
+steps_real (Leap by tai) = true
+steps_real _ = false
 
 -- the length of the suspension that the command ends, in nanoseconds
 abbrev pub boot_amount : Command → ℤ

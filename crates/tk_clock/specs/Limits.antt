@@ -1,9 +1,10 @@
 -- The limits of clocks and commands (include/linux/time64.h, include/linux/ktime.h).
-use Rattle.std.specs.Prelude.{ℕ, ◌-◌, ◌*◌, ◌/◌, ◌^◌, ℤ, pos, Bool, true, false, not, ◌&&◌, ◌||◌, nat_lt, int_lt, int_le, ◌+ℤ◌}
+use Rattle.std.specs.Prelude.{ℕ, ◌-◌, ◌*◌, ◌/◌, ◌^◌, ℤ, pos, negsuc, Bool, true, false, not, ◌&&◌, ◌||◌, nat_lt, int_lt, int_le, ◌+ℤ◌, ◌*ℤ◌}
+use Rattle.std.specs.Ordering.{int_eq}
 use Rattle.tk_counter.specs.Counter.{seconds_end, least_tick, greatest_tick}
 use Rattle.tk_clock.specs.declared.timespec.Timespec.{Timespec}
 use Rattle.tk_clock.specs.declared.command.Command.{Command}
-use Rattle.tk_clock.specs.declared.command.Command.TheVariants.{Update, SetTime, Step, Freq, Tick, Tai, Suspend, Resume}
+use Rattle.tk_clock.specs.declared.command.Command.TheVariants.{Update, SetTime, Step, Freq, Tick, Tai, Leap, Suspend, Resume}
 use Rattle.tk_clock.specs.declared.clock_id.ClockId.{ClockId}
 use Rattle.tk_clock.specs.declared.clock_id.ClockId.TheVariants.{Realtime, Monotonic, Boottime, Tai as TaiClock, RealtimeCoarse, MonotonicCoarse, MonotonicRaw}
 use Rattle.tk_clock.specs.Time.{nanoseconds}
@@ -63,12 +64,22 @@ unfoldable pub is_suspension : Timespec → Bool
 is_suspension away =
     int_le (pos 0) away.sec && int_lt away.sec (pos clock_end) && nat_lt away.nsec (10 ^ 9)
 
+-- whether this is a TAI offset, in seconds (__do_adjtimex, ADJ_TAI)
+abbrev pub is_tai_offset : ℤ → Bool
+is_tai_offset seconds = int_le (pos 0) seconds && int_le seconds (pos greatest_tai)
+
+-- whether a leap second moves REALTIME by this number of seconds: -1 inserts a second, 1 deletes
+-- one (second_overflow)
+abbrev pub is_leap : ℤ → Bool
+is_leap by = int_eq by (negsuc 0) || int_eq by (pos 1)
+
 -- whether the command's numbers are in range
 unfoldable pub is_well_formed : Command → Bool
 is_well_formed (SetTime time) = is_settable time
 is_well_formed (Step by) = nat_lt by.nsec (10 ^ 9)
 is_well_formed (Tick tick) = int_le least_tick tick && int_le tick greatest_tick
-is_well_formed (Tai seconds) = int_le (pos 0) seconds && int_le seconds (pos greatest_tai)
+is_well_formed (Tai seconds) = is_tai_offset seconds
+is_well_formed (Leap by tai) = is_leap by && is_tai_offset tai
 is_well_formed (Resume away) = is_suspension away
 is_well_formed Update = true
 is_well_formed (Freq frequency) = true
@@ -78,6 +89,7 @@ is_well_formed Suspend = true
 abbrev pub sets_real : Command → Bool
 sets_real (SetTime time) = true
 sets_real (Step by) = true
+sets_real (Leap by tai) = true
 sets_real _ = false
 
 -- whether the command leaves a clock at its limit or past it, by the clocks' values after the
@@ -90,11 +102,17 @@ is_past_limit after cmd =
     && (not (int_lt (after Realtime) (limit Realtime))
     || not (int_lt (after TaiClock) (limit TaiClock))))
 
--- whether the command sets REALTIME below MONOTONIC, or steps it to settable_end or later, by the
--- clocks' values before the command
+-- whether REALTIME, moved by an amount in nanoseconds, is below MONOTONIC, or at settable_end or
+-- later, by the clocks' values before the move
+abbrev pub is_bad_step : (ClockId → ℤ) → ℤ → Bool
+is_bad_step before by =
+    let real = before Realtime +ℤ by in
+    int_lt real (before Monotonic) || not (int_lt real (pos (settable_end * 10 ^ 9)))
+
+-- whether the command sets REALTIME below MONOTONIC, or moves it to a bad time, by the clocks'
+-- values before the command
 unfoldable pub is_bad_setting : (ClockId → ℤ) → Command → Bool
 is_bad_setting before (SetTime time) = int_lt (nanoseconds time) (before Monotonic)
-is_bad_setting before (Step by) =
-    let real = before Realtime +ℤ nanoseconds by in
-    int_lt real (before Monotonic) || not (int_lt real (pos (settable_end * 10 ^ 9)))
+is_bad_setting before (Step by) = is_bad_step before (nanoseconds by)
+is_bad_setting before (Leap by tai) = is_bad_step before (by *ℤ pos (10 ^ 9))
 is_bad_setting before _ = false

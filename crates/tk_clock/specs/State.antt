@@ -3,7 +3,7 @@
 use Rattle.std.specs.Prelude.{ℕ, ◌+◌, ◌*◌, ◌/◌, ◌^◌, ℤ, pos, ◌+ℤ◌, ◌-ℤ◌, ◌*ℤ◌, Bool, true, false}
 use Rattle.tk_counter.specs.Counter.{Counter, gap, multiplier}
 use Rattle.tk_clock.specs.declared.command.Command.{Command}
-use Rattle.tk_clock.specs.declared.command.Command.TheVariants.{Update, SetTime, Step, Freq, Tick, Tai, Suspend, Resume}
+use Rattle.tk_clock.specs.declared.command.Command.TheVariants.{Update, SetTime, Step, Freq, Tick, Tai, Leap, Suspend, Resume}
 use Rattle.tk_clock.specs.declared.clock_id.ClockId.{ClockId}
 use Rattle.tk_clock.specs.declared.clock_id.ClockId.TheVariants.{Realtime, Monotonic, Boottime, Tai as TaiClock, RealtimeCoarse, MonotonicCoarse, MonotonicRaw}
 use Rattle.tk_clock.specs.Time.{nanoseconds}
@@ -116,6 +116,11 @@ effect state reading (Tick tick) =
     }
 effect state reading (Tai seconds) =
     let now = forwarded state.base reading in record state { base = record now { tai = seconds } }
+effect state reading (Leap by tai) =
+    let now = forwarded state.base reading in
+    record state {
+      base = record now { real_offset = now.real_offset +ℤ by *ℤ pos (10 ^ 9); tai = tai };
+    }
 effect state reading Suspend =
     let now = forwarded state.base reading in record state { base = record now { asleep = true } }
 effect state reading (Resume away) =

@@ -98,9 +98,9 @@ impl Clock {
     /// - `Invalid`: `reading` is above the mask, or a number of the command is out of its range.
     /// - `Behind`: `reading` is behind the last one. `Resume` skips this test.
     /// - `Range`: MONOTONIC or BOOTTIME would be at its limit or beyond it; REALTIME or TAI too,
-    ///   unless the command is `SetTime` or `Step`.
-    /// - `Invalid`: `SetTime` or `Step` would set REALTIME below MONOTONIC, or `Step` would move it
-    ///   to 8,277,292,036 s or beyond.
+    ///   unless the command is `SetTime`, `Step` or `Leap`.
+    /// - `Invalid`: `SetTime`, `Step` or `Leap` would set REALTIME below MONOTONIC, or `Step` or
+    ///   `Leap` would move it to 8,277,292,036 s or beyond.
     #[inline(always)]
     pub fn apply(&mut self, reading: u64, cmd: Command) -> Result<(), Refusal>
         ensures { MatchResult result

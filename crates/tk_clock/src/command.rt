@@ -21,6 +21,15 @@ pub enum Command {
     Tick(i64),
     /// Sets TAI minus REALTIME, in seconds, 0 to 100,000 (adjtimex(2), ADJ_TAI).
     Tai(i64),
+    /// Makes a leap second: moves REALTIME by a second and sets the TAI offset, both at the reading
+    /// (`accumulate_nsecs_to_secs`). TAI runs on if `tai` is the offset in force minus `by`.
+    /// REALTIME must stay at or above MONOTONIC and below 8,277,292,036 s.
+    Leap {
+        /// The seconds by which REALTIME moves: -1 inserts a second, 1 deletes one.
+        by: i64,
+        /// TAI minus REALTIME after the leap, in seconds, 0 to 100,000.
+        tai: i64,
+    },
     /// Puts the clocks to sleep: no clock advances until `Resume` (`timekeeping_suspend`).
     Suspend,
     /// Wakes the clocks, which count starting at the reading (`timekeeping_resume`). REALTIME and

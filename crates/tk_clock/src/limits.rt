@@ -1,5 +1,5 @@
 ghost use Rattle.std.specs.Prelude.{◌≡◌, ◌*◌, ◌^◌, ◌<◌, pos, ◌≤ℤ◌, ◌<ℤ◌, nat_lt};
-ghost use Rattle.tk_clock.specs.Limits.{settable_end, is_settable, is_suspension, is_well_formed, sets_real};
+ghost use Rattle.tk_clock.specs.Limits.{settable_end, is_settable, is_suspension, is_tai_offset, is_leap, is_well_formed, sets_real};
 ghost use Rattle.tk_clock.specs.Uptime.{is_uptime};
 
 use crate::command::Command;
@@ -75,6 +75,20 @@ fn is_suspension(away: Timespec) -> bool
     away.sec >= 0 && away.sec < CLOCK_END && is_below_a_second(away.nsec)
 }
 
+/// Returns whether a number of seconds is a TAI offset.
+fn is_tai_offset(seconds: i64) -> bool
+    ensures { result ≡ is_tai_offset seconds }
+{
+    (0..=TAI_OFFSET_LIMIT).contains(&seconds)
+}
+
+/// Returns whether a leap second moves REALTIME by this number of seconds.
+fn is_leap(by: i64) -> bool
+    ensures { result ≡ is_leap by }
+{
+    by == -1 || by == 1
+}
+
 /// Returns whether a command's numbers are in their ranges.
 #[tactic(auto, unfolding(crate::specs::Limits::is_well_formed))]
 pub(crate) fn is_well_formed(cmd: Command) -> bool
@@ -84,15 +98,19 @@ pub(crate) fn is_well_formed(cmd: Command) -> bool
         Command::SetTime(time) => is_settable(time),
         Command::Step(by) => is_below_a_second(by.nsec),
         Command::Tick(tick) => (SHORTEST_TICK..=LONGEST_TICK).contains(&tick),
-        Command::Tai(seconds) => (0..=TAI_OFFSET_LIMIT).contains(&seconds),
+        Command::Tai(seconds) => is_tai_offset(seconds),
+        Command::Leap { by, tai } => is_leap(by) && is_tai_offset(tai),
         Command::Resume(away) => is_suspension(away),
         Command::Update | Command::Freq(_) | Command::Suspend => true,
     }
 }
 
-/// Returns whether the command sets REALTIME. If so, a separate test bounds REALTIME.
+/// Returns whether the command sets or steps REALTIME. If so, a separate test bounds REALTIME.
 pub(crate) fn sets_real(cmd: Command) -> bool
     ensures { result ≡ sets_real cmd }
 {
-    matches!(cmd, Command::SetTime(_) | Command::Step(_))
+    matches!(
+        cmd,
+        Command::SetTime(_) | Command::Step(_) | Command::Leap { .. }
+    )
 }

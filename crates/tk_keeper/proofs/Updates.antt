@@ -1,7 +1,7 @@
 -- An update before another entry can be skipped: the other entry leads to the same state without
 -- it.
 use Rattle.std.proofs.Common.{◌≡◌, ℕ, ◌+◌, ◌-◌, ◌*◌, ◌/◌, ◌%◌, ◌^◌, ◌<◌, ◌≤◌, get_or, length, refl, sym, ◌∙◌, ap, ap₂, subst, arith, inl, inr, Bool, true, false, Some, None}
-use Rattle.std.specs.Prelude.{pos, ◌+ℤ◌, ◌-ℤ◌, Option, nat_lt, int_lt, not, ◌&&◌, ◌||◌, if◌then◌else◌, slice_get}
+use Rattle.std.specs.Prelude.{pos, ◌+ℤ◌, ◌-ℤ◌, ◌*ℤ◌, Option, nat_lt, int_lt, not, ◌&&◌, ◌||◌, if◌then◌else◌, slice_get}
 use Rattle.std.proofs.lemmas.Bool.{le-ltb, cases_lt}
 use Rattle.std.proofs.lemmas.Grind.{common_steps}
 use Rattle.std.proofs.lemmas.Nat.{pow_pos}
@@ -10,7 +10,7 @@ use Rattle.std.proofs.Math.Nat.{add-mul-mod_self_left, div-add-mod, mod-lt, mod-
 use Rattle.tk_counter.specs.Counter.{Counter, mask, half, gap, multiplier}
 use Rattle.tk_clock.specs.declared.command.Entry.{Entry}
 use Rattle.tk_clock.specs.declared.command.Command.{Command}
-use Rattle.tk_clock.specs.declared.command.Command.TheVariants.{Update, SetTime, Step, Freq, Tick, Tai, Suspend, Resume}
+use Rattle.tk_clock.specs.declared.command.Command.TheVariants.{Update, SetTime, Step, Freq, Tick, Tai, Leap, Suspend, Resume}
 use Rattle.tk_clock.specs.declared.refusal.Refusal.{Refusal}
 use Rattle.tk_clock.specs.declared.refusal.Refusal.TheVariants.{Asleep, Awake, Invalid, Behind, Range}
 use Rattle.tk_clock.specs.Command.{is_resume}
@@ -101,6 +101,10 @@ effect_alone state r r' (Tai seconds) awake e =
     ap (λ (now : ReadBase). let s : State = record state {
       base = record now { tai = seconds };
     } in s) e
+effect_alone state r r' (Leap by tai) awake e =
+    ap (λ (now : ReadBase). let s : State = record state {
+      base = record now { real_offset = now.real_offset +ℤ by *ℤ pos (10 ^ 9); tai = tai };
+    } in s) e
 effect_alone state r r' Suspend awake e =
     ap (λ (now : ReadBase). let s : State = record state {
       base = record now { asleep = true };
@@ -164,6 +168,7 @@ same_setting base base' reading Update e f = refl
 same_setting base base' reading (Freq frequency) e f = refl
 same_setting base base' reading (Tick tick) e f = refl
 same_setting base base' reading (Tai seconds) e f = refl
+same_setting base base' reading (Leap by tai) e f = rw (e, f) refl
 same_setting base base' reading Suspend e f = refl
 same_setting base base' reading (Resume away) e f = refl
 

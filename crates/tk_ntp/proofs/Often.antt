@@ -3,7 +3,7 @@ use Rattle.std.proofs.Common.{◌≡◌, ◌∙◌, refl, sym, subst, ℕ, ◌�
 use Rattle.std.specs.Prelude.{if◌then◌else◌, pos}
 use Rattle.tk_counter.specs.Counter.{Counter, gap}
 use Rattle.tk_clock.specs.declared.command.Command.{Command}
-use Rattle.tk_clock.specs.declared.command.Command.TheVariants.{Update, SetTime, Step, Freq, Tick, Tai, Suspend, Resume}
+use Rattle.tk_clock.specs.declared.command.Command.TheVariants.{Update, SetTime, Step, Freq, Tick, Tai, Leap as LeapSecond, Suspend, Resume}
 use Rattle.tk_clock.specs.declared.refusal.Refusal.{Refusal}
 use Rattle.tk_clock.specs.Reach.{distance}
 use Rattle.tk_clock.specs.Refusal.{state_refusal}
@@ -46,6 +46,7 @@ effect-near at (Step by) clock = record { counter = refl; last = inr refl }
 effect-near at (Freq frequency) clock = record { counter = refl; last = inr refl }
 effect-near at (Tick tick) clock = record { counter = refl; last = inr refl }
 effect-near at (Tai seconds) clock = record { counter = refl; last = inr refl }
+effect-near at (LeapSecond by tai) clock = record { counter = refl; last = inr refl }
 effect-near at Suspend clock = record { counter = refl; last = inr refl }
 effect-near at (Resume away) clock = record { counter = refl; last = inr refl }
 

@@ -46,6 +46,7 @@ impl Clock {
             Command::Freq(frequency) => self.set_frequency(now, frequency),
             Command::Tick(tick) => self.set_tick(now, tick),
             Command::Tai(seconds) => self.set_tai(now, seconds),
+            Command::Leap { by, tai } => self.leap(now, by, tai),
             Command::Suspend => self.suspend(now),
             Command::Resume(_) => unreachable!(),
         }

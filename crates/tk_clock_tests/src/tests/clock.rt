@@ -2,6 +2,7 @@
 
 mod change_counter;
 mod copies;
+mod leaps;
 mod nanoseconds;
 mod openings;
 mod parts;

@@ -33,7 +33,7 @@ fn counter_of(number: u64) -> Result<CounterDesc, Fail> {
 /// Makes a command from a number. All kinds are about equally frequent.
 fn command_of(number: u64) -> Command {
     let part = (number >> 8) as i64;
-    match number % 8 {
+    match number % 9 {
         0 => Command::Update,
         1 => Command::SetTime(time(part & 0x1_ffff_ffff, 5)),
         2 => Command::Step(time(part & 0xffff, 999_999_999)),
@@ -41,6 +41,10 @@ fn command_of(number: u64) -> Command {
         4 => Command::Tick((part & 0x7ff).saturating_add(9_000)),
         5 => Command::Tai(part & 0x1_ffff),
         6 => Command::Suspend,
+        7 => Command::Leap {
+            by: (part & 3).saturating_sub(1),
+            tai: part >> 2 & 0x1_ffff,
+        },
         _ => Command::Resume(time(part & 0xfff_ffff, 1)),
     }
 }

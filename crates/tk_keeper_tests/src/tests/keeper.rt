@@ -5,6 +5,7 @@ mod copies;
 mod folding;
 mod fronts;
 mod full;
+mod leaps;
 mod memory;
 mod past;
 mod refusals;

@@ -46,8 +46,8 @@ impl SteeredClock {
     /// `advance`, unless the command is `Resume`.
     ///
     /// `Freq` and `Tick` are requests to the discipline, as `ADJ_FREQUENCY` and `ADJ_TICK` are: a
-    /// frequency is clamped to 500 ppm. `SetTime` and `Step` clear the discipline and the lag. Seconds
-    /// that `SetTime`, `Step` or `Resume` jumps over never begin.
+    /// frequency is clamped to 500 ppm. `SetTime`, `Step` and `Leap` clear the discipline and the
+    /// lag. Seconds that `SetTime`, `Step`, `Leap` or `Resume` jumps over never begin.
     ///
     /// # Errors
     ///

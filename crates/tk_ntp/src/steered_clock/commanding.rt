@@ -108,7 +108,7 @@ impl SteeredClock {
         ensures { self.new ≡ after_command reading cmd clock self.old }
     {
         match cmd {
-            Command::SetTime(_) | Command::Step(_) => {
+            Command::SetTime(_) | Command::Step(_) | Command::Leap { .. } => {
                 self.steering.clear();
                 self.restart(reading, clock);
             }

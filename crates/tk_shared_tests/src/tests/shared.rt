@@ -5,6 +5,7 @@ ghost use Rattle.tk_shared.specs.Opening.{IsNamed};
 
 mod deeds;
 mod folding;
+mod leaps;
 mod locked;
 mod many;
 mod memory;

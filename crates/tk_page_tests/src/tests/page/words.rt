@@ -59,6 +59,27 @@ fn each_publication_shows_its_own_words(rt: HostRuntime) -> Result<(), Fail> {
 }
 
 #[test]
+fn a_leap_second_comes_with_its_tai_offset(rt: HostRuntime) -> Result<(), Fail> {
+    let (page, mut desk, mut viewer) = opened_page(&rt, rt.alloc()).ok_or("no page")?;
+    // the word of the TAI offset is twice the offset
+    for (cmd, front, real, tai) in [
+        (Command::Tai(37), 1, OPENED_REAL, 74),
+        (
+            Command::Leap { by: -1, tai: 38 },
+            2,
+            OPENED_REAL - 1_000_000_000,
+            76,
+        ),
+        (Command::Leap { by: 1, tai: 37 }, 3, OPENED_REAL, 74),
+    ] {
+        desk.command(&rt, &page, 0, cmd)?;
+        let words = [front, 0, 16_777_216, 0, 0, real, 0, tai, 0, 0];
+        assert_same(&rt, &viewer.read(&rt, &page).words(), &words);
+    }
+    Ok(())
+}
+
+#[test]
 fn a_split_viewer_knows_as_much_and_a_joined_one_the_more(rt: HostRuntime) -> Result<(), Fail> {
     let (page, mut desk, viewer) = opened_page(&rt, rt.alloc()).ok_or("no page")?;
     let (mut early, mut late) = viewer.split(&page);

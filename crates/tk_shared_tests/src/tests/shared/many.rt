@@ -26,7 +26,7 @@ const STEP: u64 = 1_000;
 
 /// One of every kind, in turn.
 fn command_of(turn: u64) -> Command {
-    match turn % 9 {
+    match turn % 10 {
         0 => Command::Update,
         1 => Command::SetTime(time(2_000_000_000, 5)),
         2 => Command::Step(time(-1, 999_999_998)),
@@ -35,6 +35,10 @@ fn command_of(turn: u64) -> Command {
         5 => Command::Tai((turn % 100) as i64),
         6 => Command::Suspend,
         7 => Command::Resume(time(0, 3)),
+        8 => Command::Leap {
+            by: 1 - (turn % 3) as i64,
+            tai: 37,
+        },
         _ => Command::Tick(12_000),
     }
 }

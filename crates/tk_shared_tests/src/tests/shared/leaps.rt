@@ -1,0 +1,99 @@
+//! Tests that no reader sees a leap second without its TAI offset: one thread makes leaps in turn,
+//! and another reads by the page and the latch.
+ghost use Rattle.std.specs.Prelude.{◌≡◌};
+ghost use Rattle.tk_shared.specs.Opening.{IsNamed};
+
+use super::{assert_same, commanded, glanced, open_two, read_by, ready};
+use std::alloc::Global;
+use std::marker::Brand;
+use std::process::Abort;
+use std::sync::Wait;
+use std::test::Fail;
+use std::thread::{Threads, join};
+use tk_clock::{Command, Snapshot};
+use tk_shared::{Caller, Named, Prepared, SharedKeeper, Ticker};
+
+/// The number of leaps.
+const LEAPS: u64 = 100_000;
+
+/// The number of reads by each way.
+const READS: u64 = 100_000;
+
+/// TAI minus MONOTONIC in nanoseconds, which no leap changes: the clocks are opened at
+/// 1,700,000,000 s, and the TAI offset is 37 s before each insertion.
+const TAI_OFFSET: u64 = 1_700_000_037_000_000_000;
+
+/// An insertion and a deletion in turn.
+fn leap_of(turn: u64) -> Command {
+    if turn % 2 == 0 {
+        Command::Leap { by: -1, tai: 38 }
+    } else {
+        Command::Leap { by: 1, tai: 37 }
+    }
+}
+
+/// Returns TAI minus MONOTONIC in nanoseconds.
+fn tai_offset(snapshot: Snapshot) -> u64 {
+    let seconds = u64::from(snapshot.tai());
+    snapshot
+        .real_offset()
+        .wrapping_add(seconds.wrapping_mul(1_000_000_000))
+}
+
+/// Makes all leaps, and returns the number of refused ones.
+fn leaps<L: Named, R: Wait>(
+    rt: &R,
+    keeper: &SharedKeeper<L, Ticker>,
+    mut caller: Caller<L>,
+) -> u64 {
+    let mut refused = 0u64;
+    for turn in 0..LEAPS {
+        if commanded(rt, keeper, &mut caller, leap_of(turn)).is_err() {
+            refused = refused.wrapping_add(1);
+        }
+    }
+    refused
+}
+
+/// Reads, and returns the number of snapshots in which TAI has leapt.
+fn reads<L: Named, R: Wait>(
+    rt: &R,
+    keeper: &SharedKeeper<L, Ticker>,
+    mut caller: Caller<L>,
+) -> u64 {
+    let mut leapt = 0u64;
+    for _ in 0..READS {
+        let by_page = tai_offset(read_by(rt, keeper, &mut caller));
+        let by_latch = glanced(keeper, &mut caller).map_or(TAI_OFFSET, tai_offset);
+        if by_page != TAI_OFFSET || by_latch != TAI_OFFSET {
+            leapt = leapt.wrapping_add(1);
+        }
+    }
+    leapt
+}
+
+#[test]
+fn no_reader_sees_tai_leap(rt: HostRuntime) -> Result<(), Fail> {
+    let prepared = ready(&rt, rt.alloc(), Ticker::new(0, 1_000), 2)?;
+    both_act::<Brand, _>(&rt, rt.alloc(), prepared)
+}
+
+fn both_act<L: Named + Send + Sync, R: Threads + Wait + Abort + Sync>(
+    rt: &R,
+    alloc: Global,
+    prepared: Prepared<Ticker>,
+) -> Result<(), Fail>
+    requires named { IsNamed prepared L.page L.latch L.notice L.name L.parts L.callers }
+    requires two { prepared.callers ≡ 2 }
+{
+    let (keeper, mut one, two) = open_two::<L, Ticker>(alloc, prepared)?;
+    commanded(rt, &keeper, &mut one, Command::Tai(37))?;
+    let keeper = &keeper;
+    let (refused, leapt) = join(
+        rt,
+        move || leaps(rt, keeper, one),
+        move || reads(rt, keeper, two),
+    );
+    assert_same(rt, &(refused, leapt), &(0, 0));
+    Ok(())
+}
