@@ -149,6 +149,7 @@ static void become_program(const struct run *run, int socket, bool has_filter)
 	if (has_filter)
 		install_filter(socket, run->options.is_static);
 	drop_sys_time();
+	signal(SIGXFSZ, run->on_limit);
 	execvp(*program, program);
 	send_report(socket, errno, -1);
 	_exit(STATUS_NOT_FOUND);

@@ -237,6 +237,8 @@ int main(int count, char **words)
 		find_tkcore();
 	if (run.options.log)
 		start_log(&run.options);
+	/* a record at the limit of a file's size ends, and the program goes on */
+	run.on_limit = signal(SIGXFSZ, SIG_IGN);
 	atexit(remove_all);
 	open_machine(&run);
 	if (is_recorded)

@@ -20,6 +20,7 @@ struct run {
 	uint64_t started, warned;
 	pid_t child; /* the program, or 0 when it has ended */
 	int status;
+	void (*on_limit)(int); /* what SIGXFSZ did before tkrun ignored it */
 	int listener; /* by which the kernel asks, or -1 */
 	int execs;    /* from which programs to execute come, or -1 */
 };

@@ -3,6 +3,8 @@ import shutil
 
 from runs import TKRUN, RunTest, call, needs_mounts, program
 
+SET_TIME = 1  # TKC_CMD_SET_TIME of include/tkcore.h
+
 
 class Records(RunTest):
     def test_a_record_in_parts(self):
@@ -46,6 +48,42 @@ class Records(RunTest):
         self.assertIn("back 0, errors 0", run.stdout)
         self.assertRegex(run.stderr, "check: there is no record|aren't in the record")
         self.assertEqual(run.returncode, 4, run.stderr)
+
+    def test_a_command_that_found_no_room_is_not_checked(self):
+        # the limit is that of the first 262,144 rows, so the set is in no row
+        code = "/usr/bin/perl -e 'time for 1..263000'; date -u -s 2010-01-01; date -u +%F"
+        run = call(["bash", "-c", 'ulimit -f 11000; exec "$@"', "bash", TKRUN, "--start",
+                    "1000000000", "--record", self.folder / "r", "--check", "--", "bash", "-c",
+                    code])
+        self.assertEqual((run.returncode, run.stdout.splitlines()[-1]), (4, "2010-01-01"),
+                         run.stderr)
+        for line in ["the record ends before row 262144: File too large",
+                     "reads or commands aren't in the record",
+                     "check: tkcore gives each of the first"]:
+            self.assertIn(line, run.stderr)
+        self.assertNotIn("\nset,", (self.folder / "r").read_text())
+
+    def test_a_command_whose_row_is_missing_ends_the_record(self):
+        rows = self.folder / "r.rows"
+        code = f"""import mmap, struct, time
+for second in (2000000000, 1500000000, 1700000000):
+    time.clock_settime(time.CLOCK_REALTIME, second)
+    time.time()
+with open({str(rows)!r}, "r+b") as file:
+    row = struct.Struct("<4I2Qq")  # struct record_row of run/rows.h
+    view = mmap.mmap(file.fileno(), 1000 * row.size)
+    for at in range(0, len(view), row.size):
+        if row.unpack_from(view, at)[6] == 1500000000 and view[at + 4] == {SET_TIME}:
+            struct.pack_into("<I", view, at, 0)"""
+        run = self.start("--start", 1000000000, "--record", self.folder / "r", "--check", "--",
+                         "/usr/bin/python3", "-c", code)
+        self.assertEqual(run.returncode, 4, run.stderr)
+        self.assertRegex(run.stderr,
+                         "the record ends before command [0-9]+, which couldn't be recorded")
+        self.assertIn("check: tkcore gives each of the first", run.stderr)
+        script = (self.folder / "r").read_text()
+        self.assertIn(",2000000000,", script)
+        self.assertNotRegex(script, ",1[57]00000000,")
 
     def test_a_record_that_is_gone_is_not_checked(self):
         (self.folder / "gone").mkdir()
