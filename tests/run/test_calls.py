@@ -1,8 +1,9 @@
 """Each call that libtkrun.so answers. The expected values are those of the kernel's calls: a wait
 of two seconds moves MONOTONIC on by two seconds."""
 import re
+import unittest
 
-from runs import RunTest, program
+from runs import CAN_FILTER, RunTest, program
 
 WAIT = 2_000_000_000
 
@@ -103,15 +104,29 @@ class Calls(RunTest):
             self.assertGreaterEqual(ends[name], end)
             self.assertLess(ends[name], 50)  # when REALTIME is 1050 without the step
 
-    def test_killed_writers(self):
+    def killed(self, name, count, *options):
+        """Runs a program that kills processes which set the clocks, and checks that the record
+        contains each set that one has made."""
         record = self.folder / "r"
-        run = self.start("--start", 1000000000, "--every", 1000, "--record", record, "--check",
-                         "--", program("killed"), 100)
+        run = self.start("--start", 1000000000, "--every", 1000, *options, "--record", record,
+                         "--check", "--", program(name), count)
         self.assertEqual(run.returncode, 0, run.stdout + run.stderr)
         counts = re.fullmatch("killed 200, sets ([0-9]+), reads [0-9]+, back 0, errors 0\n",
                               run.stdout)
         self.assertTrue(counts, run.stdout)
-        # the last part contains every command: a set that a writer has made isn't lost
+        # the last part contains every command
         last = max(self.folder.glob("r.[0-9]"), default=record)
         sets = sum(line.startswith("set,") for line in last.read_text().splitlines())
         self.assertGreaterEqual(sets, int(counts[1]))
+        return run.stderr
+
+    def test_killed_writers(self):
+        self.killed("killed", 100)
+
+    def test_writers_killed_at_each_part_of_a_call(self):
+        # some of them held the lock
+        self.assertRegex(self.killed("stepped", 200), "took over [0-9]+ times from a process")
+
+    @unittest.skipUnless(CAN_FILTER, "the kernel lets no filter ask tkrun")
+    def test_killed_static_writers(self):
+        self.killed("static_killed", 100)

@@ -1,0 +1,62 @@
+/* SPDX-License-Identifier: MIT OR Apache-2.0 */
+/*
+ * Kills a process after each number of instructions of a call that sets the
+ * clocks, while others read.
+ *
+ *     stepped COUNT
+ *
+ * A writer is traced through its call, an instruction at a time. COUNT others
+ * are killed at instructions of it that are equally far apart, whatever they
+ * have locked or half written. After each, the clocks are set once more, which
+ * must succeed. Prints the counts, as killed does.
+ */
+#define _GNU_SOURCE
+#include "readers.h"
+
+#include <limits.h>
+#include <signal.h>
+#include <sys/ptrace.h>
+
+/* The first call finds what it needs, so that the second one only sets. */
+static void set_once(void)
+{
+	ptrace(PTRACE_TRACEME, 0, 0, 0);
+	set_real(0);
+	raise(SIGSTOP);
+	set_real(1);
+	_exit(0);
+}
+
+/* Lets a writer make `most` instructions after its stop, and kills it. Returns
+ * how many it has made: fewer if it has ended. */
+static long step(long most)
+{
+	pid_t writer = start(set_once);
+	int status = 0;
+	long steps = 0;
+
+	waitpid(writer, &status, 0);
+	while (WIFSTOPPED(status) && steps < most) {
+		ptrace(PTRACE_SINGLESTEP, writer, 0, 0);
+		waitpid(writer, &status, 0);
+		steps++;
+	}
+	if (WIFSTOPPED(status)) {
+		kill(writer, SIGKILL);
+		waitpid(writer, &status, 0);
+	}
+	return steps;
+}
+
+int main(int count, char **words)
+{
+	long kills = count > 1 ? atol(words[1]) : 10, all;
+
+	start_readers();
+	all = step(LONG_MAX);
+	for (long i = 0; i < kills; i++) {
+		step(i * all / kills);
+		set_real((int)i);
+	}
+	return end_readers((int)kills);
+}
