@@ -3,11 +3,11 @@
 #define _GNU_SOURCE
 #include "log.h"
 #include "static.h"
+#include "status.h"
 
 #include <errno.h>
 #include <fcntl.h>
 #include <signal.h>
-#include <stdio.h>
 #include <sys/ioctl.h>
 #include <sys/syscall.h>
 #include <sys/time.h>
@@ -18,8 +18,7 @@ static struct machine *answered;
 static int answered_by, execs[2];
 static const char *answers_log; /* of --log, or NULL */
 
-/* Copies to a thread's memory. Returns 0 or an errno. */
-static int put(const struct seccomp_notif *ask, uint64_t address,
+int answer_put(const struct seccomp_notif *ask, uint64_t address,
 	       const void *value, size_t size)
 {
 	struct iovec here = { (void *)value, size };
@@ -57,7 +56,7 @@ static int read_clock(struct machine *m, const struct seccomp_notif *ask)
 	if (machine_read(m, (uint32_t)number, &now))
 		return EOVERFLOW;
 	time = (struct timespec){ now.sec, now.nsec };
-	return put(ask, ask->data.args[1], &time, sizeof(time));
+	return answer_put(ask, ask->data.args[1], &time, sizeof(time));
 }
 
 static int read_micros(struct machine *m, const struct seccomp_notif *ask)
@@ -72,9 +71,9 @@ static int read_micros(struct machine *m, const struct seccomp_notif *ask)
 	time = (struct timeval){ now.sec, now.nsec / 1000 };
 	machine_zone(m, &zone);
 	if (ask->data.args[0])
-		error = put(ask, ask->data.args[0], &time, sizeof(time));
+		error = answer_put(ask, ask->data.args[0], &time, sizeof(time));
 	if (!error && ask->data.args[1])
-		error = put(ask, ask->data.args[1], &zone, sizeof(zone));
+		error = answer_put(ask, ask->data.args[1], &zone, sizeof(zone));
 	return error;
 }
 
@@ -88,39 +87,21 @@ static int read_second(struct machine *m, const struct seccomp_notif *ask,
 	*value = now.sec;
 	if (!ask->data.args[0])
 		return 0;
-	return put(ask, ask->data.args[0], &now.sec, sizeof(now.sec));
-}
-
-/* Returns the process of a thread, or the thread if it is gone. */
-static int process_of(int thread)
-{
-	char path[64], line[128];
-	int process = thread;
-	FILE *file;
-
-	snprintf(path, sizeof(path), "/proc/%d/status", thread);
-	file = fopen(path, "re");
-	while (file && fgets(line, sizeof(line), file) &&
-	       !sscanf(line, "Tgid: %d", &process))
-		;
-	if (file)
-		fclose(file);
-	return process;
+	return answer_put(ask, ask->data.args[0], &now.sec, sizeof(now.sec));
 }
 
 /* A call that a thread has made, for --log. */
 static struct logged_call asked_call(const struct seccomp_notif *ask,
 				     const char *name, int result)
 {
-	int thread = (int)ask->pid;
+	char status[STATUS_BYTES];
+	int process = (int)ask->pid;
 
-	return (struct logged_call){ answers_log,
-				     answers_log ? process_of(thread) : thread,
-				     name, result };
+	if (answers_log && status_read(process, status))
+		process = (int)status_number(status, "Tgid", 10);
+	return (struct logged_call){ answers_log, process, name, result };
 }
 
-/* A call that was interrupted is made again, and a set of the time twice is the
- * same set. */
 static int set_clock(struct machine *m, const struct seccomp_notif *ask)
 {
 	int clock = (int)ask->data.args[0], error;
@@ -156,15 +137,17 @@ static int set_micros(struct machine *m, const struct seccomp_notif *ask)
 }
 
 /* Sleeps until a time, or for a span of MONOTONIC or BOOTTIME, which a step
- * doesn't change. */
+ * doesn't change. The addresses are that of the time or span, and that of the
+ * rest of a span. */
 static int sleep_until(struct machine *m, const struct seccomp_notif *ask,
-		       int clock, bool is_absolute, uint64_t address)
+		       int clock, bool is_absolute, const uint64_t *addresses)
 {
+	struct sleep sleep = { .ask = *ask };
 	struct timespec time;
 
 	if (clock < 0)
 		return CALL_HOST;
-	if (fetch(ask, address, &time, sizeof(time)))
+	if (fetch(ask, addresses[0], &time, sizeof(time)))
 		return EFAULT;
 	if (time.tv_sec < 0 || is_bad(&time))
 		return EINVAL;
@@ -172,10 +155,10 @@ static int sleep_until(struct machine *m, const struct seccomp_notif *ask,
 		clock = CLOCK_MONOTONIC;
 	if (!is_absolute && !machine_after(m, clock, &time, &time))
 		return EINVAL;
-	if (!sleepers_add(ask, (uint32_t)clock, time.tv_sec,
-			  (uint32_t)time.tv_nsec))
-		return ENOMEM;
-	return CALL_LATER;
+	sleep.clock = clock;
+	sleep.end = time;
+	sleep.rest = is_absolute ? 0 : addresses[1];
+	return sleepers_add(&sleep) ? CALL_LATER : ENOMEM;
 }
 
 static int sleep_on(struct machine *m, const struct seccomp_notif *ask)
@@ -186,11 +169,10 @@ static int sleep_on(struct machine *m, const struct seccomp_notif *ask)
 	    number == CLOCK_MONOTONIC_COARSE || number == CLOCK_MONOTONIC_RAW)
 		return EOPNOTSUPP;
 	return sleep_until(m, ask, number, ask->data.args[1] & TIMER_ABSTIME,
-			   ask->data.args[2]);
+			   (const uint64_t *)ask->data.args + 2);
 }
 
-/* A call that was interrupted is made again: a step by ADJ_SETOFFSET may then
- * happen twice. */
+/* Before Linux 5.19, a call that a signal interrupts now is made again. */
 static int steer(struct machine *m, const struct seccomp_notif *ask,
 		 const char *name, uint64_t address, int64_t *value)
 {
@@ -205,7 +187,7 @@ static int steer(struct machine *m, const struct seccomp_notif *ask,
 	if (state < 0)
 		return -state;
 	*value = state;
-	return put(ask, address, &timex, sizeof(timex));
+	return answer_put(ask, address, &timex, sizeof(timex));
 }
 
 static int make_call(struct machine *m, const struct seccomp_notif *ask,
@@ -224,7 +206,7 @@ static int make_call(struct machine *m, const struct seccomp_notif *ask,
 		return set_micros(m, ask);
 	case SYS_nanosleep:
 		return sleep_until(m, ask, CLOCK_MONOTONIC, false,
-				   ask->data.args[0]);
+				   (const uint64_t *)ask->data.args);
 	case SYS_clock_nanosleep:
 		return sleep_on(m, ask);
 	case SYS_adjtimex:

@@ -85,25 +85,6 @@ struct timespec host_deadline(uint64_t left, uint64_t most)
 		       (left < most ? left : most));
 }
 
-struct timespec time_until(struct machine *m, int clock,
-			   const struct timespec *time)
-{
-	struct timespec left = { 0 };
-	struct tkc_time now;
-
-	if (machine_read(m, (uint32_t)clock, &now))
-		return left;
-	left.tv_sec = time->tv_sec - now.sec;
-	left.tv_nsec = time->tv_nsec - (long)now.nsec;
-	if (left.tv_nsec < 0) {
-		left.tv_nsec += NANOS;
-		left.tv_sec--;
-	}
-	if (left.tv_sec < 0)
-		left = (struct timespec){ 0 };
-	return left;
-}
-
 void wait_begin(struct wait *wait, struct machine *m, int clock,
 		const struct timespec *time)
 {

@@ -40,10 +40,6 @@ void note_host(struct machine *m, enum host_wait wait);
 /* The host's MONOTONIC, `left` ns later and at most `most` ns later. */
 struct timespec host_deadline(uint64_t left, uint64_t most);
 
-/* Returns time - now, and 0 if that is negative. */
-struct timespec time_until(struct machine *m, int clock,
-			   const struct timespec *time);
-
 /*
  * A wait for something that isn't only a time, until a time of a clock. It
  * waits for slices of the host's time: the clocks may be set, and a counter of

@@ -126,7 +126,7 @@ EXPORT int select(int count, fd_set *restrict in, fd_set *restrict out,
 	is_span = span && machine_after(m, CLOCK_MONOTONIC, &wait, &until);
 	ready = pselect(count, in, out, other, span ? &wait : NULL, NULL);
 	if (is_span) {
-		wait = time_until(m, CLOCK_MONOTONIC, &until);
+		wait = machine_until(m, CLOCK_MONOTONIC, &until);
 		*span = (struct timeval){ wait.tv_sec, wait.tv_nsec / 1000 };
 	}
 	return ready;

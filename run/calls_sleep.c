@@ -17,7 +17,7 @@ static int sleep_for(struct machine *m, int clock, const struct timespec *span,
 	error = machine_sleep(m, (uint32_t)clock, until.tv_sec,
 			      (uint32_t)until.tv_nsec);
 	if (error && rest)
-		*rest = time_until(m, clock, &until);
+		*rest = machine_until(m, clock, &until);
 	return error;
 }
 

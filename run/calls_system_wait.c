@@ -50,7 +50,7 @@ static struct span span_begin(struct machine *m, long address)
 static void span_end(struct machine *m, struct span *span)
 {
 	if (span->is_limit)
-		*span->span = time_until(m, CLOCK_MONOTONIC, &span->until);
+		*span->span = machine_until(m, CLOCK_MONOTONIC, &span->until);
 }
 
 static long poll_span(struct machine *m, const long *a)

@@ -21,6 +21,10 @@
 #define SECCOMP_USER_NOTIF_FD_SYNC_WAKE_UP 1UL
 #endif
 
+#ifndef SECCOMP_FILTER_FLAG_WAIT_KILLABLE_RECV /* since Linux 5.19 */
+#define SECCOMP_FILTER_FLAG_WAIT_KILLABLE_RECV (1UL << 5)
+#endif
+
 enum { CODE_MOST = 64, HEADERS_MOST = 64 };
 
 static const int ASKED[] = { SYS_clock_gettime, SYS_gettimeofday,
@@ -98,19 +102,32 @@ static size_t put_all(struct sock_filter *code)
 	return at;
 }
 
+/* From when tkrun has read of a call until it answers, no signal with a handler
+ * interrupts the call, if the kernel can do that. */
+static long install(const struct sock_fprog *program)
+{
+	unsigned long flags = SECCOMP_FILTER_FLAG_NEW_LISTENER |
+			      SECCOMP_FILTER_FLAG_WAIT_KILLABLE_RECV;
+	long file = syscall(SYS_seccomp, SECCOMP_SET_MODE_FILTER, flags,
+			    program);
+
+	if (file < 0 && errno == EINVAL)
+		file = syscall(SYS_seccomp, SECCOMP_SET_MODE_FILTER,
+			       SECCOMP_FILTER_FLAG_NEW_LISTENER, program);
+	return file;
+}
+
 /* Only who has CAP_SYS_ADMIN may install a filter and start programs that get
  * more rights. */
 int filter_install(void)
 {
 	struct sock_filter code[CODE_MOST];
 	struct sock_fprog program = { (unsigned short)put_all(code), code };
-	long file = syscall(SYS_seccomp, SECCOMP_SET_MODE_FILTER,
-			    SECCOMP_FILTER_FLAG_NEW_LISTENER, &program);
+	long file = install(&program);
 
 	if (file < 0 && errno == EACCES) {
 		prctl(PR_SET_NO_NEW_PRIVS, 1, 0, 0, 0);
-		file = syscall(SYS_seccomp, SECCOMP_SET_MODE_FILTER,
-			       SECCOMP_FILTER_FLAG_NEW_LISTENER, &program);
+		file = install(&program);
 	}
 	if (file < 0)
 		return -errno;
@@ -140,6 +157,20 @@ void filter_continue(int listener, uint64_t id)
 	};
 
 	ioctl(listener, SECCOMP_IOCTL_NOTIF_SEND, &reply);
+}
+
+bool filter_asks(long call)
+{
+	for (size_t i = 0; i < sizeof(ASKED) / sizeof(*ASKED); i++) {
+		if (ASKED[i] == call)
+			return true;
+	}
+	return filter_asks_sleep(call);
+}
+
+bool filter_asks_sleep(long call)
+{
+	return call == SLEEPS[0] || call == SLEEPS[1];
 }
 
 bool is_exec(const struct seccomp_notif *ask)

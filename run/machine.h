@@ -55,14 +55,16 @@ struct shared_page {
 	/* at the end of the day 1 s is inserted, or deleted (-1), or none (0) */
 	_Atomic int32_t leap;
 	_Alignas(64) _Atomic uint64_t cycles;
-	_Alignas(64) _Atomic uint32_t generation; /* sleepers look again */
+	_Alignas(64) _Atomic uint32_t generation; /* who isn't listed looks again */
 };
 
-/* A thread that waits for a time of a clock. It is free if `thread` is 0. */
+/* A thread that waits for a time of a clock. It is free if `thread` is 0. A
+ * sleeper looks again when `changes` moves on. */
 struct waiter {
 	_Atomic int32_t thread;
 	uint32_t clock, nsec;
 	int64_t sec;
+	_Atomic uint32_t changes;
 };
 
 /* Waits that go by the host's time, of which tkrun warns. */
@@ -207,6 +209,10 @@ static inline bool machine_is_past(const struct machine *machine,
 bool machine_after(struct machine *machine, int clock,
 		   const struct timespec *span, struct timespec *out);
 
+/* Returns a time of a clock minus now, and 0 if that is negative. */
+struct timespec machine_until(struct machine *machine, int clock,
+			      const struct timespec *time);
+
 /*
  * Returns the cycles until a clock reaches a time: 0 if it has, and NEVER if no
  * cycles bring it there. If the time is further away than half of the counter's
@@ -226,6 +232,13 @@ int machine_sleep(struct machine *machine, uint32_t clock, int64_t sec,
 
 /* Wakes all sleepers, because the clocks have changed. */
 void machine_wake(struct machine *machine);
+
+/* Wakes those that no waiter is for: sleepers on a counter that runs, and the
+ * threads that follow the clocks for timers. */
+void machine_wake_unlisted(struct machine *machine);
+
+/* Wakes a waiter's sleeper. */
+void waiter_wake(struct waiter *waiter);
 
 /* List this thread, or another one, as waiting for a time, with COUNTER_SLEEPS.
  * Return NULL if it can't be listed. */

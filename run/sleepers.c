@@ -4,20 +4,28 @@
 #define _GNU_SOURCE
 #include "static.h"
 
+#include "status.h"
+
+#include <errno.h>
 #include <stdlib.h>
+#include <string.h>
 #include <sys/ioctl.h>
 
 enum {
 	LOOK_NANOS = 10000000, /* between two looks: a step may end a sleep */
 	LOOK_SLEEPS_NANOS = 1000000, /* the same with a counter of sleeps */
+	/* between two looks at signals: at least, and for each sleep */
+	SIGNALS_NANOS = 10000000,
+	SIGNALS_NANOS_EACH = 300000,
+	RESTART_CALL = 514, /* ERESTARTNOHAND of the kernel's errno.h */
 };
 
 struct sleeper {
 	struct sleeper *next;
-	uint64_t id;
-	uint32_t clock, nsec;
-	int64_t sec;
+	struct sleep sleep;
 	struct waiter *waiter;
+	bool has_signal; /* of the process, when it was looked at */
+	bool is_stopped; /* its thread was stopped, and will call again */
 };
 
 static struct sleeper *sleepers;
@@ -32,39 +40,155 @@ void sleepers_wake(void)
 	host_futex_wake(&changes);
 }
 
-bool sleepers_add(const struct seccomp_notif *ask, uint32_t clock, int64_t sec,
-		  uint32_t nsec)
+/* Removes the sleeper to which a link points. */
+static void remove_sleeper(struct sleeper **link)
 {
-	struct sleeper *sleeper = malloc(sizeof(*sleeper));
+	struct sleeper *sleeper = *link;
+
+	*link = sleeper->next;
+	waiter_leave(sleeper->waiter);
+	free(sleeper);
+}
+
+/* Returns the link to a thread's sleeper that was stopped, or NULL. */
+static struct sleeper **find_stopped(uint32_t thread)
+{
+	struct sleeper **link = &sleepers;
+
+	while (*link && (!(*link)->is_stopped ||
+			 (*link)->sleep.ask.pid != thread))
+		link = &(*link)->next;
+	return *link ? link : NULL;
+}
+
+/* After a stop a thread makes the same call again, which ends when it would have
+ * ended without the stop. Returns whether this call is one. */
+static bool resume(const struct sleep *sleep)
+{
+	struct sleeper **link = find_stopped(sleep->ask.pid);
+
+	if (!link)
+		return false;
+	if (memcmp(&(*link)->sleep.ask.data, &sleep->ask.data,
+		   sizeof(sleep->ask.data))) {
+		remove_sleeper(link);
+		return false;
+	}
+	(*link)->sleep.ask.id = sleep->ask.id;
+	(*link)->is_stopped = false;
+	return true;
+}
+
+bool sleepers_add(const struct sleep *sleep)
+{
+	struct sleeper *sleeper = calloc(1, sizeof(*sleeper));
 
 	if (!sleeper)
 		return false;
-	*sleeper = (struct sleeper){ .id = ask->id,
-				     .clock = clock,
-				     .sec = sec,
-				     .nsec = nsec };
-	sleeper->waiter = waiter_enter_for(clocks, (int32_t)ask->pid, clock,
-					   sec, nsec);
+	sleeper->sleep = *sleep;
 	pthread_mutex_lock(&sleepers_lock);
-	sleeper->next = sleepers;
-	sleepers = sleeper;
+	if (resume(sleep)) {
+		free(sleeper);
+	} else {
+		sleeper->waiter = waiter_enter_for(
+			clocks, (int32_t)sleep->ask.pid,
+			(uint32_t)sleep->clock, sleep->end.tv_sec,
+			(uint32_t)sleep->end.tv_nsec);
+		sleeper->next = sleepers;
+		sleepers = sleeper;
+	}
 	pthread_mutex_unlock(&sleepers_lock);
 	sleepers_wake();
 	return true;
 }
 
-/* Returns whether a sleep is over: its time has come, or a signal ended it. */
-static bool is_over(const struct sleeper *sleeper, uint64_t *left)
+static void reply(const struct sleeper *sleeper, int error)
 {
-	struct seccomp_notif_resp reply = { .id = sleeper->id };
+	struct seccomp_notif_resp reply = { .id = sleeper->sleep.ask.id,
+					    .error = -error };
 
-	*left = machine_left(clocks, sleeper->clock, sleeper->sec,
-			     sleeper->nsec);
-	if (!*left) {
-		ioctl(listener, SECCOMP_IOCTL_NOTIF_SEND, &reply);
+	ioctl(listener, SECCOMP_IOCTL_NOTIF_SEND, &reply);
+}
+
+/* Returns what signals do to a sleeper. One of the process may be another
+ * thread's, unless the process still has it at the next look; and another thread
+ * may have taken the one that stops them all. */
+static enum interruption interruption_of(struct sleeper *sleeper)
+{
+	int thread = (int)sleeper->sleep.ask.pid, process;
+	enum interruption own, both;
+	char status[STATUS_BYTES];
+	bool had_signal = sleeper->has_signal;
+
+	if (!status_read(thread, status))
+		return NOT_INTERRUPTED;
+	own = status_interruption(status, false);
+	both = status_interruption(status, true);
+	sleeper->has_signal = both != NOT_INTERRUPTED;
+	if (status_number(status, "Threads", 10) == 1 || own ||
+	    (both && had_signal))
+		return both;
+	process = (int)status_number(status, "Tgid", 10);
+	if (process != thread && status_read(process, status) &&
+	    status_state(status) == 'T')
+		return STOPPED;
+	return NOT_INTERRUPTED;
+}
+
+/* Ends the call of a sleeper if a signal interrupts it. A stopped one stays, to
+ * be resumed. Returns whether its sleep is over. */
+static bool interrupt(struct sleeper *sleeper)
+{
+	const struct sleep *sleep = &sleeper->sleep;
+	struct timespec rest;
+	int error = EINTR;
+
+	switch (interruption_of(sleeper)) {
+	case INTERRUPTED:
+		rest = machine_until(clocks, sleep->clock, &sleep->end);
+		if (sleep->rest &&
+		    answer_put(&sleep->ask, sleep->rest, &rest, sizeof(rest)))
+			error = EFAULT;
+		reply(sleeper, error);
+		return true;
+	case STOPPED:
+		sleeper->is_stopped = true;
+		reply(sleeper, RESTART_CALL);
+		return false;
+	default:
+		return false;
+	}
+}
+
+static bool is_gone(const struct sleeper *sleeper)
+{
+	char status[STATUS_BYTES];
+
+	if (sleeper->is_stopped)
+		return !status_read((int)sleeper->sleep.ask.pid, status);
+	return ioctl(listener, SECCOMP_IOCTL_NOTIF_ID_VALID,
+		     &sleeper->sleep.ask.id);
+}
+
+/* Returns whether a sleep is over: its time has come, or a signal ended it. */
+static bool is_over(struct sleeper *sleeper, bool looks_at_signals,
+		    uint64_t *left)
+{
+	const struct sleep *sleep = &sleeper->sleep;
+
+	*left = machine_left(clocks, (uint32_t)sleep->clock, sleep->end.tv_sec,
+			     (uint32_t)sleep->end.tv_nsec);
+	if (sleeper->is_stopped && !*left) {
+		waiter_leave(sleeper->waiter);
+		sleeper->waiter = NULL;
+		*left = NEVER;
+	} else if (!*left) {
+		reply(sleeper, 0);
 		return true;
 	}
-	return ioctl(listener, SECCOMP_IOCTL_NOTIF_ID_VALID, &sleeper->id);
+	if (is_gone(sleeper))
+		return true;
+	return looks_at_signals && !sleeper->is_stopped && interrupt(sleeper);
 }
 
 /* Ends the sleeps that are over. Returns the ns until the next look. */
@@ -73,23 +197,26 @@ static uint64_t look(void)
 	uint64_t least = clocks->shared->kind == COUNTER_SLEEPS
 				 ? LOOK_SLEEPS_NANOS
 				 : LOOK_NANOS;
-	struct sleeper **place = &sleepers, *sleeper;
-	uint64_t left;
+	static uint64_t signals_next;
+	uint64_t left, now = host_nanos(CLOCK_MONOTONIC), count = 0;
+	bool looks_at_signals = now >= signals_next;
+	struct sleeper **link = &sleepers;
 
 	pthread_mutex_lock(&sleepers_lock);
-	while ((sleeper = *place)) {
-		if (is_over(sleeper, &left)) {
-			*place = sleeper->next;
-			waiter_leave(sleeper->waiter);
-			free(sleeper);
+	while (*link) {
+		if (is_over(*link, looks_at_signals, &left)) {
+			remove_sleeper(link);
 			continue;
 		}
 		least = left < least ? left : least;
-		place = &sleeper->next;
+		link = &(*link)->next;
+		count++;
 	}
 	if (!sleepers)
 		least = NANOS;
 	pthread_mutex_unlock(&sleepers_lock);
+	if (looks_at_signals)
+		signals_next = now + SIGNALS_NANOS + count * SIGNALS_NANOS_EACH;
 	return least;
 }
 

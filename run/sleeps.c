@@ -49,6 +49,48 @@ static uint64_t first_waiter(struct run *run)
 	return least;
 }
 
+/* Wakes the sleepers whose time has come. */
+static void wake_reached(struct machine *machine)
+{
+	struct control *control = machine->control;
+	uint32_t count = atomic_load(&control->waiters_count);
+
+	for (uint32_t i = 0; i < count; i++) {
+		struct waiter *waiter = &control->waiters[i];
+
+		if (atomic_load(&waiter->thread) > 0 &&
+		    !machine_cycles_left(machine, waiter->clock, waiter->sec,
+					 waiter->nsec))
+			waiter_wake(waiter);
+	}
+}
+
+static bool has_waiter(const struct control *control, int32_t thread)
+{
+	uint32_t count = atomic_load(&control->waiters_count);
+
+	for (uint32_t i = 0; i < count; i++) {
+		if (atomic_load(&control->waiters[i].thread) == thread)
+			return true;
+	}
+	return false;
+}
+
+/* Returns whether tkrun hasn't answered a call yet. Its thread waits for the
+ * answer, and for nothing else unless the call is a sleep that is listed. */
+static bool has_unanswered(const struct run *run)
+{
+	for (size_t i = 0; i < run->tree.count; i++) {
+		const struct thread_state *thread = &run->tree.threads[i];
+
+		if (filter_asks(thread->call) &&
+		    !(filter_asks_sleep(thread->call) &&
+		      has_waiter(run->machine.control, thread->thread)))
+			return true;
+	}
+	return false;
+}
+
 bool move_counter(struct run *run)
 {
 	static const struct order update = { .command = TKC_CMD_UPDATE };
@@ -56,7 +98,9 @@ bool move_counter(struct run *run)
 	uint64_t cycles, order;
 	sigset_t saved;
 
-	if (!tree_is_quiet(&run->tree))
+	run->tree.has_filter = run->listener >= 0;
+	if (!tree_is_quiet(&run->tree) ||
+	    (run->tree.has_filter && has_unanswered(run)))
 		return false;
 	cycles = first_waiter(run);
 	order = plan_left(&run->plan, machine);
@@ -69,6 +113,7 @@ bool move_counter(struct run *run)
 	if (!machine_is_asleep(machine))
 		machine_apply(machine, &update, 1);
 	machine_unlock(machine, &saved);
-	machine_wake(machine);
+	wake_reached(machine);
+	machine_wake_unlisted(machine);
 	return true;
 }

@@ -24,6 +24,10 @@ bool filter_next(int listener, struct seccomp_notif *ask);
 /* Returns whether no process has the filter any more. */
 bool filter_is_over(int listener);
 
+/* Return whether the filter asks about a system call, and about a sleep. */
+bool filter_asks(long call);
+bool filter_asks_sleep(long call);
+
 /* Lets the kernel make the call. */
 void filter_continue(int listener, uint64_t id);
 
@@ -34,10 +38,22 @@ bool is_exec(const struct seccomp_notif *ask);
 void answer(struct machine *machine, int listener,
 	    const struct seccomp_notif *ask);
 
-/* Adds a sleep of a thread that is to be answered at a time of a clock. Returns
- * false if memory is missing. */
-bool sleepers_add(const struct seccomp_notif *ask, uint32_t clock, int64_t sec,
-		  uint32_t nsec);
+/* Copies to the memory of the thread that has made a call. Returns 0 or an
+ * errno. */
+int answer_put(const struct seccomp_notif *ask, uint64_t address,
+	       const void *value, size_t size);
+
+/* A sleep, by the call that has asked for it. */
+struct sleep {
+	struct seccomp_notif ask;
+	int clock;
+	struct timespec end; /* on the clock */
+	uint64_t rest; /* the address where a signal stores what is left, or 0 */
+};
+
+/* Adds a sleep, to answer its call at the end. Returns false if memory is
+ * missing. */
+bool sleepers_add(const struct sleep *sleep);
 
 /* Starts the thread that answers sleeps. Returns false if it can't. */
 bool sleepers_start(struct machine *machine, int listener);

@@ -197,7 +197,7 @@ void timer_store(struct machine *m, struct timer *timer, struct itimerspec *out)
 		timer->is_armed = false;
 	out->it_interval = span_of(timer->period);
 	if (timer->is_armed)
-		out->it_value = time_until(m, timer->clock, &timer->next);
+		out->it_value = machine_until(m, timer->clock, &timer->next);
 }
 
 /* Finds the time at which a timer is to expire. A step doesn't change a span,
@@ -230,6 +230,6 @@ int timer_set(struct machine *m, struct timer *timer, bool is_absolute,
 	timer->period = nanos_of(&in->it_interval);
 	follow_start();
 	if (m->shared->kind == COUNTER_SLEEPS)
-		machine_wake(m);
+		machine_wake_unlisted(m);
 	return arm(m, timer);
 }

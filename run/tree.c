@@ -2,9 +2,11 @@
 #define _GNU_SOURCE
 #include "tree.h"
 
+#include "static.h"
+#include "status.h"
+
 #include <dirent.h>
 #include <errno.h>
-#include <fcntl.h>
 #include <signal.h>
 #include <stdio.h>
 #include <stdlib.h>
@@ -13,20 +15,6 @@
 #include <unistd.h>
 
 enum { DEPTH_MOST = 64, PROGRAMS_MOST = 1024 };
-
-/* Reads a file of /proc as text. Returns false if it is gone. */
-static bool read_text(const char *path, char *text, size_t size)
-{
-	int file = open(path, O_RDONLY | O_CLOEXEC);
-	ssize_t length;
-
-	if (file < 0)
-		return false;
-	length = read(file, text, size - 1);
-	close(file);
-	text[length < 0 ? 0 : length] = 0;
-	return length > 0;
-}
 
 /* Makes room for one more element. */
 static bool grow(void **list, size_t count, size_t *room, size_t size)
@@ -44,45 +32,60 @@ static bool grow(void **list, size_t count, size_t *room, size_t size)
 	return true;
 }
 
-static uint64_t number_after(const char *text, const char *word)
-{
-	const char *found = strstr(text, word);
-
-	return found ? strtoull(found + strlen(word), NULL, 10) : 0;
-}
-
-/* Returns whether a thread that is said to wait still runs: it may be about to
- * wait, or be woken, or reap a child (do_wait in kernel/exit.c). The kernel
- * makes sure of it only for this file (task_current_syscall). */
-static bool is_running(const char *folder)
+/*
+ * Finds out whether a thread waits, and in which call. One that is said to wait
+ * may still run: it may be about to wait, or be woken, or reap a child (do_wait
+ * in kernel/exit.c). The kernel makes sure of it only for the file `syscall`
+ * (task_current_syscall).
+ */
+static void find_call(struct thread_state *thread, const char *folder,
+		      char state)
 {
 	char path[128], text[256];
 
+	thread->call = -1;
 	snprintf(path, sizeof(path), "%s/syscall", folder);
-	return read_text(path, text, sizeof(text)) &&
-	       !strncmp(text, "running", 7);
+	if (!proc_read(path, text, sizeof(text)))
+		return;
+	thread->is_waiting = strncmp(text, "running", 7);
+	if (thread->is_waiting && (state == 'S' || state == 'D'))
+		thread->call = strtol(text, NULL, 10);
+}
+
+/* A sleep that tkrun has to answer is in state D, as is a thread that waits for
+ * a disk. It is over when a signal comes. */
+static bool is_asleep(const struct thread_state *thread, const char *status)
+{
+	return filter_asks_sleep(thread->call) &&
+	       !status_interruption(status, true);
 }
 
 static bool add_thread(struct tree *tree, const char *folder, int32_t thread)
 {
-	char path[128], text[4096];
-	const char *state;
+	char path[128], status[STATUS_BYTES], state;
+	struct thread_state *added;
 
 	snprintf(path, sizeof(path), "%s/status", folder);
-	if (!read_text(path, text, sizeof(text)))
+	if (!proc_read(path, status, sizeof(status)))
 		return true;
 	if (!grow((void **)&tree->threads, tree->count, &tree->room,
 		  sizeof(*tree->threads)))
 		return false;
-	state = strstr(text, "\nState:\t");
-	tree->threads[tree->count++] = (struct thread_state){
+	state = status_state(status);
+	added = &tree->threads[tree->count++];
+	*added = (struct thread_state){
 		.thread = thread,
 		.switches =
-			number_after(text, "\nvoluntary_ctxt_switches:\t") +
-			number_after(text, "\nnonvoluntary_ctxt_switches:\t"),
-		.is_waiting = state && strchr("STtZX", state[8]) &&
-			      !is_running(folder),
+			status_number(status, "voluntary_ctxt_switches", 10) +
+			status_number(status, "nonvoluntary_ctxt_switches", 10),
+		.is_waiting = state && strchr("STtZXD", state),
+		.call = -1,
 	};
+	if (added->is_waiting)
+		find_call(added, folder, state);
+	if (state == 'D')
+		added->is_waiting &= tree->has_filter &&
+				     is_asleep(added, status);
 	return true;
 }
 
@@ -94,7 +97,7 @@ static bool add_children(struct tree *tree, const char *folder, int depth)
 	long child;
 
 	snprintf(path, sizeof(path), "%s/children", folder);
-	if (!read_text(path, text, sizeof(text)))
+	if (!proc_read(path, text, sizeof(text)))
 		return true;
 	while ((child = strtol(next, &end, 10)) > 0) {
 		if (!add_process(tree, (int32_t)child, depth + 1))
@@ -170,7 +173,7 @@ static bool is_unmoved(const struct tree *first, const struct tree *second)
 
 bool tree_is_quiet(struct tree *tree)
 {
-	struct tree second = { 0 };
+	struct tree second = { .has_filter = tree->has_filter };
 	bool is_quiet;
 
 	if (!tree_scan(tree) || !all_wait(tree))
@@ -220,7 +223,7 @@ static void warn(int32_t process, bool is_readable)
 	char path[64], name[64];
 
 	snprintf(path, sizeof(path), "/proc/%d/comm", process);
-	if (!read_text(path, name, sizeof(name)))
+	if (!proc_read(path, name, sizeof(name)))
 		return;
 	name[strcspn(name, "\n")] = 0;
 	if (is_readable)

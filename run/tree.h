@@ -11,6 +11,7 @@ struct thread_state {
 	int32_t thread;
 	uint64_t switches;
 	bool is_waiting; /* for anything: it isn't running or about to */
+	long call;	 /* the system call in which it waits, or -1 */
 };
 
 /* A process, and the number of its ancestors up to tkrun. */
@@ -20,6 +21,7 @@ struct process {
 };
 
 struct tree {
+	bool has_filter; /* tkrun answers calls of the processes */
 	struct thread_state *threads;
 	size_t count, room;
 	struct process *processes;

@@ -41,6 +41,25 @@ bool machine_after(struct machine *machine, int clock,
 	return true;
 }
 
+struct timespec machine_until(struct machine *machine, int clock,
+			      const struct timespec *time)
+{
+	struct timespec left = { 0 };
+	struct tkc_time now;
+
+	if (machine_read(machine, (uint32_t)clock, &now))
+		return left;
+	left.tv_sec = time->tv_sec - now.sec;
+	left.tv_nsec = time->tv_nsec - (long)now.nsec;
+	if (left.tv_nsec < 0) {
+		left.tv_nsec += NANOS;
+		left.tv_sec--;
+	}
+	if (left.tv_sec < 0)
+		left = (struct timespec){ 0 };
+	return left;
+}
+
 uint64_t machine_cycles_left(struct machine *machine, uint32_t clock,
 			     int64_t sec, uint32_t nsec)
 {
@@ -74,31 +93,51 @@ uint64_t machine_left(struct machine *machine, uint32_t clock, int64_t sec,
 	return (uint64_t)nanos + 1;
 }
 
-void machine_wake(struct machine *machine)
+void machine_wake_unlisted(struct machine *machine)
 {
 	atomic_fetch_add(&machine->shared->generation, 1);
 	host_futex_wake(&machine->shared->generation);
 }
 
-/* A sleeper looks at the generation before it looks at the clocks. So if they
- * change in between, the futex doesn't let it wait. */
+void waiter_wake(struct waiter *waiter)
+{
+	atomic_fetch_add(&waiter->changes, 1);
+	host_futex_wake(&waiter->changes);
+}
+
+void machine_wake(struct machine *machine)
+{
+	struct control *control = machine->control;
+	uint32_t count = control ? atomic_load(&control->waiters_count) : 0;
+
+	machine_wake_unlisted(machine);
+	for (uint32_t i = 0; i < count; i++) {
+		if (atomic_load(&control->waiters[i].thread))
+			waiter_wake(&control->waiters[i]);
+	}
+}
+
+/* A sleeper looks at the futex before it looks at the clocks. So if they change
+ * in between, the futex doesn't let it wait. A listed sleeper isn't woken for the
+ * times of others: a signal that comes while it looks wouldn't interrupt it. */
 int machine_sleep(struct machine *machine, uint32_t clock, int64_t sec,
 		  uint32_t nsec)
 {
 	struct waiter *waiter = waiter_enter(machine, clock, sec, nsec);
-	uint32_t generation;
+	_Atomic uint32_t *futex = waiter ? &waiter->changes
+					 : &machine->shared->generation;
+	uint32_t seen;
 	uint64_t left;
 	int error = 0;
 
 	while (error != EINTR) {
-		generation = atomic_load(&machine->shared->generation);
+		seen = atomic_load(futex);
 		left = machine_left(machine, clock, sec, nsec);
 		if (!left)
 			break;
 		if (left > LONGEST)
 			left = LONGEST;
-		error = host_futex_wait(&machine->shared->generation,
-					generation,
+		error = host_futex_wait(futex, seen,
 					host_nanos(CLOCK_MONOTONIC) + left);
 	}
 	waiter_leave(waiter);

@@ -104,6 +104,13 @@ class Calls(RunTest):
             self.assertGreaterEqual(ends[name], end)
             self.assertLess(ends[name], 50)  # when REALTIME is 1050 without the step
 
+    def test_signals_end_sleeps(self):
+        for name in ["interrupted"] + ["static_interrupted"] * CAN_FILTER:
+            with self.subTest(name):
+                self.assertEqual(self.run_on("--counter", "sleeps", "--", program(name)), "")
+                # the counter takes 4 s on a busy machine while the host takes 0.8 s
+                self.assertEqual(self.run_on("--speed", 5, "--", program(name), 4000), "")
+
     def killed(self, name, count, *options):
         """Runs a program that kills processes which set the clocks, and checks that the record
         contains each set that one has made."""
