@@ -1,7 +1,7 @@
 """Programs that know nothing of tkrun: at chosen dates, through a leap second, and on counters that
 are faster than the host's time or move only with sleeps. Dates are by the proleptic Gregorian
 calendar, and the leap second is that of 2016."""
-import subprocess
+import shutil
 
 from runs import STILL, RunTest, needs
 
@@ -13,26 +13,59 @@ tai,2000000000,37
 """
 
 
+# each prints the second of REALTIME, by its own call, at each of TIMES times, a second apart
+SECONDS = {
+    "date": ["bash", "-c", "for i in $(seq TIMES); do date +%s; sleep 1; done"],
+    "bash": ["bash", "-c", "for i in $(seq TIMES); do echo $EPOCHSECONDS; sleep 1; done"],
+    "python3": ["/usr/bin/python3", "-c",
+                "import time\nfor i in range(TIMES): print(int(time.time())); time.sleep(1)"],
+    "perl": ["/usr/bin/perl", "-e", "for (1..TIMES) { print time, qq(\\n); sleep 1 }"],
+    "node": ["node", "-e", "let left = TIMES; const show = () => { console.log(Math.floor("
+             "Date.now() / 1000)); if (--left) setTimeout(show, 1000) }; show()"],
+    "java": ["java", "FOLDER/Seconds.java"],
+    "sqlite3": ["bash", "-c", "for i in $(seq TIMES); do "
+                "sqlite3 :memory: \"select strftime('%s', 'now')\"; sleep 1; done"],
+    "openssl": ["bash", "-c", "for i in $(seq TIMES); do openssl req -x509 -newkey ec -nodes "
+                "-pkeyopt ec_paramgen_curve:prime256v1 -subj /CN=a -keyout /dev/null 2>/dev/null | "
+                "openssl x509 -noout -startdate | cut -d= -f2 | date +%s -f -; sleep 1; done"],
+}
+JAVA_SECONDS = """public class Seconds {
+    public static void main(String[] arguments) throws Exception {
+        for (int i = 0; i < TIMES; i++) {
+            System.out.println(java.time.Instant.now().getEpochSecond());
+            Thread.sleep(1000);
+        }
+    }
+}"""
+
+
 class Programs(RunTest):
-    def test_date_in_2001_and_2038(self):
-        self.assertEqual(self.run_on(*STILL, "--start", "2001-09-09T01:46:40Z", "--", "date", "+%s"),
-                         "1000000000\n")
-        self.assertEqual(
-            self.run_on("--start", "2038-01-19T03:14:07.5Z", "--counter", "sleeps", "--",
-                        "bash", "-c", "date -u +%FT%T; sleep 1; date -u +%FT%T"),
-            "2038-01-19T03:14:07\n2038-01-19T03:14:08\n")
+    def seconds(self, name, times, *options):
+        """The seconds that a program reads, on a counter of sleeps. The record is checked."""
+        self.file("Seconds.java", JAVA_SECONDS.replace("TIMES", str(times)))
+        command = [word.replace("TIMES", str(times)).replace("FOLDER", str(self.folder))
+                   for word in SECONDS[name]]
+        return list(map(int, self.run_on(*STILL, *options, "--check", "--", *command).split()))
+
+    def test_each_program_at_dates(self):
+        for name in filter(shutil.which, SECONDS):
+            # 2001-09-09, and the second before and after 31 bits of seconds overflow
+            for start in (10**9, 2**31 - 1):
+                with self.subTest(name, start=start):
+                    self.assertEqual(self.seconds(name, 2, "--start", start), [start, start + 1])
+
+    def test_each_program_through_a_leap_second(self):
+        script = self.file("s", LEAP)
+        for name in filter(shutil.which, SECONDS):
+            with self.subTest(name):
+                self.assertEqual(self.seconds(name, 4, "--script", script),
+                                 [1483228798, 1483228799, 1483228799, 1483228800])
 
     def test_bash_sets_the_date_for_all_that_follow(self):
         self.assertEqual(
             self.run_on(*STILL, "--start", 0, "--", "bash", "-c",
                         "date -u -s @2000000000 +%Y; date -u +%Y; echo $EPOCHSECONDS"),
             "2033\n2033\n2000000000\n")
-
-    def test_a_leap_second(self):
-        run = self.run_on("--script", self.file("s", LEAP), "--counter", "sleeps", "--check", "--",
-                          "bash", "-c", "for i in 1 2 3 4; do date -u +%FT%T; sleep 1; done")
-        self.assertEqual(run.split(), ["2016-12-31T23:59:58", "2016-12-31T23:59:59",
-                                       "2016-12-31T23:59:59", "2017-01-01T00:00:00"])
 
     def test_a_suspension(self):
         script = self.file("s", "openhz,64,1000000000,1,0,0,0\nsuspend,1000000000\n"
@@ -105,18 +138,3 @@ class Programs(RunTest):
             }
         }""")
         self.sleeps("java", source)
-
-    @needs("sqlite3")
-    def test_sqlite(self):
-        self.assertEqual(self.run_on(*STILL, "--start", "2038-01-19T03:14:08Z", "--", "sqlite3", ":memory:",
-                                     "select strftime('%s', 'now')"), "2147483648\n")
-
-    @needs("openssl")
-    def test_openssl_makes_a_certificate_of_2038(self):
-        key = self.folder / "key"
-        certificate = self.start("--quiet", *STILL, "--start", "2038-01-19T03:14:08Z", "--", "openssl",
-                                 "req", "-x509", "-newkey", "rsa:2048", "-nodes", "-subj", "/CN=a",
-                                 "-days", "1", "-keyout", key).stdout
-        dates = subprocess.run(["openssl", "x509", "-noout", "-startdate"], input=certificate,
-                               text=True, stdout=subprocess.PIPE, check=True).stdout
-        self.assertEqual(dates, "notBefore=Jan 19 03:14:08 2038 GMT\n")
