@@ -3,6 +3,7 @@ pub mod Gaps
 pub mod Lengths
 pub mod Near
 pub mod Often
+pub mod History
 pub mod Needed
 pub mod Long
 pub mod Kept

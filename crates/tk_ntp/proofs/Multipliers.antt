@@ -2,7 +2,7 @@
 use Rattle.std.proofs.Common.{◌≡◌, ◌∙◌, ap, ℕ, ◌+◌, ◌*◌, ◌/◌, ◌<◌, ◌≤◌, ℤ, pos, ◌-ℤ◌, ◌≤ℤ◌, unsigned_abs, arith}
 use Rattle.std.proofs.Math.Nat.{mul-le-mul_left}
 use Rattle.std.proofs.lemmas.Int.{ints, clamps}
-use Rattle.tk_counter.specs.Counter.{Counter, rate}
+use Rattle.tk_counter.specs.Counter.{Counter, rate, multiplier, least_tick, greatest_tick}
 use Rattle.tk_ntp.specs.Rate.{rate_of, IsInRange, IsGiven, IsNearUsual}
 use borrow.Author.Differences.{abs_is}
 
@@ -53,3 +53,18 @@ near_usual counter q m is low high =
       at_most = omega (arith, mul-le-mul_left k high);
       at_least = omega (arith, mul-le-mul_left k low);
     }
+
+rate_low : (frequency tick : ℤ) → least_tick ≤ℤ tick → 58949632000 ≤ rate frequency tick
+rate_low frequency tick low = omega (arith, ints, clamps, abs_is)
+
+rate_high : (frequency tick : ℤ) → least_tick ≤ℤ tick → tick ≤ℤ greatest_tick →
+    rate frequency tick ≤ 72122368000
+rate_high frequency tick low high = omega (arith, ints, clamps, abs_is)
+
+-- a multiplier at any frequency and any tick that clocks may have
+pub near_at_rate : (counter : Counter) (frequency tick : ℤ) (m : ℕ) →
+    m ≡ multiplier counter frequency tick → least_tick ≤ℤ tick → tick ≤ℤ greatest_tick →
+    IsNearUsual counter m
+near_at_rate counter frequency tick m is low high =
+    near_usual counter (rate frequency tick) m is (rate_low frequency tick low)
+    (rate_high frequency tick low high)

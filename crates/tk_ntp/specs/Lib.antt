@@ -18,6 +18,7 @@ pub mod Steering
 pub mod SteeredClock
 pub mod Advance
 pub mod Often
+pub mod History
 pub mod Asked
 pub mod Applied
 pub mod Numbers

@@ -1,4 +1,4 @@
-ghost use Rattle.std.specs.Prelude.{◌≡◌, MatchResult, MatchOption, Some, None};
+ghost use Rattle.std.specs.Prelude.{◌≡◌, ◌≤ℤ◌, MatchResult, MatchOption, Some, None};
 
 mod advancing;
 mod asking;
@@ -6,6 +6,7 @@ mod commanding;
 mod numbers;
 
 use crate::discipline::Discipline;
+use crate::rate::Rate;
 use crate::steering::Steering;
 use std::marker::Model;
 use tk_clock::{Clock, ClockId, Refusal, Snapshot, Timespec};
@@ -57,7 +58,10 @@ impl SteeredClock {
     ghost use Rattle.tk_clock.specs.declared.clock_id.ClockId.TheVariants.{Realtime};
     ghost use Rattle.tk_clock.specs.Reach.{IsFirstReached, IsNeverReached};
     ghost use Rattle.tk_clock.specs.Time.{nanoseconds};
-    ghost use Rattle.tk_ntp.specs.SteeredClock.{steered_refusal, steered_opened};
+    ghost use Rattle.tk_counter.specs.Counter.{least_tick, greatest_tick};
+    ghost use Rattle.tk_ntp.specs.Change.{multiplier_at};
+    ghost use Rattle.tk_ntp.specs.Rate.{IsNearUsual};
+    ghost use Rattle.tk_ntp.specs.SteeredClock.{steered_refusal, steered_opened, rate_in_force};
     ghost use Rattle.tk_ntp.specs.Advance.{second_time};
 
     /// Opens the clocks of the counter `desc` at `reading`, in cycles, with a fresh discipline. They
@@ -110,6 +114,22 @@ impl SteeredClock {
             nsec: 0,
         };
         self.snapshot(0).reading_at(ClockId::Realtime, time)
+    }
+
+    /// Returns the frequency and the tick that the clocks run at.
+    pub fn rate(&self) -> Rate
+        ensures value { result ≡ rate_in_force self.now.clock }
+        ensures slowest { least_tick ≤ℤ result.tick }
+        ensures fastest { result.tick ≤ℤ greatest_tick }
+        ensures multiplier { let base = self.now.clock.base in
+            base.mult ≡ multiplier_at base.counter result }
+        // the multiplier is never more than 10.05 percent from the counter's own
+        ensures near { let base = self.now.clock.base in IsNearUsual base.counter base.mult }
+    {
+        Rate {
+            frequency: self.clock.frequency(),
+            tick: self.clock.tick(),
+        }
     }
 
     /// Returns the clocks.

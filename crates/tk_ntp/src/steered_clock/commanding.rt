@@ -1,15 +1,14 @@
 //! Gives the clocks commands.
-ghost use Rattle.std.specs.Prelude.{◌≡◌, ◌≤◌, ◌≤ℤ◌, MatchResult, Some, None};
-ghost use Rattle.tk_counter.specs.Counter.{mask, least_tick, greatest_tick};
+ghost use Rattle.std.specs.Prelude.{◌≡◌, ◌≤◌, MatchResult, Some, None};
+ghost use Rattle.tk_counter.specs.Counter.{mask};
 ghost use Rattle.tk_clock.specs.Limits.{clock_end};
 ghost use Rattle.tk_clock.specs.Refusal.{state_refusal};
 ghost use Rattle.tk_ntp.specs.Advance.{given_tai};
 ghost use Rattle.tk_ntp.specs.Asked.{tai_refusal, second_after, restarted, after_command, IsCommanded};
-ghost use Rattle.tk_ntp.specs.SteeredClock.{accounted_to, given, given_any, given_change, rate_in_force, steered_at};
+ghost use Rattle.tk_ntp.specs.SteeredClock.{accounted_to, given, given_any, given_change, steered_at};
 
 use super::SteeredClock;
 use crate::change::Change;
-use crate::rate::Rate;
 use tk_clock::{Clock, ClockId, Command, Refusal};
 use tk_counter::NANOS_PER_SECOND;
 
@@ -30,18 +29,6 @@ impl SteeredClock {
     {
         let change = self.steering.commands(self.desc(), self.rate());
         self.change(reading, change);
-    }
-
-    /// Returns the rate in force.
-    fn rate(&self) -> Rate
-        ensures value { result ≡ rate_in_force self.now.clock }
-        ensures slowest { least_tick ≤ℤ result.tick }
-        ensures fastest { result.tick ≤ℤ greatest_tick }
-    {
-        Rate {
-            frequency: self.clock.frequency(),
-            tick: self.clock.tick(),
-        }
     }
 
     /// Gives the commands of a change.

@@ -1,3 +1,4 @@
+use Rattle.tk_ntp.proofs.History.{offset_kept}
 use Rattle.tk_ntp.proofs.Often.{at_once, none_due}
 use Rattle.tk_ntp.proofs.steered_clock.SteeredClock.advance.Goals as goal
 
@@ -9,3 +10,7 @@ pub returns-clause-at_once : goal.returns-clause-at_once
 returns-clause-at_once c = λ before earlier first order.
     at_once earlier c.args.reading before c.args.self.now c.begin_seconds.new.self first
     c.begin_seconds.ensures order
+
+pub returns-clause-offset : goal.returns-clause-offset
+returns-clause-offset c =
+    offset_kept c.args.reading c.args.self.now c.begin_seconds.new.self c.begin_seconds.ensures
