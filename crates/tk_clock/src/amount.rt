@@ -48,9 +48,7 @@ impl Amount {
             (λ amount. (units_of desc.now amount ≡ units) × (amount.frac < second desc.now)
             × (amount.sec < self.sec + clock_end)) }
     {
-        let Some((seconds, frac)) = desc.advance(self.frac, cycles, mult) else {
-            return None;
-        };
+        let (seconds, frac) = desc.advance(self.frac, cycles, mult)?;
         Some(Amount {
             sec: self.sec + seconds,
             frac,

@@ -167,16 +167,11 @@ fn convert_piece<A: Allocator + Copy>(
     requires inside { first + at + length piece.old ≤ length input.stamps.now }
     ensures { of_input IsPiece input.entry (first + at) piece.new }
 {
-    let Input {
-        keeper,
-        fronts,
-        stamps,
-        clock,
-    } = input;
     let start = first + at;
     let end = start + piece.len();
     if at <= refused.load(Ordering::SeqCst) {
-        match keeper.trace_into(&fronts[start..end], &stamps[start..end], clock, piece) {
+        let (fronts, stamps) = (&input.fronts[start..end], &input.stamps[start..end]);
+        match input.keeper.trace_into(fronts, stamps, input.clock, piece) {
             Ok(()) => return,
             Err(_) => refused.store(at, Ordering::SeqCst),
         }

@@ -35,7 +35,7 @@ impl<A: Allocator + Copy> Timekeeper<A> {
         self.snapshot_by(&mut self.beginning(), front)
     }
 
-    /// How many commands were folded. Fronts from here on have a snapshot.
+    /// Returns the number of folded commands. A front below it has no snapshot.
     pub fn folded(&self) -> u64
         ensures { result ≡ self.now.journal.opening.count }
     {
