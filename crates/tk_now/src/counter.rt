@@ -138,8 +138,8 @@ impl<'c, C: Clock> SharedCounter for HostCounter<'c, C> {
     ghost answers = { λ _ _ answer. answer < 2 ^ 64 };
 
     fn read(&self, _look: &Look) -> u64 {
-        // By `&&C` only this call gets a copy of `elapsed`, which LLVM then inlines: a shared copy
-        // returns its result through 96 bytes of memory, which takes 4 ns.
+        // By `&&C` only this call gets a copy of `elapsed`, which LLVM then inlines. A copy that a
+        // program's other calls share returns its result through 96 bytes of memory: 4 ns more.
         reading_at(self.start.elapsed(&self.clock))
     }
 }

@@ -18,6 +18,10 @@ open_text Memory = codes "out of memory"
 abbrev pub missing_text : List ℕ
 missing_text = codes "callers are missing"
 
+-- the same for programmers, without the keeper and the callers
+abbrev pub missing_debug : List ℕ
+missing_debug = codes "Missing { .. }"
+
 -- the two numbers of commands that differ
 abbrev pub late_text : Late → List ℕ
 late_text late =

@@ -3,7 +3,7 @@ ghost use Rattle.std.specs.Prelude.{◌≡◌, ◌+◌, ◌<◌, ◌≤◌, All,
 ghost use mathlib.Core.List.{IsPrefix};
 ghost use Rattle.tk_now.specs.Moments.{AreInLife, AreInTurn};
 ghost use Rattle.tk_shared.specs.Closing.{AreDifferent, HasListed, HasNoticed, HaveListed, IsClosed, IsPartOf, accepted_by};
-ghost use Rattle.tk_shared.specs.Errors.{missing_text};
+ghost use Rattle.tk_shared.specs.Errors.{missing_debug, missing_text};
 ghost use Rattle.tk_shared.specs.History.{AreSnapshots};
 ghost use Rattle.tk_shared.specs.Opening.{AreNamed, AreWriters};
 
@@ -39,6 +39,8 @@ pub struct Missing<L: Named, C: Counter> {
 }
 
 impl<L: Named, C: Counter> fmt::Debug for Missing<L, C> {
+    ghost debug_output = { λ _. Some missing_debug };
+
     fn fmt<W: fmt::Write>(&self, f: &mut fmt::Formatter<W>) -> fmt::Result {
         f.write_str("Missing { .. }")
     }
