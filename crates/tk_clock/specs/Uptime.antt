@@ -35,8 +35,8 @@ abbrev pub with_uptime : ReadBase → ℕ → ℤ → ReadBase
 with_uptime base units real_offset =
     record base { amount = units; raw_amount = units; real_offset = real_offset }
 
--- clocks that are opened with an uptime: MONOTONIC and MONOTONIC_RAW have counted it, REALTIME is as
--- given, and all else is as in newly opened clocks
+-- clocks that are opened with an uptime: MONOTONIC and MONOTONIC_RAW have counted it, REALTIME is
+-- as given, and all else is as in newly opened clocks
 abbrev pub opened_running : Counter → ℕ → Timespec → Timespec → State
 opened_running counter reading real uptime =
     let fresh = state_of (opened counter reading real) in

@@ -1,4 +1,4 @@
-ghost use Rattle.std.specs.Prelude.{◌≡◌, ◌≤ℤ◌, MatchResult, MatchOption, Some, None};
+ghost use Rattle.std.specs.Prelude.{◌≡◌, ◌≤ℤ◌, MatchResult, MatchOption, Some, None, IsTrue, ◌↔◌, pos};
 
 mod advancing;
 mod asking;
@@ -56,6 +56,7 @@ impl Model for SteeredClock {
 
 impl SteeredClock {
     ghost use Rattle.tk_clock.specs.declared.clock_id.ClockId.TheVariants.{Realtime};
+    ghost use Rattle.tk_clock.specs.Further.{IsFurther};
     ghost use Rattle.tk_clock.specs.Reach.{IsFirstReached, IsNeverReached};
     ghost use Rattle.tk_clock.specs.Time.{nanoseconds};
     ghost use Rattle.tk_counter.specs.Counter.{least_tick, greatest_tick};
@@ -110,10 +111,31 @@ impl SteeredClock {
             (λ reading. IsFirstReached self.now.clock.base Realtime nanos reading) }
     {
         let time = Timespec {
-            sec: self.next as i64,
+            sec: self.next_sec(),
             nsec: 0,
         };
         self.snapshot(0).reading_at(ClockId::Realtime, time)
+    }
+
+    /// Returns whether the next second of REALTIME is further away than `next_second` searches
+    /// (`Snapshot::is_further`). So if `next_second` returns `None`, this says whether to look again
+    /// after a later command.
+    pub fn is_next_further(&self) -> bool
+        ensures { let nanos = nanoseconds (second_time self.now.next) in
+            IsTrue result ↔ IsFurther self.now.clock.base Realtime nanos }
+    {
+        let time = Timespec {
+            sec: self.next_sec(),
+            nsec: 0,
+        };
+        self.snapshot(0).is_further(ClockId::Realtime, time)
+    }
+
+    /// Returns the second of REALTIME that begins next, since 1970.
+    fn next_sec(&self) -> i64
+        ensures { result ≡ pos self.now.next }
+    {
+        self.next as i64
     }
 
     /// Returns the frequency and the tick that the clocks run at.

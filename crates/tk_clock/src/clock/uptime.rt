@@ -14,9 +14,9 @@ use crate::timespec::{Timespec, nanos_of};
 use tk_counter::CounterDesc;
 
 impl Clock {
-    /// Opens the clocks of the counter `desc` at `reading`, in cycles, as `open` does, but as clocks
-    /// that have run for `uptime`: MONOTONIC, MONOTONIC_RAW and BOOTTIME are `uptime`, and REALTIME
-    /// is `real`.
+    /// Opens the clocks of the counter `desc` at `reading`, in cycles, as `open` does, but as
+    /// clocks that have run for `uptime`: MONOTONIC, MONOTONIC_RAW and BOOTTIME are `uptime`, and
+    /// REALTIME is `real`.
     ///
     /// # Errors
     ///

@@ -42,8 +42,8 @@ impl ReadBase {
         }
     }
 
-    /// Returns whether the clock counts, `time` is below its limit, and a read at every reading up to
-    /// half the counter's range after the last one returns an earlier time.
+    /// Returns whether the clock counts, `time` is below its limit, and a read at every reading up
+    /// to half the counter's range after the last one returns an earlier time.
     pub fn is_further(&self, clock: ClockId, time: Timespec) -> bool
         requires { IsWithin self.now }
         ensures { IsTrue result ↔ IsFurther self.now clock (nanoseconds time) }
