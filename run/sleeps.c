@@ -20,6 +20,15 @@ static bool is_new(struct tree *tree, int32_t thread)
 	return !tree_scan(tree) || is_listed(tree, thread);
 }
 
+/* Returns the cycles until a waiter's time, or 0 if its thread is about to wait. */
+static uint64_t waiter_left(struct run *run, const struct waiter *waiter)
+{
+	if (atomic_load(&waiter->thread) < 0)
+		return 0;
+	return machine_cycles_left(&run->machine, waiter->clock, waiter->sec,
+				   waiter->nsec);
+}
+
 /* Returns the cycles until the first of the waiting threads' times, and NEVER
  * if none waits. Frees the entries of threads that are gone. */
 static uint64_t first_waiter(struct run *run)
@@ -40,13 +49,29 @@ static uint64_t first_waiter(struct run *run)
 			atomic_store(&waiter->thread, 0);
 			continue;
 		}
-		if (thread < 0)
-			return 0; /* it is about to wait */
-		left = machine_cycles_left(&run->machine, waiter->clock,
-					   waiter->sec, waiter->nsec);
+		left = waiter_left(run, waiter);
 		least = left < least ? left : least;
 	}
 	return least;
+}
+
+/* Returns whether a thread still has to act on a time that has come. */
+static bool has_reached(struct run *run)
+{
+	struct control *control = run->machine.control;
+	uint32_t count = atomic_load(&control->waiters_count);
+
+	for (uint32_t i = 0; i < count; i++) {
+		struct waiter *waiter = &control->waiters[i];
+		int32_t thread = atomic_load(&waiter->thread);
+
+		if (!thread || waiter_left(run, waiter))
+			continue;
+		if (is_new(&run->tree, abs(thread)))
+			return true;
+		atomic_store(&waiter->thread, 0);
+	}
+	return false;
 }
 
 /* Wakes the sleepers whose time has come. */
@@ -91,6 +116,9 @@ static bool has_unanswered(const struct run *run)
 	return false;
 }
 
+/* Threads wait for slices of the host's time, too. One of them may look all at
+ * rest, then act on its time and leave the list. So the list is looked at before
+ * the threads are, and after it. */
 bool move_counter(struct run *run)
 {
 	static const struct order update = { .command = TKC_CMD_UPDATE };
@@ -99,7 +127,7 @@ bool move_counter(struct run *run)
 	sigset_t saved;
 
 	run->tree.has_filter = run->listener >= 0;
-	if (!tree_is_quiet(&run->tree) ||
+	if (has_reached(run) || !tree_is_quiet(&run->tree) ||
 	    (run->tree.has_filter && has_unanswered(run)))
 		return false;
 	cycles = first_waiter(run);

@@ -13,6 +13,9 @@
 #define TFD_IOC_SET_TICKS _IOW('T', 0, uint64_t)
 #endif
 
+/* How long to wait for the host's timer to expire: 20 us, at most 1 s. */
+enum { EXPIRY_NAP_NANOS = 20000, EXPIRY_NAPS = 50000 };
+
 /* No timer is set for more than 292 years. */
 static uint64_t nanos_of(const struct timespec *span)
 {
@@ -54,8 +57,6 @@ static bool has_expired(const struct timer *timer)
 	struct itimerspec host = { 0 };
 	struct itimerval micros = { 0 };
 
-	if (timer->is_held)
-		return false;
 	if (timer->kind == TIMER_FILE)
 		REAL(timerfd_gettime)(timer->file, &host);
 	else if (timer->kind == TIMER_POSIX)
@@ -127,14 +128,18 @@ static uint64_t unread_count(const struct timer *timer)
 	return count;
 }
 
-/* Lets a timer expire now. A kernel without TFD_IOC_SET_TICKS counts one
+/* Lets a timer expire now, and waits until it has: the counter might move on
+ * before its signal comes. A kernel without TFD_IOC_SET_TICKS counts one
  * expiry. */
 static void expire(const struct timer *timer, uint64_t count)
 {
 	count += unread_count(timer);
-	if (timer->kind != TIMER_FILE ||
-	    ioctl(timer->file, TFD_IOC_SET_TICKS, &count))
-		set_host(timer, 1, 0);
+	if (timer->kind == TIMER_FILE &&
+	    !ioctl(timer->file, TFD_IOC_SET_TICKS, &count))
+		return;
+	set_host(timer, 1, 0);
+	for (int i = 0; i < EXPIRY_NAPS && !has_expired(timer); i++)
+		host_nap(EXPIRY_NAP_NANOS);
 }
 
 /* Lets a timer expire if its time has come, with a counter of sleeps, and
@@ -177,7 +182,7 @@ void timer_follow(struct machine *m, struct timer *timer)
 		follow_sleeps(m, timer);
 		return;
 	}
-	if (!timer->period && has_expired(timer)) {
+	if (!timer->period && !timer->is_held && has_expired(timer)) {
 		timer->is_armed = false;
 		return;
 	}
