@@ -31,6 +31,7 @@ mod latch;
 mod ntp;
 mod page;
 mod refusal;
+mod request;
 mod shared;
 mod snapshot;
 #[allow(unsafe_code)]
@@ -44,6 +45,7 @@ pub use latch::{Latch, LATCH_WORDS};
 pub use ntp::{mode, status, Reply, SteeredClock, TimeState, Timex};
 pub use page::{Page, Publish, PAGE_WORDS};
 pub use refusal::{Refusal, Unconverted};
+pub use request::{OutOfRange, Unsteered};
 pub use snapshot::{ClockId, Snapshot, WORDS};
 pub use sys::{shared_words, version};
 pub use timespec::Timespec;

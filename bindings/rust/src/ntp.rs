@@ -2,7 +2,7 @@
 
 use core::fmt;
 
-use crate::{sys, Command, Counter, Refusal, Snapshot, Timespec};
+use crate::{sys, Command, Counter, Refusal, Snapshot, Timespec, Unsteered};
 
 /// The bits of a request's `modes` (`ADJ_OFFSET` .. of adjtimex(2)).
 pub mod mode {
@@ -201,9 +201,29 @@ impl SteeredClock {
     ///
     /// In this order: `Full`; `Invalid` for a request that is faulty; the other errors of `advance`;
     /// the errors of the step of [`mode::SETOFFSET`], and the clocks have only advanced; then
-    /// `Range` for REALTIME or the TAI offset, and the step was made.
-    pub fn adjtimex(&mut self, reading: u64, request: &Timex) -> Result<Reply, Refusal> {
-        sys::adjtimex(&mut self.value, reading, request).map_err(Refusal::of_code)
+    /// `Range` for REALTIME or the TAI offset, and the step was made. `Invalid` comes with the
+    /// number that is out of its range: of a field, of the reading, or of the step in ns.
+    ///
+    /// ```
+    /// # use tkcore::{mode, Counter, Refusal, SteeredClock, Timespec, Timex};
+    /// # let counter = Counter::from_hz(64, 1_000_000_000, 600)?;
+    /// # let mut clock = SteeredClock::open(&counter, 0, Timespec::default(), 250)?;
+    /// let faulty = Timex { modes: mode::TICK, tick: 8_999, ..Timex::default() };
+    /// let error = clock.adjtimex(0, &faulty).unwrap_err();
+    /// assert_eq!(error.refusal, Refusal::Invalid);
+    /// assert_eq!(error.to_string(), "tick is 8999 instead of 9000 to 11000");
+    /// # Ok::<(), Refusal>(())
+    /// ```
+    pub fn adjtimex(&mut self, reading: u64, request: &Timex) -> Result<Reply, Unsteered> {
+        sys::adjtimex(&mut self.value, reading, request)
+            .map_err(|code| self.unsteered(code, reading, request))
+    }
+
+    #[cold]
+    fn unsteered(&self, code: u32, reading: u64, request: &Timex) -> Unsteered {
+        let refusal = Refusal::of_code(code);
+        let number = request.refused_number(refusal, &self.snapshot(), reading);
+        Unsteered { refusal, number }
     }
 
     /// Returns the reading at which the next second of REALTIME begins, to set a timer to.

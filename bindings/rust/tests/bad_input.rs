@@ -1,33 +1,15 @@
 // SPDX-License-Identifier: MIT OR Apache-2.0
 //! Random arguments to every call, in lists and memory of exactly their size, and memory that isn't
-//! a page or a latch. `TKCORE_CALLS` is the number of calls, 20,000 if it isn't set.
+//! a page or a latch.
 
 mod support;
 
-use std::env;
 use std::sync::atomic::AtomicU64;
 use std::sync::atomic::Ordering::Relaxed;
 
-use support::{opened, Random};
+use support::{calls, opened, some_command, Random};
 use tkcore::{shared_words, ClockId, LATCH_WORDS, PAGE_WORDS, WORDS};
-use tkcore::{Clock, ClockWords, Command, Counter, Latch, Page, Refusal, Snapshot};
-
-fn calls() -> u64 {
-    env::var("TKCORE_CALLS").map_or(20_000, |text| text.parse().expect("a number"))
-}
-
-fn some_command(random: &mut Random) -> Command {
-    match random.below(8) {
-        0 => Command::Update,
-        1 => Command::SetTime(random.time()),
-        2 => Command::Step(random.time()),
-        3 => Command::Freq(random.some() as i64),
-        4 => Command::Tick(random.some() as i64),
-        5 => Command::Tai(random.some() as i64),
-        6 => Command::Suspend,
-        _ => Command::Resume(random.time()),
-    }
-}
+use tkcore::{Clock, ClockWords, Counter, Latch, Page, Refusal, Snapshot};
 
 fn some_words(random: &mut Random, like: &[u64; WORDS]) -> [u64; WORDS] {
     let mut words = *like;

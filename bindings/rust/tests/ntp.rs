@@ -5,8 +5,9 @@ mod support;
 
 use std::fs;
 
-use support::Random;
-use tkcore::{mode, status, ClockId, Command, Counter, Refusal, SteeredClock, Timespec, Timex};
+use support::{calls, some_command, Random, START};
+use tkcore::{mode, status, ClockId, Command, Counter, OutOfRange, Refusal, Reply, SteeredClock};
+use tkcore::{Timespec, Timex, Unsteered};
 
 /// Returns the records and the answers of all tables, in their order.
 fn rows() -> Vec<(String, String)> {
@@ -128,23 +129,93 @@ fn some_request(random: &mut Random) -> Timex {
     request
 }
 
+/// Returns the request and the reading with another number for the named one.
+fn with(request: &Timex, reading: u64, name: &str, number: i128) -> (Timex, u64) {
+    let mut other = *request;
+    match name {
+        "modes" => other.modes = number as u32,
+        "tick" => other.tick = number as i64,
+        "sub" => other.sub = number as i64,
+        "freq" => other.freq = number as i64,
+        "reading" => return (other, number as u64),
+        _ => {
+            assert_eq!(name, "step");
+            other.modes |= mode::NANO;
+            other.sec = number.div_euclid(1_000_000_000) as i64;
+            other.sub = number.rem_euclid(1_000_000_000) as i64;
+        }
+    }
+    (other, reading)
+}
+
+/// Checks that the number of a refused request is out of its range, and that neither end of that
+/// range is refused for the same reason.
+fn check_number(clock: &SteeredClock, request: &Timex, reading: u64, error: Unsteered) {
+    let is_for_a_number = matches!(error.refusal, Refusal::Invalid | Refusal::Behind);
+    assert_eq!(error.number.is_some(), is_for_a_number, "{error:?}");
+    let Some(OutOfRange { name, value, least, most }) = error.number else { return };
+    assert!(error.refusal == Refusal::Behind || !(least..=most).contains(&value), "{error:?}");
+    for end in [least, most] {
+        let (other, reading) = with(request, reading, name, end);
+        let found = clock.clone().adjtimex(reading, &other).err();
+        let reason = |it: Unsteered| it.number.map(|number| (it.refusal, number.name));
+        assert_ne!(found.and_then(reason), Some((error.refusal, name)), "{error} at {end}");
+    }
+}
+
+/// Makes a request. Returns whether it was accepted.
+fn ask_any(clock: &mut SteeredClock, reading: u64, request: &Timex) -> bool {
+    let before = clock.snapshot();
+    let found = clock.adjtimex(reading, request);
+    assert_eq!(clock.counter(), before.counter());
+    match found {
+        Ok(Reply { timex, tai, .. }) => {
+            assert_eq!(timex.modes, request.modes);
+            assert!((0..=16_000_000).contains(&timex.maxerror));
+            assert!((-32_768_000..=32_768_000).contains(&timex.freq));
+            assert!((9_000..=11_000).contains(&timex.tick) && tai <= 100_000);
+        }
+        Err(error) => {
+            assert!(request.modes & mode::SETOFFSET != 0 || clock.snapshot() == before);
+            check_number(clock, request, reading, error);
+        }
+    }
+    found.is_ok()
+}
+
 #[test]
 fn any_request() {
     let counter = Counter::from_hz(64, 1_000_000_000, 600).unwrap();
-    let start = Timespec { sec: 1_700_000_000, nsec: 0 };
-    let mut clock = SteeredClock::open(&counter, 0, start, 250).unwrap();
+    let mut clock = Box::new(SteeredClock::open(&counter, 0, START, 250).unwrap());
     let (mut random, mut reading, mut accepted) = (Random(1), 0, 0);
-    for _ in 0..100_000 {
+    for _ in 0..calls() {
         reading += random.below(3_000_000_000);
-        let request = some_request(&mut random);
-        let Ok(reply) = clock.adjtimex(reading, &request) else { continue };
-        accepted += 1;
-        assert_eq!(reply.timex.modes, request.modes);
-        assert!((0..=16_000_000).contains(&reply.timex.maxerror));
-        assert!((-32_768_000..=32_768_000).contains(&reply.timex.freq));
-        assert!((9_000..=11_000).contains(&reply.timex.tick) && reply.tai <= 100_000);
+        accepted += u64::from(ask_any(&mut clock, reading, &some_request(&mut random)));
     }
-    assert!(accepted > 10_000);
+    assert!(accepted > calls() / 10 && accepted < calls());
+}
+
+#[test]
+fn any_call() {
+    let counter = Counter::from_hz(32, 1_000_000_000, 2).unwrap();
+    let opened = Box::new(SteeredClock::open(&counter, 5, START, 1000).unwrap());
+    let (mut clock, mut random, mut accepted) = (opened.clone(), Random(2), 0);
+    for number in 0..calls() {
+        if number % 100 == 0 {
+            clock = opened.clone();
+        }
+        // (at most half of the counter's range, and often in a row)
+        let near = (clock.snapshot().words()[1] + random.below(1 << 30)) & 0xffff_ffff;
+        let reading = if random.below(4) == 0 { random.some() } else { near };
+        accepted += u64::from(match random.below(6) {
+            0 => clock.advance(reading).is_ok(),
+            1 | 2 => clock.apply(reading, some_command(&mut random)).is_ok(),
+            3 => clock.next_second().is_ok(),
+            4 => SteeredClock::open(&counter, reading, random.time(), random.some() as u32).is_ok(),
+            _ => ask_any(&mut clock, reading, &some_request(&mut random)),
+        });
+    }
+    assert!(accepted > calls() / 10 && accepted < calls());
 }
 
 #[test]
@@ -158,9 +229,48 @@ fn refused_calls() {
     assert_eq!(clock.next_second(), Ok(1_000_005));
     assert_eq!(clock.advance(1 << 32), Err(Refusal::Invalid));
     assert_eq!(clock.advance(4), Err(Refusal::Behind));
-    let faulty = Timex { modes: mode::TICK, tick: 8_999, ..Timex::default() };
-    assert_eq!(clock.adjtimex(6, &faulty), Err(Refusal::Invalid));
     assert_eq!(clock.apply(6, Command::Suspend), Ok(()));
-    assert_eq!(clock.adjtimex(7, &Timex::default()), Err(Refusal::Asleep));
+    let asleep = Unsteered { refusal: Refusal::Asleep, number: None };
+    assert_eq!(clock.adjtimex(7, &Timex::default()), Err(asleep));
+    assert_eq!(asleep.to_string(), Refusal::Asleep.to_string());
     assert_eq!(clock.next_second(), Err(Refusal::NotReached));
+}
+
+/// Requests that are refused for a number, and the text that names it. The clocks are opened at 5
+/// cycles of 1 us, and 5 s of MONOTONIC have passed at the reading 5000005.
+#[test]
+fn refused_numbers() {
+    let step =
+        |modes, sec, sub| Timex { modes: modes | mode::SETOFFSET, sec, sub, ..Timex::default() };
+    let tick = |tick| Timex { modes: mode::TICK, tick, ..Timex::default() };
+    let freq = |freq| Timex { modes: mode::FREQUENCY, freq, ..Timex::default() };
+    let none = Timex::default();
+    let rows = [
+        (8, Timex { modes: mode::ADJTIME | 4, ..none }, "modes is 32772 instead of 32773"),
+        (8, tick(8_999), "tick is 8999 instead of 9000 to 11000"),
+        (8, tick(11_001), "tick is 11001 instead of 9000 to 11000"),
+        (8, step(0, 0, -1), "sub is -1 instead of 0 to 999999"),
+        (8, step(0, 0, 1_000_000), "sub is 1000000 instead of 0 to 999999"),
+        (8, step(mode::NANO, 0, 1_000_000_000), "sub is 1000000000 instead of 0 to 999999999"),
+        (8, freq(140_737_488_356), "freq is 140737488356 instead of -140737488355 to 140737488355"),
+        (1 << 32, none, "reading is 4294967296 instead of 0 to 4294967295"),
+        (4, none, "reading is 4 instead of 5 to 2147483652"),
+        (
+            5_000_005,
+            step(mode::NANO, -1_700_000_001, 999_999_999),
+            "step is -1700000000000000001 instead of -1700000000000000000 to 6577292030999999999",
+        ),
+        (
+            5_000_005,
+            step(0, 6_577_292_031, 0),
+            "step is 6577292031000000000 instead of -1700000000000000000 to 6577292030999999999",
+        ),
+    ];
+    let counter = Counter::from_hz(32, 1_000_000, 600).unwrap();
+    let opened = SteeredClock::open(&counter, 5, START, 1000).unwrap();
+    for (reading, request, text) in rows {
+        let error = opened.clone().adjtimex(reading, &request).unwrap_err();
+        assert_eq!(error.to_string(), text);
+        check_number(&opened, &request, reading, error);
+    }
 }

@@ -2,7 +2,7 @@
 //! What the tests share: the tables of tests/c, the clocks that they begin with, random numbers.
 #![allow(dead_code)] // each test uses a part
 
-use std::fs;
+use std::{env, fs};
 
 use tkcore::{Clock, ClockId, Command, Counter, Refusal, Timespec};
 
@@ -181,6 +181,25 @@ pub fn commanded() -> Clock {
         clock.apply(row[0].number(), command).unwrap();
     }
     clock
+}
+
+/// Returns the number of random calls of a test: `TKCORE_CALLS`, but at least 100,000.
+pub fn calls() -> u64 {
+    let asked = env::var("TKCORE_CALLS").map_or(0, |text| text.parse().expect("a number"));
+    asked.max(100_000)
+}
+
+pub fn some_command(random: &mut Random) -> Command {
+    match random.below(8) {
+        0 => Command::Update,
+        1 => Command::SetTime(random.time()),
+        2 => Command::Step(random.time()),
+        3 => Command::Freq(random.some() as i64),
+        4 => Command::Tick(random.some() as i64),
+        5 => Command::Tai(random.some() as i64),
+        6 => Command::Suspend,
+        _ => Command::Resume(random.time()),
+    }
 }
 
 /// Random numbers, which are often next to a power of two.
