@@ -1,16 +1,30 @@
 #!/usr/bin/env python3
 # SPDX-License-Identifier: MIT OR Apache-2.0
-"""Makes a small fleet, and its table in one process and by Dask's workers, one of which is killed
-amid the work. Both tables must be the same, and a sample of the times those of the definitions.
+"""Makes a fleet, and its table in one process, by Dask's workers, one of which is killed amid each
+half of the work, and by the workers of a scheduler, with Dask's progress bar. All tables must be
+the same, in the order of TAI, and a sample of the times those of the definitions.
+
+    check_fleet.py [MACHINES STAMPS FOLDER]
+
+24 machines of 50,000 stamps are the default, in a folder that is removed at the end. In FOLDER a
+stamp takes 28 bytes.
 
 It needs numpy and distributed (Debian's python3-distributed).
 """
+import contextlib
+import hashlib
+import json
 import os
+import pty
 import random
+import re
 import signal
+import subprocess
 import sys
 import tempfile
 import threading
+import time
+from bisect import bisect_left, bisect_right
 from pathlib import Path
 
 ROOT = Path(__file__).resolve().parents[2]
@@ -26,7 +40,7 @@ import fleet
 import make
 import model
 
-MACHINES, STAMPS, SAMPLE = 24, 50_000, 10
+SAMPLE = 10
 
 
 def kill_one(client, futures, killed):
@@ -35,62 +49,135 @@ def kill_one(client, futures, killed):
 
     def kill():
         while not any(future.done() for future in futures):
-            pass
+            time.sleep(0.001)
         os.kill(workers[0], signal.SIGKILL)
         killed.append(sum(not future.done() for future in futures))
 
     threading.Thread(target=kill).start()
 
 
-def table_by_dask(data, table, killed):
-    with LocalCluster(n_workers=2, threads_per_worker=1, dashboard_address=None) as cluster:
+def table_by_dask(data, table, rows, killed):
+    """Makes the table by two workers. Kills one amid the conversions and one amid the merges."""
+    with LocalCluster(n_workers=2, threads_per_worker=1, dashboard_address=None,
+                      local_directory=str(Path(table).parent)) as cluster:
         with Client(cluster) as client:
             def show(futures):
-                if not killed:
-                    kill_one(client, futures, killed)
-            return fleet.run(fleet.map_by(client, show), data, table)
+                kill_one(client, futures, killed)
+            return fleet.run(fleet.map_by(client, show), data, table, rows)
 
 
-def rows_of(table):
-    return numpy.concatenate([numpy.load(path) for path in sorted(Path(table).glob("*.npy"))])
+@contextlib.contextmanager
+def a_scheduler(work):
+    """Starts a scheduler with two workers, as programs of their own. Gives its address."""
+    file, python = str(Path(work, "scheduler.json")), [sys.executable, "-m"]
+    with open(Path(work, "scheduler.log"), "wb") as log, contextlib.ExitStack() as ended:
+        for command in (["scheduler", "--port", "0", "--no-dashboard"],
+                        *[["worker", "--nthreads", "1", "--no-dashboard"]] * 2):
+            started = subprocess.Popen([*python, f"distributed.cli.dask_{command[0]}", *command[1:],
+                                        "--scheduler-file", file], stdout=log, stderr=log,
+                                       cwd=work)
+            ended.callback(started.wait)
+            ended.callback(started.terminate)
+        for _ in range(600):
+            if Path(file).exists():
+                break
+            time.sleep(0.05)
+        address = json.loads(Path(file).read_text(encoding="utf-8"))["address"]
+        with Client(address) as client:
+            client.wait_for_workers(2, timeout=60)
+        yield address
 
 
-def check_sample(data, table, rows):
-    """Compares times with those of tests/model/model.py."""
+def run_in_a_terminal(*command):
+    """Runs a command whose output is a terminal. Returns what it shows there."""
+    here, there = pty.openpty()
+    with subprocess.Popen(command, stdout=there) as program:
+        os.close(there)
+        shown = b""
+        with contextlib.suppress(OSError):  # the terminal's other end is closed
+            while part := os.read(here, 4096):
+                shown += part
+        assert program.wait() == 0, shown
+    os.close(here)
+    return shown.decode()
+
+
+def files_of(table):
+    return sorted(Path(table).glob("*.npy"))
+
+
+def taken(table):
+    """Returns the digests of the table's files, and removes them."""
+    found = []
+    for path in files_of(table):
+        found.append((path.name, hashlib.blake2b(path.read_bytes()).hexdigest()))
+        path.unlink()
+    return found
+
+
+def check_order(table):
+    """Checks the order of the rows. Returns the first time of each file."""
+    last, firsts = 0, []
+    for path in files_of(table):
+        tai = numpy.load(path, mmap_mode="r")["tai"]
+        assert last <= tai[0] and (tai[1:] >= tai[:-1]).all(), f"{path} isn't in the order of TAI"
+        last = tai[-1]
+        firsts.append(int(tai[0]))
+    return firsts
+
+
+def check_sample(data, table, firsts):
+    """Compares times with those of tests/model/model.py: the table has a row of each."""
     rng = random.Random(1)
+    files = files_of(table)
     for number, script in enumerate(sorted(Path(data).glob("*.csv"))):
         journal, records = model.parsed(script.read_bytes())
         for word, (reading, *fields) in records:
             journal, line = model.done(journal, word, reading, fields, False)
             assert line.startswith("ok"), line
         readings = [journal.reading(place) for place in range(len(journal.entries) + 1)]
-        stamps = numpy.load(script.with_suffix("").with_suffix(".stamps.npy"))
-        times = numpy.sort(rows["tai"][rows["machine"] == number])
+        stamps = numpy.load(script.with_suffix(".stamps.npy"), mmap_mode="r")
         for place in rng.sample(range(len(stamps)), SAMPLE):
             stamp = int(stamps[place])
             front = sum(reading <= stamp for reading in readings) - 1
-            assert journal.prefix(front).value("tai", stamp) == times[place], (script, place)
+            time_of = journal.prefix(front).value("tai", stamp)
+            rows = numpy.load(files[max(bisect_right(firsts, time_of) - 1, 0)], mmap_mode="r")
+            start, end = (find(rows["tai"], numpy.uint64(time_of))
+                          for find in (bisect_left, bisect_right))
+            assert number in rows["machine"][start:end], (script, place)
+
+
+def check_all(machines, stamps, rows, work):
+    data, table = str(Path(work, "data")), str(Path(work, "table"))
+    for folder in (data, table):
+        os.makedirs(folder, exist_ok=True)
+    make.make(data, machines, stamps)
+    alone = fleet.run(fleet.map_here, data, table, rows)
+    total, before, after = alone
+    assert total == machines * stamps and before > 10**9 > 100_000 > after, alone
+    check_sample(data, table, check_order(table))
+    wanted = taken(table)
+    killed = []
+    assert table_by_dask(data, table, rows, killed) == alone
+    assert len(killed) == 2 and all(killed), "no worker was killed amid the work"
+    assert taken(table) == wanted, "the table of two workers differs"
+    with a_scheduler(work) as address:
+        shown = run_in_a_terminal(sys.executable, FOLDER / "fleet.py", "--scheduler", address,
+                                  "--rows", str(rows), data, table)
+    assert len(re.findall(r"\[#+\] \| 100% Completed", shown)) >= 2, shown
+    assert f"by the openings: {before} ns, by the journals: {after} ns" in shown, shown
+    assert taken(table) == wanted, "the table of a scheduler's workers differs"
+    print(f"check_fleet: {total} stamps in one table, also by a scheduler's workers, and after a "
+          f"worker was killed with {killed[0]} of {machines} conversions to do, and one with "
+          f"{killed[1]} of {len(wanted)} merges; disagreement {before} ns, then {after} ns")
 
 
 def main():
+    if len(sys.argv) > 1:
+        check_all(int(sys.argv[1]), int(sys.argv[2]), fleet.ROWS_OF_A_FILE, sys.argv[3])
+        return
     with tempfile.TemporaryDirectory() as work:
-        data, here, there = (str(Path(work, name)) for name in ("data", "here", "there"))
-        for folder in (data, here, there):
-            os.mkdir(folder)
-        make.make(data, MACHINES, STAMPS)
-        killed = []
-        alone = fleet.run(fleet.map_here, data, here)
-        assert fleet.run(fleet.map_here, data, here) == alone
-        assert table_by_dask(data, there, killed) == alone
-        assert killed and killed[0] > 0, "no worker was killed amid the work"
-        rows = rows_of(here)
-        assert rows.tobytes() == rows_of(there).tobytes(), "the tables differ"
-        assert (rows["tai"][1:] >= rows["tai"][:-1]).all(), "the table isn't in the order of TAI"
-        total, before, after = alone
-        assert total == MACHINES * STAMPS and before > 10**9 > 100_000 > after, alone
-        check_sample(data, here, rows)
-    print(f"check_fleet: {total} stamps in one table, also after a worker was killed with "
-          f"{killed[0]} of {MACHINES} tasks to do; disagreement {before} ns, then {after} ns")
+        check_all(24, 50_000, 100_000, work)
 
 
 if __name__ == "__main__":

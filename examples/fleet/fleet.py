@@ -2,17 +2,19 @@
 # SPDX-License-Identifier: MIT OR Apache-2.0
 """Converts the stamps of a fleet of machines into one table in the order of TAI, by Dask.
 
-    fleet.py [--workers N | --scheduler ADDRESS] FOLDER TABLE
+    fleet.py [--workers N | --scheduler ADDRESS] [--rows ROWS] FOLDER TABLE
 
 FOLDER contains the files of make.py. TABLE becomes a folder with the files 00000.npy, 00001.npy,
 ..: rows of TAI in ns, the number of the machine, and the event. All rows of a file are before those
-of the next one. N is the number of processes on this machine, 2 if it isn't given; 0 converts in
-this process without Dask. With ADDRESS, the workers of that scheduler must see both folders.
+of the next one. A file has about ROWS rows, 4,000,000 if it isn't given. N is the number of
+processes on this machine, 2 if it isn't given; 0 converts in this process without Dask. With
+ADDRESS, the workers of that scheduler must see both folders.
 
 One machine's stamps are one task, and one file of the table is another. A task writes its file
 under another name first, and returns only a few numbers. So Dask can repeat the tasks of a worker
-that died, and nothing is lost. The program prints the greatest disagreement between machines that
-saw the same event: by the clocks as they were opened, and by the journals.
+that died, and nothing is lost. A stamp takes 8 bytes of the disk until the table is whole, and 12
+in the table. The program prints the greatest disagreement between machines that saw the same event:
+by the clocks as they were opened, and by the journals.
 """
 import argparse
 import os
@@ -26,60 +28,93 @@ import numpy
 import tkcore
 from tkcore import ClockId
 
-ROW = numpy.dtype([("tai", "u8"), ("machine", "u4"), ("event", "i4")])
-ROWS_OF_A_FILE = 2_000_000
+ROW = numpy.dtype([("tai", "u8"), ("machine", "u2"), ("event", "i2")])
+ROWS_OF_A_FILE = 4_000_000
+BLOCK = 1024
 
 
-def save(path, rows):
+class Run:
+    """A machine's times of TAI, ascending, in a file of the table's folder.
+
+    `sample` contains each BLOCK-th time, so that a reader of a part finds it without the others."""
+
+    def __init__(self, table, name, tai):
+        self.path = Path(table, f"{name}.run")
+        self.rows, self.least, self.greatest = len(tai), int(tai[0]), int(tai[-1])
+        self.sample = tai[::BLOCK].copy()
+        save(self.path, tai.tofile)
+
+    def blocks(self, bounds):
+        """Returns the first and the last block that may contain times from each bound to below the
+        next one."""
+        before = numpy.searchsorted(self.sample, bounds)
+        return numpy.stack([numpy.maximum(before[:-1] - 1, 0), before[1:]], axis=1)
+
+    def part(self, blocks, bounds):
+        """Returns the times from a bound to below the next one, which are in these blocks, and the
+        place of the first one."""
+        first, last = (int(it) * BLOCK for it in blocks)
+        tai = numpy.fromfile(self.path, numpy.uint64, last - first, offset=8 * first)
+        start, end = numpy.searchsorted(tai, bounds)
+        return tai[start:end], first + int(start)
+
+
+def save(path, write):
     """Writes a file that is there whole or not at all."""
     with tempfile.NamedTemporaryFile(dir=path.parent, delete=False) as file:
-        numpy.save(file, rows)
+        write(file)
     os.replace(file.name, path)
 
 
-def convert(folder, table, number, name):
-    """Converts a machine's stamps into its run of rows. Returns the least and the greatest TAI, the
-    number of rows, and the times of the events that all machines saw, by the opening and by the
-    journal."""
+def convert(folder, table, name):
+    """Converts a machine's stamps into its run. Returns the run, the places there of the events
+    that all machines saw, and the times of these events, by the opening and by the journal."""
     with open(Path(folder, f"{name}.csv"), encoding="ascii") as script:
         journal = tkcore.Journal.from_script(script)
     stamps = numpy.load(Path(folder, f"{name}.stamps.npy"))
-    events = numpy.load(Path(folder, f"{name}.events.npy"))
+    places, events = numpy.load(Path(folder, f"{name}.seen.npy"))
+    places = places[numpy.argsort(events)]
     tai = journal.convert(stamps, ClockId.TAI, numpy.empty_like(stamps))
-    seen = numpy.flatnonzero(events >= 0)
-    seen = seen[numpy.argsort(events[seen])]
-    before = journal.snapshots[0].convert(stamps[seen], ClockId.REALTIME)
-    rows = numpy.empty(len(stamps), ROW)
-    rows["tai"], rows["machine"], rows["event"] = tai, number, events
+    before, after = journal.snapshots[0].convert(stamps[places], ClockId.REALTIME), tai[places]
     if (tai[1:] < tai[:-1]).any():  # a step moved TAI back
-        rows = rows[numpy.argsort(tai, kind="stable")]
-    save(Path(table, f"{name}.run.npy"), rows)
-    return int(rows["tai"][0]), int(rows["tai"][-1]), len(rows), before, tai[seen]
+        order = numpy.argsort(tai, kind="stable")
+        tai, places = tai[order], numpy.argsort(order)[places]
+    return Run(table, name, tai), places, before, after
 
 
-def first_at(run, tai):
-    """Returns the place of the first row that isn't before a time. It reads only a few rows."""
-    low, high = 0, len(run)
-    while low < high:
-        middle = (low + high) // 2
-        if int(run[middle]["tai"]) < tai:
-            low = middle + 1
-        else:
-            high = middle
-    return low
-
-
-def merge(table, names, number, start, end):
-    """Merges the rows from start to below end of all runs into a file of the table. Returns their
-    number."""
+def merge(table, number, bounds, runs, blocks, seen):
+    """Merges the rows of all runs from a bound to below the next one into a file of the table.
+    `seen` has the places and the numbers of each run's events there. Returns the number of rows."""
     parts = []
-    for name in names:
-        run = numpy.load(Path(table, f"{name}.run.npy"), mmap_mode="r")
-        parts.append(run[first_at(run, start):first_at(run, end)])
+    for machine, run in enumerate(runs):
+        tai, first = run.part(blocks[machine], bounds)
+        rows = numpy.empty(len(tai), ROW)
+        rows["tai"], rows["machine"], rows["event"] = tai, machine, -1
+        for place, event in seen.get(machine, ()):
+            rows["event"][place - first] = event
+        parts.append(rows)
     rows = numpy.concatenate(parts)
-    order = numpy.argsort(numpy.ascontiguousarray(rows["tai"]), kind="stable")
-    save(Path(table, f"{number:05}.npy"), rows[order])
+    rows = rows[numpy.argsort(numpy.ascontiguousarray(rows["tai"]), kind="stable")]
+    save(Path(table, f"{number:05}.npy"), lambda file: numpy.save(file, rows))
     return len(rows)
+
+
+def merges(table, done, rows_of_a_file):
+    """Returns the arguments of each merge."""
+    runs = [it[0] for it in done]
+    least, greatest = min(run.least for run in runs), max(run.greatest for run in runs)
+    files = max(1, sum(run.rows for run in runs) // rows_of_a_file)
+    bounds = numpy.array([least + (greatest + 1 - least) * file // files
+                          for file in range(files + 1)], numpy.uint64)
+    blocks = numpy.stack([run.blocks(bounds) for run in runs])
+    seen = [{} for _ in range(files)]
+    for machine, (_, places, _, after) in enumerate(done):
+        for event, file in enumerate(numpy.searchsorted(bounds, after, "right") - 1):
+            seen[file].setdefault(machine, []).append((int(places[event]), event))
+    for run in runs:
+        run.sample = None
+    return [(table, file, bounds[file:file + 2], runs, blocks[:, file], seen[file])
+            for file in range(files)]
 
 
 def disagreement(times):
@@ -88,22 +123,18 @@ def disagreement(times):
     return int((times.max(axis=0) - times.min(axis=0)).max())
 
 
-def run(map_all, folder, table):
+def run(map_all, folder, table, rows_of_a_file=ROWS_OF_A_FILE):
     """Makes the table. `map_all` calls a function with each tuple of arguments. Returns the number
     of rows, and the disagreement by the openings and by the journals."""
     names = sorted(path.stem for path in Path(folder).glob("*.csv"))
-    done = map_all(convert, [(folder, table, *it) for it in enumerate(names)])
-    least, greatest = min(it[0] for it in done), max(it[1] for it in done)
-    total = sum(it[2] for it in done)
-    files = max(1, total // ROWS_OF_A_FILE)
-    bounds = [least + (greatest + 1 - least) * place // files for place in range(files + 1)]
-    merged = map_all(merge, [(table, names, number, *bounds[number:number + 2])
-                             for number in range(files)])
-    for name in names:
-        Path(table, f"{name}.run.npy").unlink()
+    done = map_all(convert, [(folder, table, name) for name in names])
+    total = sum(run.rows for run, *_ in done)
+    merged = map_all(merge, merges(table, done, rows_of_a_file))
+    for run, *_ in done:
+        run.path.unlink()
     if sum(merged) != total:
         raise RuntimeError(f"the table has {sum(merged)} rows instead of {total}")
-    return total, disagreement([it[3] for it in done]), disagreement([it[4] for it in done])
+    return total, disagreement([it[2] for it in done]), disagreement([it[3] for it in done])
 
 
 def map_here(function, calls):
@@ -129,18 +160,21 @@ def run_by_dask(words):
     with Client(cluster) as client:
         show = progress if sys.stdout.isatty() else None
         started = time.perf_counter()
-        return *run(map_by(client, show), words.folder, words.table), time.perf_counter() - started
+        found = run(map_by(client, show), words.folder, words.table, words.rows)
+        return *found, time.perf_counter() - started
 
 
 def run_here(words):
     started = time.perf_counter()
-    return *run(map_here, words.folder, words.table), time.perf_counter() - started
+    found = run(map_here, words.folder, words.table, words.rows)
+    return *found, time.perf_counter() - started
 
 
 def main():
     parser = argparse.ArgumentParser(description=__doc__.partition("\n")[0])
     parser.add_argument("--workers", type=int, default=2, metavar="N")
     parser.add_argument("--scheduler", metavar="ADDRESS")
+    parser.add_argument("--rows", type=int, default=ROWS_OF_A_FILE, metavar="ROWS")
     parser.add_argument("folder", metavar="FOLDER")
     parser.add_argument("table", metavar="TABLE")
     words = parser.parse_args()

@@ -10,12 +10,14 @@ For each machine, FOLDER contains three files:
                  it got from a reference every 64 s, and a leap second
 - NAME.stamps.npy
                  its counter's readings at STAMPS events of an hour, ascending, as uint64
-- NAME.events.npy
-                 the number of each event that all machines saw, and -1 for others, as int32
+- NAME.seen.npy  the places in NAME.stamps.npy of the events that all machines saw, ascending, and
+                 the numbers of these events: two rows of uint32
 
 The oscillators are off by up to 50 ppm, and the clocks are opened up to a second off. All machines
-see 100 events at the same time, after the first poll.
+see 100 events at the same time, after the first poll. A stamp takes 8 bytes. All processors work,
+each on other machines.
 """
+import multiprocessing
 import sys
 from pathlib import Path
 
@@ -69,28 +71,29 @@ class Machine:
 
 
 def times_of(rng, stamps):
-    """Returns the times of a machine's events, and the number of each event that all machines
+    """Returns the times of a machine's events, ascending, and the places of those that all machines
     saw."""
     shared = numpy.linspace(POLL, HOUR, SEEN_BY_ALL, endpoint=False)
-    own = rng.uniform(0, HOUR, max(stamps - SEEN_BY_ALL, 0))
-    times = numpy.concatenate([shared, own])
-    events = numpy.full(len(times), -1, numpy.int32)
-    events[:SEEN_BY_ALL] = numpy.arange(SEEN_BY_ALL)
+    times = numpy.concatenate([shared, rng.uniform(0, HOUR, max(stamps - SEEN_BY_ALL, 0))])
     order = numpy.argsort(times, kind="stable")
-    return times[order], events[order]
+    return times[order], numpy.flatnonzero(order < SEEN_BY_ALL)
+
+
+def make_one(folder, number, stamps, seed):
+    """Makes the files of one machine."""
+    rng = numpy.random.default_rng([seed, number])
+    machine, name = Machine(rng), f"machine-{number:04}"
+    Path(folder, f"{name}.csv").write_text("".join(f"{it}\n" for it in machine.script()))
+    times, places = times_of(rng, stamps)
+    numpy.save(Path(folder, f"{name}.stamps.npy"), machine.readings(times))
+    seen = numpy.array([places, numpy.arange(SEEN_BY_ALL)], numpy.uint32)
+    numpy.save(Path(folder, f"{name}.seen.npy"), seen)
 
 
 def make(folder, machines, stamps, seed=1):
-    """Makes the files. Returns the names of the machines."""
-    names = [f"machine-{number:04}" for number in range(machines)]
-    for number, name in enumerate(names):
-        rng = numpy.random.default_rng([seed, number])
-        machine = Machine(rng)
-        Path(folder, f"{name}.csv").write_text("".join(f"{it}\n" for it in machine.script()))
-        times, events = times_of(rng, stamps)
-        numpy.save(Path(folder, f"{name}.stamps.npy"), machine.readings(times))
-        numpy.save(Path(folder, f"{name}.events.npy"), events)
-    return names
+    """Makes the files of all machines."""
+    with multiprocessing.Pool() as pool:
+        pool.starmap(make_one, [(folder, number, stamps, seed) for number in range(machines)])
 
 
 if __name__ == "__main__":
