@@ -24,18 +24,29 @@
 #![deny(unsafe_code)]
 #![warn(missing_docs)]
 
+#[forbid(unsafe_code)]
 mod clock;
+#[forbid(unsafe_code)]
 mod command;
+#[forbid(unsafe_code)]
 mod counter;
+#[forbid(unsafe_code)]
 mod latch;
+#[forbid(unsafe_code)]
 mod ntp;
+#[forbid(unsafe_code)]
 mod page;
+#[forbid(unsafe_code)]
 mod refusal;
+#[forbid(unsafe_code)]
 mod request;
+#[forbid(unsafe_code)]
 mod shared;
+#[forbid(unsafe_code)]
 mod snapshot;
 #[allow(unsafe_code)]
 mod sys;
+#[forbid(unsafe_code)]
 mod timespec;
 
 pub use clock::{Clock, ClockWords, SAVED_WORDS};
@@ -49,3 +60,8 @@ pub use request::{OutOfRange, Unsteered};
 pub use snapshot::{ClockId, Snapshot, WORDS};
 pub use sys::{shared_words, version};
 pub use timespec::Timespec;
+
+/// Runs the example of the README as a doc test.
+#[cfg(doctest)]
+#[doc = include_str!("../README.md")]
+struct Readme;

@@ -119,6 +119,21 @@ impl Snapshot {
     /// # Ok::<(), Unconverted>(())
     /// ```
     ///
+    /// The compiler refuses stamps of another type, negative ones for example, and times that can't
+    /// be written:
+    ///
+    /// ```compile_fail,E0308
+    /// # fn convert(snapshot: &tkcore::Snapshot) {
+    /// let _ = snapshot.convert(tkcore::ClockId::Tai, &mut [0; 1], &[-1_i64]);
+    /// # }
+    /// ```
+    /// ```compile_fail,E0308
+    /// # fn convert(snapshot: &tkcore::Snapshot) {
+    /// let times: &[u64] = &[0; 1];
+    /// let _ = snapshot.convert(tkcore::ClockId::Tai, times, &[1]);
+    /// # }
+    /// ```
+    ///
     /// # Errors
     ///
     /// `BadRoom` if there are fewer times than stamps: nothing is written. Otherwise `Invalid` or
