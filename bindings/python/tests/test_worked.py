@@ -130,6 +130,14 @@ class Changes(unittest.TestCase):
         clock = tkcore.Clock(self.counters["FINE"], 0, 5 * NANOS)
         self.try_all(clock, file, "to_halves", "halves_reads", "to_whole", "whole_reads")
 
+    def test_a_thousand(self):
+        clock = opened()
+        clock.set_frequency(0, 32_768_000)
+        counters = [self.counters[name] for name in ("FINE", "COARSE", "NANOSECOND")]
+        for turn in range(1000):
+            clock.change_counter(4 * turn + 10, counters[turn % 3], 3 * turn + 3)
+        self.assertEqual(clock.words(), rows("worked_changes.c", "CHANGED_WORDS"))
+
     def test_widths(self):
         clock = tkcore.Clock(self.counters["NARROW"], 200, 0)
         self.try_all(clock, "worked_changes.c", "to_255", "to_wide", "wide_reads")

@@ -5,7 +5,7 @@
 mod support;
 
 use support::{command, commanded, nanosecond_counter, opened, opened_wide, table};
-use tkcore::{Clock, ClockId, ClockWords, Counter, Refusal, Snapshot, Timespec, WORDS};
+use tkcore::{Clock, ClockId, ClockWords, Command, Counter, Refusal, Snapshot, Timespec, WORDS};
 
 fn of<T>(made: &Result<T, Refusal>) -> Option<Refusal> {
     made.as_ref().err().copied()
@@ -168,6 +168,24 @@ fn changes_of_counter() {
     read_all(&clock, CHANGES, "asleep_reads");
     apply_all(&mut clock, CHANGES, "resumption");
     read_all(&clock, CHANGES, "resumed_reads");
+    let start = Timespec { sec: 5, nsec: 0 };
+    let mut clock = Clock::open(&counter_named("FINE"), 0, start).unwrap();
+    change_all(&mut clock, CHANGES, "to_halves");
+    read_all(&clock, CHANGES, "halves_reads");
+    change_all(&mut clock, CHANGES, "to_whole");
+    read_all(&clock, CHANGES, "whole_reads");
+}
+
+#[test]
+fn a_thousand_changes_of_counter() {
+    let mut clock = opened();
+    clock.apply(0, Command::Freq(32_768_000)).unwrap();
+    let counters = ["FINE", "COARSE", "NANOSECOND"].map(counter_named);
+    for turn in 0..1000 {
+        let counter = &counters[turn as usize % 3];
+        clock.change_counter(4 * turn + 10, counter, 3 * turn + 3).unwrap();
+    }
+    assert_eq!(clock.words(), stored(CHANGES, "CHANGED_WORDS"));
 }
 
 #[test]
@@ -186,6 +204,11 @@ fn refused_changes_of_counter() {
     change_all(&mut clock, REFUSED_CHANGES, "refused_changes");
     change_all(&mut clock, REFUSED_CHANGES, "slowest_changes");
     read_all(&clock, REFUSED_CHANGES, "slowest_reads");
+    let mut clock = opened();
+    for name in ["slowest", "usual_again"] {
+        apply_all(&mut clock, REFUSED_CHANGES, name);
+    }
+    change_all(&mut clock, REFUSED_CHANGES, "usual_changes");
     let mut words = opened().words();
     words.words[0] = 9_223_372_036_854_775_806;
     let mut clock = Clock::from_words(&nanosecond_counter(), &words).unwrap();
