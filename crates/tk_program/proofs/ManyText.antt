@@ -1,14 +1,12 @@
 -- The text of many reports, file by file.
 use Rattle.std.proofs.Common.{◌≡◌, ℕ, ◌+◌, ◌<◌, List, [], ◌∷◌, ◌++◌, length, get_or, take, sym, ap, ◌∙◌, append_assoc, arith}
-use Rattle.std.specs.Prelude.{Result}
-use Rattle.std.specs.Global.{Vec}
 use Rattle.std.proofs.lemmas.List.{append-nil, take_more, length-take-le}
-use Rattle.tk_script.specs.declared.script_error.ScriptError.{ScriptError}
+use Rattle.tk_report.specs.Many.{Outcome}
 use Rattle.tk_program.specs.ManyText.{heading, outcome_text, text_from}
 
 -- one more file at the end
-text_from-push : (index : ℕ) (outcomes : List (Result (Vec ℕ) ScriptError))
-    (outcome : Result (Vec ℕ) ScriptError) (count : ℕ) → count ≡ index + length outcomes →
+text_from-push : (index : ℕ) (outcomes : List Outcome)
+    (outcome : Outcome) (count : ℕ) → count ≡ index + length outcomes →
     text_from index (outcomes ++ outcome ∷ [])
     ≡ text_from index outcomes ++ (heading count ++ outcome_text outcome)
 text_from-push index [] outcome count counted =
@@ -28,8 +26,8 @@ text_from-push index (first ∷ outcomes) outcome count counted =
     ∙ sym (append_assoc own (outcome_text first ++ rest) last)
 
 -- the text of one file more
-pub text_more : (outcomes : List (Result (Vec ℕ) ScriptError)) (index : ℕ)
-    (outcome : Result (Vec ℕ) ScriptError) → index < length outcomes →
+pub text_more : (outcomes : List Outcome) (index : ℕ)
+    (outcome : Outcome) → index < length outcomes →
     outcome ≡ get_or outcomes index outcome →
     text_from 0 (take (index + 1) outcomes)
     ≡ text_from 0 (take index outcomes) ++ (heading index ++ outcome_text outcome)
@@ -37,5 +35,5 @@ text_more outcomes index outcome below here =
     let counted : index ≡ 0 + length (take index outcomes) =
     omega (arith, length-take-le index outcomes (omega (arith, below))) in
     ap (text_from 0) (take_more outcomes index outcome below)
-    ∙ ap (λ (o : Result (Vec ℕ) ScriptError). text_from 0 (take index outcomes ++ o ∷ [])) (sym here)
+    ∙ ap (λ (o : Outcome). text_from 0 (take index outcomes ++ o ∷ [])) (sym here)
     ∙ text_from-push 0 (take index outcomes) outcome index counted

@@ -1,5 +1,5 @@
 -- How the program ends.
-use Rattle.std.specs.Prelude.{◌≡◌, ℕ, List, ◌++◌, Option, IfSome, Result, Ok, Err, codes, decimal}
+use Rattle.std.specs.Prelude.{◌≡◌, ℕ, List, ◌++◌, Option, IfSome, Result, Ok, Err, ◌==◌, if◌then◌else◌, codes, decimal}
 use Rattle.std.specs.Io.KnownBytes.{Appends}
 use Rattle.tk_script.specs.declared.script_error.ScriptError.{ScriptError}
 use Rattle.tk_script.specs.declared.script_error.ScriptError.TheVariants as scripts
@@ -14,11 +14,13 @@ use Rattle.tk_command_line.specs.declared.words_error.WordsError.TheVariants as 
 use Rattle.tk_program.specs.declared.ending.Ending.{Ending}
 use Rattle.tk_program.specs.declared.ending.Ending.TheVariants as endings
 
--- its exit status: 0 if all was done, 1 for a fault, 2 for refused arguments
+-- its exit status: 0 if all was done, 1 for a fault, 2 for refused arguments, 3 if a read did not give
+-- the value that it expects
 abbrev pub status_of : Ending → ℕ
 status_of endings.Done = 0
 status_of endings.Words = 2
 status_of endings.Faulty = 1
+status_of endings.Differs = 3
 status_of (endings.Fault fault) = 1
 status_of (endings.Many error) = 1
 status_of (endings.File index error) = 1
@@ -27,10 +29,11 @@ status_of endings.Openings = 1
 status_of (endings.Race error) = 1
 
 -- the line of an ending, for a writer whose bytes are known: none if all was done or if the output
--- has the faults, and otherwise one
+-- has the faults or the differences, and otherwise one
 abbrev pub IsErrorLine : {W : Type 0} → (W → Option (List ℕ)) → W → W → Ending → Type 0
 IsErrorLine contents old new endings.Done = new ≡ old
 IsErrorLine contents old new endings.Faulty = new ≡ old
+IsErrorLine contents old new endings.Differs = new ≡ old
 IsErrorLine contents old new (endings.Many error) =
     Appends (contents old) (contents new) (codes "tkcore: " ++ many_text error ++ codes "\n")
 IsErrorLine contents old new endings.Words =
@@ -53,6 +56,15 @@ IsErrorLine contents old new (endings.Race error) =
 abbrev pub ending_of : Result Unit Fault → Ending
 ending_of (Ok done) = endings.Done
 ending_of (Err fault) = endings.Fault fault
+
+-- the ending if all is written: done, or there are differences
+abbrev pub ending_of_count : ℕ → Ending
+ending_of_count differences = if differences == 0 then endings.Done else endings.Differs
+
+-- the ending of a replay: the number of its differences, or its fault
+abbrev pub ending_of_replay : Result ℕ Fault → Ending
+ending_of_replay (Ok differences) = ending_of_count differences
+ending_of_replay (Err fault) = endings.Fault fault
 
 -- the ending for the fault of a race's file at this place; an allocation failure has no place
 abbrev pub ending_of_file : ℕ → ScriptError → Ending

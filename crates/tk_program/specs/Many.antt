@@ -1,24 +1,32 @@
 -- How the reports of many scripts end.
-use Rattle.std.specs.Prelude.{◌≡◌, ◌≢◌, ℕ, List, Option, Result, Bool, is_ok, if◌then◌else◌, ◌⊎◌}
+use Rattle.std.specs.Prelude.{◌≡◌, ◌≢◌, ℕ, List, Option, Ok, Err, Bool, false, is_ok, ◌==◌, if◌then◌else◌, ◌⊎◌}
 use Rattle.std.specs.Borrow.{Bor}
 use Rattle.std.specs.Global.{Vec}
 use Rattle.std.specs.List.{list_all}
 use Rattle.std.specs.Io.KnownBytes.{Appends}
-use Rattle.tk_script.specs.declared.script_error.ScriptError.{ScriptError}
 use Rattle.tk_report.specs.declared.fault.Fault.{Fault}
 use Rattle.tk_report.specs.declared.fault.Fault.TheVariants as faults
 use Rattle.tk_report.specs.declared.many_error.ManyError.{ManyError}
 use Rattle.tk_report.specs.declared.many_error.ManyError.TheVariants as manys
-use Rattle.tk_report.specs.Many.{AreOutcomes}
+use Rattle.tk_report.specs.Many.{AreOutcomes, Outcome}
 use Rattle.tk_report.specs.Writing.{IsFlushed, IsWrittenUpTo, WriteFailed}
 use Rattle.tk_program.specs.declared.ending.Ending.{Ending}
 use Rattle.tk_program.specs.declared.ending.Ending.TheVariants as endings
 use Rattle.tk_program.specs.Files.{AreReadFrom, StopsFiles}
 use Rattle.tk_program.specs.ManyText.{text_from}
 
--- the ending when all outcomes of scripts are written: done, or one of them has a fault
-abbrev pub ending_of_outcomes : List (Result (Vec ℕ) ScriptError) → Ending
-ending_of_outcomes outcomes = if list_all is_ok outcomes then endings.Done else endings.Faulty
+-- whether an outcome is a report in which all reads give the values that they expect
+abbrev pub is_agreeing : Outcome → Bool
+is_agreeing (Ok report) = report.differences == 0
+is_agreeing (Err error) = false
+
+-- the ending when all outcomes of scripts are written: done, or one of them has a difference, or a
+-- fault, which decides
+abbrev pub ending_of_outcomes : List Outcome → Ending
+ending_of_outcomes outcomes =
+    if list_all is_agreeing outcomes then endings.Done
+    else if list_all is_ok outcomes then endings.Differs
+    else endings.Faulty
 
 -- the bytes of a writer, if they are known, and the results of its calls, both before and after
 module _ {W : Type 0} (contents : W → Option (List ℕ))
@@ -35,7 +43,7 @@ module _ {W : Type 0} (contents : W → Option (List ℕ))
       × WriteFailed write_gives flush_gives writer')
 
   -- an allocation failed, and nothing is written; or the outcomes of scripts were written
-  abbrev pub EndsTelling : List (Result (Vec ℕ) ScriptError) → Ending → Type 0
+  abbrev pub EndsTelling : List Outcome → Ending → Type 0
   EndsTelling outcomes ending =
       ((ending ≡ endings.Fault faults.Memory) × (writer' ≡ writer))
       ⊎ EndsWriting (text_from 0 outcomes) (ending_of_outcomes outcomes) ending
@@ -46,7 +54,7 @@ module _ {W : Type 0} (contents : W → Option (List ℕ))
   EndsReplays texts ending =
       ((error : ManyError) × (ending ≡ endings.Many error) × (error ≢ manys.Count)
       × (writer' ≡ writer))
-      ⊎ ((outcomes : List (Result (Vec ℕ) ScriptError)) × AreOutcomes texts outcomes
+      ⊎ ((outcomes : List Outcome) × AreOutcomes texts outcomes
       × EndsTelling outcomes ending)
 
   -- the files of these names were read and replayed; or one couldn't be read, and nothing is written

@@ -36,11 +36,11 @@ is_change _ = false
 abbrev pub changes_counter : Script → Bool
 changes_counter script = list_any is_change script.rows.items
 
--- the action of an actor for a row: it gives the command, or it reads; the row's reading is not
--- used. No script that races changes its counter, so the last line never applies
+-- the action of an actor for a row: it gives the command, or it reads; the row's reading and
+-- the value that it expects are not used. No script that races changes its counter, so the last line never applies
 abbrev pub action_of : Row → Action
 action_of (rows.Act reading cmd) = actions.Order cmd
-action_of (rows.Look reading clock) = actions.Look
+action_of (rows.Look reading clock expected) = actions.Look
 action_of (rows.Change reading counter first) = actions.Look
 
 -- the actions of an actor

@@ -9,14 +9,14 @@ use Rattle.tk_report.specs.declared.fault.Fault.TheVariants as faults
 use Rattle.tk_report.specs.Folding.{rule_of}
 use Rattle.tk_report.specs.Reading.{ReadFailed}
 use Rattle.tk_report.specs.Replay.{IsReplayed}
-use Rattle.tk_report.specs.Report.{IsReportBy}
+use Rattle.tk_report.specs.Report.{IsReportBy, differences_in}
 use Rattle.tk_report.specs.Trace.{EitherFailed, IsTraceDone}
 use Rattle.tk_program.specs.declared.ending.Ending.{Ending}
 use Rattle.tk_program.specs.declared.ending.Ending.TheVariants as endings
 use Rattle.tk_command_line.specs.CommandLine.{asked_by}
 use Rattle.tk_command_line.specs.Request.{Task, Replay, Trace, Many, Race}
 use Rattle.tk_command_line.specs.WordsError.{unread_of}
-use Rattle.tk_program.specs.Ending.{ending_at, ending_of}
+use Rattle.tk_program.specs.Ending.{ending_at, ending_of, ending_of_replay}
 use Rattle.tk_program.specs.Many.{EndsMany}
 use Rattle.tk_program.specs.Race.{EndsRace}
 
@@ -33,8 +33,8 @@ module _ {W : Type 0} (contents : W → Option (List ℕ))
   abbrev pub EndsReplay : {R : Type 0} → (R → Option (List ℕ)) → (R → Option ℕ → R → Type 0) →
       R → R → Option ℕ → Ending → Type 0
   EndsReplay remaining read_gives reader reader' keep ending =
-      (result : Result Unit Fault) × (ending ≡ ending_of result)
-      × IsReplayed (IsReportKeeping keep) (remaining reader) (remaining reader')
+      (result : Result ℕ Fault) × (ending ≡ ending_of_replay result)
+      × IsReplayed (IsReportKeeping keep) (differences_in (rule_of keep)) (remaining reader) (remaining reader')
       (ReadFailed read_gives reader') contents write_gives flush_gives writer writer' result
 
   -- a trace of two open files ended in this way and left them in their final state

@@ -1,5 +1,5 @@
 ghost use Rattle.std.specs.Prelude.{◌≡◌, OnOk};
-ghost use Rattle.tk_program.specs.Ending.{IsErrorLine, ending_at, ending_of, ending_of_file, status_of};
+ghost use Rattle.tk_program.specs.Ending.{IsErrorLine, ending_at, ending_of, ending_of_file, ending_of_replay, status_of};
 
 use std::io;
 use std::io::Write;
@@ -19,6 +19,9 @@ pub enum Ending {
     /// `many` wrote its output, which contains a script's fault instead of its report: status 1,
     /// and no line.
     Faulty,
+    /// The output contains a line `differs`: a read did not give the value that its record states,
+    /// and no script has a fault. Status 3, and no line.
+    Differs,
     /// A fault stopped the work, such as a script's fault, or a failed read, write or allocation:
     /// status 1.
     Fault(Fault),
@@ -43,21 +46,22 @@ pub enum Ending {
 }
 
 impl Ending {
-    /// Returns the exit status: 0, 1 or 2.
+    /// Returns the exit status: 0 to 3.
     pub fn status(self) -> u8
         ensures { result ≡ status_of self }
     {
         match self {
             Ending::Done => 0,
             Ending::Words => 2,
+            Ending::Differs => 3,
             Ending::Faulty | Ending::Fault(_) | Ending::Many(_) => 1,
             Ending::File { .. } | Ending::Openings | Ending::Race(_) => 1,
             Ending::Counter { .. } => 1,
         }
     }
 
-    /// Writes the line of error to `out`: `tkcore: ` and the text. For `Done` and `Faulty` it
-    /// writes nothing.
+    /// Writes the line of error to `out`: `tkcore: ` and the text. For `Done`, `Faulty` and
+    /// `Differs` it writes nothing.
     ///
     /// # Errors
     ///
@@ -66,7 +70,7 @@ impl Ending {
         ensures { OnOk result (IsErrorLine W.Write.contents out.old out.new self) }
     {
         match self {
-            Ending::Done | Ending::Faulty => Ok(()),
+            Ending::Done | Ending::Faulty | Ending::Differs => Ok(()),
             Ending::Words => writeln!(out, "tkcore: {}", WordsError::Refused),
             Ending::Fault(fault) => writeln!(out, "tkcore: {fault}"),
             Ending::Many(error) => writeln!(out, "tkcore: {error}"),
@@ -79,6 +83,17 @@ impl Ending {
             }
             Ending::Openings => writeln!(out, "tkcore: openings differ"),
             Ending::Race(error) => writeln!(out, "tkcore: {error}"),
+        }
+    }
+
+    /// Returns the ending of a replay: `outcome` is the number of its differences, or its fault.
+    pub(crate) fn of_replay(outcome: Result<u64, Fault>) -> Ending
+        ensures { result ≡ ending_of_replay outcome }
+    {
+        match outcome {
+            Ok(0) => Ending::Done,
+            Ok(_) => Ending::Differs,
+            Err(cause) => Ending::Fault(cause),
         }
     }
 

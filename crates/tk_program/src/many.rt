@@ -2,7 +2,7 @@
 ghost use Rattle.std.specs.Prelude.{◌≡◌, ◌≤◌, is_ok};
 ghost use Rattle.std.specs.List.{list_all};
 ghost use Rattle.tk_pieces.specs.Workers.{most_workers};
-ghost use Rattle.tk_program.specs.Many.{EndsMany, EndsTelling};
+ghost use Rattle.tk_program.specs.Many.{EndsMany, EndsTelling, ending_of_outcomes, is_agreeing};
 
 use crate::ending::Ending;
 use crate::files::read_files;
@@ -12,7 +12,7 @@ use std::alloc::Global;
 use std::sync::Wait;
 use std::thread::Threads;
 use tk_race::NoGate;
-use tk_report::{Fault, Sink, replay_all, write_whole};
+use tk_report::{CheckedReport, Fault, Sink, replay_all, write_whole};
 use tk_script::ScriptError;
 
 /// Reads all files, makes the reports of their scripts on `workers` threads, and writes them.
@@ -40,11 +40,12 @@ pub(crate) fn answer<E: Threads + Wait + Sync, D: Folder, W: Sink>(
     }
 }
 
-/// Writes reports and faults. Returns `Faulty` if a script has a fault.
+/// Writes reports and faults. Returns `Faulty` if a script has a fault, and otherwise `Differs` if a
+/// read does not give the value that it expects.
 fn write_reports<W: Sink>(
     alloc: Global,
     writer: &mut W,
-    outcomes: &[Result<Vec<u8>, ScriptError>],
+    outcomes: &[Result<CheckedReport, ScriptError>],
 ) -> Ending
     ensures { EndsTelling W.Write.contents W.Sink.write_gives W.Sink.flush_gives
         writer.old writer.new outcomes.now result }
@@ -54,19 +55,43 @@ fn write_reports<W: Sink>(
         Err(_) => return Ending::Fault(Fault::Memory),
     };
     match write_whole(writer, text.as_slice()) {
-        Ok(()) => {
-            if are_whole(outcomes) {
-                Ending::Done
-            } else {
-                Ending::Faulty
-            }
-        }
+        Ok(()) => ending_of(outcomes),
         Err(written) => Ending::Fault(Fault::Write { written }),
     }
 }
 
+/// Returns the ending after all outcomes are written.
+fn ending_of(outcomes: &[Result<CheckedReport, ScriptError>]) -> Ending
+    ensures { result ≡ ending_of_outcomes outcomes.now }
+{
+    if are_agreeing(outcomes) {
+        Ending::Done
+    } else if are_whole(outcomes) {
+        Ending::Differs
+    } else {
+        Ending::Faulty
+    }
+}
+
+/// Returns whether no script has a fault or a difference.
+fn are_agreeing(outcomes: &[Result<CheckedReport, ScriptError>]) -> bool
+    ensures { result ≡ list_all is_agreeing outcomes.now }
+{
+    outcomes.iter().all(|outcome| is_agreeing(outcome))
+}
+
+/// Returns whether a script has neither a fault nor a difference.
+fn is_agreeing(outcome: &Result<CheckedReport, ScriptError>) -> bool
+    ensures { result ≡ is_agreeing outcome.now }
+{
+    match outcome {
+        Ok(report) => report.differences == 0,
+        Err(_) => false,
+    }
+}
+
 /// Returns whether no script has a fault.
-fn are_whole(outcomes: &[Result<Vec<u8>, ScriptError>]) -> bool
+fn are_whole(outcomes: &[Result<CheckedReport, ScriptError>]) -> bool
     ensures { result ≡ list_all is_ok outcomes.now }
 {
     outcomes.iter().all(|outcome| outcome.is_ok())

@@ -4,7 +4,7 @@ ghost use Rattle.tk_program.specs.ManyText.{heading, outcome_text, text_from};
 
 use std::alloc::{AllocError, Allocator};
 use std::io::Write;
-use tk_report::Fault;
+use tk_report::{CheckedReport, Fault};
 use tk_script::ScriptError;
 
 /// More bytes than a heading and the line of a fault need.
@@ -20,7 +20,7 @@ const LINES: usize = 100;
 /// - `Fault::Memory`: an allocation failed
 pub fn many_text<A: Allocator>(
     alloc: A,
-    outcomes: &[Result<Vec<u8>, ScriptError>],
+    outcomes: &[Result<CheckedReport, ScriptError>],
 ) -> Result<Vec<u8, A>, Fault>
     ensures { MatchResult result
         (λ text. text.items ≡ text_from 0 outcomes.now)
@@ -35,11 +35,11 @@ pub fn many_text<A: Allocator>(
 }
 
 /// Returns at least the number of bytes of the text, or `usize::MAX` if that is more.
-fn room_for(outcomes: &[Result<Vec<u8>, ScriptError>]) -> usize {
+fn room_for(outcomes: &[Result<CheckedReport, ScriptError>]) -> usize {
     let mut room = 0usize;
     for outcome in outcomes {
         let report = match outcome {
-            Ok(report) => report.len(),
+            Ok(report) => report.text.len(),
             Err(_) => 0,
         };
         room = room.saturating_add(LINES).saturating_add(report);
@@ -57,12 +57,12 @@ fn add_heading<A: Allocator>(text: &mut Vec<u8, A>, index: usize) -> Result<(), 
 /// Appends a script's report, or a line with the text of its fault.
 fn add_outcome<A: Allocator>(
     text: &mut Vec<u8, A>,
-    outcome: &Result<Vec<u8>, ScriptError>,
+    outcome: &Result<CheckedReport, ScriptError>,
 ) -> Result<(), AllocError>
     ensures { OnOk result (text.new.items ≡ text.old.items ++ outcome_text outcome.now) }
 {
     match outcome {
-        Ok(report) => text.extend_from_slice(report.as_slice()),
+        Ok(report) => text.extend_from_slice(report.text.as_slice()),
         Err(error) => writeln!(text, "fault,{error}").map_err(|_| AllocError),
     }
 }

@@ -62,7 +62,7 @@ fn answer<E: Threads + Wait + Sync, D: Folder, R: Source, W: Sink>(
         (Some (task_of request.now)) result }
 {
     match request {
-        Request::Replay { keep } => Ending::from(replay_with(alloc, reader, writer, *keep)),
+        Request::Replay { keep } => Ending::of_replay(replay_with(alloc, reader, writer, *keep)),
         Request::Trace {
             clock,
             script,

@@ -6,7 +6,8 @@
 //! |---|---|
 //! | `report` | makes the report of a script's bytes |
 //! | `report_bounded` | makes the report with no limit on commands, from a bounded journal |
-//! | `report_rows` | makes the report from a reader of rows, in the caller's memory |
+//! | `report_rows` | makes the report from a reader of rows, in the caller's memory, and counts the differences |
+//! | `CheckedReport` | holds a report, and the number of reads that do not give the value that they expect |
 //! | `replay` | reads a script to its end and writes its report |
 //! | `replay_bounded` | reads a script and writes the report of `report_bounded` |
 //! | `replay_with` | does `replay` or `replay_bounded`, by an optional number of entries to keep |
@@ -33,7 +34,7 @@
 pub use tk_pieces::{Gate, NoGate, trace_all, trace_all_into};
 pub use tk_race::{Action, RaceError, RaceReply, RaceReport, race};
 pub use tk_report::{
-    Fault, KEEP_LIMIT, ManyError, Sink, Source, WORKERS_LIMIT, convert, keeper_after, keeper_of,
-    read_to_end, replay, replay_all, replay_bounded, replay_with, report, report_bounded,
-    report_rows, trace, write_whole,
+    CheckedReport, Fault, KEEP_LIMIT, ManyError, Sink, Source, WORKERS_LIMIT, convert,
+    keeper_after, keeper_of, read_to_end, replay, replay_all, replay_bounded, replay_with, report,
+    report_bounded, report_rows, trace, write_whole,
 };

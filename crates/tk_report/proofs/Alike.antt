@@ -26,7 +26,7 @@ use Rattle.tk_script.specs.declared.row.Row.TheVariants.{Act, Look, Change}
 use Rattle.tk_script.specs.Lines.{ok_line}
 use Rattle.tk_clock.specs.Folding.{IsAlike, journal_from}
 use Rattle.tk_report.specs.Folding.{counting_rule_of, since_after, since_answer}
-use Rattle.tk_report.specs.Report.{IsLine, IsLookLine, after, change_if, change_reply, event, reply_by, reply_line}
+use Rattle.tk_report.specs.Report.{IsLine, IsLookLine, after, change_if, change_reply, event, missed, missed_if, reply_by, reply_line}
 
 -- a command that the rule accepts passes the tests of the clocks
 room_or_refusal : (full : Bool) (test : Option Refusal) → (if full then Some Full else test) ≡ None →
@@ -168,11 +168,23 @@ IsLine-alike keep since journal whole alike (Change reading counter first) line 
     (counter_refusal journal reading counter first)
     ∙ ap (λ r. reply_line first (change_if whole reading counter first r))
     (counter_refusal-alike journal whole alike reading counter first)
-IsLine-alike keep since journal whole alike (Look reading clock) line test =
+IsLine-alike keep since journal whole alike (Look reading clock expected) line test =
     subst (λ (r : Option ReadError). IsLookLine whole clock reading r line)
     (read_fault-alike journal whole alike clock reading)
     (IsLookLine-alike journal whole alike clock reading (read_fault journal clock reading) line
     test)
+
+-- and so is the expected value that the record does not give
+pub missed-alike : (journal whole : Journal) → IsAlike journal whole → (row : Row) →
+    missed journal row ≡ missed whole row
+missed-alike journal whole alike (Act reading cmd) = refl
+missed-alike journal whole alike (Look reading clock expected) =
+    ap (λ (fault : Option ReadError).
+    missed_if fault (clock_value journal clock reading) expected)
+    (read_fault-alike journal whole alike clock reading)
+    ∙ ap (λ (nanos : ℤ). missed_if (read_fault whole clock reading) nanos expected)
+    (clock_value-alike journal whole alike.state clock reading)
+missed-alike journal whole alike (Change reading counter first) = refl
 
 after-alike : (keep : Option ℕ) (since : ℕ) (journal whole : Journal) → IsAlike journal whole →
     (row : Row) →
@@ -185,7 +197,7 @@ after-alike keep since journal whole alike (Act reading cmd) =
     (rule-alike keep since journal whole alike entry)
     (reply-alike journal whole alike entry (counting_rule_of keep since journal entry)
     (passes_clock keep since journal entry))
-after-alike keep since journal whole alike (Look reading clock) = alike
+after-alike keep since journal whole alike (Look reading clock expected) = alike
 after-alike keep since journal whole alike (Change reading counter first) =
     let next = (change_reply journal reading counter first).journal in
     subst (λ (r : Option Refusal). IsAlike next (change_if whole reading counter first r).journal)
@@ -207,7 +219,7 @@ IsAlike-after keep since journal whole next alike row test =
 pub since-alike : (since : ℕ) (journal whole : Journal) → IsAlike journal whole → (row : Row) →
     since_after since journal row ≡ since_after since whole row
 since-alike since journal whole alike (Act reading cmd) = refl
-since-alike since journal whole alike (Look reading clock) = refl
+since-alike since journal whole alike (Look reading clock expected) = refl
 since-alike since journal whole alike (Change reading counter first) =
     ap (since_answer since) (change_answer-alike journal whole alike reading counter first
     (counter_refusal journal reading counter first)

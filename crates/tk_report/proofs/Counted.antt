@@ -47,7 +47,7 @@ line-counted keep since journal (Act reading cmd) line opens few known =
     known
     ∙ ap (λ r. reply_line reading (reply_if journal (event reading cmd) r))
     (rule-counted keep since journal (event reading cmd) opens few)
-line-counted keep since journal (Look reading clock) line opens few known = known
+line-counted keep since journal (Look reading clock expected) line opens few known = known
 line-counted keep since journal (Change reading counter first) line opens few known = known
 
 pub after-counted : (keep : Option ℕ) (since : ℕ) (journal : Journal) (row : Row) →
@@ -56,7 +56,7 @@ pub after-counted : (keep : Option ℕ) (since : ℕ) (journal : Journal) (row :
 after-counted keep since journal (Act reading cmd) opens few =
     ap (λ r. (reply_if journal (event reading cmd) r).journal)
     (rule-counted keep since journal (event reading cmd) opens few)
-after-counted keep since journal (Look reading clock) opens few = refl
+after-counted keep since journal (Look reading clock expected) opens few = refl
 after-counted keep since journal (Change reading counter first) opens few = refl
 
 -- a record leaves a journal that still lists every command over its counter
@@ -77,7 +77,7 @@ pub opening_after : (rule : Rule) (since : ℕ) (journal : Journal) (row : Row) 
     (after rule journal row).opening.count ≡ since_after since journal row
 opening_after rule since journal (Act reading cmd) opens =
     opening_if since journal (event reading cmd) (rule journal (event reading cmd)) opens
-opening_after rule since journal (Look reading clock) opens = opens
+opening_after rule since journal (Look reading clock expected) opens = opens
 opening_after rule since journal (Change reading counter first) opens =
     opening_changed since journal reading counter first
     (counter_refusal journal reading counter first) opens

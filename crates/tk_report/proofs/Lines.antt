@@ -22,10 +22,10 @@ use Rattle.tk_script.specs.declared.opening.Start.{Start}
 use Rattle.tk_script.specs.declared.script_error.ScriptError.{ScriptError}
 use Rattle.tk_script.specs.declared.script_error.ScriptError.TheVariants as errors
 use Rattle.tk_report.specs.Folding.{IsReplied, counting_rule_of, rule_of, since_after}
-use Rattle.tk_report.specs.Report.{Rule, IsLine, IsLines, IsReportBy, IsReportOfRows, IsTimeAt, after, answer_line, change_if, event, reply_line}
+use Rattle.tk_report.specs.Report.{Rule, IsLine, IsLines, IsReportBy, IsReportOfRows, IsTimeAt, after, answer_line, change_if, difference, differences, differences_in, differences_of, differs_text, event, missed, reply_line}
 use Rattle.tk_clock.specs.Folding.{IsAlike}
 use Rattle.tk_clock.proofs.Alike.{IsAlike-self, clock_value-alike}
-use Rattle.tk_report.proofs.Alike.{IsAlike-after, IsLine-alike, since-alike}
+use Rattle.tk_report.proofs.Alike.{IsAlike-after, IsLine-alike, missed-alike, since-alike}
 use Rattle.tk_report.proofs.Counted.{after-counted, line-counted, opening_after}
 
 -- the line of an accepted command contains the time of the kept journal
@@ -46,58 +46,71 @@ reply_line-accepted reply kept reading number time replied (nanos, value, split)
 abbrev pub Rows : Type 0
 Rows = Result (List Row) ScriptError
 
--- a text which becomes the report of all rows when the lines of the remaining rows are appended; a
--- fault of the remaining rows is the fault of all rows
-pub record IsBegun (rule : Rule) (start : Start) (all : Rows) (journal : Journal) (to_come : Rows)
-    (text : List ℕ) : Type 0 where
+-- a text which becomes the report of all rows when the lines of the remaining rows, of which the first
+-- is the record `number`, are appended, and the number of differences so far; a fault of the remaining
+-- rows is the fault of all rows
+pub record IsBegun (rule : Rule) (start : Start) (all : Rows) (number found : ℕ) (journal : Journal)
+    (to_come : Rows) (text : List ℕ) : Type 0 where
   pub gives : (rows : List Row) (rest : List ℕ) → to_come ≡ Ok rows →
-      IsLines rule journal rows rest →
+      IsLines rule number journal rows rest →
       IsReportOfRows rule start all (text ++ rest)
+  pub counts : (rows : List Row) → to_come ≡ Ok rows →
+      found + differences rule journal rows ≡ differences_of rule (opened_with start all)
   pub fails : (fault : ScriptError) → to_come ≡ Err fault → all ≡ Err fault
 
--- one more line
-IsBegun-next : (rule : Rule) (start : Start) (all : Rows) (journal : Journal) (row : Row)
-    (to_come later : Rows)
+-- one more record
+IsBegun-next : (rule : Rule) (start : Start) (all : Rows) (number found : ℕ) (journal : Journal)
+    (row : Row) (to_come later : Rows)
     (text line : List ℕ) →
-    IsBegun rule start all journal to_come text → to_come ≡ row_and row later →
+    IsBegun rule start all number found journal to_come text → to_come ≡ row_and row later →
     IsLine rule journal row line →
-    IsBegun rule start all (after rule journal row) later (text ++ line)
-IsBegun-next rule start all journal row to_come later text line begun step isLine = record {
-  gives = λ rows rest e lines.
-      let R : List ℕ → Type 0 = λ whole. IsReportOfRows rule start all whole in
-      subst R (sym (append_assoc text line rest))
-      (begun.gives (row ∷ rows) (line ++ rest) (step ∙ ap (row_and row) e) (
-        line,
-        rest,
-        isLine,
-        lines,
-        refl,
-      ));
-  fails = λ fault e. begun.fails fault (step ∙ ap (row_and row) e);
-}
+    IsBegun rule start all (number + 1) (found + difference (missed journal row))
+    (after rule journal row) later (text ++ (line ++ differs_text number (missed journal row)))
+IsBegun-next rule start all number found journal row to_come later text line begun step isLine =
+    let more = differs_text number (missed journal row) in
+    record {
+      gives = λ rows rest e lines.
+          let R : List ℕ → Type 0 = λ whole. IsReportOfRows rule start all whole in
+          let joined : (text ++ (line ++ more)) ++ rest ≡ text ++ (line ++ (more ++ rest)) =
+          append_assoc text (line ++ more) rest
+          ∙ ap (λ (l : List ℕ). text ++ l) (append_assoc line more rest) in
+          subst R (sym joined)
+          (begun.gives (row ∷ rows) (line ++ (more ++ rest)) (step ∙ ap (row_and row) e) (
+            line,
+            rest,
+            isLine,
+            lines,
+            refl,
+          ));
+      counts = λ rows e.
+          omega (arith, begun.counts (row ∷ rows) (step ∙ ap (row_and row) e));
+      fails = λ fault e. begun.fails fault (step ∙ ap (row_and row) e);
+    }
 
 -- no row remains
-IsBegun-end : (rule : Rule) (start : Start) (all : Rows) (journal : Journal) (to_come : Rows)
-    (text : List ℕ) →
-    IsBegun rule start all journal to_come text → to_come ≡ Ok [] →
+IsBegun-end : (rule : Rule) (start : Start) (all : Rows) (number found : ℕ) (journal : Journal)
+    (to_come : Rows) (text : List ℕ) →
+    IsBegun rule start all number found journal to_come text → to_come ≡ Ok [] →
     IsReportOfRows rule start all text
-IsBegun-end rule start all journal to_come text begun none =
+    × (found ≡ differences_of rule (opened_with start all))
+IsBegun-end rule start all number found journal to_come text begun none =
     let R : List ℕ → Type 0 = λ whole. IsReportOfRows rule start all whole in
-    subst R (append-nil text) (begun.gives [] [] none refl)
+    let counted = begun.counts [] none in
+    (subst R (append-nil text) (begun.gives [] [] none refl), omega (arith, counted))
 
 -- the same for a kept journal that agrees with one which lists every command since the first `since`
 -- ones, those before its counter
-pub record IsBegunBy (keep : Option ℕ) (start : Start) (all : Rows) (kept : Journal) (since : ℕ)
-    (to_come : Rows) (text : List ℕ) :
+pub record IsBegunBy (keep : Option ℕ) (start : Start) (all : Rows) (number found : ℕ)
+    (kept : Journal) (since : ℕ) (to_come : Rows) (text : List ℕ) :
     Type 0 where
   pub whole : Journal
   pub alike : IsAlike kept whole
   pub opens : whole.opening.count ≡ since
-  pub begun : IsBegun (rule_of keep) start all whole to_come text
+  pub begun : IsBegun (rule_of keep) start all number found whole to_come text
 
 -- after the opening's line, all rows remain
 pub IsBegunBy-start : (keep : Option ℕ) (start : Start) (all : Rows) →
-    IsBegunBy keep start all (opened start.desc start.reading start.real) 0 all
+    IsBegunBy keep start all 2 0 (opened start.desc start.reading start.real) 0 all
     (open_line start.desc)
 IsBegunBy-start keep start all = record {
   whole = opened start.desc start.reading start.real;
@@ -105,41 +118,51 @@ IsBegunBy-start keep start all = record {
   opens = refl;
   begun = record {
     gives = λ rows rest e lines. (_, ap (opened_with start) e, (rest, lines, refl));
+    counts = λ rows e.
+        let same = ap (λ (read : Rows). differences_of (rule_of keep) (opened_with start read)) e in
+        omega (arith, same);
     fails = λ fault e. e;
   };
 }
 
-pub IsBegunBy-next : (keep : Option ℕ) (start : Start) (all : Rows) (kept kept' : Journal)
-    (since : ℕ) (row : Row)
+pub IsBegunBy-next : (keep : Option ℕ) (start : Start) (all : Rows) (number found : ℕ)
+    (kept kept' : Journal) (since : ℕ) (row : Row)
     (to_come later : Rows) (text line : List ℕ) →
-    IsBegunBy keep start all kept since to_come text → to_come ≡ row_and row later →
+    IsBegunBy keep start all number found kept since to_come text → to_come ≡ row_and row later →
     accepted_count kept < counted_most →
     IsLine (counting_rule_of keep since) kept row line →
     IsAlike kept' (after (counting_rule_of keep since) kept row) →
-    IsBegunBy keep start all kept' (since_after since kept row) later (text ++ line)
-IsBegunBy-next keep start all kept kept' since row to_come later text line begun step few isLine
-    moved =
+    IsBegunBy keep start all (number + 1) (found + difference (missed kept row)) kept'
+    (since_after since kept row) later
+    (text ++ (line ++ differs_text number (missed kept row)))
+IsBegunBy-next keep start all number found kept kept' since row to_come later text line begun step
+    few isLine moved =
     let whole = begun.whole in
+    let rule = rule_of keep in
     let counted : accepted_count whole < counted_most = omega (arith, few, begun.alike.count) in
     record {
-      whole = after (rule_of keep) whole row;
+      whole = after rule whole row;
       alike = subst (λ (j : Journal). IsAlike kept' j)
           (after-counted keep since whole row begun.opens counted)
           (IsAlike-after keep since kept whole kept' begun.alike row moved);
-      opens = opening_after (rule_of keep) since whole row begun.opens
+      opens = opening_after rule since whole row begun.opens
           ∙ sym (since-alike since kept whole begun.alike row);
-      begun = IsBegun-next (rule_of keep) start all whole row to_come later text line begun.begun
+      begun = subst (λ (m : Option ℕ). IsBegun rule start all (number + 1) (found + difference m)
+          (after rule whole row) later (text ++ (line ++ differs_text number m)))
+          (sym (missed-alike kept whole begun.alike row))
+          (IsBegun-next rule start all number found whole row to_come later text line begun.begun
           step
           (line-counted keep since whole row line begun.opens counted
-          (IsLine-alike keep since kept whole begun.alike row line isLine));
+          (IsLine-alike keep since kept whole begun.alike row line isLine)));
     }
 
-pub IsBegunBy-end : (keep : Option ℕ) (start : Start) (all : Rows) (kept : Journal) (since : ℕ)
-    (to_come : Rows) (text : List ℕ) →
-    IsBegunBy keep start all kept since to_come text → to_come ≡ Ok [] →
+pub IsBegunBy-end : (keep : Option ℕ) (start : Start) (all : Rows) (number found : ℕ)
+    (kept : Journal) (since : ℕ) (to_come : Rows) (text : List ℕ) →
+    IsBegunBy keep start all number found kept since to_come text → to_come ≡ Ok [] →
     IsReportOfRows (rule_of keep) start all text
-IsBegunBy-end keep start all kept since to_come text begun none =
-    IsBegun-end (rule_of keep) start all begun.whole to_come text begun.begun none
+    × (found ≡ differences_of (rule_of keep) (opened_with start all))
+IsBegunBy-end keep start all number found kept since to_come text begun none =
+    IsBegun-end (rule_of keep) start all number found begun.whole to_come text begun.begun none
 
 -- if every fault of `from` is a fault of `to`, `to` also allows every error that `from` allows
 pub Fails-from : (from to : Rows) (fault : ScriptError) →
@@ -155,12 +178,12 @@ Fails-from from to (errors.Number row) step fails = step (errors.Number row) fai
 Fails-from from to (errors.Counter row fault) step fails = step (errors.Counter row fault) fails
 
 -- a fault of the rows to come is the fault of all rows
-pub IsBegunBy-fault : (keep : Option ℕ) (start : Start) (all : Rows) (kept : Journal) (since : ℕ)
-    (to_come : Rows) (text : List ℕ)
-    (fault : ScriptError) → IsBegunBy keep start all kept since to_come text →
+pub IsBegunBy-fault : (keep : Option ℕ) (start : Start) (all : Rows) (number found : ℕ)
+    (kept : Journal) (since : ℕ) (to_come : Rows) (text : List ℕ)
+    (fault : ScriptError) → IsBegunBy keep start all number found kept since to_come text →
     Fails fault to_come →
     Fails fault all
-IsBegunBy-fault keep start all kept since to_come text fault begun fails =
+IsBegunBy-fault keep start all number found kept since to_come text fault begun fails =
     Fails-from to_come all fault begun.begun.fails fails
 
 fails-opened : (bytes : List ℕ) (start : Start) (all : Rows) (fault : ScriptError) →
@@ -178,16 +201,27 @@ fails-opened bytes start all (errors.Counter row fault) opens fails =
 -- the report of the rows, or their fault, is the report or the fault of the bytes that contain the
 -- opening and the rows
 pub report-opened : {A : Type 0} (keep : Option ℕ) (bytes : List ℕ) (start : Start) (all : Rows)
-    (text_of : A → List ℕ)
+    (text_of : A → List ℕ) (count_of : A → ℕ)
     (result : Result A ScriptError) → parse_of bytes ≡ opened_with start all →
-    MatchResult result (λ text. IsReportOfRows (rule_of keep) start all (text_of text))
+    MatchResult result
+    (λ report. IsReportOfRows (rule_of keep) start all (text_of report)
+    × (count_of report ≡ differences_of (rule_of keep) (opened_with start all)))
     (λ fault. Fails fault all) →
-    MatchResult result (λ text. IsReportBy (rule_of keep) bytes (text_of text))
+    MatchResult result
+    (λ report. IsReportBy (rule_of keep) bytes (text_of report)
+    × (count_of report ≡ differences_in (rule_of keep) bytes))
     (λ fault. Fails fault (parse_of bytes))
-report-opened keep bytes start all text_of (Ok text) opens (parse, known, report) =
-    (parse, opens ∙ known, report)
-report-opened keep bytes start all text_of (Err fault) opens fails =
+report-opened keep bytes start all text_of count_of (Ok made) opens ((parse, known, report), count) = (
+  (parse, opens ∙ known, report),
+  count ∙ sym (ap (differences_of (rule_of keep)) opens),
+)
+report-opened keep bytes start all text_of count_of (Err fault) opens fails =
     fails-opened bytes start all fault opens fails
+
+-- a record is at most one difference
+pub difference_most : (missed : Option ℕ) → difference missed ≤ 1
+difference_most None = omega arith
+difference_most (Some value) = omega arith
 
 -- a record is at most one command
 counted : (journal : Journal) (entry : Entry) (refusal : Option Refusal) →
@@ -206,7 +240,7 @@ pub counted_after : (rule : Rule) (journal : Journal) (row : Row) →
     accepted_count (after rule journal row) ≤ accepted_count journal + 1
 counted_after rule journal (Act reading cmd) =
     counted journal (event reading cmd) (rule journal (event reading cmd))
-counted_after rule journal (Look reading clock) = omega arith
+counted_after rule journal (Look reading clock expected) = omega arith
 counted_after rule journal (Change reading counter first) =
     counted_changed journal reading counter first (counter_refusal journal reading counter first)
 

@@ -6,7 +6,7 @@ use Rattle.std.specs.Prelude.{Result, Err}
 use Rattle.std.specs.Global.{Vec}
 use Rattle.tk_script.specs.declared.script_error.ScriptError.{ScriptError}
 use Rattle.tk_script.specs.declared.script_error.ScriptError.TheVariants.{Memory}
-use Rattle.tk_report.specs.Many.{AreOutcomes, IsOutcome}
+use Rattle.tk_report.specs.Many.{AreOutcomes, IsOutcome, Outcome}
 
 module _ {A B : Type 0} (R : A → B → Type 0) where
   -- both lists have the same length
@@ -37,13 +37,13 @@ module _ {A B : Type 0} (R : A → B → Type 0) where
   all_zip-push (w ∷ xs) (z ∷ ys) x y all fits = (all.0, all_zip-push xs ys x y all.1 fits)
 
 -- there is one outcome for each script
-pub outcomes_length : (scripts : List (Vec ℕ)) (outcomes : List (Result (Vec ℕ) ScriptError)) →
+pub outcomes_length : (scripts : List (Vec ℕ)) (outcomes : List Outcome) →
     AreOutcomes scripts outcomes → length scripts ≡ length outcomes
 outcomes_length scripts outcomes all = all_zip-length IsOutcome scripts outcomes all
 
 -- the outcome of a script replaces the one at its place
-pub outcome_set : (scripts : List (Vec ℕ)) (outcomes : List (Result (Vec ℕ) ScriptError))
-    (place : ℕ) (script : Vec ℕ) (outcome : Result (Vec ℕ) ScriptError) →
+pub outcome_set : (scripts : List (Vec ℕ)) (outcomes : List Outcome)
+    (place : ℕ) (script : Vec ℕ) (outcome : Outcome) →
     AreOutcomes scripts outcomes → script ≡ get_or scripts place script →
     IsOutcome script outcome →
     AreOutcomes scripts (set outcomes place outcome)
@@ -51,7 +51,7 @@ outcome_set scripts outcomes place script outcome all here fits =
     all_zip-set IsOutcome scripts outcomes place script outcome all here fits
 
 -- an allocation failure is a placeholder for one more script's outcome
-pub outcome_waits : (scripts : List (Vec ℕ)) (outcomes : List (Result (Vec ℕ) ScriptError))
+pub outcome_waits : (scripts : List (Vec ℕ)) (outcomes : List Outcome)
     (count : ℕ) → count < length scripts → AreOutcomes (take count scripts) outcomes →
     AreOutcomes (take (count + 1) scripts) (outcomes ++ Err Memory ∷ [])
 outcome_waits [] outcomes count below all = absurd (omega (arith, below))

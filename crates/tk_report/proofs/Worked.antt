@@ -3,7 +3,7 @@
 use Rattle.std.proofs.Common.{◌≡◌, ℕ, List, [], ◌∷◌, codes, get_or, refl, arith, below_more}
 use borrow.Author.Count.{below_none}
 use Rattle.std.specs.Fmt.{digits}
-use Rattle.std.specs.Prelude.{pos, neg_ℤ, Ok, IsOk}
+use Rattle.std.specs.Prelude.{pos, neg_ℤ, None, Ok, IsOk}
 use Rattle.tk_counter.specs.Counter.{Counter}
 use Rattle.tk_clock.specs.declared.timespec.Timespec.{Timespec}
 use Rattle.tk_clock.specs.declared.command.Command.TheVariants.{Freq, Update}
@@ -31,7 +31,7 @@ script = record {
   counter = nanosecond_counter;
   reading = 0;
   real = since;
-  rows = Act 0 (Freq (pos 65536000)) ∷ Act 4294967296 Update ∷ Look 7 Monotonic
+  rows = Act 0 (Freq (pos 65536000)) ∷ Act 4294967296 Update ∷ Look 7 Monotonic None
       ∷ Act 1000000000 (Freq (neg_ℤ (pos 32768000))) ∷ [];
 }
 

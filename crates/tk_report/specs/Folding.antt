@@ -39,7 +39,7 @@ since_answer since (Err refusal) = since
 -- the number of commands before the present counter, after a record
 abbrev pub since_after : ℕ → Journal → Row → ℕ
 since_after since journal (Act reading cmd) = since
-since_after since journal (Look reading clock) = since
+since_after since journal (Look reading clock expected) = since
 since_after since journal (Change reading counter first) =
     since_answer since (change_reply journal reading counter first).answer
 

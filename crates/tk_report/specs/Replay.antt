@@ -1,6 +1,6 @@
 -- The result of a call that reads inputs, makes a text from them and writes it; and the result of a
 -- replay, which reads one script.
-use Rattle.std.specs.Prelude.{◌≡◌, ◌≢◌, ℕ, List, Option, Bool, Result, Ok, Err}
+use Rattle.std.specs.Prelude.{◌≡◌, ◌≢◌, ℕ, List, Option, Bool, IfOk, Result, Ok, Err}
 use Rattle.std.specs.Io.KnownBytes.{Appends}
 use Rattle.tk_script.specs.declared.script_error.ScriptError.TheVariants as errors
 use Rattle.tk_script.specs.Grammar.{parse_of}
@@ -40,7 +40,7 @@ IsStopped IsText IsFault read write same WentOut (faults.Write written) =
 abbrev pub CameTo :
     (List ℕ → Type 0) → (Fault → Type 0) → Type 0 →
     {W : Type 0} → (W → Option (List ℕ)) → (W → List ℕ → Option ℕ → W → Type 0) →
-    (W → Bool → W → Type 0) → W → W → Result Unit Fault → Type 0
+    (W → Bool → W → Type 0) → W → W → {A : Type 0} → Result A Fault → Type 0
 CameTo IsText IsFault read contents write_gives flush_gives old new (Ok done) =
     IsDone IsText (IsFlushed flush_gives new) (Appends (contents old) (contents new))
 CameTo IsText IsFault read contents write_gives flush_gives old new (Err fault) =
@@ -66,13 +66,23 @@ IsScriptFault unread left (faults.Trace error) = ⊥
 IsScriptFault unread left faults.Memory = ⊥
 IsScriptFault unread left (faults.Write written) = ⊥
 
+-- the text that belongs to all bytes of a script, and the number of reads that do not give the value
+-- that they expect, if the call returned one
+abbrev pub IsCountedText :
+    (List ℕ → List ℕ → Type 0) → (List ℕ → ℕ) → Result ℕ Fault → List ℕ → List ℕ → Type 0
+IsCountedText IsTextOf count_of result bytes text =
+    IsTextOf bytes text × IfOk result (λ count. count ≡ count_of bytes)
+
 -- the result of a replay, by the relation `IsTextOf` between the bytes of a script and their
--- report: `unread` and `left` are the remaining bytes of the reader before and after, and `read`
--- states that its last read failed
+-- report, and the number `count_of` of its reads that do not give the value that they expect:
+-- `unread` and `left` are the remaining bytes of the reader before and after, and `read` states
+-- that its last read failed
 pub record IsReplayed
-    {W : Type 0} (IsTextOf : List ℕ → List ℕ → Type 0) (unread left : Option (List ℕ)) (read : Type 0)
+    {W : Type 0} (IsTextOf : List ℕ → List ℕ → Type 0) (count_of : List ℕ → ℕ)
+    (unread left : Option (List ℕ)) (read : Type 0)
     (contents : W → Option (List ℕ)) (write_gives : W → List ℕ → Option ℕ → W → Type 0)
-    (flush_gives : W → Bool → W → Type 0) (old new : W) (result : Result Unit Fault) : Type 0 where
+    (flush_gives : W → Bool → W → Type 0) (old new : W) (result : Result ℕ Fault) : Type 0 where
   pub within : IsReadWithin unread left
-  pub came_to : CameTo (IsTextOfAll IsTextOf unread left) (IsScriptFault unread left) read
+  pub came_to : CameTo (IsTextOfAll (IsCountedText IsTextOf count_of result) unread left)
+      (IsScriptFault unread left) read
       contents write_gives flush_gives old new result

@@ -1,6 +1,7 @@
--- The report of a script: a line for its opening, and one for each record after it. The records are
+-- The report of a script: a line for its opening, and one for each record after it, followed by
+-- another one if the record is a read that does not give the value that it states. The records are
 -- applied in order to a journal, which a change of counter replaces by one over the next counter.
-use Rattle.std.specs.Prelude.{◌≡◌, ℕ, ◌+◌, List, [], ◌∷◌, ◌++◌, pos, Option, Some, None, Result, Ok, Err}
+use Rattle.std.specs.Prelude.{◌≡◌, ℕ, ◌+◌, List, [], ◌∷◌, ◌++◌, pos, ℤ, negsuc, Option, Some, None, Result, Ok, Err, Bool, false, ◌==◌, if◌then◌else◌}
 use Rattle.tk_counter.specs.Counter.{Counter}
 use Rattle.tk_clock.specs.declared.clock_id.ClockId.{ClockId}
 use Rattle.tk_clock.specs.declared.command.Command.{Command}
@@ -22,7 +23,7 @@ use Rattle.tk_script.specs.declared.row.Row.TheVariants.{Act, Look, Change}
 use Rattle.tk_script.specs.declared.script_error.ScriptError.{ScriptError}
 use Rattle.tk_script.specs.Coming.{opened_with}
 use Rattle.tk_script.specs.Grammar.{Parse, parse_of}
-use Rattle.tk_script.specs.Lines.{open_line, ok_line, no_line, IsAtLine}
+use Rattle.tk_script.specs.Lines.{differs_line, open_line, ok_line, no_line, IsAtLine}
 
 -- a script's command as an event: all of them come from the caller 0
 abbrev pub event : ℕ → Command → Entry
@@ -72,11 +73,43 @@ IsLookLine journal clock reading None line =
     (time : Timespec) × IsTimeAt journal clock reading time × IsAtLine clock time line
 IsLookLine journal clock reading (Some error) line = line ≡ no_line (refusal_of error)
 
+-- whether an integer is this number
+abbrev pub is_number : ℤ → ℕ → Bool
+is_number (pos n) value = n == value
+is_number (negsuc n) value = false
+
+-- the expected value that a read does not give, in ns, if there is one: a refused read gives none
+abbrev pub missed_if : Option ReadError → ℤ → Option ℕ → Option ℕ
+missed_if fault nanos None = None
+missed_if (Some error) nanos (Some value) = Some value
+missed_if None nanos (Some value) = if is_number nanos value then None else Some value
+
+-- the same for a read of a clock of a journal at a reading
+abbrev pub missed_at : Journal → ClockId → ℕ → Option ℕ → Option ℕ
+missed_at journal clock reading expected =
+    missed_if (read_fault journal clock reading) (clock_value journal clock reading) expected
+
+-- the expected value that a record after a journal does not give, if there is one
+abbrev pub missed : Journal → Row → Option ℕ
+missed journal (Act reading cmd) = None
+missed journal (Look reading clock expected) = missed_at journal clock reading expected
+missed journal (Change reading counter first) = None
+
+-- the line after the line of the record `row`, if it does not give an expected value
+abbrev pub differs_text : ℕ → Option ℕ → List ℕ
+differs_text row None = []
+differs_text row (Some value) = differs_line row value
+
+-- the number of such lines
+abbrev pub difference : Option ℕ → ℕ
+difference None = 0
+difference (Some value) = 1
+
 -- the line of a record after a journal
 abbrev pub IsLine : Rule → Journal → Row → List ℕ → Type 0
 IsLine rule journal (Act reading cmd) line =
     line ≡ reply_line reading (reply_by rule journal (event reading cmd))
-IsLine rule journal (Look reading clock) line =
+IsLine rule journal (Look reading clock expected) line =
     IsLookLine journal clock reading (read_fault journal clock reading) line
 IsLine rule journal (Change reading counter first) line =
     line ≡ reply_line first (change_reply journal reading counter first)
@@ -85,22 +118,39 @@ IsLine rule journal (Change reading counter first) line =
 -- and an accepted change of counter begins the journal over the next counter
 abbrev pub after : Rule → Journal → Row → Journal
 after rule journal (Act reading cmd) = (reply_by rule journal (event reading cmd)).journal
-after rule journal (Look reading clock) = journal
+after rule journal (Look reading clock expected) = journal
 after rule journal (Change reading counter first) =
     (change_reply journal reading counter first).journal
 
--- the lines of records, each one from the journal after the records before it
-abbrev pub IsLines : Rule → Journal → List Row → List ℕ → Type 0
-IsLines rule journal [] text = text ≡ []
-IsLines rule journal (row ∷ rows) text =
-    (line : List ℕ) × (rest : List ℕ) × IsLine rule journal row line
-    × IsLines rule (after rule journal row) rows rest
-    × (text ≡ line ++ rest)
+-- the lines of records, of which the first is the record `row`, each one from the journal after the
+-- records before it
+abbrev pub IsLines : Rule → ℕ → Journal → List Row → List ℕ → Type 0
+IsLines rule row journal [] text = text ≡ []
+IsLines rule row journal (first ∷ rows) text =
+    (line : List ℕ) × (rest : List ℕ) × IsLine rule journal first line
+    × IsLines rule (row + 1) (after rule journal first) rows rest
+    × (text ≡ line ++ (differs_text row (missed journal first) ++ rest))
 
--- the report of a parsed script
+-- the number of records that do not give an expected value
+abbrev pub differences : Rule → Journal → List Row → ℕ
+differences rule journal [] = 0
+differences rule journal (first ∷ rows) =
+    difference (missed journal first) + differences rule (after rule journal first) rows
+
+-- the number of such records of a script, and none if the script has a fault
+abbrev pub differences_of : Rule → Result Parse ScriptError → ℕ
+differences_of rule (Ok parse) =
+    differences rule (opened parse.counter parse.reading parse.real) parse.rows
+differences_of rule (Err fault) = 0
+
+-- the number of such records of a script with these bytes
+abbrev pub differences_in : Rule → List ℕ → ℕ
+differences_in rule bytes = differences_of rule (parse_of bytes)
+
+-- the report of a parsed script: the opening is the record 1
 abbrev pub IsReportOf : Rule → Parse → List ℕ → Type 0
 IsReportOf rule parse text =
-    (lines : List ℕ) × IsLines rule (opened parse.counter parse.reading parse.real) parse.rows lines
+    (lines : List ℕ) × IsLines rule 2 (opened parse.counter parse.reading parse.real) parse.rows lines
     × (text ≡ open_line parse.counter ++ lines)
 
 -- the report of an opening and of rows that were parsed without a fault

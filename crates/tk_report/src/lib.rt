@@ -5,7 +5,8 @@
 //! |---|---|
 //! | `report` | makes the report of a script's bytes |
 //! | `report_bounded` | makes the report with no limit on commands, from a bounded journal |
-//! | `report_rows` | makes the report from a reader of rows, in the caller's memory |
+//! | `report_rows` | makes the report from a reader of rows, in the caller's memory, and counts the differences |
+//! | `CheckedReport` | holds a report, and the number of reads that do not give the value that they expect |
 //! | `replay` | reads a script to its end and writes its report |
 //! | `replay_bounded` | reads a script and writes the report of `report_bounded` |
 //! | `replay_with` | does `replay` or `replay_bounded`, by an optional number of entries to keep |
@@ -25,6 +26,7 @@
 #![tactic(auto)]
 
 mod applying;
+mod checked_report;
 mod converting;
 mod fault;
 mod journaling;
@@ -37,6 +39,7 @@ mod source;
 mod tracing;
 mod worklist;
 
+pub use checked_report::CheckedReport;
 pub use converting::convert;
 pub use fault::Fault;
 pub use journaling::{keeper_after, keeper_of};

@@ -3,8 +3,9 @@ ghost use Rattle.std.specs.Prelude.{◌≡◌, ◌↔◌, ◌≤◌, IfOk, Err, 
 ghost use Rattle.tk_pieces.specs.Workers.{most_workers};
 ghost use Rattle.tk_report.specs.Many.{AreOutcomes, IsCountRefused};
 
+use crate::checked_report::CheckedReport;
 use crate::many_error::ManyError;
-use crate::reporting::report;
+use crate::reporting::report_by;
 use crate::worklist::{NamesScripts, Outcome, Worklist};
 use std::alloc::Global;
 use std::marker::Brand;
@@ -14,8 +15,9 @@ use std::thread::{Scope, Threads};
 use tk_pieces::{Gate, WORKERS_LIMIT};
 use tk_script::ScriptError;
 
-/// Makes the reports of all scripts, as `report` does, on at most `workers` threads, and returns
-/// the results in the scripts' order.
+/// Makes the reports of all scripts, as `report` does, on at most `workers` threads, counts the reads
+/// that do not give the value that their record states, and returns the results in the scripts'
+/// order.
 ///
 /// It starts one thread for each worker, but no more than there are scripts. A worker repeatedly
 /// takes the next free script, until none remains, so a long script delays only its own worker. The
@@ -35,7 +37,7 @@ pub fn replay_all<G: Gate + Sync, R: Threads + Wait + Sync>(
     scripts: &[Vec<u8>],
     workers: usize,
     gate: &G,
-) -> Result<Vec<Result<Vec<u8>, ScriptError>>, ManyError>
+) -> Result<Vec<Result<CheckedReport, ScriptError>>, ManyError>
     ensures each { IfOk result (λ outcomes. AreOutcomes scripts.now outcomes.items) }
     ensures count { (result ≡ Err ManyError.Count) ↔ IsCountRefused workers }
 {
@@ -129,7 +131,7 @@ fn work<S: NamesScripts, G: Gate, R: Wait>(
         let piece = job.piece();
         let script = &scripts[piece];
         gate.before(piece);
-        let outcome = report(alloc, script.as_slice());
+        let outcome = report_by(alloc, script.as_slice(), None);
         let finished = job.finish(gate, script, outcome);
         shared.lock(rt).hand_in(finished);
     }

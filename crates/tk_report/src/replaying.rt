@@ -1,9 +1,10 @@
 ghost use Rattle.std.specs.Prelude.{◌≤◌};
 ghost use Rattle.std.specs.Option.{ForSome};
 ghost use Rattle.tk_clock.specs.Limits.{most_kept};
+ghost use Rattle.tk_clock.specs.Refusal.{clock_refusal, first_refusal};
 ghost use Rattle.tk_report.specs.Folding.{rule_of};
 ghost use Rattle.tk_report.specs.Reading.{ReadFailed};
-ghost use Rattle.tk_report.specs.Report.{IsReport, IsReportBy, IsReportUnlimited};
+ghost use Rattle.tk_report.specs.Report.{IsReport, IsReportBy, IsReportUnlimited, differences_in};
 ghost use Rattle.tk_report.specs.Replay.{IsReplayed};
 
 use crate::fault::Fault;
@@ -12,7 +13,8 @@ use crate::sink::{Sink, write_whole};
 use crate::source::{Source, read_to_end};
 use std::alloc::Global;
 
-/// Reads a script to its end, makes its report as `report` does, writes it and flushes.
+/// Reads a script to its end, makes its report as `report` does, writes it and flushes. Returns the
+/// number of reads that do not give the value that their record states.
 ///
 /// It reads at most 16,777,217 bytes; the last of these shows that the script is too large. It
 /// repeats no read or write: an interrupted one (EINTR) is a fault.
@@ -28,8 +30,8 @@ pub fn replay<R: Source, W: Sink>(
     alloc: Global,
     reader: &mut R,
     writer: &mut W,
-) -> Result<(), Fault>
-    ensures { IsReplayed IsReport
+) -> Result<u64, Fault>
+    ensures { IsReplayed IsReport (differences_in first_refusal)
         (R.Read.remaining reader.old) (R.Read.remaining reader.new)
         (ReadFailed R.Source.read_gives reader.new)
         W.Write.contents W.Sink.write_gives W.Sink.flush_gives writer.old writer.new result }
@@ -38,6 +40,7 @@ pub fn replay<R: Source, W: Sink>(
 }
 
 /// Reads a script to its end, makes its report as `report_bounded` does, writes it and flushes.
+/// Returns the same number as `replay`.
 ///
 /// `keep` is from 1 to 524,288. No command is refused as `Full`.
 ///
@@ -49,9 +52,9 @@ pub fn replay_bounded<R: Source, W: Sink>(
     reader: &mut R,
     writer: &mut W,
     keep: u64,
-) -> Result<(), Fault>
+) -> Result<u64, Fault>
     requires { (1 ≤ keep) × (keep ≤ most_kept) }
-    ensures { IsReplayed IsReportUnlimited
+    ensures { IsReplayed IsReportUnlimited (differences_in clock_refusal)
         (R.Read.remaining reader.old) (R.Read.remaining reader.new)
         (ReadFailed R.Source.read_gives reader.new)
         W.Write.contents W.Sink.write_gives W.Sink.flush_gives writer.old writer.new result }
@@ -72,14 +75,17 @@ pub fn replay_with<R: Source, W: Sink>(
     reader: &mut R,
     writer: &mut W,
     keep: Option<u64>,
-) -> Result<(), Fault>
+) -> Result<u64, Fault>
     requires { ForSome keep (λ n. n ≤ most_kept) }
-    ensures { IsReplayed (IsReportBy (rule_of keep))
+    ensures { IsReplayed (IsReportBy (rule_of keep)) (differences_in (rule_of keep))
         (R.Read.remaining reader.old) (R.Read.remaining reader.new)
         (ReadFailed R.Source.read_gives reader.new)
         W.Write.contents W.Sink.write_gives W.Sink.flush_gives writer.old writer.new result }
 {
     let script = read_to_end(alloc, reader)?;
-    let text = report_by(alloc, script.as_slice(), keep)?;
-    write_whole(writer, text.as_slice()).map_err(|written| Fault::Write { written })
+    let report = report_by(alloc, script.as_slice(), keep)?;
+    match write_whole(writer, report.text.as_slice()) {
+        Ok(()) => Ok(report.differences),
+        Err(written) => Err(Fault::Write { written }),
+    }
 }

@@ -3,19 +3,24 @@ ghost use Rattle.std.specs.Option.{ForSome};
 ghost use Rattle.tk_clock.specs.Journal.{accepted_count};
 ghost use Rattle.tk_clock.specs.Refusal.{opening_refusal};
 ghost use Rattle.tk_clock.specs.Limits.{counted_most, most_kept};
+ghost use Rattle.tk_clock.specs.Time.{nanoseconds};
 ghost use Rattle.tk_keeper.specs.Read.{read_fault};
-ghost use Rattle.tk_script.specs.Coming.{IsReady, coming};
+ghost use Rattle.tk_script.specs.Coming.{IsReady, coming, opened_with};
+ghost use Rattle.tk_script.specs.Lines.{IsWritable};
 ghost use Rattle.tk_script.specs.Grammar.{Fails, parse_of};
 ghost use Rattle.tk_clock.specs.Folding.{IsAlike};
 ghost use Rattle.tk_report.specs.Folding.{counting_rule_of, rule_of, since_after, since_answer};
-ghost use Rattle.tk_report.specs.Report.{IsLine, IsLookLine, IsReport, IsReportBy, IsReportOfRows, IsReportUnlimited, after, change_reply, event, reply_by, reply_line};
+ghost use Rattle.tk_report.specs.Report.{IsLine, IsLookLine, IsReport, IsReportBy, IsReportOfRows, IsReportUnlimited, after, change_reply, difference, differences_in, differences_of, differs_text, event, missed, missed_at, missed_if, reply_by, reply_line};
 
 use crate::applying::apply;
+use crate::checked_report::CheckedReport;
 use std::alloc::{Allocator, Global};
-use tk_clock::{ClockId, Command, Refusal};
-use tk_counter::CounterDesc;
+use tk_clock::{ClockId, Command, Refusal, Timespec};
+use tk_counter::{CounterDesc, NANOS_PER_SECOND};
 use tk_keeper::Timekeeper;
-use tk_script::{Calendar, Row, RowReader, ScriptError, Start, line_no, line_ok, line_open};
+use tk_script::{
+    Calendar, Row, RowReader, ScriptError, Start, line_differs, line_no, line_ok, line_open,
+};
 
 /// The clocks of a script.
 #[derive(Drop)]
@@ -40,7 +45,7 @@ pub fn report(alloc: Global, script: &[u8]) -> Result<Vec<u8>, ScriptError>
         (λ text. IsReport script.now text.items)
         (λ error. Fails error (parse_of script.now)) }
 {
-    report_by(alloc, script, None)
+    Ok(report_by(alloc, script, None)?.text)
 }
 
 /// Makes the report of a script's bytes from a bounded journal, so that no command is refused as
@@ -59,26 +64,28 @@ pub fn report_bounded(alloc: Global, script: &[u8], keep: u64) -> Result<Vec<u8>
         (λ text. IsReportUnlimited script.now text.items)
         (λ error. Fails error (parse_of script.now)) }
 {
-    report_by(alloc, script, Some(keep))
+    Ok(report_by(alloc, script, Some(keep))?.text)
 }
 
-/// Makes the report of a script's bytes. A full journal is folded to its last `keep` entries;
-/// without `keep` it refuses commands.
+/// Makes the report of a script's bytes and counts its differences. A full journal is folded to its
+/// last `keep` entries; without `keep` it refuses commands.
 pub(crate) fn report_by(
     alloc: Global,
     script: &[u8],
     keep: Option<u64>,
-) -> Result<Vec<u8>, ScriptError>
+) -> Result<CheckedReport, ScriptError>
     requires { ForSome keep (λ n. n ≤ most_kept) }
     ensures { MatchResult result
-        (λ text. IsReportBy (rule_of keep) script.now text.items)
+        (λ report. IsReportBy (rule_of keep) script.now report.text.items
+        × (report.differences ≡ differences_in (rule_of keep) script.now))
         (λ error. Fails error (parse_of script.now)) }
 {
     let (start, mut rows) = RowReader::open(alloc, script)?;
     report_rows(alloc, start, &mut rows, keep)
 }
 
-/// Makes the report of an opening and of the remaining rows of `rows`.
+/// Makes the report of an opening and of the remaining rows of `rows`, and counts the reads that do
+/// not give the value that their record states.
 ///
 /// One call of `RowReader::open` must have returned `start` and `rows`. With `keep`, at most
 /// 524,288, a full journal is folded to its last `keep` entries, and no command is refused as
@@ -93,39 +100,46 @@ pub fn report_rows<A: Allocator + Copy>(
     start: Start,
     rows: &mut RowReader<'_>,
     keep: Option<u64>,
-) -> Result<Vec<u8, A>, ScriptError>
+) -> Result<CheckedReport<A>, ScriptError>
     requires opens { opening_refusal start.desc start.reading start.real ≡ None }
     requires ready { IsReady rows.old }
     requires keep { ForSome keep (λ n. n ≤ most_kept) }
     ensures { MatchResult result
-        (λ text. IsReportOfRows (rule_of keep) start (coming rows.old) text.items)
+        (λ report. IsReportOfRows (rule_of keep) start (coming rows.old) report.text.items
+        × (report.differences ≡ differences_of (rule_of keep) (opened_with start (coming rows.old))))
         (λ error. Fails error (coming rows.old)) }
 {
     let keeper = Timekeeper::open(alloc, start.desc, start.reading, start.real).unwrap();
     let mut clocks = Clocks { keeper, since: 0 };
     let mut calendar = Calendar::new(alloc);
     let mut text = Vec::new(alloc);
+    let (mut number, mut differences) = (1u64, 0u64);
     line_open(&mut text, &start.desc)?;
     'rows: while let Some(row) = rows.next_row()? {
-        add_line(&mut text, &mut calendar, &mut clocks, keep, row)?;
+        number += 1;
+        let missed = add_line(&mut text, &mut calendar, &mut clocks, keep, row)?;
+        let more = add_difference(&mut text, number, missed)?;
+        differences += more;
     }
-    Ok(text)
+    Ok(CheckedReport { text, differences })
 }
 
 /// Applies a record's command, reads its clock, or changes the counter, and appends the line.
+/// Returns the expected value that the read does not give, in ns, if there is one.
 fn add_line<A: Allocator + Copy>(
     text: &mut Vec<u8, A>,
     calendar: &mut Calendar<A>,
     clocks: &mut Clocks<A>,
     keep: Option<u64>,
     row: Row,
-) -> Result<(), ScriptError>
+) -> Result<Option<u64>, ScriptError>
     requires count { accepted_count clocks.old.keeper.journal < counted_most }
     requires keep { ForSome keep (λ n. n ≤ most_kept) }
     requires opening { clocks.old.since ≤ clocks.old.keeper.journal.opening.count }
     ensures line { let rule = counting_rule_of keep clocks.old.since in
         OnOk result ((line : List ℕ) × IsLine rule clocks.old.keeper.journal row line
         × (text.new.items ≡ text.old.items ++ line)) }
+    ensures missed { IfOk result (λ value. value ≡ missed clocks.old.keeper.journal row) }
     ensures after { let rule = counting_rule_of keep clocks.old.since in
         OnOk result (IsAlike clocks.new.keeper.journal
         (after rule clocks.old.keeper.journal row)) }
@@ -135,13 +149,43 @@ fn add_line<A: Allocator + Copy>(
     ensures err { IfErr result (λ error. error ≡ ScriptError.Memory) }
 {
     match row {
-        Row::Act { reading, cmd } => add_reply(text, clocks, keep, reading, cmd),
-        Row::Look { reading, clock } => add_look(text, calendar, &clocks.keeper, reading, clock),
+        Row::Act { reading, cmd } => {
+            add_reply(text, clocks, keep, reading, cmd)?;
+            Ok(None)
+        }
+        Row::Look {
+            reading,
+            clock,
+            expected,
+        } => add_look(text, calendar, &clocks.keeper, reading, clock, expected),
         Row::Change {
             reading,
             desc,
             first,
-        } => add_change(text, clocks, reading, desc, first),
+        } => {
+            add_change(text, clocks, reading, desc, first)?;
+            Ok(None)
+        }
+    }
+}
+
+/// Appends the line of an expected value that the record `row` does not give, if there is one.
+/// Returns the number of lines.
+fn add_difference<A: Allocator>(
+    text: &mut Vec<u8, A>,
+    row: u64,
+    missed: Option<u64>,
+) -> Result<u64, ScriptError>
+    ensures text { OnOk result (text.new.items ≡ text.old.items ++ differs_text row missed) }
+    ensures count { IfOk result (λ count. count ≡ difference missed) }
+    ensures err { IfErr result (λ error. error ≡ ScriptError.Memory) }
+{
+    match missed {
+        Some(value) => {
+            line_differs(text, row, value)?;
+            Ok(1)
+        }
+        None => Ok(0),
     }
 }
 
@@ -174,23 +218,44 @@ fn add_reply<A: Allocator + Copy>(
     }
 }
 
-/// Reads a clock and appends its line.
+/// Reads a clock and appends its line. Returns the expected value that the read does not give.
 fn add_look<A: Allocator + Copy>(
     text: &mut Vec<u8, A>,
     calendar: &mut Calendar<A>,
     keeper: &Timekeeper<A>,
     reading: u64,
     clock: ClockId,
-) -> Result<(), ScriptError>
+    expected: Option<u64>,
+) -> Result<Option<u64>, ScriptError>
     ensures line { OnOk result ((line : List ℕ)
         × IsLookLine keeper.now.journal clock reading
         (read_fault keeper.now.journal clock reading) line
         × (text.new.items ≡ text.old.items ++ line)) }
+    ensures missed { IfOk result (λ value.
+        value ≡ missed_at keeper.now.journal clock reading expected) }
     ensures err { IfErr result (λ error. error ≡ ScriptError.Memory) }
 {
     match keeper.get(clock, reading) {
-        Ok(time) => calendar.line_at(text, clock, time),
-        Err(error) => line_no(text, error.into()),
+        Ok(time) => {
+            calendar.line_at(text, clock, time)?;
+            Ok(missed_by(time, expected))
+        }
+        Err(error) => {
+            line_no(text, error.into())?;
+            Ok(expected)
+        }
+    }
+}
+
+/// Returns the expected value, unless it is the time in ns.
+fn missed_by(time: Timespec, expected: Option<u64>) -> Option<u64>
+    requires { IsWritable time }
+    ensures { result ≡ missed_if None (nanoseconds time) expected }
+{
+    let nanos = time.sec as u64 * NANOS_PER_SECOND + u64::from(time.nsec);
+    match expected {
+        Some(value) if value == nanos => None,
+        missed => missed,
     }
 }
 

@@ -3,13 +3,14 @@
 ghost use Rattle.std.specs.Prelude.{◌≡◌, ◌+◌, ◌<◌, ◌≤◌, length, set, IfOk, IfNone, IfSome, Ok, Err, get_or};
 ghost use Rattle.tk_report.specs.Many.{AreOutcomes, IsOutcome};
 
+use crate::checked_report::CheckedReport;
 use std::alloc::{AllocError, Global};
 use std::marker::{Brand, Model, PhantomData};
 use tk_pieces::Gate;
 use tk_script::ScriptError;
 
 /// The report of a script, or its first fault.
-pub(crate) type Outcome = Result<Vec<u8>, ScriptError>;
+pub(crate) type Outcome = Result<CheckedReport, ScriptError>;
 
 /// Names the scripts that workers share. It has no function, and no value of this type exists.
 ///

@@ -1,5 +1,5 @@
 -- The rows of the frequent forms of a record.
-use Rattle.std.proofs.Common.{◌≡◌, ◌∙◌, ◌++◌, ℕ, List, [], ◌∷◌, length, Bool, true, false, Some, None, Ok, codes, refl, sym, ap, cond, arith, append_assoc, length-append}
+use Rattle.std.proofs.Common.{◌≡◌, ◌∙◌, ◌++◌, ℕ, List, [], ◌∷◌, length, Bool, true, false, Option, Some, None, Ok, codes, refl, sym, ap, cond, arith, append_assoc, length-append}
 use Rattle.std.specs.Prelude.{◌==◌, ◌||◌, ◌&&◌, ◌^◌, ◌-◌, nat_le, not}
 use Rattle.std.specs.Char.{is_ascii_digit}
 use Rattle.std.specs.List.{list_any, list_all}
@@ -11,7 +11,7 @@ use Rattle.memchr.specs.Find.{is_byte, is_byte2}
 use Rattle.tk_clock.specs.declared.clock_id.ClockId.{ClockId}
 use Rattle.tk_clock.specs.declared.command.Command.TheVariants.{Update}
 use Rattle.tk_script.specs.Number.{number_of}
-use Rattle.tk_script.specs.Plain.{EndsLine, FirstLineGives, Lacks, cut_at_commas, cut_after}
+use Rattle.tk_script.specs.Plain.{EndsLine, FirstLineGives, IsExpected, Lacks, cut_at_commas, cut_after}
 use Rattle.tk_script.specs.Rows.{look_of, plain_of, row_of}
 use Rattle.tk_script.specs.Stamps.{stamp_of}
 use Rattle.tk_script.specs.Word.{clock_of}
@@ -78,10 +78,10 @@ first-update text rest end digits reading split number ends = (
       ∙ update-row n reading digits number,
 )
 
--- the row of a read of a clock
+-- the row of a read that expects no value
 look-row : (n reading : ℕ) (digits word : List ℕ) (clock : ClockId) →
     number_of digits ≡ Some reading → clock_of word ≡ Some clock →
-    row_of n (codes "get" ∷ digits ∷ word ∷ []) ≡ Ok (Look reading clock)
+    row_of n (codes "get" ∷ digits ∷ word ∷ []) ≡ Ok (Look reading clock None)
 unfolding row_of look_of field_at
 look-row n reading digits word clock e f = rw (e, f) refl
 
@@ -93,12 +93,12 @@ look-cut digits word whole whole' =
     (cut-first [] digits word whole
     ∙ ap (λ (fs : List (List ℕ)). digits ∷ fs) (cut-whole [] word whole'))
 
-pub first-look : (text rest end digits word : List ℕ) (reading : ℕ) (clock : ClockId)
+first-plain_look : (text rest end digits word : List ℕ) (reading : ℕ) (clock : ClockId)
     → text ≡ codes "get," ++ (digits ++ (codes "," ++ (word ++ end))) →
     number_of digits ≡ Some reading → clock_of word ≡ Some clock →
     Lacks (is_byte2 44 10) word → EndsLine end rest →
-    FirstLineGives row_of text (Look reading clock) rest
-first-look text rest end digits word reading clock split number named whole ends =
+    FirstLineGives row_of text (Look reading clock None) rest
+first-plain_look text rest end digits word reading clock split number named whole ends =
     let lacks = lacks-either 44 10 word whole in
     let feeds : Lacks (is_byte 10) (digits ++ 44 ∷ word) =
     list_any-append (is_byte 10) digits (44 ∷ word)
@@ -118,6 +118,73 @@ first-look text rest end digits word reading clock split number named whole ends
           (look-cut digits word (number-lacks 44 digits reading refl number) lacks.0)
           ∙ look-row n reading digits word clock number named,
     )
+
+-- the row of a read that expects a value
+expected-row : (n reading value : ℕ) (digits word more : List ℕ) (clock : ClockId) →
+    number_of digits ≡ Some reading → clock_of word ≡ Some clock → number_of more ≡ Some value →
+    row_of n (codes "get" ∷ digits ∷ word ∷ more ∷ []) ≡ Ok (Look reading clock (Some value))
+unfolding row_of look_of field_at
+expected-row n reading value digits word more clock e f h = rw (e, f, h) refl
+
+expected-cut : (digits word more : List ℕ) → Lacks (is_byte 44) digits →
+    Lacks (is_byte 44) word → Lacks (is_byte 44) more →
+    cut_at_commas (codes "get," ++ (digits ++ 44 ∷ (word ++ 44 ∷ more)))
+    ≡ codes "get" ∷ digits ∷ word ∷ more ∷ []
+unfolding cut_after
+expected-cut digits word more whole whole' last =
+    ap (λ (fs : List (List ℕ)). codes "get" ∷ fs)
+    (cut-first [] digits (word ++ 44 ∷ more) whole
+    ∙ ap (λ (fs : List (List ℕ)). digits ∷ fs)
+    (cut-first [] word more whole' ∙ ap (λ (fs : List (List ℕ)). word ∷ fs) (cut-whole [] more last)))
+
+first-expected : (text rest end digits word more : List ℕ) (reading value : ℕ) (clock : ClockId)
+    → text ≡ codes "get," ++ (digits ++ (codes "," ++ (word ++ 44 ∷ (more ++ end)))) →
+    number_of digits ≡ Some reading → clock_of word ≡ Some clock → number_of more ≡ Some value →
+    Lacks (is_byte2 44 10) word → EndsLine end rest →
+    FirstLineGives row_of text (Look reading clock (Some value)) rest
+first-expected text rest end digits word more reading value clock split number named number' whole
+    ends =
+    let lacks = lacks-either 44 10 word whole in
+    let later : Lacks (is_byte 10) (word ++ 44 ∷ more) =
+    list_any-append (is_byte 10) word (44 ∷ more)
+    ∙ rw (lacks.1, number-lacks 10 more value refl number') refl in
+    let feeds : Lacks (is_byte 10) (digits ++ 44 ∷ (word ++ 44 ∷ more)) =
+    list_any-append (is_byte 10) digits (44 ∷ (word ++ 44 ∷ more))
+    ∙ rw (number-lacks 10 digits reading refl number, later) refl in (
+      codes "get," ++ (digits ++ 44 ∷ (word ++ 44 ∷ more)),
+      (
+        omega arith,
+        feeds,
+        (
+          end,
+          split ∙ ap (λ (t : List ℕ). codes "get," ++ t)
+              (ap (λ (t : List ℕ). digits ++ 44 ∷ t) (sym (append_assoc word (44 ∷ more) end))
+              ∙ sym (append_assoc digits (44 ∷ (word ++ 44 ∷ more)) end)),
+          ends,
+        ),
+      ),
+      λ n. ap (row_of n)
+          (expected-cut digits word more (number-lacks 44 digits reading refl number) lacks.0
+          (number-lacks 44 more value refl number'))
+          ∙ expected-row n reading value digits word more clock number named number',
+    )
+
+-- the row of a read, with the expected value after the clock, if there is one
+pub first-look : (text rest end tail digits word : List ℕ) (reading : ℕ) (clock : ClockId)
+    (expected : Option ℕ)
+    → text ≡ codes "get," ++ (digits ++ (codes "," ++ (word ++ tail))) →
+    number_of digits ≡ Some reading → clock_of word ≡ Some clock →
+    Lacks (is_byte2 44 10) word → IsExpected tail expected end → EndsLine end rest →
+    FirstLineGives row_of text (Look reading clock expected) rest
+first-look text rest end tail digits word reading clock None split number named whole same ends =
+    first-plain_look text rest end digits word reading clock
+    (split ∙ ap (λ (t : List ℕ). codes "get," ++ (digits ++ (codes "," ++ (word ++ t)))) same)
+    number named whole ends
+first-look text rest end tail digits word reading clock (Some value) split number named whole
+    (more, same, number') ends =
+    first-expected text rest end digits word more reading value clock
+    (split ∙ ap (λ (t : List ℕ). codes "get," ++ (digits ++ (codes "," ++ (word ++ t)))) same)
+    number named number' whole ends
 
 -- the item in a record of a stamp file
 stamp-row : (n front stamp : ℕ) (digits more : List ℕ) →

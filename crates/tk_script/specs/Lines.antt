@@ -34,6 +34,11 @@ ok_line n time = codes "ok," ++ decimal n ++ codes "," ++ time_text time ++ code
 abbrev pub no_line : Refusal → List ℕ
 no_line refusal = codes "no," ++ refusal_name refusal ++ codes "\n"
 
+-- the line after that of a read which does not give the expected value, in ns: `differs,RECORD,VALUE`
+abbrev pub differs_line : ℕ → ℕ → List ℕ
+differs_line row value =
+    codes "differs," ++ decimal row ++ codes "," ++ decimal value ++ codes "\n"
+
 -- a clock's time, without the end of the line: `at,CLOCK,TIME`
 abbrev pub at_text : ClockId → Timespec → List ℕ
 at_text clock time = codes "at," ++ clock_name clock ++ codes "," ++ time_text time

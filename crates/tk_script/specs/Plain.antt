@@ -1,9 +1,10 @@
 -- Plain texts: their records are lines that are cut at commas.
-use Rattle.std.specs.Prelude.{◌≡◌, ◌<◌, ◌⊎◌, ℕ, List, [], ◌∷◌, ◌++◌, ◌==◌, get_or, length, Bool, false, Some, Result, Ok, if◌then◌else◌}
+use Rattle.std.specs.Prelude.{◌≡◌, ◌<◌, ◌⊎◌, ℕ, List, [], ◌∷◌, ◌++◌, ◌==◌, get_or, length, Bool, false, Option, None, Some, Result, Ok, if◌then◌else◌}
 use Rattle.std.specs.Borrow.{Bor}
 use Rattle.std.specs.List.{list_any}
 use Rattle.csv.specs.Records.{field_at}
 use Rattle.memchr.specs.Find.{is_byte, is_byte2}
+use Rattle.tk_script.specs.Number.{number_of}
 use Rattle.tk_script.specs.declared.plain.Fields.{Fields}
 use Rattle.tk_script.specs.declared.script_error.ScriptError.{ScriptError}
 
@@ -47,3 +48,10 @@ abbrev pub FirstLineGives : {A : Type 0} → (ℕ → List (List ℕ) → Result
     List ℕ → Type 0
 FirstLineGives parse text value rest = (line : List ℕ) × IsFirstLine text line rest
     × ((n : ℕ) → parse n (cut_at_commas line) ≡ Ok value)
+
+-- a text begins with the comma and the digits of an expected value, or with none of them if no value is
+-- expected, and the bytes `rest` follow
+abbrev pub IsExpected : List ℕ → Option ℕ → List ℕ → Type 0
+IsExpected text None rest = text ≡ rest
+IsExpected text (Some value) rest =
+    (digits : List ℕ) × (text ≡ 44 ∷ (digits ++ rest)) × (number_of digits ≡ Some value)

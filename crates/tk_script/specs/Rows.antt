@@ -1,9 +1,8 @@
 -- The records of a script after the first one: the keyword selects the form.
-use Rattle.std.specs.Prelude.{ℕ, ℤ, List, length, Option, Some, None, Result, Ok, Err, ◌==◌, if◌then◌else◌, codes}
+use Rattle.std.specs.Prelude.{ℕ, ℤ, List, length, Option, Some, None, Result, Ok, Err, ◌==◌, ◌||◌, if◌then◌else◌, codes}
 use Rattle.tk_counter.specs.Counter.{Counter}
 use Rattle.tk_counter.specs.Description.{first_fault}
 use Rattle.tk_counter.specs.declared.desc_error.DescError.{DescError}
-use Rattle.tk_clock.specs.declared.clock_id.ClockId.{ClockId}
 use Rattle.tk_clock.specs.declared.command.Command.{Command}
 use Rattle.tk_clock.specs.declared.command.Command.TheVariants.{Update, SetTime, Step, Freq, Tick, Tai, Suspend, Resume}
 use Rattle.tk_clock.specs.declared.timespec.Timespec.{Timespec}
@@ -37,13 +36,19 @@ valued_of row fields =
       Ok (reading, value))
     else Err (errors.Fields row)
 
--- the fields of a record with a reading (cycles) and a clock
-unfoldable pub look_of : ℕ → List (List ℕ) → Result (ℕ × ClockId) ScriptError
+-- the value that a read expects, in ns: none if the record has no field for it
+abbrev pub expected_of : ℕ → List (List ℕ) → Result (Option ℕ) ScriptError
+expected_of row fields =
+    if length fields == 3 then Ok None else (number_at row fields 3 >>= λ value. Ok (Some value))
+
+-- the row of a read: a reading (cycles), a clock, and perhaps the expected value (ns)
+unfoldable pub look_of : ℕ → List (List ℕ) → Result Row ScriptError
 look_of row fields =
-    if length fields == 3 then (do
+    if length fields == 3 || length fields == 4 then (do
       reading ← number_at row fields 1
       clock ← clock_at row fields 2
-      Ok (reading, clock))
+      expected ← expected_of row fields
+      Ok (Look reading clock expected))
     else Err (errors.Fields row)
 
 -- the counter with these values, or the fault of their record
@@ -78,15 +83,11 @@ abbrev pub with_operand : {A : Type 0} → (A → Command) → Result (ℕ × A)
     Result Row ScriptError
 with_operand command read = read >>= λ p. Ok (Act p.0 (command p.1))
 
--- the row of a read of a clock
-abbrev pub look : Result (ℕ × ClockId) ScriptError → Result Row ScriptError
-look read = read >>= λ p. Ok (Look p.0 p.1)
-
 -- the command, the read or the change of counter in the record `row`, or its fault
 unfoldable pub row_of : ℕ → List (List ℕ) → Result Row ScriptError
 row_of row fields =
     if is_word (field fields 0) (codes "update") then plain Update (plain_of row fields)
-    else if is_word (field fields 0) (codes "get") then look (look_of row fields)
+    else if is_word (field fields 0) (codes "get") then look_of row fields
     else if is_word (field fields 0) (codes "set") then with_operand SetTime (timed_of row fields)
     else if is_word (field fields 0) (codes "step") then with_operand Step (timed_of row fields)
     else if is_word (field fields 0) (codes "freq") then with_operand Freq (valued_of row fields)

@@ -1,7 +1,7 @@
 //! Parses the frequent forms of a record in a plain text in one pass over the bytes.
 ghost use Rattle.std.specs.Prelude.{◌≡◌, ◌++◌, IfSome};
 ghost use Rattle.memchr.specs.Find.{is_byte2};
-ghost use Rattle.tk_script.specs.Plain.{FirstLineGives, Lacks};
+ghost use Rattle.tk_script.specs.Plain.{FirstLineGives, IsExpected, Lacks};
 ghost use Rattle.tk_script.specs.Rows.{row_of};
 ghost use Rattle.tk_script.specs.Stamps.{stamp_of};
 
@@ -39,8 +39,25 @@ fn leading_look(text: &[u8]) -> Option<(Row, &[u8])>
     let (reading, end) = leading_number(skip(text, b"get,")?)?;
     let (word, end) = leading_field(skip(end, b",")?);
     let clock = clock_word(word)?;
+    let (expected, end) = leading_expected(end)?;
     let rest = after_line(end)?;
-    Some((Row::Look { reading, clock }, rest))
+    let row = Row::Look {
+        reading,
+        clock,
+        expected,
+    };
+    Some((row, rest))
+}
+
+/// Parses the value that a read expects, after its clock, if there is one.
+fn leading_expected(text: &[u8]) -> Option<(Option<u64>, &[u8])>
+    ensures { IfSome result (λ found. IsExpected text.now found.0 found.1.now) }
+{
+    let Some(field) = skip(text, b",") else {
+        return Some((None, text));
+    };
+    let (value, rest) = leading_number(field)?;
+    Some((Some(value), rest))
 }
 
 /// Parses a front and a stamp at the beginning of a text, and returns them and the text after their

@@ -8,7 +8,7 @@
 //! | `SIZE_LIMIT` | is the greatest size of a script or of a stamp file, in bytes |
 //! | `ScriptError` | names the first fault of a script or of a stamp file |
 //! | `number`, `clock_word` | parse one field |
-//! | `line_open`, `line_ok`, `line_no`, `line_at` | append one line of a report |
+//! | `line_open`, `line_ok`, `line_no`, `line_at`, `line_differs` | append one line of a report |
 //! | `Calendar` | appends lines of clocks, and computes the date once for lines of one day |
 //! | `utc` | returns a time as UTC text |
 //!
@@ -36,7 +36,7 @@ mod stamps;
 
 pub use at_lines::line_at;
 pub use calendar::{Calendar, utc};
-pub use lines::{line_no, line_ok, line_open};
+pub use lines::{line_differs, line_no, line_ok, line_open};
 pub use names::clock_word;
 pub use numbers::number;
 pub use opening::Start;

@@ -1,5 +1,5 @@
 ghost use Rattle.std.specs.Prelude.{◌≡◌, ◌++◌, OnOk, OnErr, IfErr};
-ghost use Rattle.tk_script.specs.Lines.{IsWritable, open_line, ok_line, no_line};
+ghost use Rattle.tk_script.specs.Lines.{IsWritable, differs_line, open_line, ok_line, no_line};
 
 use crate::line::Line;
 use crate::names::word_of_refusal;
@@ -65,5 +65,29 @@ pub fn line_no<A: Allocator>(out: &mut Vec<u8, A>, refusal: Refusal) -> Result<(
     let mut line = Line::end();
     line.put(word_of_refusal(refusal));
     line.put(b"no,");
+    line.add_to(out)
+}
+
+/// Appends the line of a read that does not give the value that its record states:
+/// `differs,RECORD,VALUE`. `row` is the record's number, counted from 1, and `value` the stated value,
+/// in ns.
+///
+/// # Errors
+///
+/// - `Memory`: an allocation failed; `out` is as it was
+pub fn line_differs<A: Allocator>(
+    out: &mut Vec<u8, A>,
+    row: u64,
+    value: u64,
+) -> Result<(), ScriptError>
+    ensures ok { OnOk result (out.new.items ≡ out.old.items ++ differs_line row value) }
+    ensures err { OnErr result (out.new.items ≡ out.old.items) }
+    ensures memory { IfErr result (λ e. e ≡ ScriptError.Memory) }
+{
+    let mut line = Line::end();
+    line.put_number(value);
+    line.put(b",");
+    line.put_number(row);
+    line.put(b"differs,");
     line.add_to(out)
 }

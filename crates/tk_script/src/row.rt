@@ -18,10 +18,11 @@ pub enum Row {
         reading: u64,
         cmd: Command,
     },
-    /// Reads a clock at a reading.
+    /// Reads a clock at a reading. `expected` is the value that the script states, in ns, if any.
     Look {
         reading: u64,
         clock: ClockId,
+        expected: Option<u64>,
     },
     /// Changes the counter at a reading of the present one: the clocks go on over the counter `desc`
     /// from its reading `first`, in cycles, which may be above its mask too.
@@ -41,7 +42,7 @@ pub(crate) fn read_row(row: u64, fields: &Records<'_>) -> Result<Row, ScriptErro
     if has_word(word, b"update") {
         read_plain(row, fields).map(|reading| act(reading, Command::Update))
     } else if has_word(word, b"get") {
-        read_look(row, fields).map(|(reading, clock)| Row::Look { reading, clock })
+        read_look(row, fields)
     } else if has_word(word, b"set") {
         read_timed(row, fields).map(|(reading, time)| act(reading, Command::SetTime(time)))
     } else if has_word(word, b"step") {
@@ -107,17 +108,33 @@ fn read_valued(row: u64, fields: &Records<'_>) -> Result<(u64, i64), ScriptError
     Ok((reading, value))
 }
 
-/// Parses a reading and a clock.
+/// Parses a reading and a clock, and the value that is expected, if there is a further field.
 #[tactic(auto, unfolding(crate::specs::Rows::look_of))]
-fn read_look(row: u64, fields: &Records<'_>) -> Result<(u64, ClockId), ScriptError>
+fn read_look(row: u64, fields: &Records<'_>) -> Result<Row, ScriptError>
     ensures { result ≡ spec.look_of row (fields_of fields.now) }
 {
-    if fields.len() != 3 {
+    if fields.len() != 3 && fields.len() != 4 {
         return Err(ScriptError::Fields { row });
     }
     let reading = number_at(row, fields, 1)?;
     let clock = clock_at(row, fields, 2)?;
-    Ok((reading, clock))
+    let expected = read_expected(row, fields)?;
+    Ok(Row::Look {
+        reading,
+        clock,
+        expected,
+    })
+}
+
+/// Parses the value that a read expects. `None` means that the record has no field for it.
+fn read_expected(row: u64, fields: &Records<'_>) -> Result<Option<u64>, ScriptError>
+    ensures { result ≡ spec.expected_of row (fields_of fields.now) }
+{
+    if fields.len() == 3 {
+        return Ok(None);
+    }
+    let value = number_at(row, fields, 3)?;
+    Ok(Some(value))
 }
 
 /// Parses a reading of the present counter, the numbers of the next one, and a reading of that one.

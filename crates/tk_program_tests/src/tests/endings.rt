@@ -37,9 +37,10 @@ fn states_why_words_are_not_taken(rt: HostRuntime) -> Result<(), Fail> {
 
 #[test]
 fn states_each_ending(rt: HostRuntime) {
-    let endings: [(Ending, u8, &[u8]); 12] = [
+    let endings: [(Ending, u8, &[u8]); 13] = [
         (Ending::Done, 0, b""),
         (Ending::Faulty, 1, b""),
+        (Ending::Differs, 3, b""),
         (
             Ending::Many(ManyError::Count),
             1,

@@ -9,14 +9,14 @@ use std::thread::Threads;
 use tk_clock::{Command, Timespec};
 use tk_counter::CounterDesc;
 use tk_program::{many_text, race_text};
-use tk_replay::{Action, Fault, NoGate, RaceReport, race};
+use tk_replay::{Action, CheckedReport, Fault, NoGate, RaceReport, race};
 use tk_script::ScriptError;
 use tk_test_support::Heap;
 
 /// A text that takes memory.
 #[derive(Clone, Copy)]
 enum Text<'a> {
-    Reports(&'a [Result<Vec<u8>, ScriptError>]),
+    Reports(&'a [Result<CheckedReport, ScriptError>]),
     Race(&'a RaceReport),
 }
 
@@ -55,12 +55,13 @@ fn assert_whole_or_memory(
 }
 
 /// A report, and the fault of a script.
-fn outcomes(rt: &(impl Abort + AllocGlobal)) -> [Result<Vec<u8>, ScriptError>; 2] {
-    let report = Vec::from_slice(rt.alloc(), b"open,32,16777216,24\nno,behind\n");
-    [
-        Ok(report.expect(rt, "memory")),
-        Err(ScriptError::Fields { row: 2 }),
-    ]
+fn outcomes(rt: &(impl Abort + AllocGlobal)) -> [Result<CheckedReport, ScriptError>; 2] {
+    let text = Vec::from_slice(rt.alloc(), b"open,32,16777216,24\nno,behind\n");
+    let report = CheckedReport {
+        text: text.expect(rt, "memory"),
+        differences: 0,
+    };
+    [Ok(report), Err(ScriptError::Fields { row: 2 })]
 }
 
 /// Their text.

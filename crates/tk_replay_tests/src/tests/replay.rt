@@ -1,5 +1,6 @@
 //! Tests what no clause states: the printed lines, the texts of the faults, and that calls succeed.
 
+mod differences;
 mod fakes;
 mod faults;
 mod files;

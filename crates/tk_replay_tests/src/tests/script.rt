@@ -61,5 +61,9 @@ fn act(reading: u64, cmd: Command) -> Row {
 }
 
 fn look(reading: u64, clock: ClockId) -> Row {
-    Row::Look { reading, clock }
+    Row::Look {
+        reading,
+        clock,
+        expected: None,
+    }
 }

@@ -1,6 +1,7 @@
 //! Readers and writers that fail once, at a chosen call, and then continue.
 
 use super::assert_same;
+use std::fmt::Debug;
 use std::io::{self, Error, ErrorKind, Read, Write};
 use std::process::Abort;
 use tk_replay::Fault;
@@ -112,9 +113,9 @@ impl Writer {
 }
 
 /// Stops the test unless a write or the flush failed after this text, as the last of the calls.
-pub(super) fn assert_write_fault(
+pub(super) fn assert_write_fault<T: PartialEq + Debug + Drop>(
     rt: &impl Abort,
-    outcome: Result<(), Fault>,
+    outcome: Result<T, Fault>,
     writer: &Writer,
     text: &[u8],
     calls: u32,

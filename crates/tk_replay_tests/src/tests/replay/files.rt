@@ -33,7 +33,7 @@ fn replays_a_file_into_a_file(rt: HostRuntime) -> Result<(), Fail> {
     fs::write(&rt, "tk_replay_script", SCRIPT)?;
     let mut script = File::open(&rt, "tk_replay_script")?;
     let mut report = File::create(&rt, "tk_replay_report")?;
-    assert_same(&rt, &replay(rt.alloc(), &mut script, &mut report), &Ok(()));
+    assert_same(&rt, &replay(rt.alloc(), &mut script, &mut report), &Ok(0));
     let text = fs::read(&rt, "tk_replay_report")?;
     assert_same(&rt, &text.as_slice(), &REPORT);
     fs::remove_file(&rt, "tk_replay_script")?;

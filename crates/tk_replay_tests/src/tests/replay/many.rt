@@ -8,11 +8,11 @@ use std::sync::atomic::{AtomicU64, Ordering};
 use std::test::Fail;
 use std::thread;
 use std::thread::Threads;
-use tk_replay::{Gate, ManyError, NoGate, replay_all, report};
+use tk_replay::{CheckedReport, Gate, ManyError, NoGate, replay_all, report};
 use tk_script::ScriptError;
 
 /// The result for one script.
-type Outcome = Result<Vec<u8>, ScriptError>;
+type Outcome = Result<CheckedReport, ScriptError>;
 
 /// The result of `replay_all`.
 pub(super) type Outcomes = Result<Vec<Outcome>, ManyError>;
@@ -32,11 +32,19 @@ pub(super) fn assert_outcomes<G: Gate + Sync>(
     );
 }
 
+/// Returns a report without differences.
+pub(super) fn agreeing(text: Vec<u8>) -> CheckedReport {
+    CheckedReport {
+        text,
+        differences: 0,
+    }
+}
+
 /// Returns the reports of all scripts, made one by one.
 pub(super) fn reports_of(alloc: Global, scripts: &[Vec<u8>]) -> Result<Outcomes, Fail> {
     let mut reports = Vec::new(alloc);
     for script in scripts {
-        reports.push(Ok(report(alloc, script.as_slice())?))?;
+        reports.push(Ok(agreeing(report(alloc, script.as_slice())?)))?;
     }
     Ok(Ok(reports))
 }
@@ -62,7 +70,7 @@ fn two(alloc: Global) -> Result<Vec<Vec<u8>>, AllocError> {
 
 /// The outcomes of both.
 fn two_outcomes(alloc: Global) -> Result<Vec<Outcome>, AllocError> {
-    let whole = Ok(Vec::from_slice(alloc, REPORT)?);
+    let whole = Ok(agreeing(Vec::from_slice(alloc, REPORT)?));
     let short = Err(ScriptError::Fields { row: 2 });
     Ok(vec![in alloc; whole, short]?)
 }

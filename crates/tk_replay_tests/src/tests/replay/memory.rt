@@ -52,9 +52,9 @@ fn bounded_report_or_want_of_it(rt: HostRuntime) {
 
 /// Stops the test unless the whole report was written, or an allocation failed and nothing was
 /// written.
-fn assert_written(rt: &impl Abort, outcome: Result<(), Fault>, writer: &Writer) {
+fn assert_written<T: Drop>(rt: &impl Abort, outcome: Result<T, Fault>, writer: &Writer) {
     match outcome {
-        Ok(()) => assert!(rt; writer.len > 0),
+        Ok(_) => assert!(rt; writer.len > 0),
         Err(fault) => {
             assert_same(rt, &fault, &Fault::Memory);
             assert_same(rt, &writer.len, &0);
@@ -118,7 +118,7 @@ fn text_of<'h>(
 ) -> Result<Vec<u8, &'h Heap<Global>>, ScriptError> {
     let (start, mut rows) = RowReader::open(alloc, DATED)?;
     let keep = if is_bounded { Some(1) } else { None };
-    report_rows(heap, start, &mut rows, keep)
+    Ok(report_rows(heap, start, &mut rows, keep)?.text)
 }
 
 /// Returns the number of accepted commands of `DATED`, with a journal out of the heap.

@@ -13,7 +13,7 @@ fn replayed<R: Read, W: Write>(
     is_bounded: bool,
     reader: &mut R,
     writer: &mut W,
-) -> Result<(), Fault> {
+) -> Result<u64, Fault> {
     if is_bounded {
         replay_bounded(alloc, reader, writer, 1)
     } else {
@@ -49,7 +49,7 @@ fn reads_to_the_end(rt: HostRuntime) {
         let mut reader = Reader::new(SCRIPT, 12, ErrorKind::Other);
         let mut writer = Writer::willing();
         let outcome = replayed(rt.alloc(), is_bounded, &mut reader, &mut writer);
-        assert_same(&rt, &outcome, &Ok(()));
+        assert_same(&rt, &outcome, &Ok(0));
         assert_same(&rt, &writer.text(), &REPORT);
     }
 }
@@ -100,7 +100,7 @@ fn writes_by_single_bytes(rt: HostRuntime) {
         let mut writer = Writer::new(1, NEVER, Turn::TakesNone);
         let mut script = SCRIPT;
         let outcome = replayed(rt.alloc(), is_bounded, &mut script, &mut writer);
-        assert_same(&rt, &outcome, &Ok(()));
+        assert_same(&rt, &outcome, &Ok(0));
         assert_taken(&rt, &writer, REPORT, 98);
     }
 }

@@ -1,8 +1,8 @@
-use super::{OPENING, act, assert_rows, joined, look, time};
+use super::{OPENING, act, assert_rows, assert_same, joined, look, time};
 use std::process::Abort;
 use tk_clock::{ClockId, Command};
 use tk_counter::CounterDesc;
-use tk_script::Row;
+use tk_script::{Row, Script, ScriptError};
 
 /// Stops the test if one record after an opening gives another row.
 fn assert_row(rt: &(impl Abort + AllocGlobal), record: &[u8], row: Row) {
@@ -53,6 +53,54 @@ fn reads_each_clock(rt: HostRuntime) {
         (b"get,7,monotonic_raw".as_slice(), ClockId::MonotonicRaw),
     ] {
         assert_row(&rt, record, look(7, clock));
+    }
+}
+
+#[test]
+fn reads_an_expected_value(rt: HostRuntime) {
+    for (record, value) in [
+        (b"get,7,tai,0".as_slice(), 0),
+        (b"get,7,tai,0001", 1),
+        (b"get,7,tai,18446744073709551615\n", u64::MAX),
+        (
+            b"\"get\",7,\"tai\",1700000000500000000",
+            1_700_000_000_500_000_000,
+        ),
+    ] {
+        let row = Row::Look {
+            reading: 7,
+            clock: ClockId::Tai,
+            expected: Some(value),
+        };
+        assert_row(&rt, record, row);
+    }
+}
+
+/// Stops the test unless one record after an opening has this fault.
+fn assert_fault(rt: &(impl Abort + AllocGlobal), record: &[u8], fault: ScriptError) {
+    let bytes = joined(rt.alloc(), OPENING, record);
+    assert!(rt; bytes.is_ok());
+    if let Ok(bytes) = bytes {
+        let error = Script::from_bytes(rt.alloc(), bytes.as_slice()).err();
+        assert_same(rt, &error, &Some(fault));
+    }
+}
+
+#[test]
+fn refuses_an_expected_value_that_is_no_number(rt: HostRuntime) {
+    let (word, fields) = (ScriptError::Word { row: 2 }, ScriptError::Fields { row: 2 });
+    let number = ScriptError::Number { row: 2 };
+    for (record, fault) in [
+        (b"get,7,tai,".as_slice(), number),
+        (b"get,7,tai,-1", number),
+        (b"get,7,tai,1.000000000", number),
+        (b"get,7,tai,18446744073709551616", number),
+        (b"get,x,foo,y", number),
+        (b"get,7,foo,y", word),
+        (b"get,7,tai,1,2", fields),
+        (b"get,7", fields),
+    ] {
+        assert_fault(&rt, record, fault);
     }
 }
 

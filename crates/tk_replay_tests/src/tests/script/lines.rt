@@ -2,7 +2,7 @@ use super::assert_same;
 use std::test::Fail;
 use tk_clock::{ClockId, Refusal, Timespec};
 use tk_counter::CounterDesc;
-use tk_script::{Calendar, line_at, line_no, line_ok, line_open};
+use tk_script::{Calendar, line_at, line_differs, line_no, line_ok, line_open};
 
 #[test]
 fn writes_each_line(rt: HostRuntime) -> Result<(), Fail> {
@@ -23,13 +23,15 @@ fn writes_each_line(rt: HostRuntime) -> Result<(), Fail> {
     line_at(&mut out, ClockId::Monotonic, zero)?;
     line_at(&mut out, ClockId::Realtime, day)?;
     line_at(&mut out, ClockId::Tai, day)?;
+    line_differs(&mut out, 7, 1_700_000_000_000_000_001)?;
     let want = b"open,32,16777216,24\n\
         ok,1,2.147483647\n\
         no,behind\n\
         no,memory\n\
         at,monotonic,0.000000000\n\
         at,realtime,1700000000.000000000,2023-11-14T22:13:20.000000000Z\n\
-        at,tai,1700000000.000000000\n";
+        at,tai,1700000000.000000000\n\
+        differs,7,1700000000000000001\n";
     assert_same(&rt, &out.as_slice(), &want.as_slice());
     Ok(())
 }

@@ -7,7 +7,7 @@ use std::process::Abort;
 use std::test::Fail;
 use tk_clock::{ClockId, Refusal, Timespec};
 use tk_counter::CounterDesc;
-use tk_script::{Calendar, ScriptError, line_at, line_no, line_ok, line_open, utc};
+use tk_script::{Calendar, ScriptError, line_at, line_differs, line_no, line_ok, line_open, utc};
 use tk_test_support::Heap;
 
 const TIME: Timespec = Timespec {
@@ -46,6 +46,7 @@ enum Line {
     Refused,
     Plain,
     Dated,
+    Differing,
 }
 
 impl Line {
@@ -57,6 +58,7 @@ impl Line {
             Line::Refused => line_no(out, Refusal::Invalid),
             Line::Plain => line_at(out, ClockId::MonotonicCoarse, TIME),
             Line::Dated => line_at(out, ClockId::RealtimeCoarse, TIME),
+            Line::Differing => line_differs(out, u64::MAX, u64::MAX),
         }
     }
 }
@@ -97,7 +99,7 @@ fn assert_line_or_nothing(rt: &(impl Abort + AllocGlobal), line: &Line, whole: &
 #[test]
 fn writes_a_line_or_nothing(rt: HostRuntime) -> Result<(), Fail> {
     let desc = CounterDesc::new(32, 3_869_339_906, 32)?;
-    let lines: [(Line, &[u8]); 5] = [
+    let lines: [(Line, &[u8]); 6] = [
         (Line::Open(desc), b"-open,32,3869339906,32\n"),
         (
             Line::Accepted,
@@ -108,6 +110,10 @@ fn writes_a_line_or_nothing(rt: HostRuntime) -> Result<(), Fail> {
         (
             Line::Dated,
             b"-at,realtime_coarse,9223372035.999999999,2262-04-11T23:47:15.999999999Z\n",
+        ),
+        (
+            Line::Differing,
+            b"-differs,18446744073709551615,18446744073709551615\n",
         ),
     ];
     for (line, whole) in &lines {

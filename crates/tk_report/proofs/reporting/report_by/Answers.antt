@@ -6,5 +6,5 @@ pub returns : goal.returns
 returns c =
     let opened = c.in_ok-start.ensures.gives in
     report-opened c.args.keep c.args.script.now c.in_ok-start.start
-    (coming c.in_ok-start.rows) (λ text. text.items)
+    (coming c.in_ok-start.rows) (λ report. report.text.items) (λ report. report.differences)
     c.report_rows.result opened.1 c.report_rows.ensures

@@ -5,13 +5,16 @@ use Rattle.tk_report.proofs.Lines.{IsBegunBy}
 use Rattle.tk_report.proofs.reporting.report_rows.Given as goal
 
 -- the lines so far, followed by the lines of the remaining rows, are the report; a record is at
--- most one command
+-- most one command and one difference
 abbrev pub invariant-rows : goal.invariant-rows
 invariant-rows g l = record {
   ready : IsReady l.rows;
-  begun : IsBegunBy l.keep l.fn.start (coming l.fn.rows) l.clocks.keeper.journal
+  begun : IsBegunBy l.keep l.fn.start (coming l.fn.rows) (l.number + 1) l.differences
+      l.clocks.keeper.journal
       l.clocks.since (coming l.rows) l.text.items;
   opening : l.clocks.since ≤ l.clocks.keeper.journal.opening.count;
+  numbered : l.number + records_left l.rows ≤ 2 ^ 32;
+  found : l.differences ≤ l.number;
   count : accepted_count l.clocks.keeper.journal + records_left l.rows ≤ 2 ^ 32;
 }
 
