@@ -57,7 +57,7 @@ pub fn turn<R: Threads + Wait + Hours + Sync>(
         let Ok(report) = outcome else {
             return None;
         };
-        check = weighed(check, report.as_slice());
+        check = weighed(check, report.text.as_slice());
     }
     Some(Turn {
         time,
