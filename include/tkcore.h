@@ -67,6 +67,10 @@
  *   tkc_snapshot_from_words, tkc_clock_from_words and tkc_clock_load validate words, so later calls
  *   need no test.
  *
+ * Several commands
+ *   To apply a group of commands as a whole, apply it to a copy of the clocks. If all are accepted,
+ *   assign the copy to the clocks, and publish them once.
+ *
  * Pointers
  *   - No pointer may be NULL, except for an empty list of tkc_snapshot_convert: if `room` is 0,
  *     `out` may be any address, including NULL, and if `count` is 0, so may `stamps`.
@@ -76,9 +80,9 @@
  *
  * Contexts
  *   No call waits, takes a lock, allocates, calls back, ends the process or keeps state between
- *   calls. Each call uses less than 1 kB of stack. So a process, a softirq, an interrupt, an NMI or
- *   a signal handler may make any call, if the archive's code may run there. In a process it always
- *   may. A kernel module must follow the list in docs/C.md, "In the Linux kernel". In short:
+ *   calls. Each call uses less than 1.2 kB of stack. So a process, a softirq, an interrupt, an NMI
+ *   or a signal handler may make any call, if the archive's code may run there. In a process it
+ *   always may. A kernel module must follow the list in docs/C.md, "In the Linux kernel". In short:
  *     - Link the archive of `tools/build_c --backend rattle`. The archive of LLVM uses the red zone
  *       below the stack pointer, and requires a stack that is aligned to 16 bytes.
  *     - tkc_snapshot_convert, tkc_ntp_open, tkc_ntp_advance, tkc_ntp_apply and tkc_adjtimex use SSE
@@ -125,8 +129,11 @@ extern "C" {
 #define TKC_MUST_CHECK __attribute__((nonnull, warn_unused_result))
 /* The same, except that the two lists may be NULL. */
 #define TKC_MUST_CHECK_LISTS __attribute__((nonnull(3, 4), warn_unused_result))
+/* A call that only reads its arguments and what they point to. */
+#define TKC_PURE __attribute__((nonnull, pure, warn_unused_result))
 #else
 #define TKC_NONNULL
+#define TKC_PURE
 #define TKC_MUST_CHECK
 #define TKC_MUST_CHECK_LISTS
 #endif
@@ -172,8 +179,13 @@ enum tkc_code {
 	 * read. A change of counter also returns it if MONOTONIC_RAW is too far ahead of MONOTONIC
 	 * for the new counter. */
 	TKC_RANGE = 6,
-	/* The clock doesn't reach the time at any reading that tkc_snapshot_reading searches. */
-	TKC_NOT_REACHED = 8,
+	/* The clock counts, and the time is below its limit, but it is further away than the
+	 * readings that tkc_snapshot_reading searches: look again, in a later snapshot, from half
+	 * of the counter's range on. */
+	TKC_FURTHER = 8,
+	/* The clock doesn't reach the time: the clocks are asleep, the clock is a coarse one, or it
+	 * reaches its limit first. Only a command can change that. */
+	TKC_NEVER = 9,
 
 	/* Numbers that this header doesn't define, faulty words, and missing room. */
 
@@ -454,6 +466,23 @@ TKC_NONNULL
 void tkc_counter_numbers(uint32_t *bits, uint32_t *mult, uint32_t *shift,
 			 const struct tkc_counter *counter);
 
+/*
+ * Returns the cycles from one reading to a later one: to - from, modulo 2^bits. Both may be any
+ * numbers, since bits above the counter's don't count (clocksource_delta without its test: more
+ * than half of 2^bits - 1 cycles lead back).
+ */
+TKC_PURE
+uint64_t tkc_counter_gap(const struct tkc_counter *counter, uint64_t from, uint64_t to);
+
+/*
+ * Returns the nanoseconds of any number of cycles at the counter's own rate:
+ * cycles * mult / 2^shift, rounded down, or 2^64 - 1 if they are more (clocksource_cyc2ns in
+ * include/linux/clocksource.h, which drops the upper bits of a product beyond 2^64). The clocks'
+ * frequency and tick don't count.
+ */
+TKC_PURE
+uint64_t tkc_counter_nanos(const struct tkc_counter *counter, uint64_t cycles);
+
 /* Stores the counter whose readings a snapshot converts: its clocks had it when it was made. */
 TKC_NONNULL
 void tkc_snapshot_counter(struct tkc_counter *out, const struct tkc_snapshot *snapshot);
@@ -467,6 +496,22 @@ void tkc_snapshot_counter(struct tkc_counter *out, const struct tkc_snapshot *sn
 TKC_MUST_CHECK
 enum tkc_code tkc_clock_open(struct tkc_clock *out, const struct tkc_counter *counter,
 			     uint64_t reading, int64_t sec, uint32_t nsec);
+
+/*
+ * Opens clocks that have an uptime at this reading: MONOTONIC, MONOTONIC_RAW and BOOTTIME are
+ * uptime_sec s, 0 to 946079999, plus uptime_nsec ns, 0 to 999999999. All else is as by
+ * tkc_clock_open. Use it to open clocks as if they had run for a while.
+ *
+ * Returns, in this order:
+ *   TKC_INVALID  tkc_clock_open would return it, or the uptime is below 0 s, or uptime_nsec is
+ *                above 999999999
+ *   TKC_RANGE    the uptime is 946080000 s or more, the limit of MONOTONIC
+ *   TKC_INVALID  REALTIME would be below MONOTONIC
+ */
+TKC_MUST_CHECK
+enum tkc_code tkc_clock_open_at(struct tkc_clock *out, const struct tkc_counter *counter,
+				uint64_t reading, int64_t sec, uint32_t nsec, int64_t uptime_sec,
+				uint32_t uptime_nsec);
 
 /*
  * Applies a command to the clocks, and adds 1 to their front if it is accepted (enum tkc_command
@@ -522,12 +567,27 @@ TKC_MUST_CHECK
 enum tkc_code tkc_clock_change_counter(struct tkc_clock *clock, uint64_t reading,
 				       const struct tkc_counter *counter, uint64_t first);
 
+/* Return the frequency of the clocks as it was set, in 2^-16 ppm, and their tick in us: what
+ * tkc_clock_words stores of them. */
+TKC_PURE int64_t tkc_clock_frequency(const struct tkc_clock *clock);
+TKC_PURE int64_t tkc_clock_tick(const struct tkc_clock *clock);
+
 /*
  * Makes a snapshot of the clocks for readers (update_vsyscall in kernel/time/vsyscall.c,
  * update_fast_timekeeper). Use it for readings up to the reading of the next accepted command. At a
- * reading after that one, it may give a later time than the next snapshot gives.
+ * reading after that one, it may give a later time than the next snapshot gives. It doesn't know
+ * the time before its last command: stamps from before that command need an earlier snapshot.
  */
 TKC_NONNULL void tkc_clock_snapshot(struct tkc_snapshot *out, const struct tkc_clock *clock);
+
+/* Returns the front of a snapshot: the front of its clocks when it was made. */
+TKC_PURE uint64_t tkc_snapshot_front(const struct tkc_snapshot *snapshot);
+
+/* Returns TAI minus REALTIME in seconds, 0 to 100000. */
+TKC_PURE uint32_t tkc_snapshot_tai(const struct tkc_snapshot *snapshot);
+
+/* Returns 1 if the clocks are asleep in a snapshot, otherwise 0. */
+TKC_PURE uint32_t tkc_snapshot_asleep(const struct tkc_snapshot *snapshot);
 
 /*
  * Reads a clock at a reading (ktime_get_ts64, ktime_get_real_ts64, ktime_get_raw_ts64,
@@ -551,9 +611,12 @@ enum tkc_code tkc_snapshot_get(struct tkc_time *out, const struct tkc_snapshot *
  * The search covers the last command's reading and the (2^bits - 1) / 2 readings after it, rounded
  * down. A later snapshot may give another reading for the same time.
  *
- * Returns TKC_BAD_CLOCK, and then TKC_NOT_REACHED if the clock has reached the time at none of
- * these readings: the time is too far away, the clocks are asleep, the clock is a coarse one, or
- * the clock reaches its limit before the time.
+ * Returns TKC_BAD_CLOCK. If the clock has reached the time at none of these readings, it returns:
+ *   TKC_FURTHER  the clock counts, the time is below its limit, and tkc_snapshot_get stores an
+ *                earlier time at every one of these readings. Apply a command, usually an UPDATE,
+ *                at or before the last of them, and look again in its snapshot.
+ *   TKC_NEVER    otherwise: the clocks are asleep, the clock is a coarse one, or the clock reaches
+ *                its limit before the time. Waiting doesn't help; a command may.
  */
 TKC_MUST_CHECK
 enum tkc_code tkc_snapshot_reading(uint64_t *out, const struct tkc_snapshot *snapshot,
@@ -745,8 +808,8 @@ enum tkc_code tkc_adjtimex(struct tkc_timex *timex, uint32_t *state, struct tkc_
 
 /*
  * Finds the reading at which the next second of REALTIME begins, to set a timer to. It searches the
- * readings that tkc_snapshot_reading searches. Returns TKC_NOT_REACHED if REALTIME doesn't reach
- * that second at any of them.
+ * readings that tkc_snapshot_reading searches. If REALTIME doesn't reach that second at any of
+ * them, it returns TKC_FURTHER or TKC_NEVER, in the same cases as that call.
  */
 TKC_MUST_CHECK
 enum tkc_code tkc_ntp_next_second(uint64_t *out, const struct tkc_ntp *ntp);
@@ -769,7 +832,8 @@ TKC_INLINE const char *tkc_code_name(uint32_t code)
 	case TKC_INVALID: return "TKC_INVALID";
 	case TKC_BEHIND: return "TKC_BEHIND";
 	case TKC_RANGE: return "TKC_RANGE";
-	case TKC_NOT_REACHED: return "TKC_NOT_REACHED";
+	case TKC_FURTHER: return "TKC_FURTHER";
+	case TKC_NEVER: return "TKC_NEVER";
 	case TKC_BAD_COMMAND: return "TKC_BAD_COMMAND";
 	case TKC_BAD_CLOCK: return "TKC_BAD_CLOCK";
 	case TKC_BAD_WORDS: return "TKC_BAD_WORDS";

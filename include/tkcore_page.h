@@ -26,6 +26,8 @@
  *     may read it. MONOTONIC may go back by the change of the rate times the time since the
  *     writer's reading (as in ktime_get_mono_fast_ns in kernel/time/timekeeping.c).
  *   A writer that has both publishes on the page first.
+ *   If readers run on other processors, give each its own cache lines: alignas(64), or
+ *   _Alignas(64) in C before C23, and no other data in its last line.
  *
  * If the writer dies
  *   A writer may die at any instruction. Readers then see what its last store left:
@@ -105,7 +107,7 @@
  *   - Otherwise a reader reads both counters in one call of read_counter, and keeps both readings
  *     in its context. tkc_page_look or tkc_latch_look gives the snapshot, and tkc_snapshot_get
  *     takes the reading of its counter. The numbers of the two counters must differ, or the reader
- *     can't tell which one the snapshot is of.
+ *     can't decide which counter the snapshot is of.
  *   MONOTONIC doesn't go back over a change for readers of a page. tests/c/page_changes.c is an
  *   example.
  *

@@ -104,6 +104,7 @@ static void snapshot_of(struct tkc_snapshot *snapshot, const struct tkc_clock *o
 	tkc_clock_snapshot(out, clock);
 	tkc_clock_words(words, &frequency, &tick, clock);
 	check(is_same_snapshot(out, words));
+	check(tkc_clock_frequency(clock) == frequency && tkc_clock_tick(clock) == tick);
 	*snapshot = *out;
 }
 
@@ -122,10 +123,27 @@ static uint32_t try_open(struct tkc_clock *clock, const struct tkc_counter *of)
 	return code;
 }
 
+static uint32_t try_open_at(struct tkc_clock *clock, const struct tkc_counter *of)
+{
+	const struct tkc_counter *counter = put(rooms.counter, of, sizeof(*of));
+	uint64_t reading = one_in(2) ? below(256) : some();
+	struct tkc_clock before;
+	struct tkc_clock *out = fill(rooms.clock, &before, sizeof(before));
+	int64_t sec = (int64_t)(one_in(4) ? some() : below(8277292037));
+	int64_t uptime = (int64_t)(one_in(4) ? some() : below(946080001));
+	uint32_t code = saw(tkc_clock_open_at(out, counter, reading, sec, some_nsec(), uptime,
+					      some_nsec()));
+
+	check(code == TKC_OK || code == TKC_INVALID || code == TKC_RANGE);
+	check(!code || !memcmp(out, &before, sizeof(before)));
+	*clock = *out;
+	return code;
+}
+
 void try_clocks(struct tkc_clock *clock, struct tkc_counter *counter,
 		struct tkc_snapshot *snapshot)
 {
-	if (try_open(clock, counter))
+	if (one_in(4) ? try_open_at(clock, counter) : try_open(clock, counter))
 		check(!tkc_clock_open(clock, counter, 0, 1700000000, 0));
 	if (one_in(16))
 		fill_count(clock, counter);

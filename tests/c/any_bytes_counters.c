@@ -49,6 +49,23 @@ static void try_numbers(const struct tkc_counter *of)
 	check(!memcmp(&same, of, sizeof(*of)));
 }
 
+/* Checks that the sums of cycles agree: a gap leads from one reading to the
+ * other, and more cycles don't take less time. */
+static void try_cycles(const struct tkc_counter *of)
+{
+	const struct tkc_counter *counter = put(rooms.counter, of, sizeof(*of));
+	uint64_t from = some(), to = some(), more = some(), bits, gap;
+	uint32_t numbers[3];
+
+	tkc_counter_numbers(&numbers[0], &numbers[1], &numbers[2], of);
+	bits = UINT64_MAX >> (64 - numbers[0]);
+	gap = tkc_counter_gap(counter, from, to);
+	check(gap <= bits && ((from + gap) & bits) == (to & bits));
+	check(from > UINT64_MAX - more || tkc_counter_nanos(counter, from) <=
+						  tkc_counter_nanos(counter, from + more));
+	check(!memcmp(counter, of, sizeof(*of)));
+}
+
 void some_counter(struct tkc_counter *counter)
 {
 	uint32_t bits = 8 + (uint32_t)below(57);
@@ -56,4 +73,5 @@ void some_counter(struct tkc_counter *counter)
 	if (one_in(2) ? try_new(counter) : try_from_rate(counter))
 		check(!tkc_counter_from_hz(counter, bits, 24000000, 600));
 	try_numbers(counter);
+	try_cycles(counter);
 }

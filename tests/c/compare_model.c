@@ -5,7 +5,7 @@
  *
  *     compare_model CALLS [SEED]
  */
-#include "model.h"
+#include "compare_model.h"
 #include "random.h"
 
 #include <inttypes.h>
@@ -15,64 +15,14 @@
 
 static uint64_t calls;
 
-#define CHECK(condition) check(condition, #condition, __LINE__)
-
-static void check(bool holds, const char *condition, int line)
+void check(bool holds, const char *condition, const char *file, int line)
 {
 	calls++;
 	if (holds)
 		return;
-	fprintf(stderr, "compare_model: line %d, after %" PRIu64 " checks: %s\n", line, calls,
-		condition);
+	fprintf(stderr, "compare_model: %s, line %d, after %" PRIu64 " checks: %s\n", file, line,
+		calls, condition);
 	exit(EXIT_FAILURE);
-}
-
-/* The numbers of a counter. */
-struct numbers {
-	uint32_t bits, mult, shift;
-};
-
-/* Makes a counter from its numbers. Returns the code. */
-static uint32_t make_from_numbers(struct tkc_counter *counter, struct numbers *numbers)
-{
-	uint32_t code;
-
-	numbers->mult = (uint32_t)(any() >> below(64));
-	numbers->shift = (uint32_t)below(34);
-	code = model_counter(numbers->bits, numbers->mult, numbers->shift);
-	CHECK(tkc_counter_new(counter, numbers->bits, numbers->mult, numbers->shift) == code);
-	return code;
-}
-
-/* Makes a counter from its rate, and stores the numbers that the model gives it. Returns the
- * code. */
-static uint32_t make_from_rate(struct tkc_counter *counter, struct numbers *numbers)
-{
-	uint32_t maxsec = (uint32_t)below(602), bits = numbers->bits;
-	uint64_t rate = any() >> below(64), scale = below(2) ? 1000 : 1;
-	uint32_t code = model_rate(bits, rate, maxsec);
-
-	if (scale == 1)
-		CHECK(tkc_counter_from_hz(counter, bits, rate, maxsec) == code);
-	else
-		CHECK(tkc_counter_from_khz(counter, bits, rate, maxsec) == code);
-	if (!code)
-		model_scale(scale, rate, maxsec, &numbers->mult, &numbers->shift);
-	return code;
-}
-
-/* Makes a counter, and stores its numbers. Returns whether they describe a counter. */
-static bool make_counter(struct tkc_counter *counter, struct numbers *numbers, bool has_rate)
-{
-	uint32_t found[3];
-
-	numbers->bits = (uint32_t)(below(9) ? 8 + below(57) : some());
-	if (has_rate ? make_from_rate(counter, numbers) : make_from_numbers(counter, numbers))
-		return false;
-	tkc_counter_numbers(&found[0], &found[1], &found[2], counter);
-	CHECK(found[0] == numbers->bits && found[1] == numbers->mult &&
-	      found[2] == numbers->shift);
-	return true;
 }
 
 /* Compares the clocks with the model by their words. */
@@ -85,6 +35,7 @@ static void compare(const struct tkc_clock *clock, const struct model *model)
 	model_words(model, expected);
 	CHECK(!memcmp(words, expected, sizeof(words)));
 	CHECK(frequency == model->frequency && tick == model->tick);
+	CHECK(tkc_clock_frequency(clock) == frequency && tkc_clock_tick(clock) == tick);
 }
 
 static uint64_t reading_near(const struct model *model)
@@ -148,6 +99,9 @@ static void try_reads(const struct tkc_clock *clock, const struct model *model)
 	i128 value;
 
 	tkc_clock_snapshot(&snapshot, clock);
+	CHECK(tkc_snapshot_front(&snapshot) == model->front &&
+	      tkc_snapshot_tai(&snapshot) == model->tai &&
+	      tkc_snapshot_asleep(&snapshot) == model->asleep);
 	for (i = 0; i < COUNT; i++)
 		stamps[i] = reading_near(model);
 	expected = tkc_snapshot_convert(out, COUNT, &done, &snapshot, id, stamps, COUNT);
@@ -258,6 +212,33 @@ static void try_words(const struct tkc_counter *counter, const struct tkc_clock 
 	}
 }
 
+/* Opens clocks with an uptime at a reading. The model is of clocks that were opened there. */
+static void try_open_at(const struct tkc_counter *counter, const struct model *opened,
+			uint64_t reading, int64_t sec, uint32_t nsec)
+{
+	int64_t up = (int64_t)(below(8) ? below(946080001) : some());
+	uint32_t up_nsec = (uint32_t)(below(8) ? below(1000000000) : some());
+	struct model model = *opened;
+	struct tkc_clock clock;
+	uint32_t code = TKC_OK;
+	i128 uptime = up * NANOS + up_nsec;
+
+	if (up < 0 || up_nsec >= 1000000000)
+		code = TKC_INVALID;
+	else if (up >= 946080000)
+		code = TKC_RANGE;
+	else if (sec * NANOS + nsec < uptime)
+		code = TKC_INVALID;
+	CHECK(tkc_clock_open_at(&clock, counter, reading, sec, nsec, up, up_nsec) == code);
+	if (code)
+		return;
+	model.mono = model.raw = (u128)uptime << model.shift;
+	model.real -= uptime;
+	compare(&clock, &model);
+	try_command(&clock, &model);
+	try_reads(&clock, &model);
+}
+
 static void round_of_calls(void)
 {
 	struct tkc_counter counter;
@@ -278,11 +259,15 @@ static void round_of_calls(void)
 	is_valid = reading <= model.mask && sec >= 0 && sec < 8277292036 && nsec < 1000000000;
 	CHECK(tkc_clock_open(&clock, &counter, reading, sec, nsec) ==
 	      (is_valid ? TKC_OK : TKC_INVALID));
-	if (!is_valid)
+	if (!is_valid) {
+		CHECK(tkc_clock_open_at(&clock, &counter, reading, sec, nsec, -1, 0) ==
+		      TKC_INVALID);
 		return;
+	}
 	model.last = reading;
 	model.real = sec * NANOS + nsec;
 	compare(&clock, &model);
+	try_open_at(&counter, &model, reading, sec, nsec);
 	for (int i = 0; i < 30; i++) {
 		try_command(&clock, &model);
 		if (!below(4))

@@ -72,7 +72,7 @@ class Session:
     def next(self):
         reading = self.steered.next_second()
         if reading is None:
-            raise Refused("not_reached")
+            raise Refused("further" if self.steered.is_next_further() else "never")
         return f"next,{reading}"
 
 

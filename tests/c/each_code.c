@@ -52,6 +52,9 @@ static void counters(struct tkc_counter *counter)
 static void commands(struct tkc_clock *clock, const struct tkc_counter *counter)
 {
 	MEET(TKC_INVALID, tkc_clock_open(clock, counter, 0, -1, 0));
+	MEET(TKC_RANGE, tkc_clock_open_at(clock, counter, 0, 0, 0, 946080000, 0));
+	MEET(TKC_INVALID, tkc_clock_open_at(clock, counter, 0, 0, 0, 1, 0));
+	MEET(TKC_OK, tkc_clock_open_at(clock, counter, 0, 1, 0, 1, 0));
 	MEET(TKC_OK, tkc_clock_open(clock, counter, 1000, 1700000000, 0));
 	MEET(TKC_BAD_COMMAND, tkc_clock_apply(clock, 1000, 8, 0, 0));
 	MEET(TKC_AWAKE, tkc_clock_apply(clock, 1000, TKC_CMD_RESUME, 0, 0));
@@ -143,8 +146,8 @@ static void reads(const struct tkc_clock *clock, const struct tkc_counter *count
 	MEET(TKC_OK, tkc_snapshot_reading(&first, &snapshot, TKC_CLOCK_BOOTTIME, 5, 0));
 	need(first == 7, "BOOTTIME was 5 s at the last command");
 	MEET(TKC_BAD_CLOCK, tkc_snapshot_reading(&first, &snapshot, 2, 5, 0));
-	MEET(TKC_NOT_REACHED, tkc_snapshot_reading(&first, &snapshot, TKC_CLOCK_TAI,
-						   INT64_MAX, 0));
+	MEET(TKC_FURTHER, tkc_snapshot_reading(&first, &snapshot, TKC_CLOCK_TAI, 8000000000, 0));
+	MEET(TKC_NEVER, tkc_snapshot_reading(&first, &snapshot, TKC_CLOCK_TAI, INT64_MAX, 0));
 	need(first == 7, "a time that isn't reached has no reading");
 	MEET(TKC_RANGE, tkc_snapshot_convert(out, 3, &done, &snapshot,
 					     TKC_CLOCK_MONOTONIC, stamps, 3));

@@ -42,6 +42,9 @@ static void open(struct tkc_clock *clock, struct tkc_counter *counter)
 	check(tkc_counter_new(counter, 32, 1 << 24, 24) == TKC_OK);
 	tkc_counter_numbers(&bits, &mult, &shift, counter);
 	check(bits == 32 && mult == 1 << 24 && shift == 24);
+	check(tkc_counter_gap(counter, 4294967295, 4) == 5);
+	check(tkc_counter_nanos(counter, UINT64_MAX) == UINT64_MAX);
+	check(tkc_clock_open_at(clock, counter, 5, 1700000000, 0, 3600, 0) == TKC_OK);
 	check(tkc_clock_open(clock, counter, 5, 1700000000, 0) == TKC_OK);
 	check(tkc_clock_apply(clock, 1000000005, TKC_CMD_UPDATE, 0, 0) == TKC_OK);
 }
@@ -59,6 +62,9 @@ static void read(const struct tkc_snapshot *snapshot)
 	check(tkc_snapshot_reading(&first, snapshot, TKC_CLOCK_REALTIME,
 				   1700000001, 500000000) == TKC_OK);
 	check(first == 1500000005);
+	check(tkc_snapshot_reading(&first, snapshot, TKC_CLOCK_MONOTONIC, 5, 0) == TKC_FURTHER);
+	check(tkc_snapshot_front(snapshot) == 1 && tkc_snapshot_tai(snapshot) == 0 &&
+	      tkc_snapshot_asleep(snapshot) == 0);
 	check(tkc_snapshot_convert(out, 9, &done, snapshot, TKC_CLOCK_MONOTONIC,
 				   stamps, 9) == TKC_OK);
 	check(done == 9 && out[0] == 1000000000 && out[2] == 1500000001);
@@ -78,6 +84,7 @@ static void restore(const struct tkc_clock *clock,
 
 	tkc_clock_words(words, &frequency, &tick, clock);
 	check(frequency == 0 && tick == 10000);
+	check(tkc_clock_frequency(clock) == 0 && tkc_clock_tick(clock) == 10000);
 	check(tkc_clock_from_words(&other, counter, words, frequency, tick) ==
 	      TKC_OK);
 	tkc_clock_snapshot(&snapshot, &other);

@@ -258,6 +258,19 @@ static bool has_reached(const struct model *model, uint32_t clock, uint64_t cycl
 	return time >= wanted;
 }
 
+/* Returns the code of a time that a clock reaches at none of the readings that are searched. At the
+ * last of them it is later than at the others. */
+static uint32_t unreached(const struct model *model, uint32_t clock, i128 wanted)
+{
+	bool coarse = clock == TKC_CLOCK_REALTIME_COARSE || clock == TKC_CLOCK_MONOTONIC_COARSE;
+	i128 end = clock == TKC_CLOCK_MONOTONIC ? MONOTONIC_END : CLOCK_END, time;
+	uint64_t last = (model->last + model->mask / 2) & model->mask;
+
+	if (model->asleep || coarse || wanted >= end)
+		return TKC_NEVER;
+	return model_get(model, clock, last, &time) ? TKC_NEVER : TKC_FURTHER;
+}
+
 uint32_t model_reading(const struct model *model, uint32_t clock, int64_t sec, uint32_t nsec,
 		       uint64_t *reading)
 {
@@ -267,7 +280,7 @@ uint32_t model_reading(const struct model *model, uint32_t clock, int64_t sec, u
 	if (model_get(model, clock, model->last, &time) == TKC_BAD_CLOCK)
 		return TKC_BAD_CLOCK;
 	if (!has_reached(model, clock, most, wanted))
-		return TKC_NOT_REACHED;
+		return unreached(model, clock, wanted);
 	while (least < most) {
 		uint64_t middle = least + (most - least) / 2;
 
@@ -277,7 +290,7 @@ uint32_t model_reading(const struct model *model, uint32_t clock, int64_t sec, u
 			least = middle + 1;
 	}
 	*reading = (model->last + least) & model->mask;
-	return model_get(model, clock, *reading, &time) ? TKC_NOT_REACHED : TKC_OK;
+	return model_get(model, clock, *reading, &time) ? TKC_NEVER : TKC_OK;
 }
 
 void model_words(const struct model *model, uint64_t words[TKC_WORDS])

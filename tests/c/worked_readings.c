@@ -54,15 +54,20 @@ static const struct missed_time missed_times[] = {
 	{ COMMANDED_CLOCKS, 12, INT64_MAX, 0, TKC_BAD_CLOCK },
 	{ COMMANDED_CLOCKS, UINT32_MAX, 0, 0, TKC_BAD_CLOCK },
 	/* half the range is 2,147,483,647 ns */
-	{ COMMANDED_CLOCKS, TKC_CLOCK_MONOTONIC, 2, 147490648, TKC_NOT_REACHED },
-	{ COMMANDED_CLOCKS, TKC_CLOCK_MONOTONIC, INT64_MAX, UINT32_MAX,
-	  TKC_NOT_REACHED },
-	{ COMMANDED_CLOCKS, TKC_CLOCK_MONOTONIC_COARSE, 0, 7001, TKC_NOT_REACHED },
-	{ COMMANDED_CLOCKS, TKC_CLOCK_REALTIME_COARSE, 1800000001, 5010,
-	  TKC_NOT_REACHED },
-	{ ASLEEP_CLOCKS, TKC_CLOCK_MONOTONIC, 0, 8001, TKC_NOT_REACHED },
+	{ COMMANDED_CLOCKS, TKC_CLOCK_MONOTONIC, 2, 147490648, TKC_FURTHER },
+	{ COMMANDED_CLOCKS, TKC_CLOCK_MONOTONIC_RAW, 2, 147490648, TKC_FURTHER },
+	{ COMMANDED_CLOCKS, TKC_CLOCK_MONOTONIC, 946079999, 999999999, TKC_FURTHER },
+	{ COMMANDED_CLOCKS, TKC_CLOCK_REALTIME, 9223372035, 999999999, TKC_FURTHER },
+	/* no read gives a time at the clock's limit or past it */
+	{ COMMANDED_CLOCKS, TKC_CLOCK_MONOTONIC, 946080000, 0, TKC_NEVER },
+	{ COMMANDED_CLOCKS, TKC_CLOCK_REALTIME, 9223372036, 0, TKC_NEVER },
+	{ COMMANDED_CLOCKS, TKC_CLOCK_MONOTONIC, INT64_MAX, UINT32_MAX, TKC_NEVER },
+	{ COMMANDED_CLOCKS, TKC_CLOCK_MONOTONIC_COARSE, 0, 7001, TKC_NEVER },
+	{ COMMANDED_CLOCKS, TKC_CLOCK_REALTIME_COARSE, 1800000001, 5010, TKC_NEVER },
+	{ ASLEEP_CLOCKS, TKC_CLOCK_MONOTONIC, 0, 8001, TKC_NEVER },
+	{ ASLEEP_CLOCKS, TKC_CLOCK_REALTIME, 9223372036, 0, TKC_NEVER },
 	/* the clock reaches its limit before */
-	{ WIDE_CLOCKS, TKC_CLOCK_MONOTONIC, 946080000, 0, TKC_NOT_REACHED },
+	{ WIDE_CLOCKS, TKC_CLOCK_MONOTONIC, 946080000, 0, TKC_NEVER },
 };
 
 static void try_read_time(const struct read_time *row)
@@ -110,9 +115,29 @@ static void try_missed_time(const struct missed_time *row)
 	check(out == OLD);
 }
 
+/* A cycle takes 2 s: MONOTONIC is 946,079,998 s at one reading, and at its limit at the next one. So
+ * no read gives a time between the two. */
+static void try_slow(void)
+{
+	struct tkc_snapshot snapshot;
+	struct tkc_counter counter;
+	struct tkc_clock clock;
+	uint64_t out = OLD;
+
+	check(!tkc_counter_new(&counter, 64, 2000000000, 0));
+	check(!tkc_clock_open(&clock, &counter, 0, 1700000000, 0));
+	snapshot = snapshot_of(clock);
+	check(tkc_snapshot_reading(&out, &snapshot, TKC_CLOCK_MONOTONIC, 946079999, 0) ==
+	      TKC_NEVER);
+	check(out == OLD);
+	check(!tkc_snapshot_reading(&out, &snapshot, TKC_CLOCK_MONOTONIC, 946079998, 0));
+	check(out == 473039999);
+}
+
 void try_readings(void)
 {
 	try_each(read_times, try_read_time);
 	try_each(reached_times, try_reached_time);
 	try_each(missed_times, try_missed_time);
+	try_slow();
 }

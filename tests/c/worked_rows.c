@@ -12,7 +12,7 @@
 /* The numbers that compiled programs pass and compare with. */
 _Static_assert(TKC_OK == 0 && TKC_FULL == 1 && TKC_ASLEEP == 2 &&
 	       TKC_AWAKE == 3 && TKC_INVALID == 4 && TKC_BEHIND == 5 &&
-	       TKC_RANGE == 6 && TKC_NOT_REACHED == 8, "codes of commands and reads");
+	       TKC_RANGE == 6 && TKC_FURTHER == 8 && TKC_NEVER == 9, "codes of commands and reads");
 _Static_assert(TKC_BAD_COMMAND == 16 && TKC_BAD_CLOCK == 17 &&
 	       TKC_BAD_WORDS == 18 && TKC_BAD_ROOM == 19, "codes of numbers");
 _Static_assert(TKC_BAD_BITS == 32 && TKC_BAD_SHIFT == 33 && TKC_BAD_MULT == 34 &&
@@ -168,6 +168,11 @@ void check_stored(const struct tkc_clock *clock, const struct stored *wanted)
 	tkc_clock_words(found.words, &found.frequency, &found.tick, clock);
 	check(!memcmp(found.words, wanted->words, sizeof(found.words)));
 	check(found.frequency == wanted->frequency && found.tick == wanted->tick);
+	check(tkc_clock_frequency(clock) == wanted->frequency);
+	check(tkc_clock_tick(clock) == wanted->tick);
+	check(tkc_snapshot_front(&snapshot) == wanted->words[0]);
+	check(tkc_snapshot_tai(&snapshot) == wanted->words[7] / 2);
+	check(tkc_snapshot_asleep(&snapshot) == wanted->words[7] % 2);
 	check(is_same_snapshot(&snapshot, wanted->words));
 }
 
@@ -183,6 +188,8 @@ int main(void)
 {
 	check(tkc_version() == 0x000200);
 	try_counters();
+	try_cycles();
+	try_openings();
 	try_commands();
 	try_changes();
 	try_refused_changes();

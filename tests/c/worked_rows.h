@@ -80,6 +80,8 @@ struct tkc_time read_at(const struct tkc_snapshot *snapshot, uint32_t clock,
 
 /* The tests, one file each. */
 void try_counters(void);
+void try_cycles(void);
+void try_openings(void);
 void try_commands(void);
 void try_changes(void);
 void try_refused_changes(void);

@@ -227,3 +227,10 @@ class Steered:
     def next_second(self):
         """The reading at which the next second of REALTIME begins, or None."""
         return self.clock.reading_of(self.next * NANOS)
+
+    def is_next_further(self):
+        """Whether REALTIME is on its way to that second at the end of the readings that are searched."""
+        clock, end, time = self.clock, limit("realtime"), self.next * NANOS
+        most = (2**clock.counter.bits - 1) // 2
+        far = clock.value("realtime", (clock.last + most) % 2**clock.counter.bits)
+        return not clock.asleep and time < end and far < time

@@ -1,3 +1,4 @@
+mod Halves
 mod Loading
 mod NoStamps
 mod Stored

@@ -7,7 +7,7 @@ use Rattle.tk_clock.specs.declared.refusal.Refusal.TheVariants as refusals
 use Rattle.tk_clock.specs.declared.refusal.ReadError.{ReadError}
 use Rattle.tk_clock.specs.declared.refusal.ReadError.TheVariants as reads
 use Rattle.tk_c.specs.declared.code.Code.{Code}
-use Rattle.tk_c.specs.declared.code.Code.TheVariants.{Done, Full, Asleep, Awake, Invalid, Behind, Range, Memory, NotReached, BadCommand, BadClock, BadWords, BadRoom, BadBits, BadShift, BadMult, BadAdjust, BadRate}
+use Rattle.tk_c.specs.declared.code.Code.TheVariants.{Done, Full, Asleep, Awake, Invalid, Behind, Range, Memory, Further, Never, BadCommand, BadClock, BadWords, BadRoom, BadBits, BadShift, BadMult, BadAdjust, BadRate}
 
 -- the number of a code
 abbrev pub number_of : Code → ℕ
@@ -19,7 +19,8 @@ number_of Invalid = 4
 number_of Behind = 5
 number_of Range = 6
 number_of Memory = 7
-number_of NotReached = 8
+number_of Further = 8
+number_of Never = 9
 number_of BadCommand = 16
 number_of BadClock = 17
 number_of BadWords = 18

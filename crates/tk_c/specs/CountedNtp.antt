@@ -1,11 +1,10 @@
 -- Steered clocks that count the calls that they accept, as a C caller gets their answers.
-use Rattle.std.specs.Prelude.{◌≡◌, ◌⊎◌, ℕ, ◌+◌, ⊤, nat_le, Option, Some, None, Result, MatchOption, MatchResult, if◌then◌else◌}
+use Rattle.std.specs.Prelude.{◌≡◌, ℕ, ◌+◌, ⊤, nat_le, Option, Some, None, Result, MatchOption, MatchResult, if◌then◌else◌}
 use Rattle.tk_clock.specs.declared.clock_id.ClockId.TheVariants.{Realtime}
 use Rattle.tk_clock.specs.declared.command.Command.{Command}
 use Rattle.tk_clock.specs.declared.refusal.Refusal.{Refusal}
 use Rattle.tk_clock.specs.declared.refusal.Refusal.TheVariants.{Full}
 use Rattle.tk_clock.specs.Limits.{counted_most}
-use Rattle.tk_clock.specs.Reach.{IsFirstReached, IsNeverReached}
 use Rattle.tk_clock.specs.Refusal.{first_of}
 use Rattle.tk_clock.specs.Time.{nanoseconds}
 use Rattle.tk_ntp.specs.declared.reply.Reply.{Reply}
@@ -15,9 +14,10 @@ use Rattle.tk_ntp.specs.Asked.{IsAnswered}
 use Rattle.tk_ntp.specs.SteeredClock.{reading_refusal}
 use Rattle.tk_c.specs.declared.counted_ntp.CountedNtp.{CountedNtp}
 use Rattle.tk_c.specs.declared.timex.KernelTimex.{KernelTimex}
-use Rattle.tk_c.specs.declared.code.Code.TheVariants.{Done, BadCommand, NotReached}
+use Rattle.tk_c.specs.declared.code.Code.TheVariants.{Done, BadCommand}
 use Rattle.tk_c.specs.Codes.{number_of, code_of_refusal}
 use Rattle.tk_c.specs.CallResults.{code_of_call, counted_after}
+use Rattle.tk_c.specs.Reached.{IsReached}
 use Rattle.tk_c.specs.Timex.{request_of, answered, state_number}
 
 -- why no call is accepted: the count is full
@@ -80,7 +80,5 @@ IsNtpAnswered old reading timex state code timex' state' new =
 -- the code and the reading at which the next second of REALTIME begins
 abbrev pub IsNextSecond : CountedNtp → ℕ → ℕ → ℕ → Type 0
 IsNextSecond counted old new code =
-    let nanos = nanoseconds (second_time counted.steered.next) in
-    ((code ≡ number_of Done) × IsFirstReached counted.steered.clock.base Realtime nanos new)
-    ⊎ ((code ≡ number_of NotReached) × (new ≡ old)
-    × IsNeverReached counted.steered.clock.base Realtime nanos)
+    IsReached counted.steered.clock.base Realtime
+    (nanoseconds (second_time counted.steered.next)) old new code

@@ -15,3 +15,4 @@ pub mod Timex
 pub mod CallResults
 pub mod NtpStorage
 pub mod CountedNtp
+pub mod Cycles

@@ -1,7 +1,8 @@
-ghost use Rattle.std.specs.Prelude.{◌≡◌, MatchOption};
+ghost use Rattle.std.specs.Prelude.{◌≡◌, MatchOption, MatchResult};
 ghost use Rattle.tk_clock.specs.Journal.{opened};
 ghost use Rattle.tk_clock.specs.Refusal.{opening_refusal};
 ghost use Rattle.tk_clock.specs.State.{state_of, effect};
+ghost use Rattle.tk_clock.specs.Uptime.{running_refusal, opened_running};
 ghost use Rattle.tk_clock.specs.declared.timespec.Timespec.{Timespec};
 ghost use Rattle.tk_c.specs.Codes.{number_of, code_of_refusal};
 ghost use Rattle.tk_c.specs.declared.code.Code.TheVariants.{Done};
@@ -43,7 +44,55 @@ pub extern "C" fn tkc_clock_open(
         × (out.new ≡ clock_storage 0 (state_of (opened counter.now reading real))))
         (λ refusal. (result ≡ number_of (code_of_refusal refusal)) × (out.new ≡ out.old)) }
 {
-    match Clock::open(*counter, reading, Timespec { sec, nsec }) {
+    write_opened(out, Clock::open(*counter, reading, Timespec { sec, nsec }))
+}
+
+/// Opens clocks with an uptime at a reading of the counter, and writes them to `out`
+/// (`Clock::open_at`).
+///
+/// They are as by `tkc_clock_open`, except that MONOTONIC, MONOTONIC_RAW and BOOTTIME are
+/// `uptime_sec` s, 0 to 946,079,999, plus `uptime_nsec` ns, 0 to 999,999,999, at the reading.
+///
+/// # Errors
+///
+/// Doesn't write `out` then. Returns, in this order:
+///
+/// - `Code::Invalid` if `tkc_clock_open` does, or if the uptime is below 0 s or has more than
+///   999,999,999 ns;
+/// - `Code::Range` if the uptime is 946,080,000 s or more;
+/// - `Code::Invalid` if REALTIME would be below MONOTONIC.
+#[unsafe(no_mangle)]
+pub extern "C" fn tkc_clock_open_at(
+    out: &mut ClockStorage,
+    counter: &CounterDesc,
+    reading: u64,
+    sec: i64,
+    nsec: u32,
+    uptime_sec: i64,
+    uptime_nsec: u32,
+) -> u32
+    ensures { let real : Timespec = record { sec = sec; nsec = nsec } in
+        let uptime : Timespec = record { sec = uptime_sec; nsec = uptime_nsec } in
+        MatchOption (running_refusal counter.now reading real uptime)
+        ((result ≡ number_of Done)
+        × (out.new ≡ clock_storage 0 (opened_running counter.now reading real uptime)))
+        (λ refusal. (result ≡ number_of (code_of_refusal refusal)) × (out.new ≡ out.old)) }
+{
+    let uptime = Timespec {
+        sec: uptime_sec,
+        nsec: uptime_nsec,
+    };
+    let opened = Clock::open_at(*counter, reading, Timespec { sec, nsec }, uptime);
+    write_opened(out, opened)
+}
+
+/// Writes opened clocks, which have accepted no command, or returns the code of their refusal.
+fn write_opened(out: &mut ClockStorage, opened: Result<Clock, Refusal>) -> u32
+    ensures { MatchResult opened
+        (λ clock. (result ≡ number_of Done) × (out.new ≡ clock_storage 0 clock))
+        (λ refusal. (result ≡ number_of (code_of_refusal refusal)) × (out.new ≡ out.old)) }
+{
+    match opened {
         Ok(clock) => {
             *out = ClockStorage::from(CountedClock { clock, front: 0 });
             Code::Done.number()

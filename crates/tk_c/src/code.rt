@@ -23,8 +23,11 @@ pub enum Code {
     Range = 6,
     /// An allocation failed. No call of this crate returns it.
     Memory = 7,
-    /// The clock doesn't reach the time at any reading that `tkc_snapshot_reading` searches.
-    NotReached = 8,
+    /// The clock is on its way to the time, but doesn't reach it up to half the counter's range
+    /// after the last command.
+    Further = 8,
+    /// The clock doesn't reach the time: it doesn't count, or it reaches its limit first.
+    Never = 9,
     /// No command has this number.
     BadCommand = 16,
     /// No clock has this number.

@@ -1,11 +1,11 @@
 //! Offers the clocks to C: the functions of include/tkcore.h, a thin layer over tk_clock and
-//! tk_lanes.
+//! tk_lanes, and over tk_ntp for clocks that a discipline steers.
 //!
 //! | Item | Its meaning |
 //! |---|---|
-//! | `tkc_counter_*` | make counters from numbers or from a rate, and store a counter's numbers |
-//! | `tkc_clock_*` | open the running clocks, apply commands, change the counter, convert clocks to and from words, with their counter or without |
-//! | `tkc_snapshot_*` | read one time or a list of times, find the reading of a time, convert snapshots to and from words |
+//! | `tkc_counter_*` | make counters from numbers or from a rate, store a counter's numbers, compute with its cycles |
+//! | `tkc_clock_*` | open the running clocks, apply commands, change the counter, return the frequency and the tick, convert clocks to and from words, with their counter or without |
+//! | `tkc_snapshot_*` | read one time or a list of times, find the reading of a time, return a snapshot's numbers, convert snapshots to and from words |
 //! | `tkc_ntp_*`, `tkc_adjtimex` | open steered clocks, advance them, apply commands, answer requests |
 //! | `tkc_version` | returns the archive's version |
 //! | `CountedClock` | the clocks with their count of commands, `struct tkc_clock` in C |
@@ -24,10 +24,12 @@ mod code;
 mod counted;
 mod counted_ntp;
 mod counters;
+mod cycles;
 mod general_registers;
 mod named;
 mod ntp;
 mod ntp_storage;
+mod parts;
 mod reached;
 mod saved;
 mod snapshots;
@@ -37,7 +39,7 @@ mod version;
 mod words;
 
 pub use change_counter::tkc_clock_change_counter;
-pub use clocks::{tkc_clock_apply, tkc_clock_open, tkc_clock_snapshot};
+pub use clocks::{tkc_clock_apply, tkc_clock_open, tkc_clock_open_at, tkc_clock_snapshot};
 pub use code::Code;
 pub use counted::CountedClock;
 pub use counted_ntp::CountedNtp;
@@ -45,11 +47,15 @@ pub use counters::{
     tkc_counter_from_hz, tkc_counter_from_khz, tkc_counter_new, tkc_counter_numbers,
     tkc_snapshot_counter,
 };
+pub use cycles::{tkc_counter_gap, tkc_counter_nanos};
 pub use ntp::{
     tkc_adjtimex, tkc_ntp_advance, tkc_ntp_apply, tkc_ntp_next_second, tkc_ntp_open,
     tkc_ntp_snapshot,
 };
 pub use ntp_storage::NtpStorage;
+pub use parts::{
+    tkc_clock_frequency, tkc_clock_tick, tkc_snapshot_asleep, tkc_snapshot_front, tkc_snapshot_tai,
+};
 pub use reached::tkc_snapshot_reading;
 pub use saved::{SAVED_WORDS, tkc_clock_load, tkc_clock_save};
 pub use snapshots::{tkc_snapshot_convert, tkc_snapshot_get};

@@ -15,6 +15,7 @@ use crate::counted_ntp::{CountedNtp, count};
 use crate::general_registers::store_snapshot;
 use crate::named::command_named;
 use crate::ntp_storage::NtpStorage;
+use crate::reached::unreached;
 use crate::storage::SnapshotStorage;
 use crate::timex::{KernelTimex, state_number};
 use tk_clock::{COUNTED_LIMIT, Command, Refusal, Timespec};
@@ -160,8 +161,9 @@ fn ask_counted(timex: &mut KernelTimex, state: &mut u32, ntp: &mut CountedNtp, r
 ///
 /// # Errors
 ///
-/// Returns `Code::NotReached`, and doesn't write `out`, if REALTIME doesn't reach that second up to
-/// half the counter's range after the last command.
+/// Doesn't write `out` then. Returns `Code::Further` if REALTIME counts but doesn't reach that second
+/// up to half the counter's range after the last command, and `Code::Never` if the clocks are asleep
+/// or REALTIME reaches its limit first.
 #[unsafe(no_mangle)]
 pub extern "C" fn tkc_ntp_next_second(out: &mut u64, ntp: &CountedNtp) -> u32
     ensures { IsNextSecond ntp.now out.old out.new result }
@@ -171,7 +173,7 @@ pub extern "C" fn tkc_ntp_next_second(out: &mut u64, ntp: &CountedNtp) -> u32
             *out = reading;
             Code::Done.number()
         }
-        None => Code::NotReached.number(),
+        None => unreached(ntp.steered.is_next_further()).number(),
     }
 }
 

@@ -1,7 +1,9 @@
 //! Finds the readings at which clocks reach given times.
+ghost use Rattle.std.specs.Prelude.{◌≡◌, if◌then◌else◌};
 ghost use Rattle.tk_clock.specs.Time.{nanoseconds};
 ghost use Rattle.tk_clock.specs.declared.timespec.Timespec.{Timespec};
 ghost use Rattle.tk_c.specs.Reached.{IsReachedBy, IsReachedAgain};
+ghost use Rattle.tk_c.specs.declared.code.Code.TheVariants.{Further, Never};
 
 use crate::code::Code;
 use crate::named::clock_named;
@@ -19,9 +21,10 @@ use tk_clock::{Snapshot, Timespec};
 /// Leaves `out` and returns, in this order:
 ///
 /// - `Code::BadClock` if no clock has the number `clock`;
-/// - `Code::NotReached` if no such reading gives the time or a later one: because the clocks are
-///   asleep, the clock is a coarse one, the range is too short, or the clock reaches its limit
-///   first.
+/// - `Code::Further` if the clock counts and the time is below its limit, but every such reading
+///   gives an earlier time (`Snapshot::is_further`);
+/// - `Code::Never` if no such reading gives the time or a later one for another reason: the clocks
+///   are asleep, the clock is a coarse one, or the clock reaches its limit first.
 #[unsafe(no_mangle)]
 pub extern "C" fn tkc_snapshot_reading(
     out: &mut u64,
@@ -38,11 +41,23 @@ pub extern "C" fn tkc_snapshot_reading(
     let Some(named) = clock_named(clock) else {
         return Code::BadClock.number();
     };
-    match snapshot.reading_at(named, Timespec { sec, nsec }) {
+    let time = Timespec { sec, nsec };
+    match snapshot.reading_at(named, time) {
         Some(reading) => {
             *out = reading;
             Code::Done.number()
         }
-        None => Code::NotReached.number(),
+        None => unreached(snapshot.is_further(named, time)).number(),
+    }
+}
+
+/// Returns the code of a time that the clock reaches at none of the searched readings.
+pub(crate) fn unreached(is_further: bool) -> Code
+    ensures { result ≡ if is_further then Further else Never }
+{
+    if is_further {
+        Code::Further
+    } else {
+        Code::Never
     }
 }
