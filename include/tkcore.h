@@ -168,16 +168,16 @@ enum tkc_code {
 	/* The clocks are awake, and the command is RESUME. */
 	TKC_AWAKE = 3,
 	/* One of: the reading is above 2^bits - 1; an argument is outside the range that its
-	 * command or call documents; SET_TIME or STEP would put REALTIME below MONOTONIC; STEP
-	 * would put REALTIME outside the range of SET_TIME. */
+	 * command or call documents; SET_TIME, STEP or tkc_clock_open_at would put REALTIME below
+	 * MONOTONIC; STEP would put REALTIME outside the range of SET_TIME. */
 	TKC_INVALID = 4,
 	/* The reading is behind the last accepted command's reading (clocksource_delta). RESUME
 	 * never returns this code. */
 	TKC_BEHIND = 5,
 	/* A clock would be at or past its limit. For a command: MONOTONIC or BOOTTIME after it, or
 	 * REALTIME or TAI after it unless it is SET_TIME or STEP. For a read: the clock that is
-	 * read. A change of counter also returns it if MONOTONIC_RAW is too far ahead of MONOTONIC
-	 * for the new counter. */
+	 * read. For tkc_clock_open_at: MONOTONIC. A change of counter also returns it if
+	 * MONOTONIC_RAW is too far ahead of MONOTONIC for the new counter. */
 	TKC_RANGE = 6,
 	/* The clock counts, and the time is below its limit, but it is further away than the
 	 * readings that tkc_snapshot_reading searches: look again, in a later snapshot, from half
@@ -248,11 +248,11 @@ enum tkc_command {
 enum tkc_clock_id {
 	/* The time since 1970, which can be set and stepped. It is never below MONOTONIC. */
 	TKC_CLOCK_REALTIME = 0,
-	/* The time since the opening, without the suspensions. It starts at 0, and no command moves
-	 * it back. */
+	/* The time since the opening, without the suspensions. It starts at 0, or at the uptime of
+	 * tkc_clock_open_at, and no command moves it back. */
 	TKC_CLOCK_MONOTONIC = 1,
 	/* The time since the opening, without the suspensions, at the counter's own rate: no
-	 * frequency and no tick changes it. */
+	 * frequency and no tick changes it. It starts as MONOTONIC does. */
 	TKC_CLOCK_MONOTONIC_RAW = 4,
 	/* REALTIME at the last accepted command. */
 	TKC_CLOCK_REALTIME_COARSE = 5,

@@ -193,6 +193,21 @@ enum tkc_code tkc_snapshot_get(struct tkc_time *out, const struct tkc_snapshot *
 	return code;
 }
 
+/* Returns the code of a time that a clock reaches at none of the searched readings, the last of which
+ * is `far`. */
+static enum tkc_code unreached(const struct tkc_snapshot *snapshot, uint32_t clock, uint64_t far,
+			       i128 wanted)
+{
+	bool is_coarse = clock == TKC_CLOCK_REALTIME_COARSE || clock == TKC_CLOCK_MONOTONIC_COARSE;
+	i128 end = (clock == TKC_CLOCK_MONOTONIC ? 946080000 : 9223372036) * NANOS, time;
+	struct snapshot_of of;
+
+	memcpy(&of, snapshot, sizeof(of));
+	if (is_coarse || of.words[7] % 2 || wanted >= end)
+		return TKC_NEVER;
+	return get(snapshot, clock, far, &time) ? TKC_NEVER : TKC_FURTHER;
+}
+
 enum tkc_code tkc_snapshot_reading(uint64_t *out, const struct tkc_snapshot *snapshot,
 				   uint32_t clock, int64_t sec, uint32_t nsec)
 {
@@ -208,7 +223,7 @@ enum tkc_code tkc_snapshot_reading(uint64_t *out, const struct tkc_snapshot *sna
 		return TKC_BAD_CLOCK;
 	get(snapshot, clock, (last + most) & mask, &time);
 	if (time < wanted)
-		return TKC_NOT_REACHED;
+		return unreached(snapshot, clock, (last + most) & mask, wanted);
 	while (least < most) {
 		uint64_t middle = least + (most - least) / 2;
 
@@ -219,7 +234,7 @@ enum tkc_code tkc_snapshot_reading(uint64_t *out, const struct tkc_snapshot *sna
 			least = middle + 1;
 	}
 	if (get(snapshot, clock, (last + least) & mask, &time))
-		return TKC_NOT_REACHED;
+		return TKC_NEVER;
 	*out = (last + least) & mask;
 	return TKC_OK;
 }

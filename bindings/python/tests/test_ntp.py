@@ -18,7 +18,7 @@ import compare_ntp
 TABLES = ["fresh", "frequencies", "pll", "fll", "microseconds", "adjtime", "inserted", "deleted",
           "set", "errors", "steps", "ticks"]
 NAMES = {name: getattr(tkcore, name.title().replace("_", "")) for name in
-         ("ASLEEP", "AWAKE", "INVALID", "BEHIND", "RANGE", "NOT_REACHED", "BAD_COMMAND")}
+         ("ASLEEP", "AWAKE", "INVALID", "BEHIND", "RANGE", "FURTHER", "NEVER", "BAD_COMMAND")}
 
 
 def rows(table):

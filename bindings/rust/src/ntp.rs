@@ -230,7 +230,7 @@ impl SteeredClock {
     ///
     /// # Errors
     ///
-    /// `NotReached` if REALTIME doesn't reach it within half of the counter's range.
+    /// `Further` or `Never` if REALTIME doesn't reach it within half of the counter's range.
     pub fn next_second(&self) -> Result<u64, Refusal> {
         sys::ntp_next_second(&self.value).map_err(Refusal::of_code)
     }

@@ -20,8 +20,10 @@ pub enum Refusal {
     Behind,
     /// A clock would be at or past its limit.
     Range,
-    /// The clock doesn't reach the time within half of the counter's range.
-    NotReached,
+    /// The clock is on its way to the time, but doesn't reach it within half of the counter's range.
+    Further,
+    /// The clock doesn't reach the time: it is asleep or coarse, or reaches its limit first.
+    Never,
     /// The words represent no snapshot or no clocks of the counter.
     BadWords,
     /// There are fewer times than stamps.
@@ -58,7 +60,8 @@ impl Refusal {
             4 => Refusal::Invalid,
             5 => Refusal::Behind,
             6 => Refusal::Range,
-            8 => Refusal::NotReached,
+            8 => Refusal::Further,
+            9 => Refusal::Never,
             18 => Refusal::BadWords,
             19 => Refusal::BadRoom,
             32 => Refusal::BadBits,
@@ -78,7 +81,8 @@ impl Refusal {
             Refusal::Invalid => "the reading or a number is out of its range",
             Refusal::Behind => "the reading is behind the last command's",
             Refusal::Range => "a clock would be at or past its limit",
-            Refusal::NotReached => "the clock doesn't reach the time",
+            Refusal::Further => "the time is further away than half of the counter's range",
+            Refusal::Never => "the clock doesn't reach the time",
             Refusal::BadWords => "the words represent nothing of this counter",
             Refusal::BadRoom => "there are fewer times than stamps",
             Refusal::BadBits => "the bits aren't 8 to 64",

@@ -98,7 +98,7 @@ impl Snapshot {
     ///
     /// # Errors
     ///
-    /// `NotReached` if it reaches the time at none of them.
+    /// `Further` or `Never` if it reaches the time at none of them.
     #[inline]
     pub fn reading_at(&self, clock: ClockId, time: Timespec) -> Result<u64, Refusal> {
         sys::snapshot_reading(&self.value, clock as u32, time).map_err(Refusal::of_code)

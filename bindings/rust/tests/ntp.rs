@@ -233,7 +233,7 @@ fn refused_calls() {
     let asleep = Unsteered { refusal: Refusal::Asleep, number: None };
     assert_eq!(clock.adjtimex(7, &Timex::default()), Err(asleep));
     assert_eq!(asleep.to_string(), Refusal::Asleep.to_string());
-    assert_eq!(clock.next_second(), Err(Refusal::NotReached));
+    assert_eq!(clock.next_second(), Err(Refusal::Never));
 }
 
 /// Requests that are refused for a number, and the text that names it. The clocks are opened at 5

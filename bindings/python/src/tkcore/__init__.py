@@ -15,7 +15,7 @@ from .commands import Command
 from .counter import Counter
 from .errors import (Asleep, Awake, BadAdjust, BadBits, BadBuffer, BadClock, BadCommand, BadLayout,
                      BadMult, BadRate, BadRoom, BadShift, BadWords, Behind, Busy, Error, Full,
-                     Invalid, NotReached, OtherVersion, Range, Refused)
+                     Further, Invalid, Never, NotReached, OtherVersion, Range, Refused)
 from .journal import Journal
 from .ntp import Mode, Reply, Status, SteeredClock, TimeState, Timex
 from .page import Latch, Page
@@ -26,7 +26,7 @@ __version__ = VERSION
 __all__ = [
     "Asleep", "Awake", "BadAdjust", "BadBits", "BadBuffer", "BadClock", "BadCommand", "BadLayout",
     "BadMult", "BadRate", "BadRoom", "BadShift", "BadWords", "Behind", "Busy", "Clock", "ClockId",
-    "Command", "Counter", "Error", "Full", "Invalid", "Journal", "Latch", "Mode", "NANOS",
-    "NotReached", "OtherVersion", "Page", "Range", "Refused", "Reply", "Snapshot", "Status",
-    "SteeredClock", "TimeState", "Timex",
+    "Command", "Counter", "Error", "Full", "Further", "Invalid", "Journal", "Latch", "Mode", "NANOS",
+    "Never", "NotReached", "OtherVersion", "Page", "Range", "Refused", "Reply", "Snapshot",
+    "Status", "SteeredClock", "TimeState", "Timex",
 ]

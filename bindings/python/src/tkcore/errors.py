@@ -84,9 +84,19 @@ class Range(Refused):
 
 
 class NotReached(Refused):
-    """The clock doesn't reach the time within half of the counter's range."""
+    """The clock doesn't reach the time within half of the counter's range: Further, or Never."""
+
+
+class Further(NotReached):
+    """The clock is on its way to the time: look again from half of the counter's range on."""
 
     code = 8
+
+
+class Never(NotReached):
+    """The clock is asleep or a coarse one, or it reaches its limit before the time."""
+
+    code = 9
 
 
 class BadCommand(Error, ValueError):

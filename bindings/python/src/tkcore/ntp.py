@@ -171,7 +171,7 @@ class SteeredClock(Commanded):
     def next_second(self) -> int:
         """Returns the reading at which the next second of REALTIME begins, to set a timer to.
 
-        Raises NotReached if REALTIME doesn't reach it within half of the counter's range.
+        Raises Further or Never if REALTIME doesn't reach it within half of the counter's range.
         """
         reading = c_uint64()
         code = CALLS.tkc_ntp_next_second(byref(reading), byref(self._value))

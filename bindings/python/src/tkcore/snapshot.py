@@ -12,7 +12,7 @@ from ._buffers import check_apart, numbers
 from ._library import (CALLS, I64, NANOS, U32, U64, WORDS, SnapshotValue, TimeValue, Words, fit,
                        raise_code)
 from .counter import Counter
-from .errors import BY_CODE, BadClock, BadRoom, BadWords, Invalid, NotReached
+from .errors import BY_CODE, BadClock, BadRoom, BadWords, Invalid, Never
 
 if TYPE_CHECKING:
     import numpy
@@ -99,11 +99,11 @@ class Snapshot:
         """Returns the first reading at which a clock has reached a time, in ns, of the last
         command's reading and the (2^bits - 1) / 2 readings after it.
 
-        Raises BadClock, and then NotReached if the clock reaches the time at none of them.
+        Raises BadClock, and then Further or Never if the clock reaches the time at none of them.
         """
         reading = c_uint64()
         clock = fit(clock, U32, BadClock, "clock")
-        sec, nsec = divmod(fit(time, (I64[0] * NANOS, I64[1] * NANOS + NANOS - 1), NotReached,
+        sec, nsec = divmod(fit(time, (I64[0] * NANOS, I64[1] * NANOS + NANOS - 1), Never,
                                "time"), NANOS)
         code = CALLS.tkc_snapshot_reading(byref(reading), byref(self._value), clock, sec, nsec)
         raise_code(code, *(("clock", clock) if code == BadClock.code else ("time", time)))
