@@ -40,7 +40,7 @@ import fleet
 import make
 import model
 
-SAMPLE = 10
+SAMPLED_MACHINES, SAMPLED_STAMPS = 24, 10
 
 
 def kill_one(client, futures, killed):
@@ -129,15 +129,16 @@ def check_order(table):
 def check_sample(data, table, firsts):
     """Compares times with those of tests/model/model.py: the table has a row of each."""
     rng = random.Random(1)
-    files = files_of(table)
-    for number, script in enumerate(sorted(Path(data).glob("*.csv"))):
+    files, scripts = files_of(table), sorted(Path(data).glob("*.csv"))
+    for number in rng.sample(range(len(scripts)), SAMPLED_MACHINES):
+        script = scripts[number]
         journal, records = model.parsed(script.read_bytes())
         for word, (reading, *fields) in records:
             journal, line = model.done(journal, word, reading, fields, False)
             assert line.startswith("ok"), line
         readings = [journal.reading(place) for place in range(len(journal.entries) + 1)]
         stamps = numpy.load(script.with_suffix(".stamps.npy"), mmap_mode="r")
-        for place in rng.sample(range(len(stamps)), SAMPLE):
+        for place in rng.sample(range(len(stamps)), SAMPLED_STAMPS):
             stamp = int(stamps[place])
             front = sum(reading <= stamp for reading in readings) - 1
             time_of = journal.prefix(front).value("tai", stamp)

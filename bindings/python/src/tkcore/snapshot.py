@@ -115,8 +115,8 @@ class Snapshot:
         `stamps` is any contiguous buffer of unsigned 64-bit numbers: a numpy array of uint64, an
         array("Q"), a memoryview. It isn't copied. The times go into the first elements of `out`, a
         buffer of the same type that doesn't overlap `stamps`. Without it, the result is a new array
-        of numpy for one of numpy, and otherwise a new array("Q"), which Python first fills with 0. Other threads run during the
-        call; they must not write the stamps.
+        of numpy for one of numpy, and otherwise a new array("Q"), which Python first fills with 0.
+        Other threads run during the call; they must not write the stamps.
 
         Raises BadClock; BadBuffer; BadRoom if `out` has fewer elements; and Invalid or Range at the
         first stamp for which `get` would. That exception's `done` counts the stamps before it,
