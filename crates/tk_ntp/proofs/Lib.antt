@@ -4,6 +4,8 @@ pub mod Lengths
 pub mod Near
 pub mod Often
 pub mod History
+pub mod Account
+pub mod Made
 pub mod Needed
 pub mod Long
 pub mod Kept

@@ -19,6 +19,7 @@ pub mod SteeredClock
 pub mod Advance
 pub mod Often
 pub mod History
+pub mod Account
 pub mod Asked
 pub mod Applied
 pub mod Numbers

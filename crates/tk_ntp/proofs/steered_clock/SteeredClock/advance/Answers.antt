@@ -1,3 +1,4 @@
+use Rattle.tk_ntp.proofs.Account.{accounted_for}
 use Rattle.tk_ntp.proofs.History.{offset_kept}
 use Rattle.tk_ntp.proofs.Often.{at_once, none_due}
 use Rattle.tk_ntp.proofs.steered_clock.SteeredClock.advance.Goals as goal
@@ -14,3 +15,8 @@ returns-clause-at_once c = λ before earlier first order.
 pub returns-clause-offset : goal.returns-clause-offset
 returns-clause-offset c =
     offset_kept c.args.reading c.args.self.now c.begin_seconds.new.self c.begin_seconds.ensures
+
+pub returns-clause-sum : goal.returns-clause-sum
+returns-clause-sum c = λ marked.
+    accounted_for c.args.reading c.args.self.now c.begin_seconds.new.self c.begin_seconds.ensures
+    marked

@@ -1,0 +1,173 @@
+-- What clocks were asked for is what they were given, as seconds begin.
+use Rattle.std.proofs.Common.{◌≡◌, ◌∙◌, refl, sym, ap, subst, ℕ, zero, suc, ◌+◌, ◌-◌, ◌*◌, ◌<◌, ◌≤◌, ◌⊎◌, inl, inr, arith}
+use Rattle.std.specs.Prelude.{ℤ, pos, ◌+ℤ◌, ◌-ℤ◌, ◌*ℤ◌, ◌<ℤ◌, ◌≤ℤ◌}
+use Rattle.std.proofs.lemmas.Int.{ints}
+use Rattle.std.proofs.Math.IntN.{suc_ℤ-*ℤ, zero-*ℤ, pos-*ℤ-pos}
+use Rattle.tk_counter.specs.Counter.{gap}
+use Rattle.tk_clock.specs.declared.clock_id.ClockId.TheVariants.{Realtime}
+use Rattle.tk_clock.specs.Reach.{IsAhead, HasReached, distance}
+use Rattle.tk_clock.specs.State.{State, base_value}
+use Rattle.tk_clock.specs.Time.{nanoseconds}
+use Rattle.tk_ntp.specs.Account.{units_at, owed, cycles_to, asked_to, dropped_at, asked_of, dropped_of, IsMarked, IsAccounted}
+use Rattle.tk_ntp.specs.Advance.{IsAdvanced, Arrived, Begins, IsDue, second_begun_at, second_time, with_next_second}
+use Rattle.tk_ntp.specs.Ntp.{second_length}
+use Rattle.tk_ntp.specs.Rate.{nominal}
+use Rattle.tk_ntp.specs.SteeredClock.{SteeredClock}
+use Rattle.tk_ntp.proofs.Gaps.{later_gap}
+use Rattle.tk_ntp.proofs.Made.{none_here, second-made}
+
+-- the products of sums
+taken : (c : ℕ) (a b : ℤ) → pos c *ℤ (a -ℤ b) ≡ pos c *ℤ a -ℤ pos c *ℤ b
+taken zero a b = rw (zero-*ℤ (a -ℤ b), zero-*ℤ a, zero-*ℤ b) refl
+taken (suc c) a b =
+    rw (suc_ℤ-*ℤ (pos c) (a -ℤ b), suc_ℤ-*ℤ (pos c) a, suc_ℤ-*ℤ (pos c) b)
+    (one_more (pos c *ℤ (a -ℤ b)) (pos c *ℤ a) (pos c *ℤ b) a b (taken c a b))
+  where
+    one_more : (x y z a b : ℤ) → x ≡ y -ℤ z → x +ℤ (a -ℤ b) ≡ (y +ℤ a) -ℤ (z +ℤ b)
+    one_more x y z a b h = omega (arith, ints, h)
+
+finish : (a b s lag after y : ℤ) → s ≡ a +ℤ b →
+    a +ℤ lag +ℤ y ≡ s +ℤ after +ℤ (lag +ℤ (y -ℤ b) -ℤ after)
+finish a b s lag after y h = omega (arith, ints, h)
+
+plus : (a b : ℕ) → pos (a + b) ≡ pos a +ℤ pos b
+plus a b = omega (arith, ints)
+
+spread : (u c m n : ℕ) → (u + c * m) * n ≡ u * n + c * (m * n)
+spread u c m n = omega arith
+
+products : (u c m n : ℕ) →
+    pos (u + c * m) *ℤ pos n ≡ pos u *ℤ pos n +ℤ pos c *ℤ (pos m *ℤ pos n)
+products u c m n =
+    pos-*ℤ-pos (u + c * m) n
+    ∙ ap pos (spread u c m n)
+    ∙ plus (u * n) (c * (m * n))
+    ∙ ap (λ z. pos (u * n) +ℤ z) (sym (pos-*ℤ-pos c (m * n)))
+    ∙ ap (λ z. z +ℤ pos c *ℤ pos (m * n)) (sym (pos-*ℤ-pos u n))
+    ∙ ap (λ z. pos u *ℤ pos n +ℤ pos c *ℤ z) (sym (pos-*ℤ-pos m n))
+
+-- an account: what a stretch was asked for is what it got, up to the lag and to what is dropped
+conserved : (u c m n : ℕ) (lag after x : ℤ) →
+    pos u *ℤ pos n +ℤ lag +ℤ pos c *ℤ x
+    ≡ pos (u + c * m) *ℤ pos n +ℤ after
+    +ℤ (lag +ℤ pos c *ℤ (x -ℤ pos m *ℤ pos n) -ℤ after)
+conserved u c m n lag after x =
+    rw (taken c x (pos m *ℤ pos n))
+    (finish (pos u *ℤ pos n) (pos c *ℤ (pos m *ℤ pos n)) (pos (u + c * m) *ℤ pos n) lag after
+    (pos c *ℤ x) (products u c m n))
+
+owed_is : (s : SteeredClock) (at u : ℕ) (lag : ℤ) → s.mark ≡ at → units_at at s.clock ≡ u →
+    s.steering.lag ≡ lag → owed s ≡ pos u *ℤ pos nominal +ℤ lag
+owed_is s at u lag m e l =
+    ap (λ (k : ℕ). pos (units_at k s.clock) *ℤ pos nominal +ℤ s.steering.lag) m
+    ∙ ap (λ (k : ℕ). pos k *ℤ pos nominal +ℤ s.steering.lag) e
+    ∙ ap (λ z. pos u *ℤ pos nominal +ℤ z) l
+
+split : (a k d m g : ℕ) → g ≡ k + d → a + g * m ≡ a + k * m + d * m
+split a k d m g h = rw h (omega arith)
+
+-- MONOTONIC at a reading, and at an earlier one
+units_later : (clock : State) (mark at : ℕ) →
+    distance clock.base mark ≤ distance clock.base at →
+    units_at at clock ≡ units_at mark clock + gap clock.base.counter mark at * clock.base.mult
+units_later clock mark at order =
+    let base = clock.base in
+    let d = gap base.counter mark at in
+    let k = gap base.counter base.last mark in
+    let g = gap base.counter base.last at in
+    let later : d ≡ g - k = later_gap base.counter base.last mark at order in
+    split base.amount k d base.mult g (omega (arith, later, order))
+
+second-sum : (at : ℕ) (steered : SteeredClock) →
+    distance steered.clock.base steered.mark ≤ distance steered.clock.base at →
+    owed steered +ℤ asked_to at steered
+    ≡ owed (second_begun_at at steered) +ℤ dropped_at at steered
+second-sum at steered order =
+    let base = steered.clock.base in
+    let made = second-made at steered in
+    let u = units_at steered.mark steered.clock in
+    let c = cycles_to at steered in
+    let after = (with_next_second at steered).steering.lag in
+    conserved u c base.mult nominal steered.steering.lag after
+    (pos base.counter.mult *ℤ second_length steered.steering.ntp)
+    ∙ ap (λ z. z +ℤ dropped_at at steered)
+    (sym
+    (owed_is (second_begun_at at steered) at (u + c * base.mult) after made.mark
+    (made.units ∙ units_later steered.clock steered.mark at order) made.lag))
+
+chained : (a b c x y p q : ℤ) → a +ℤ x ≡ b +ℤ p → b +ℤ y ≡ c +ℤ q →
+    a +ℤ (x +ℤ y) ≡ c +ℤ (p +ℤ q)
+chained a b c x y p q h k = omega (arith, ints, h, k)
+
+-- REALTIME reaches the second after the next one at no nearer reading than the next one
+late : (value : ℤ) (n : ℕ) → value <ℤ nanoseconds (second_time n) →
+    nanoseconds (second_time (n + 1)) ≤ℤ value → ⊥
+late value n h k = absurd (omega (arith, ints, h, k))
+
+order : (a b : ℕ) → (a < b) ⊎ (b ≤ a)
+order a b = grind arith
+
+following : (steered : SteeredClock) (reading at other : ℕ) → IsDue steered reading at →
+    IsAhead steered.clock.base other →
+    HasReached steered.clock.base Realtime (nanoseconds (second_time (steered.next + 1))) other →
+    distance steered.clock.base at ≤ distance steered.clock.base other
+following steered reading at other due ahead reached =
+    let base = steered.clock.base in
+    elim (order (distance base other) (distance base at)) as
+    (λ _. distance base at ≤ distance base other) [
+      | inl less ↦ absurd
+          (late (base_value base Realtime other) steered.next
+          (due.first.nearer other ahead less).1 reached.1)
+      | inr no_less ↦ no_less
+    ]
+
+second-marked : (reading at : ℕ) (steered : SteeredClock) → IsDue steered reading at →
+    IsMarked (second_begun_at at steered)
+second-marked reading at steered due =
+    let end = second_begun_at at steered in
+    let made = second-made at steered in
+    let goal : State → ℕ → ℕ → Type 0 = λ clock mark other.
+    distance clock.base mark ≤ distance clock.base other in
+    λ other ahead reached.
+    subst (λ mark. goal end.clock mark other) (sym made.mark)
+    (elim made.same as (λ _. goal end.clock at other) [
+      | inl e ↦
+          let reached' : HasReached end.clock.base Realtime
+          (nanoseconds (second_time (steered.next + 1))) other =
+          subst (λ (n : ℕ). HasReached end.clock.base Realtime (nanoseconds (second_time n)) other)
+          e.1 reached in
+          subst (λ (clock : State). IsAhead clock.base other →
+          HasReached clock.base Realtime (nanoseconds (second_time (steered.next + 1))) other →
+          goal clock at other) (sym e.0)
+          (λ a r. following steered reading at other due a r) ahead reached'
+      | inr e ↦ subst (λ (last : ℕ). gap end.clock.base.counter last at
+          ≤ gap end.clock.base.counter last other) (sym e)
+          (rw (none_here end.clock.base.counter at) (omega arith))
+    ])
+
+sum-of : (reading : ℕ) (before after : SteeredClock) (h : IsAdvanced reading before after) →
+    IsMarked before →
+    owed before +ℤ asked_of reading before after h
+    ≡ owed after +ℤ dropped_of reading before after h
+sum-of reading before after (Arrived steered none) marked = refl
+sum-of reading before after (Begins steered end at due rest) marked =
+    let next = second_begun_at at steered in
+    chained (owed steered) (owed next) (owed end) (asked_to at steered)
+    (asked_of reading next end rest) (dropped_at at steered) (dropped_of reading next end rest)
+    (second-sum at steered (marked at due.first.ahead due.first.reached))
+    (sum-of reading next end rest (second-marked reading at steered due))
+
+marked-after : (reading : ℕ) (before after : SteeredClock) → IsAdvanced reading before after →
+    IsMarked before → IsMarked after
+marked-after reading before after (Arrived steered none) marked = marked
+marked-after reading before after (Begins steered end at due rest) marked =
+    marked-after reading (second_begun_at at steered) end rest
+    (second-marked reading at steered due)
+
+pub accounted_for : (reading : ℕ) (before after : SteeredClock) → IsAdvanced reading before after →
+    IsMarked before → IsAccounted reading before after
+accounted_for reading before after h marked = record {
+  begun = h;
+  sum = sum-of reading before after h marked;
+  marked = marked-after reading before after h marked;
+}
