@@ -13,7 +13,7 @@ use Rattle.tk_ntp.specs.declared.rate.Rate.{Rate}
 use Rattle.tk_ntp.specs.Change.{is_same, change_of}
 use Rattle.tk_ntp.specs.Fault.{is_faulty}
 use Rattle.tk_ntp.specs.Rate.{rate_for}
-use Rattle.tk_ntp.specs.Request.{step_of}
+use Rattle.tk_ntp.specs.Request.{no_request, step_of}
 use Rattle.tk_ntp.specs.Lag.{lag_after, made_up}
 use Rattle.tk_ntp.specs.Leap.{tai_after_leap}
 use Rattle.tk_ntp.specs.Ntp.{Ntp, fresh, cleared, second_length}
@@ -21,21 +21,6 @@ use Rattle.tk_ntp.specs.Second.{leap_at}
 use Rattle.tk_ntp.specs.Given.{after}
 use Rattle.tk_ntp.specs.Modes.{asked}
 use Rattle.tk_ntp.specs.Reply.{reply_to}
-
--- a request that gives nothing
-abbrev nothing : Timex
-nothing = record {
-  modes = 0;
-  offset = pos 0;
-  freq = pos 0;
-  maxerror = pos 0;
-  esterror = pos 0;
-  status = 0;
-  constant = pos 0;
-  tick = pos 0;
-  sec = pos 0;
-  sub = pos 0;
-}
 
 -- a time of REALTIME
 abbrev at : ℕ → ℕ → Timespec
@@ -63,7 +48,7 @@ replied modes time sub state offset freq maxerror esterror status constant tick 
 
 -- ---- a fresh discipline
 
-fresh-reply : reply_to nothing (at 1700000000 0) 0 (fresh 250)
+fresh-reply : reply_to no_request (at 1700000000 0) 0 (fresh 250)
     ≡ replied 0 (at 1700000000 0) 0 Error (pos 0) (pos 0) 16000000 16000000 64 2 10000 0
 fresh-reply = refl
 
@@ -73,7 +58,7 @@ fresh-length = refl
 -- ---- the frequency: 100 ppm at once, and its bounds
 
 abbrev frequency : ℤ → Timex
-frequency freq = record nothing { modes = 0x2; freq = freq }
+frequency freq = record no_request { modes = 0x2; freq = freq }
 
 faster : reply_to (frequency (pos 6553600)) (at 1700000000 0) 0 (fresh 250)
     ≡ replied 0x2 (at 1700000000 0) 0 Error (pos 0) (pos 6553600) 16000000 16000000 64 2 10000 0
@@ -103,7 +88,7 @@ too_great = refl
 -- ---- the PLL: 100 ms at the constant 6, in nanoseconds
 
 abbrev pll : ℤ → ℕ → Timex
-pll offset status = record nothing {
+pll offset status = record no_request {
   modes = 0x2035;
   offset = offset;
   status = status;
@@ -111,7 +96,7 @@ pll offset status = record nothing {
 }
 
 abbrev later : ℤ → Timex
-later offset = record nothing { modes = 0x2001; offset = offset }
+later offset = record no_request { modes = 0x2001; offset = offset }
 
 pll-reply : reply_to (pll (pos 100000000) 1) (at 1700000000 500000000) 0 (fresh 250)
     ≡ replied 0x2035 (at 1700000000 0) 500000000 Ok (pos 100000000) (pos 0) 0 16000000 8193 6 10000
@@ -121,7 +106,7 @@ pll-reply = refl
 abbrev pll_state : Ntp
 pll_state = asked (pll (pos 100000000) 1) 1700000000 (fresh 250)
 
-pll-second : reply_to nothing (at 1700000001 500195264) 0 (after (1700000001 ∷ []) pll_state)
+pll-second : reply_to no_request (at 1700000001 500195264) 0 (after (1700000001 ∷ []) pll_state)
     ≡ replied 0 (at 1700000001 0) 500195264 Ok (pos 99609375) (pos 0) 500 16000000 8193 6 10000 0
 pll-second = refl
 
@@ -148,7 +133,7 @@ fll-then_pll = refl
 -- ---- microseconds: the constant counts 4 more, and an offset is at most 500 ms
 
 abbrev micro : Timex
-micro = record nothing {
+micro = record no_request {
   modes = 0x1035;
   offset = neg_ℤ (pos 300);
   status = 1;
@@ -162,12 +147,12 @@ micro-reply : reply_to micro (at 1700000000 500000000) 0 (fresh 250)
     ≡ replied 0x1035 (at 1700000000 0) 500000 Ok (neg_ℤ (pos 300)) (pos 0) 0 16000000 1 6 10000 0
 micro-reply = refl
 
-micro-second : reply_to nothing (at 1700000001 249999828) 0 (after (1700000001 ∷ []) micro_state)
+micro-second : reply_to no_request (at 1700000001 249999828) 0 (after (1700000001 ∷ []) micro_state)
     ≡ replied 0 (at 1700000001 0) 249999 Ok (neg_ℤ (pos 298)) (pos 0) 500 16000000 1 6 10000 0
 micro-second = refl
 
 abbrev far : Timex
-far = record nothing { modes = 0x1; offset = pos 700000 }
+far = record no_request { modes = 0x1; offset = pos 700000 }
 
 abbrev micro_later : Ntp
 micro_later = after (1700000001 ∷ 1700000002 ∷ []) micro_state
@@ -177,7 +162,7 @@ micro-far : reply_to far (at 1700000002 499998211) 0 micro_later
 micro-far = refl
 
 abbrev nano : Timex
-nano = record nothing { modes = 0x2000 }
+nano = record no_request { modes = 0x2000 }
 
 abbrev far_state : Ntp
 far_state = asked far 1700000002 micro_later
@@ -196,10 +181,10 @@ nano-far = refl
 -- ---- adjtime: 1,200 us, at most 500 in a second
 
 abbrev shot : ℤ → Timex
-shot offset = record nothing { modes = 0x8001; offset = offset }
+shot offset = record no_request { modes = 0x8001; offset = offset }
 
 abbrev read_only : Timex
-read_only = record nothing { modes = 0xa001 }
+read_only = record no_request { modes = 0xa001 }
 
 abbrev shot_state : Ntp
 shot_state = asked (shot (pos 1200)) 1700000000 (fresh 250)
@@ -226,13 +211,13 @@ shot-third : (second_length (after (1700000001 ∷ 1700000002 ∷ 1700000003 ∷
     × ((after (1700000001 ∷ 1700000002 ∷ 1700000003 ∷ []) shot_state).adjust ≡ pos 0)
 shot-third = (refl, refl)
 
-shot_without_offset : is_faulty (record nothing { modes = 0x8000 }) ≡ true
+shot_without_offset : is_faulty (record no_request { modes = 0x8000 }) ≡ true
 shot_without_offset = refl
 
 -- ---- a second inserted at the end of 2016
 
 abbrev insertion : Timex
-insertion = record nothing { modes = 0x94; status = 16; constant = pos 36 }
+insertion = record no_request { modes = 0x94; status = 16; constant = pos 36 }
 
 abbrev inserting : List ℕ → Ntp
 inserting secs = after secs (asked insertion 1483228797 (fresh 250))
@@ -241,7 +226,7 @@ insertion-reply : reply_to insertion (at 1483228797 499000000) 0 (fresh 250)
     ≡ replied 0x94 (at 1483228797 0) 499000 Ok (pos 0) (pos 0) 0 16000000 16 2 10000 36
 insertion-reply = refl
 
-insertion-announced : reply_to nothing (at 1483228798 499000000) 36 (inserting (1483228798 ∷ []))
+insertion-announced : reply_to no_request (at 1483228798 499000000) 36 (inserting (1483228798 ∷ []))
     ≡ replied 0 (at 1483228798 0) 499000 Ins (pos 0) (pos 0) 500 16000000 16 2 10000 36
 insertion-announced = refl
 
@@ -254,12 +239,12 @@ insertion-leap = refl
 insertion-tai : tai_after_leap Insert 36 ≡ 37
 insertion-tai = refl
 
-insertion-in_progress : reply_to nothing (at 1483228799 499000000) 37
+insertion-in_progress : reply_to no_request (at 1483228799 499000000) 37
     (inserting (1483228798 ∷ 1483228799 ∷ 1483228800 ∷ []))
     ≡ replied 0 (at 1483228799 0) 499000 Oop (pos 0) (pos 0) 1500 16000000 16 2 10000 37
 insertion-in_progress = refl
 
-insertion-over : reply_to nothing (at 1483228800 499000000) 37
+insertion-over : reply_to no_request (at 1483228800 499000000) 37
     (inserting (1483228798 ∷ 1483228799 ∷ 1483228800 ∷ 1483228800 ∷ []))
     ≡ replied 0 (at 1483228800 0) 499000 Wait (pos 0) (pos 0) 2000 16000000 16 2 10000 37
 insertion-over = refl
@@ -270,14 +255,14 @@ abbrev deleting : List ℕ → Ntp
 deleting secs =
     after secs (asked (record insertion { status = 32 }) 1483228797 (fresh 250))
 
-deletion-announced : reply_to nothing (at 1483228798 499000000) 36 (deleting (1483228798 ∷ []))
+deletion-announced : reply_to no_request (at 1483228798 499000000) 36 (deleting (1483228798 ∷ []))
     ≡ replied 0 (at 1483228798 0) 499000 Del (pos 0) (pos 0) 500 16000000 32 2 10000 36
 deletion-announced = refl
 
 deletion-leap : leap_at (deleting (1483228798 ∷ [])) 1483228799 ≡ Delete
 deletion-leap = refl
 
-deletion-over : reply_to nothing (at 1483228800 499000000) 35
+deletion-over : reply_to no_request (at 1483228800 499000000) 35
     (deleting (1483228798 ∷ 1483228799 ∷ []))
     ≡ replied 0 (at 1483228800 0) 499000 Wait (pos 0) (pos 0) 1000 16000000 32 2 10000 35
 deletion-over = refl
@@ -287,14 +272,14 @@ deletion-over = refl
 abbrev forgotten : Ntp
 forgotten = cleared (inserting (1483228791 ∷ []))
 
-forgotten-reply : reply_to nothing (at 1483228798 500000000) 36 forgotten
+forgotten-reply : reply_to no_request (at 1483228798 500000000) 36 forgotten
     ≡ replied 0 (at 1483228798 0) 500000 Error (pos 0) (pos 0) 16000000 16000000 80 2 10000 36
 forgotten-reply = refl
 
 forgotten-leap : leap_at (after (1483228799 ∷ []) forgotten) 1483228800 ≡ NoLeap
 forgotten-leap = refl
 
-forgotten-state : reply_to (record nothing { modes = 0x10 }) (at 1483228800 500000000) 36
+forgotten-state : reply_to (record no_request { modes = 0x10 }) (at 1483228800 500000000) 36
     (after (1483228799 ∷ 1483228800 ∷ []) forgotten)
     ≡ replied 0x10 (at 1483228800 0) 500000 Ins (pos 0) (pos 0) 16000000 16000000 0 2 10000 36
 forgotten-state = refl
@@ -302,7 +287,7 @@ forgotten-state = refl
 -- ---- the greatest error grows by 500 us in each second
 
 abbrev errors : Timex
-errors = record nothing { modes = 0x1c; esterror = pos 7 }
+errors = record no_request { modes = 0x1c; esterror = pos 7 }
 
 errors-reply : reply_to errors (at 1700000000 500000000) 0 (fresh 250)
     ≡ replied 0x1c (at 1700000000 0) 500000 Ok (pos 0) (pos 0) 0 7 0 2 10000 0
@@ -311,11 +296,11 @@ errors-reply = refl
 abbrev almost : Ntp
 almost = record (asked errors 1700000000 (fresh 250)) { maxerror = 15999500 }
 
-errors-limit : reply_to nothing (at 1700032000 500000000) 0 (after (1700032000 ∷ []) almost)
+errors-limit : reply_to no_request (at 1700032000 500000000) 0 (after (1700032000 ∷ []) almost)
     ≡ replied 0 (at 1700032000 0) 500000 Ok (pos 0) (pos 0) 16000000 7 0 2 10000 0
 errors-limit = refl
 
-errors-past : reply_to nothing (at 1700032001 500000000) 0
+errors-past : reply_to no_request (at 1700032001 500000000) 0
     (after (1700032000 ∷ 1700032001 ∷ []) almost)
     ≡ replied 0 (at 1700032001 0) 500000 Error (pos 0) (pos 0) 16000000 7 64 2 10000 0
 errors-past = refl
@@ -323,7 +308,7 @@ errors-past = refl
 -- ---- a step by a request
 
 abbrev step : ℕ → ℤ → ℤ → Timex
-step modes sec sub = record nothing { modes = modes; sec = sec; sub = sub }
+step modes sec sub = record no_request { modes = modes; sec = sec; sub = sub }
 
 step-back : step_of (step 0x2100 (neg_ℤ (pos 2)) (pos 250000000))
     ≡ Some (record { sec = neg_ℤ (pos 2); nsec = 250000000 })
@@ -332,7 +317,7 @@ step-back = refl
 step-micro : step_of (step 0x100 (pos 1) (pos 999999)) ≡ Some (record { sec = pos 1; nsec = 999999000 })
 step-micro = refl
 
-no_step : step_of nothing ≡ None
+no_step : step_of no_request ≡ None
 no_step = refl
 
 step-faults : (is_faulty (step 0x100 (pos 1) (pos 1000000)) ≡ true)
@@ -350,7 +335,7 @@ stepped = refl
 -- ---- the tick, with a PLL at work
 
 abbrev ticked : ℕ → ℤ → Timex
-ticked modes tick = record nothing { modes = modes; freq = neg_ℤ (pos 6553600); tick = tick }
+ticked modes tick = record no_request { modes = modes; freq = neg_ℤ (pos 6553600); tick = tick }
 
 abbrev tick_state : Ntp
 tick_state =

@@ -1,5 +1,5 @@
 -- Commands to steered clocks: a frequency and a tick are requests to the discipline.
-use Rattle.std.specs.Prelude.{◌≡◌, ℕ, ⊤, pos, Bool, true, false, Option, Some, None, Result, Ok, Err, MatchOption}
+use Rattle.std.specs.Prelude.{◌≡◌, ℕ, ⊤, Bool, true, false, Option, Some, None, Result, Ok, Err, MatchOption}
 use Rattle.tk_counter.specs.Counter.{clamped}
 use Rattle.tk_clock.specs.declared.command.Command.{Command}
 use Rattle.tk_clock.specs.declared.command.Command.TheVariants.{Freq, Tick}
@@ -10,22 +10,8 @@ use Rattle.tk_ntp.specs.declared.reply.Reply.{Reply}
 use Rattle.tk_ntp.specs.Advance.{IsAdvanced}
 use Rattle.tk_ntp.specs.Asked.{IsCommanded, IsAnswered}
 use Rattle.tk_ntp.specs.Bits.{adj_frequency, adj_tick}
+use Rattle.tk_ntp.specs.Request.{no_request}
 use Rattle.tk_ntp.specs.SteeredClock.{SteeredClock, reading_refusal}
-
--- a request without modes
-abbrev pub no_request : Timex
-no_request = record {
-  modes = 0;
-  offset = pos 0;
-  freq = pos 0;
-  maxerror = pos 0;
-  esterror = pos 0;
-  status = 0;
-  constant = pos 0;
-  tick = pos 0;
-  sec = pos 0;
-  sub = pos 0;
-}
 
 -- the request that a command acts as
 abbrev pub request_of : Command → Option Timex

@@ -8,7 +8,8 @@ use Rattle.tk_ntp.specs.Request.{error_limit, gain_of, clamped_to, constant_of, 
 use Rattle.tk_ntp.specs.Offset.{with_offset}
 use Rattle.tk_ntp.specs.Ntp.{Ntp}
 
--- the PLL is turned off: no leap second is announced, and the clock is not synchronized
+-- the PLL is turned off: no leap second is announced, and the status is reset before the given one
+-- decides its bits, STA_UNSYNC too
 abbrev pub with_pll_off : ℕ → Ntp → Ntp
 with_pll_off given ntp =
     if has ntp.status sta_pll && not (has given sta_pll) then record ntp {

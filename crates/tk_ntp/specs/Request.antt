@@ -8,6 +8,21 @@ use Rattle.tk_clock.specs.declared.timespec.Timespec.{Timespec}
 use Rattle.tk_ntp.specs.declared.timex.Timex.{Timex}
 use Rattle.tk_ntp.specs.Bits.{has, adj_setoffset, adj_nano}
 
+-- a request without modes
+abbrev pub no_request : Timex
+no_request = record {
+  modes = 0;
+  offset = pos 0;
+  freq = pos 0;
+  maxerror = pos 0;
+  esterror = pos 0;
+  status = 0;
+  constant = pos 0;
+  tick = pos 0;
+  sec = pos 0;
+  sub = pos 0;
+}
+
 -- the greatest error that is counted, in microseconds (NTP_PHASE_LIMIT)
 abbrev pub error_limit : ℕ
 error_limit = 16000000

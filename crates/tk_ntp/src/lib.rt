@@ -6,6 +6,7 @@
 //! | `Discipline` | the state, changed by requests and by each second of REALTIME that begins |
 //! | `Timex`, `Reply`, `TimeState` | a request, the reply to it, and the clock's state in it |
 //! | `Leap` | what REALTIME leaps by as a second begins |
+//! | `SteeredClock` | the clocks of a counter, steered by a discipline |
 //! | `Steering`, `Lag` | a discipline with what its clock lags behind; the commands of a second |
 //! | `Rate`, `Change` | the frequency and the tick for a length, and the commands that set them |
 //! | `SteeredNumbers` .. | a discipline in plain numbers, as C code holds it |

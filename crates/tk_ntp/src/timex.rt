@@ -6,14 +6,13 @@ ghost use Rattle.tk_ntp.specs.Request.{nanos_of, step_of};
 use crate::bits::{ADJ_ADJTIME, ADJ_FREQUENCY, ADJ_NANO, ADJ_OFFSET, ADJ_SETOFFSET, ADJ_TICK, has};
 use tk_clock::Timespec;
 
-/// Represents a request, and the fields of a reply that are named as a request's (`struct timex` of
+/// Contains the fields of a request, and the fields of the same names in its reply (`struct timex`,
 /// adjtimex(2)).
 ///
-/// A request may have any numbers. `modes` says which of them are given; the others count for
-/// nothing.
+/// A request may have any numbers. `modes` says which of them it gives; the others are ignored.
 #[derive(Clone, Copy, Debug, Default, PartialEq, Eq)]
 pub struct Timex {
-    /// Says which of the other fields are given, by the bits `ADJ_..`. Other bits count for nothing.
+    /// Says which of the other fields are given, by the bits `ADJ_..`. Other bits are ignored.
     pub modes: u32,
     /// Gives the offset between the clock and its reference, in nanoseconds or microseconds.
     pub offset: i64,
@@ -39,10 +38,10 @@ pub struct Timex {
 const GREATEST_FREQUENCY: i64 = 140_737_488_355;
 
 impl Timex {
-    /// Returns whether the request is refused as it stands, as `EINVAL` in the kernel
+    /// Returns whether the request has a fault, for which the kernel returns `EINVAL`
     /// (`timekeeping_validate_timex`).
     ///
-    /// It is refused in these cases:
+    /// These are the faults:
     ///
     /// - `ADJ_ADJTIME` without `ADJ_OFFSET`;
     /// - `ADJ_TICK` without `ADJ_ADJTIME`, and `tick` is not 9,000 to 11,000;

@@ -1,5 +1,6 @@
-//! Asks a discipline and steered clocks as standard input says, and writes the replies. `tests/model/ntp.py` compares
-//! them with the definitions in Python.
+//! Passes the orders of standard input to a discipline and to steered clocks, and writes the
+//! answers. `tests/model/ntp.py` and `tests/model/steered.py` compare them with the definitions in
+//! Python.
 //!
 //! Each line is an order, and gets a line as its answer. LENGTH is the length of a second after the
 //! order, in `2^-32` ns.

@@ -1,22 +1,14 @@
 use std::io;
-use tk_ntp::{Reply, Timex};
+use tk_ntp::Reply;
 
 /// Prints a reply, without an end of the line.
 pub fn print_reply(rt: &HostRuntime, reply: &Reply) -> io::Result<()> {
-    let Timex {
-        offset,
-        freq,
-        maxerror,
-        esterror,
-        status,
-        constant,
-        tick,
-        sec,
-        sub,
-        ..
-    } = reply.timex;
-    let state = reply.state;
-    let tai = reply.tai;
-    print!(rt; "adj,{state:?},{sec},{sub},{offset},{freq},{maxerror},{esterror}")?;
-    print!(rt; ",{status},{constant},{tick},{tai}")
+    let timex = &reply.timex;
+    print!(rt;
+        "adj,{:?},{},{},{}",
+        reply.state, timex.sec, timex.sub, timex.offset
+    )?;
+    print!(rt; ",{},{},{}", timex.freq, timex.maxerror, timex.esterror)?;
+    print!(rt; ",{},{},{}", timex.status, timex.constant, timex.tick)?;
+    print!(rt; ",{}", reply.tai)
 }
