@@ -71,8 +71,30 @@ def change(rng, at):
     return ["counter", at, bits, mult, shift, first]
 
 
-def records(rng, has_changes):
-    """The records of a script, some of them with a fault, and of some scripts with changes of counter."""
+def expected(rng, journal, at, clock):
+    """A value that a read may expect: mostly the clock's own, and else one beside it, or any."""
+    own, pick = journal.value(clock, at), rng.random()
+    if pick < 0.7 and 0 <= own < 2**64:
+        return own
+    return max(0, own + rng.choice([-1, 1])) if pick < 0.9 else rng.choice([0, rng.randrange(2**64)] + EDGES[:-1])
+
+
+def add_values(rng, lines):
+    """Adds the expected value to half of the reads."""
+    try:
+        journal, rows = model.parsed("\n".join(",".join(map(str, line)) for line in lines).encode())
+    except model.Fault:
+        return
+    for line, (word, (at, *fields)) in zip(lines[1:], rows):
+        if word != "get":
+            journal, _ = model.done(journal, word, at, fields, False)
+        elif rng.random() < 0.5:
+            line.append(expected(rng, journal, at, fields[0]))
+
+
+def records(rng, has_changes, has_values=True):
+    """The records of a script, some of them with a fault, and of some scripts with changes of counter and with reads
+    that expect values."""
     has_changes = has_changes and rng.random() < 0.5
     bits, first = opening(rng)
     lines, last, asleep = [first], first[4], False
@@ -92,6 +114,8 @@ def records(rng, has_changes):
         if word in ("suspend", "resume"):
             asleep = word == "suspend"
         last = at % 2**bits
+    if has_values and rng.random() < 0.5:
+        add_values(rng, lines)
     if rng.random() < 0.05:
         spoil(rng, lines)
     return lines
@@ -102,10 +126,10 @@ def script(rng, has_changes=True):
 
 
 def unquoted_script(rng):
-    """A script without quotes, byte order marks and changes of counter, for a program that knows no more of csv than
-    lines and commas."""
+    """A script without quotes, byte order marks, changes of counter and expected values, for a program that knows no
+    more of csv than lines and commas."""
     ending = rng.choice(["\n", "\n", "\r\n", "\r"])
-    return ending.join(",".join(map(str, line)) for line in records(rng, False)).encode()
+    return ending.join(",".join(map(str, line)) for line in records(rng, False, False)).encode()
 
 
 def bytes_of(rng, lines):
@@ -199,10 +223,6 @@ def file_of(folder, name, text):
     return path
 
 
-def report_of(text):
-    return model.named("script", model.report, text)
-
-
 class Comparison:
     """The program, a folder for its files, the random numbers, and how often each kind was compared."""
 
@@ -224,13 +244,13 @@ class Comparison:
         return ran(self.program, words + [script])[0] == 0
 
     def replay(self, text):
-        self.check("replay", ran(self.program, [], text), wanted(report_of, text), text)
+        self.check("replay", ran(self.program, [], text), wanted(model.replay, text), text)
 
     def keep(self, text):
         """The same report by a journal that is folded to its last entries."""
         entries = self.rng.choice([1, 2, 1_000, 524_288])
         found = ran(self.program, ["replay", "--keep", str(entries)], text)
-        self.check("keep", found, wanted(report_of, text), str(entries).encode(), text)
+        self.check("keep", found, wanted(model.replay, text), str(entries).encode(), text)
 
     def trace(self, text, journal):
         marks = stamps(self.rng, journal) if journal else b"0,0\n"

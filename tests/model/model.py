@@ -279,9 +279,12 @@ U32, U64, I64 = range(2**32), range(2**64), range(-2**63, 2**63)
 FIELDS = {
     "open": [U32, U32, U32, U64, I64, U32], "openhz": [U32, U32, U32, U64, I64, U32],
     "update": [U64], "suspend": [U64], "freq": [U64, I64], "tick": [U64, I64], "tai": [U64, I64],
-    "set": [U64, I64, U32], "step": [U64, I64, U32], "resume": [U64, I64, U32], "get": [U64, None],
+    "set": [U64, I64, U32], "step": [U64, I64, U32], "resume": [U64, I64, U32], "get": [U64, None, U64],
     "counter": [U64, U32, U32, U32, U64],
 }
+
+# the fields at the end that a record may leave out
+OPTIONAL = {"get": 1}
 
 
 def number(text, within):
@@ -296,7 +299,7 @@ def read_record(row, record):
     opens = word in ("open", "openhz")
     if word not in FIELDS or opens != (row == 1):
         raise Fault(f"record {row}: " + ("not a valid opening" if row == 1 else "unknown word"))
-    if len(fields) != len(FIELDS[word]):
+    if not 0 <= len(FIELDS[word]) - len(fields) <= OPTIONAL.get(word, 0):
         raise Fault(f"record {row}: wrong number of fields")
     read = []
     for text, within in zip(fields, FIELDS[word]):
@@ -331,14 +334,28 @@ def utc_text(nanos):
     return f"{day:%Y-%m-%dT%H:%M:%S}.{nanos % NANOS:09}Z"
 
 
-def look(journal, reading, clock):
+def read_refusal(journal, reading, clock):
     if reading >= 2**journal.counter.bits:
-        return "no,invalid"
+        return "invalid"
+    return "range" if journal.value(clock, reading) >= limit(clock) else None
+
+
+def look(journal, reading, clock):
+    """Returns the line of a read."""
+    refusal = read_refusal(journal, reading, clock)
+    if refusal:
+        return f"no,{refusal}"
     value = journal.value(clock, reading)
-    if value >= limit(clock):
-        return "no,range"
     line = f"at,{clock},{time_text(value)}"
     return f"{line},{utc_text(value)}" if clock.startswith("realtime") else line
+
+
+def differences(row, journal, reading, clock, expected=None):
+    """Returns the lines after a read: one, if it expects a value that it does not give."""
+    if expected is None:
+        return []
+    gives = not read_refusal(journal, reading, clock) and journal.value(clock, reading) == expected
+    return [] if gives else [f"differs,{row},{expected}"]
 
 
 def records_of(text):
@@ -385,13 +402,24 @@ def report(text, is_bounded=False):
     journal, rows = parsed(text)
     counter = journal.counter
     lines = [f"open,{counter.bits},{counter.mult},{counter.shift}"]
-    for word, (reading, *fields) in rows:
+    for row, (word, (reading, *fields)) in enumerate(rows, 2):
         if word == "get":
-            lines.append(look(journal, reading, *fields))
+            lines.append(look(journal, reading, fields[0]))
+            lines += differences(row, journal, reading, *fields)
             continue
         journal, line = done(journal, word, reading, fields, is_bounded)
         lines.append(line)
     return lines
+
+
+def has_difference(lines):
+    return any(line.startswith("differs,") for line in lines)
+
+
+def replay(text):
+    """Returns the exit status for a script, and the lines of its report."""
+    lines = named("script", report, text)
+    return 3 if has_difference(lines) else 0, lines
 
 
 def items_of(text):
@@ -441,6 +469,8 @@ def many(scripts):
         except Fault as fault:
             status = 1
             lines.append(f"fault,{fault}")
+    if status == 0 and has_difference(lines):
+        status = 3
     return status, lines
 
 
@@ -471,7 +501,7 @@ def bytes_of(name):
 def answer(words):
     """Returns the exit status and the lines for these command-line words."""
     if not words:
-        return 0, named("script", report, sys.stdin.buffer.read())
+        return replay(sys.stdin.buffer.read())
     task, first, *names = words
     files = [bytes_of(name) for name in names]
     if task == "trace":
