@@ -11,6 +11,7 @@ mod desk;
 mod keeper;
 #[path = "../peer_page/latch.rs"]
 mod latch;
+mod notice;
 mod now;
 #[path = "../peer_page/page.rs"]
 mod page;

@@ -1,7 +1,8 @@
 //! The time now as hand-written Rust: a reading and a conversion under a lock; the same within a
-//! retried read of a page; and the host's own monotonic clock.
-use crate::clocks::Desc;
-use crate::desk::{Desk, Words};
+//! retried read of a page; and by the host's monotonic clock, after a read of a page and between two
+//! looks at a notice.
+use crate::desk::Desk;
+use crate::notice::{monotonic, Notice};
 use crate::page::Page;
 use crate::turns::{Effort, Turn};
 use std::hint::black_box;
@@ -32,19 +33,6 @@ impl Ticker {
     fn read(&self) -> u64 {
         self.next.fetch_add(CYCLES, Ordering::SeqCst)
     }
-}
-
-/// MONOTONIC at a reading, as seconds and nanoseconds.
-fn monotonic(words: &Words, desc: &Desc, reading: u64) -> (u64, u64) {
-    let [_, last, mult, frac, sec, ..] = *words;
-    let cycles = reading.wrapping_sub(last) & desc.mask();
-    let units = frac as u128 + cycles as u128 * mult as u128;
-    let second = (NANOS as u128) << desc.shift;
-    if units < second {
-        return (sec, (units >> desc.shift) as u64);
-    }
-    let rest = (units % second) >> desc.shift;
-    (sec + (units / second) as u64, rest as u64)
 }
 
 /// Times calls, and adds up what they give.
@@ -83,16 +71,36 @@ pub fn by_cell(effort: Effort) -> Turn {
     })
 }
 
-/// Times calls of `clock_gettime(CLOCK_MONOTONIC)`. The check is the number of answers that aren't
-/// below the one before.
+/// The host's monotonic clock, counted from an opening in nanoseconds.
+struct HostCounter {
+    start: Instant,
+}
+
+impl HostCounter {
+    fn read(&self) -> u64 {
+        self.start.elapsed().as_nanos() as u64
+    }
+}
+
+/// Times calls by the host's monotonic clock. The check is the number of answers that aren't below
+/// the one before.
 pub fn by_host(effort: Effort) -> Turn {
+    let desk = Desk::opened();
+    let desc = desk.desc();
+    let page = black_box(Box::new(Page::new(desk.words())));
+    let notice = black_box(Box::new(Notice::new()));
+    let counter = black_box(HostCounter {
+        start: Instant::now(),
+    });
     let count = effort.of(CALLS);
     let start = Instant::now();
-    let (mut last, mut check) = (start, 0u64);
+    let (mut last, mut check) = (0u64, 0u64);
     for _ in 0..count {
-        let now = black_box(Instant::now());
-        check += u64::from(now >= last);
-        last = now;
+        let (words, reading) = notice.read_between(&page, || counter.read());
+        let (sec, nsec) = monotonic(&words, &desc, reading & desc.mask());
+        let nanos = sec.wrapping_mul(NANOS).wrapping_add(nsec);
+        check += u64::from(nanos >= last);
+        last = nanos;
     }
     let time = start.elapsed();
     Turn { time, count, check }

@@ -1,8 +1,10 @@
-//! A shared keeper: a lock of std around clocks with their journal, a page and a latch.
+//! A shared keeper: a lock of std around clocks with their journal, a page, a latch and a notice, in
+//! which commands announce themselves.
 use crate::clocks::{Command, Refusal};
 use crate::desk::{nanosecond_counter, weight, Words, OPENED_TIME, STEP};
 use crate::keeper::Keeper;
 use crate::latch::Latch;
+use crate::notice::Notice;
 use crate::page::Page;
 use crate::turns::{Effort, Turn};
 use std::hint::black_box;
@@ -23,11 +25,17 @@ pub fn weighed(words: &Words) -> u64 {
         .fold(0u64, |sum, word| sum.wrapping_mul(31).wrapping_add(*word))
 }
 
-struct Ticker {
+/// A counter of which commands take their readings under the lock.
+pub trait Counter {
+    fn read(&mut self) -> u64;
+}
+
+/// A counter that only commands read.
+pub struct Ticker {
     next: u64,
 }
 
-impl Ticker {
+impl Counter for Ticker {
     fn read(&mut self) -> u64 {
         let now = self.next;
         self.next = now.wrapping_add(STEP);
@@ -35,12 +43,12 @@ impl Ticker {
     }
 }
 
-pub struct Locked {
+pub struct Locked<C> {
     keeper: Keeper,
-    counter: Ticker,
+    counter: C,
 }
 
-impl Locked {
+impl<C: Counter> Locked<C> {
     fn apply(&mut self, who: u32, cmd: Command) -> Result<u64, Refusal> {
         let reading = self.counter.read() & self.keeper.base().desc.mask();
         self.keeper.apply(who, reading, cmd)
@@ -63,15 +71,15 @@ pub struct Caller {
     mark: u64,
 }
 
-pub struct SharedKeeper {
-    page: Page,
+pub struct SharedKeeper<C> {
+    pub page: Page,
     latch: Latch,
-    locked: Mutex<Locked>,
+    pub notice: Notice,
+    locked: Mutex<Locked<C>>,
 }
 
-impl SharedKeeper {
-    pub fn opened(callers: u32, room: usize) -> (SharedKeeper, Vec<Caller>) {
-        let mut counter = Ticker { next: 0 };
+impl<C: Counter> SharedKeeper<C> {
+    pub fn opened(mut counter: C, callers: u32, room: usize) -> (SharedKeeper<C>, Vec<Caller>) {
         let reading = counter.read();
         let mut keeper = Keeper::open(nanosecond_counter(), reading, OPENED_TIME).expect("clocks");
         keeper.reserve(room);
@@ -80,6 +88,7 @@ impl SharedKeeper {
         let keeper = SharedKeeper {
             page: Page::new(words),
             latch: Latch::new(words),
+            notice: Notice::new(),
             locked: Mutex::new(locked),
         };
         let caller = |id| Caller {
@@ -93,10 +102,19 @@ impl SharedKeeper {
 
     pub fn command(&self, caller: &mut Caller, cmd: Command) -> Result<u64, Refusal> {
         let mut locked = self.locked.lock().unwrap();
-        let number = locked.apply(caller.id, cmd)?;
+        let before = locked.count();
+        self.notice.announce(before);
+        let number = match locked.apply(caller.id, cmd) {
+            Ok(number) => number,
+            Err(refusal) => {
+                self.notice.end(before);
+                return Err(refusal);
+            }
+        };
         let words = locked.keeper.base().words(number);
         self.page.store(words);
         self.latch.publish(&words);
+        self.notice.end(number);
         caller.accepted += 1;
         caller.front = number;
         caller.mark = number;
@@ -115,20 +133,24 @@ impl SharedKeeper {
         Ok(words)
     }
 
-    pub fn close(self) -> Locked {
+    pub fn close(self) -> Locked<C> {
         self.locked.into_inner().unwrap()
     }
 }
 
-fn gives(keeper: &SharedKeeper, caller: &mut Caller, count: u64) {
+/// A keeper with a counter of its own.
+type TickedKeeper = SharedKeeper<Ticker>;
+
+fn gives(keeper: &TickedKeeper, caller: &mut Caller, count: u64) {
     for _ in 0..count {
         let _ = black_box(keeper.command(caller, Command::Update));
     }
 }
 
 /// A keeper with five callers, of which the last is returned separately.
-fn opened() -> (Box<SharedKeeper>, Vec<Caller>, Caller) {
-    let (keeper, mut callers) = SharedKeeper::opened(5, COMMANDS as usize);
+fn opened() -> (Box<TickedKeeper>, Vec<Caller>, Caller) {
+    let counter = Ticker { next: 0 };
+    let (keeper, mut callers) = SharedKeeper::opened(counter, 5, COMMANDS as usize);
     let caller = callers.pop().unwrap();
     (Box::new(keeper), callers, caller)
 }
@@ -161,7 +183,7 @@ pub fn four_threads(effort: Effort) -> Turn {
 
 /// Reads until all four threads have ended. Returns the number of reads, and the sum of their
 /// weights less that number times the usual weight, which is 0 if each read was whole.
-fn reads(keeper: &SharedKeeper, caller: &mut Caller, usual: u64, ended: &AtomicU64) -> (u64, u64) {
+fn reads(keeper: &TickedKeeper, caller: &mut Caller, usual: u64, ended: &AtomicU64) -> (u64, u64) {
     let (mut count, mut sum) = (0u64, 0u64);
     while ended.load(Ordering::SeqCst) < 4 {
         for _ in 0..READS_BETWEEN {
@@ -174,7 +196,7 @@ fn reads(keeper: &SharedKeeper, caller: &mut Caller, usual: u64, ended: &AtomicU
 
 /// The same with fast reads. Only reads that succeed count.
 fn fast_reads(
-    keeper: &SharedKeeper,
+    keeper: &TickedKeeper,
     caller: &mut Caller,
     usual: u64,
     ended: &AtomicU64,
@@ -194,7 +216,7 @@ fn fast_reads(
 /// Times reads while four threads give commands.
 fn beside(
     effort: Effort,
-    read: impl FnOnce(&SharedKeeper, &mut Caller, u64, &AtomicU64) -> (u64, u64),
+    read: impl FnOnce(&TickedKeeper, &mut Caller, u64, &AtomicU64) -> (u64, u64),
 ) -> Turn {
     let (keeper, mut callers, mut caller) = opened();
     let usual = weight(&keeper.read(&mut caller));
