@@ -1,5 +1,5 @@
 //! Computes with the cycles of a counter.
-ghost use Rattle.std.specs.Prelude.{◌≡◌, ◌*◌, ◌/◌, ◌^◌, ◌<◌, ◌≤◌, ◌-◌, min};
+ghost use Rattle.std.specs.Prelude.{◌≡◌};
 ghost use Rattle.tk_counter.specs.Counter.{gap};
 ghost use Rattle.tk_c.specs.Cycles.{nanos_of_cycles};
 
