@@ -104,7 +104,7 @@ late : (value : ℤ) (n : ℕ) → value <ℤ nanoseconds (second_time n) →
     nanoseconds (second_time (n + 1)) ≤ℤ value → ⊥
 late value n h k = absurd (omega (arith, ints, h, k))
 
-order : (a b : ℕ) → (a < b) ⊎ (b ≤ a)
+pub order : (a b : ℕ) → (a < b) ⊎ (b ≤ a)
 order a b = grind arith
 
 following : (steered : SteeredClock) (reading at other : ℕ) → IsDue steered reading at →
@@ -157,7 +157,7 @@ sum-of reading before after (Begins steered end at due rest) marked =
     (second-sum at steered (marked at due.first.ahead due.first.reached))
     (sum-of reading next end rest (second-marked reading at steered due))
 
-marked-after : (reading : ℕ) (before after : SteeredClock) → IsAdvanced reading before after →
+pub marked-after : (reading : ℕ) (before after : SteeredClock) → IsAdvanced reading before after →
     IsMarked before → IsMarked after
 marked-after reading before after (Arrived steered none) marked = marked
 marked-after reading before after (Begins steered end at due rest) marked =

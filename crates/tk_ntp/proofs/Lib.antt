@@ -6,6 +6,7 @@ pub mod Often
 pub mod History
 pub mod Account
 pub mod Made
+pub mod Marked
 pub mod Needed
 pub mod Long
 pub mod Kept

@@ -24,14 +24,14 @@ pub none_here : (counter : Counter) (at : ℕ) → gap counter at at ≡ 0
 none_here counter at = gap-self (2 ^ counter.bits) at (pow_pos counter.bits)
 
 -- commands at a reading keep MONOTONIC there; they change nothing, or are at that reading
-record IsMade (at : ℕ) (before after : State) : Type 0 where
-  units : units_at at after ≡ units_at at before
-  same : (after ≡ before) ⊎ (after.base.last ≡ at)
+pub record IsMade (at : ℕ) (before after : State) : Type 0 where
+  pub units : units_at at after ≡ units_at at before
+  pub same : (after ≡ before) ⊎ (after.base.last ≡ at)
 
-unmade : (at : ℕ) (clock : State) → IsMade at clock clock
+pub unmade : (at : ℕ) (clock : State) → IsMade at clock clock
 unmade at clock = record { units = refl; same = inl refl }
 
-joined : (at : ℕ) (a b c : State) → IsMade at a b → IsMade at b c → IsMade at a c
+pub joined : (at : ℕ) (a b c : State) → IsMade at a b → IsMade at b c → IsMade at a c
 joined at a b c h k = record {
   units = k.units ∙ h.units;
   same = elim k.same as (λ _. (c ≡ a) ⊎ (c.base.last ≡ at)) [
@@ -77,7 +77,7 @@ frequency-made at clock (Some frequency) =
       same = inr refl;
     })
 
-change-made : (at : ℕ) (change : Change) (clock : State) →
+pub change-made : (at : ℕ) (change : Change) (clock : State) →
     IsMade at clock (given_change at change clock)
 change-made at change clock =
     let ticked = given_any at (tick_command change) clock in
@@ -89,7 +89,7 @@ if-made : (at : ℕ) (test : Bool) (before after : State) → IsMade at before a
 if-made at true before after h = unmade at before
 if-made at false before after h = h
 
-tai-made : (at tai : ℕ) (clock : State) → IsMade at clock (given_tai at tai clock)
+pub tai-made : (at tai : ℕ) (clock : State) → IsMade at clock (given_tai at tai clock)
 tai-made at tai clock =
     if-made at (nat_eq tai (tai_of_clock clock)) clock (given at (Tai (pos tai)) clock)
     (after_or-made at (state_refusal clock at (Tai (pos tai))) (effect clock at (Tai (pos tai)))
@@ -111,7 +111,7 @@ step-made at leap clock = record {
   same = inr refl;
 }
 
-at_reading : (at : ℕ) (stepped after : State) → stepped.base.last ≡ at → IsMade at stepped after →
+pub at_reading : (at : ℕ) (stepped after : State) → stepped.base.last ≡ at → IsMade at stepped after →
     after.base.last ≡ at
 at_reading at stepped after is h = elim h.same as (λ _. after.base.last ≡ at) [
   | inl e ↦ ap (λ (s : State). s.base.last) e ∙ is

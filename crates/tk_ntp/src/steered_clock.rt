@@ -1,4 +1,4 @@
-ghost use Rattle.std.specs.Prelude.{◌≡◌, ◌≤ℤ◌, MatchResult, MatchOption, Some, None, IsTrue, ◌↔◌, pos};
+ghost use Rattle.std.specs.Prelude.{◌≡◌, ◌≤ℤ◌, IfOk, MatchResult, MatchOption, Some, None, IsTrue, ◌↔◌, pos};
 
 mod advancing;
 mod asking;
@@ -60,6 +60,7 @@ impl SteeredClock {
     ghost use Rattle.tk_clock.specs.Reach.{IsFirstReached, IsNeverReached};
     ghost use Rattle.tk_clock.specs.Time.{nanoseconds};
     ghost use Rattle.tk_counter.specs.Counter.{least_tick, greatest_tick};
+    ghost use Rattle.tk_ntp.specs.Account.{IsMarked};
     ghost use Rattle.tk_ntp.specs.Change.{multiplier_at};
     ghost use Rattle.tk_ntp.specs.Rate.{IsNearUsual};
     ghost use Rattle.tk_ntp.specs.SteeredClock.{steered_refusal, steered_opened, rate_in_force};
@@ -82,10 +83,11 @@ impl SteeredClock {
         real: Timespec,
         hz: u32,
     ) -> Result<SteeredClock, Refusal>
-        ensures { MatchResult result
+        ensures answer { MatchResult result
             (λ steered. (steered_refusal desc reading real hz ≡ None)
             × (steered ≡ steered_opened desc reading real hz))
             (λ refusal. steered_refusal desc reading real hz ≡ Some refusal) }
+        ensures marked { IfOk result IsMarked }
     {
         let clock = Clock::open(desc, reading, real)?;
         let Some(ntp) = Discipline::new(hz) else {

@@ -2,6 +2,7 @@
 ghost use Rattle.std.specs.Prelude.{◌≡◌, false, pos, ◌≤ℤ◌, MatchResult, Some, None};
 ghost use Rattle.tk_clock.specs.Command.{is_resume};
 ghost use Rattle.tk_ntp.specs.Applied.{without_reply, IsFollowed, IsPlain, IsApplied, request_of};
+ghost use Rattle.tk_ntp.specs.Account.{IsMarked};
 ghost use Rattle.tk_ntp.specs.Advance.{tai_of_clock};
 ghost use Rattle.tk_ntp.specs.Asked.{real_at, real_refusal, acts, changes_rate, accounted_if, steered_if, with_asked, after_request, IsRequested, IsAsked, IsAnswered};
 ghost use Rattle.tk_ntp.specs.Fault.{is_faulty};
@@ -33,7 +34,9 @@ impl SteeredClock {
     /// - `Range`: REALTIME, or TAI with the given offset, would be at its limit. The state is the one
     ///   that `advance` and the step leave.
     pub fn adjtimex(&mut self, reading: u64, request: &Timex) -> Result<Reply, Refusal>
-        ensures { IsAnswered reading request.now self.old result self.new }
+        ensures answer { IsAnswered reading request.now self.old result self.new }
+        // the next second is not due before the last account
+        ensures marked { IsMarked self.old → IsMarked self.new }
     {
         if request.is_faulty() {
             return Err(Refusal::Invalid);
@@ -56,7 +59,8 @@ impl SteeredClock {
     /// - All others: the errors of `advance`, and nothing changes; then those of `Clock::apply`, and
     ///   the state is the one that `advance` leaves.
     pub fn apply(&mut self, reading: u64, cmd: Command) -> Result<(), Refusal>
-        ensures { IsApplied reading cmd self.old result self.new }
+        ensures answer { IsApplied reading cmd self.old result self.new }
+        ensures marked { IsMarked self.old → IsMarked self.new }
     {
         match request_of(cmd) {
             Some(request) => without_reply(self.adjtimex(reading, &request)),

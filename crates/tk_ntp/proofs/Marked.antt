@@ -1,0 +1,241 @@
+-- REALTIME reaches the next second at no reading before the last account, after each call.
+use Rattle.std.proofs.Common.{◌≡◌, ◌∙◌, refl, sym, subst, ℕ, ◌≤◌, ◌⊎◌, inl, inr, Bool, true, false, not, ◌&&◌, Option, Some, None, MatchOption, nat_eq, arith}
+use Rattle.std.specs.Prelude.{Result, Ok, Err, ⊤}
+use Rattle.std.proofs.lemmas.Grind.{common_steps}
+use Rattle.tk_counter.specs.Counter.{gap}
+use Rattle.tk_clock.specs.declared.command.Command.{Command}
+use Rattle.tk_clock.specs.declared.command.Command.TheVariants.{Update, SetTime, Step, Freq, Tick, Tai, Leap, Suspend, Resume}
+use Rattle.tk_clock.specs.declared.clock_id.ClockId.TheVariants.{Realtime}
+use Rattle.tk_clock.specs.declared.refusal.Refusal.{Refusal}
+use Rattle.tk_clock.specs.declared.timespec.Timespec.{Timespec}
+use Rattle.tk_clock.specs.Reach.{IsAhead, HasReached, distance}
+use Rattle.tk_clock.specs.State.{State, effect}
+use Rattle.tk_clock.specs.Time.{nanoseconds}
+use Rattle.tk_ntp.specs.declared.reply.Reply.{Reply}
+use Rattle.tk_ntp.specs.declared.timex.Timex.{Timex}
+use Rattle.tk_ntp.specs.Account.{IsMarked}
+use Rattle.tk_ntp.specs.Advance.{IsAdvanced, IsNoneDue, given_tai, second_time, tai_of_clock}
+use Rattle.tk_ntp.specs.Applied.{IsPlain}
+use Rattle.tk_ntp.specs.Asked.{accounted_if, acts, after_command, changes_rate, forgotten, IsAsked, IsCommanded, IsRequested, real_at, restarted, second_after, steered_if, step_refusal, stepped, tai_asked, with_asked}
+use Rattle.tk_ntp.specs.Bits.{has, adj_adjtime}
+use Rattle.tk_ntp.specs.Request.{step_of}
+use Rattle.tk_ntp.specs.Steering.{commands}
+use Rattle.tk_ntp.specs.SteeredClock.{SteeredClock, rate_in_force, reading_refusal, steered_at}
+use Rattle.tk_ntp.proofs.Account.{marked-after, order}
+use Rattle.tk_ntp.proofs.Made.{IsMade, at_reading, change-made, joined, none_here, tai-made}
+use Rattle.tk_ntp.proofs.Often.{none_due}
+
+-- the last account is at the last command
+pub marked_at_last : (s : SteeredClock) → s.mark ≡ s.clock.base.last → IsMarked s
+marked_at_last s e other ahead reached =
+    let base = s.clock.base in
+    subst (λ (mark : ℕ). gap base.counter base.last mark ≤ gap base.counter base.last other) (sym e)
+    (rw (none_here base.counter base.last) (omega arith))
+
+-- with the last account at a reading
+abbrev at_mark : ℕ → SteeredClock → SteeredClock
+at_mark reading s = record s { mark = reading }
+
+-- no second is due up to a reading
+none_before : (reading : ℕ) (s : SteeredClock) → IsNoneDue s reading → IsMarked (at_mark reading s)
+none_before reading s none other ahead reached =
+    let base = s.clock.base in
+    elim (order (distance base other) (distance base reading)) as
+    (λ _. distance base reading ≤ distance base other) [
+      | inl less ↦ absurd (none other ahead (omega (arith, less)) reached)
+      | inr no_less ↦ no_less
+    ]
+
+-- commands at the account's reading
+marked_made : (reading : ℕ) (s0 s : SteeredClock) → s.mark ≡ reading → s.next ≡ s0.next →
+    IsMade reading s0.clock s.clock → IsMarked (at_mark reading s0) → IsMarked s
+marked_made reading s0 s mark next made marked =
+    elim made.same as (λ _. IsMarked s) [
+      | inl e ↦ λ other ahead reached.
+          let goal : State → ℕ → ℕ → Type 0 = λ clock sec m.
+          IsAhead clock.base other →
+          HasReached clock.base Realtime (nanoseconds (second_time sec)) other →
+          distance clock.base m ≤ distance clock.base other in
+          subst (λ (clock : State). goal clock s.next s.mark) (sym e)
+          (subst (λ (sec : ℕ). goal s0.clock sec s.mark) (sym next)
+          (subst (λ (m : ℕ). goal s0.clock s0.next m) (sym mark) (marked other))) ahead reached
+      | inr e ↦ marked_at_last s (mark ∙ sym e)
+    ]
+
+steered-made : (reading : ℕ) (s : SteeredClock) →
+    IsMade reading s.clock (steered_at reading s).clock
+steered-made reading s =
+    change-made reading (commands s.clock.base.counter (rate_in_force s.clock) s.steering) s.clock
+
+restarted-last : (reading : ℕ) (clock : State) (s : SteeredClock) → clock.base.last ≡ reading →
+    (restarted reading clock s).clock.base.last ≡ reading
+restarted-last reading clock s is =
+    let begun : SteeredClock =
+    record s { clock = clock; next = second_after clock; mark = reading } in
+    at_reading reading clock (steered_at reading begun).clock is (steered-made reading begun)
+
+restarted-marked : (reading : ℕ) (clock : State) (s : SteeredClock) → clock.base.last ≡ reading →
+    IsMarked (restarted reading clock s)
+restarted-marked reading clock s is =
+    marked_at_last (restarted reading clock s) (sym (restarted-last reading clock s is))
+
+command-marked : (reading : ℕ) (cmd : Command) (s : SteeredClock) →
+    IsMarked (after_command reading cmd (effect s.clock reading cmd) s)
+command-marked reading Update s =
+    marked_at_last (after_command reading Update (effect s.clock reading Update) s) refl
+command-marked reading (SetTime time) s =
+    restarted-marked reading (effect s.clock reading (SetTime time)) (forgotten s) refl
+command-marked reading (Step by) s =
+    restarted-marked reading (effect s.clock reading (Step by)) (forgotten s) refl
+command-marked reading (Leap by tai) s =
+    restarted-marked reading (effect s.clock reading (Leap by tai)) (forgotten s) refl
+command-marked reading (Freq frequency) s =
+    marked_at_last
+    (after_command reading (Freq frequency) (effect s.clock reading (Freq frequency)) s) refl
+command-marked reading (Tick tick) s =
+    marked_at_last (after_command reading (Tick tick) (effect s.clock reading (Tick tick)) s) refl
+command-marked reading (Tai seconds) s =
+    marked_at_last (after_command reading (Tai seconds) (effect s.clock reading (Tai seconds)) s) refl
+command-marked reading Suspend s =
+    marked_at_last (after_command reading Suspend (effect s.clock reading Suspend) s) refl
+command-marked reading (Resume away) s =
+    restarted-marked reading (effect s.clock reading (Resume away)) s refl
+
+commanded-marked : (reading : ℕ) (cmd : Command) (s after : SteeredClock)
+    (result : Result ⊤ Refusal) → IsCommanded reading cmd s result after → IsMarked s →
+    IsMarked after
+commanded-marked reading cmd s after (Ok done) h marked =
+    subst IsMarked (sym h.1) (command-marked reading cmd s)
+commanded-marked reading cmd s after (Err refusal) h marked = subst IsMarked (sym h.1) marked
+
+-- what a request without effect on the discipline leaves
+either : (a b : Bool) → (not a && not b) ≡ false → (a ≡ true) ⊎ (b ≡ true)
+either true b h = inl refl
+either false true h = inr refl
+either false false h = absurd (cc)
+
+no_bits : (a : Bool) → (a && false) ≡ false
+no_bits true = refl
+no_bits false = refl
+
+is_zero : (n : ℕ) → nat_eq n 0 ≡ true → n ≡ 0
+is_zero n h = grind (arith, common_steps)
+
+same_number : (n : ℕ) → nat_eq n n ≡ true
+same_number n = grind (arith, common_steps)
+
+record IsIdle (reading : ℕ) (request : Timex) (s : SteeredClock) : Type 0 where
+  rate : changes_rate request.modes ≡ false
+  clock : given_tai reading (tai_asked request s) s.clock ≡ s.clock
+
+same_tai : (reading tai : ℕ) (clock : State) → tai ≡ tai_of_clock clock →
+    given_tai reading tai clock ≡ clock
+same_tai reading tai clock is = rw (is, same_number (tai_of_clock clock)) refl
+
+idle : (reading : ℕ) (request : Timex) (s : SteeredClock) → acts request.modes ≡ false →
+    IsIdle reading request s
+idle reading request s h =
+    elim (either (nat_eq request.modes 0) (has request.modes adj_adjtime) h) as
+    (λ _. IsIdle reading request s) [
+      | inl none ↦
+          let zero : request.modes ≡ 0 = is_zero request.modes none in
+          record {
+            rate = rw zero refl;
+            clock = same_tai reading (tai_asked request s) s.clock (rw zero refl);
+          }
+      | inr old ↦ record {
+        rate = rw old (no_bits (has request.modes 0x4003));
+        clock = same_tai reading (tai_asked request s) s.clock (rw old refl);
+      }
+    ]
+
+request-marked : (reading : ℕ) (request : Timex) (real : Timespec) (s : SteeredClock)
+    (clock : State) (does changes : Bool) →
+    (does ≡ false → (changes ≡ false) × (clock ≡ s.clock)) → IsMade reading s.clock clock →
+    IsMarked s → IsMarked (at_mark reading s) →
+    IsMarked (steered_if changes reading
+    (with_asked request real (accounted_if does reading (record s { clock = clock }))))
+request-marked reading request real s clock true true idle made marked before =
+    let asked = with_asked request real (accounted_if true reading (record s { clock = clock })) in
+    marked_made reading s (steered_at reading asked) refl refl
+    (joined reading s.clock clock (steered_at reading asked).clock made (steered-made reading asked))
+    before
+request-marked reading request real s clock true false idle made marked before =
+    marked_made reading s
+    (with_asked request real (accounted_if true reading (record s { clock = clock }))) refl refl made
+    before
+request-marked reading request real s clock false true idle made marked before =
+    absurd (never (idle refl).0)
+  where
+    never : true ≡ false → ⊥
+    never h = cc
+request-marked reading request real s clock false false idle made marked before =
+    subst (λ (c : State). IsMarked (with_asked request real (record s { clock = c })))
+    (sym (idle refl).1) marked
+
+requested-marked : (reading : ℕ) (request : Timex) (s after : SteeredClock)
+    (result : Result Reply Refusal) → IsRequested reading request s result after → IsMarked s →
+    IsMarked (at_mark reading s) → IsMarked after
+requested-marked reading request s after (Ok reply) h marked before =
+    let tai = tai_asked request s in
+    let rest : acts request.modes ≡ false →
+    (changes_rate request.modes ≡ false) × (given_tai reading tai s.clock ≡ s.clock) =
+    λ is. let found = idle reading request s is in (found.rate, found.clock) in
+    subst IsMarked (sym h.2)
+    (request-marked reading request (real_at reading s.clock) s (given_tai reading tai s.clock)
+    (acts request.modes) (changes_rate request.modes) rest (tai-made reading tai s.clock) marked
+    before)
+requested-marked reading request s after (Err refusal) h marked before =
+    subst IsMarked (sym h.1) marked
+
+step-marked : (reading : ℕ) (by : Option Timespec) (s : SteeredClock) → IsMarked s →
+    IsMarked (at_mark reading s) →
+    IsMarked (stepped reading by s) × IsMarked (at_mark reading (stepped reading by s))
+step-marked reading None s marked before = (marked, before)
+step-marked reading (Some by) s marked before =
+    let clock = effect s.clock reading (Step by) in
+    let after = restarted reading clock (forgotten s) in (
+      restarted-marked reading clock (forgotten s) refl,
+      marked_at_last (at_mark reading after) (sym (restarted-last reading clock (forgotten s) refl)),
+    )
+
+asked-marked : (reading : ℕ) (request : Timex) (s s' after : SteeredClock)
+    (refusal : Option Refusal) (result : Result Reply Refusal) →
+    MatchOption refusal (IsRequested reading request s' result after)
+    (λ r. (result ≡ Err r) × (after ≡ s)) →
+    IsMarked s → IsMarked s' → IsMarked (at_mark reading s') → IsMarked after
+asked-marked reading request s s' after None result h marked then_marked before =
+    requested-marked reading request s' after result h then_marked before
+asked-marked reading request s s' after (Some r) result h marked then_marked before =
+    subst IsMarked (sym h.1) marked
+
+-- after a request, for which seconds began first
+pub asked_after : (reading : ℕ) (request : Timex) (s advanced after : SteeredClock)
+    (result : Result Reply Refusal) → IsAdvanced reading s advanced →
+    IsAsked reading request advanced result after → IsMarked s → IsMarked after
+asked_after reading request s advanced after result chain h marked =
+    let there = marked-after reading s advanced chain marked in
+    let before = none_before reading advanced (none_due reading s advanced chain) in
+    let steps = step-marked reading (step_of request) advanced there before in
+    asked-marked reading request advanced (stepped reading (step_of request) advanced) after
+    (step_refusal reading (step_of request) advanced) result h there steps.0 steps.1
+
+followed-by : (reading : ℕ) (cmd : Command) (s after : SteeredClock) (refusal : Option Refusal)
+    (result : Result ⊤ Refusal) →
+    MatchOption refusal
+    ((advanced : SteeredClock) × IsAdvanced reading s advanced
+    × IsCommanded reading cmd advanced result after)
+    (λ r. (result ≡ Err r) × (after ≡ s)) →
+    IsMarked s → IsMarked after
+followed-by reading cmd s after None result h marked =
+    commanded-marked reading cmd h.0 after result h.2 (marked-after reading s h.0 h.1 marked)
+followed-by reading cmd s after (Some r) result h marked = subst IsMarked (sym h.1) marked
+
+-- after a command that is no request
+pub plain-marked : (resumes : Bool) (reading : ℕ) (cmd : Command) (s after : SteeredClock)
+    (result : Result ⊤ Refusal) → IsPlain resumes reading cmd s result after → IsMarked s →
+    IsMarked after
+plain-marked true reading cmd s after result h marked =
+    commanded-marked reading cmd s after result h marked
+plain-marked false reading cmd s after result h marked =
+    followed-by reading cmd s after (reading_refusal reading s) result h marked

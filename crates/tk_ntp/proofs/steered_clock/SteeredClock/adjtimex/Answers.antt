@@ -1,0 +1,7 @@
+use Rattle.tk_ntp.proofs.Marked.{asked_after}
+use Rattle.tk_ntp.proofs.steered_clock.SteeredClock.adjtimex.Goals as goal
+
+pub returns-clause-marked : goal.returns-clause-marked
+returns-clause-marked c = λ marked.
+    asked_after c.args.reading c.args.request.now c.args.self.now c.advance.new.self
+    c.ask.new.self c.ask.result c.in_ok-advance.ensures.answer.1 c.ask.ensures marked
