@@ -241,7 +241,12 @@ enum tkc_command {
 	 * 2^bits - 1 gives TKC_INVALID. The suspension took `number` s, 0 to 9223372035, plus
 	 * `nsec` ns, 0 to 999999999. BOOTTIME, REALTIME and TAI advance by that time
 	 * (timekeeping_resume, timekeeping_inject_sleeptime64). */
-	TKC_CMD_RESUME = 7
+	TKC_CMD_RESUME = 7,
+	/* Makes a leap second: moves REALTIME by `number` s, and sets TAI minus REALTIME to `nsec` s,
+	 * 0 to 100000, both at the reading. `number` is -1 to insert a second or 1 to delete one, and
+	 * `nsec` is a number of seconds here. TAI runs on if the new offset is the old one minus
+	 * `number`. The result must be in the range of SET_TIME (accumulate_nsecs_to_secs). */
+	TKC_CMD_LEAP = 8
 };
 
 /* The clocks, with the numbers of clock_gettime(2). */
@@ -525,9 +530,9 @@ enum tkc_code tkc_clock_open_at(struct tkc_clock *out, const struct tkc_counter 
  *   TKC_INVALID      the reading is above 2^bits - 1, or an argument is out of its range
  *   TKC_BEHIND       the reading is behind the last command's, and the command is not RESUME
  *   TKC_RANGE        MONOTONIC or BOOTTIME would be at or past its limit; or REALTIME or TAI,
- *                    unless the command is SET_TIME or STEP
- *   TKC_INVALID      SET_TIME or STEP would put REALTIME below MONOTONIC, or STEP would put it
- *                    outside the range of SET_TIME
+ *                    unless the command is SET_TIME, STEP or LEAP
+ *   TKC_INVALID      SET_TIME, STEP or LEAP would put REALTIME below MONOTONIC, or STEP or LEAP
+ *                    would put it outside the range of SET_TIME
  */
 TKC_MUST_CHECK
 enum tkc_code tkc_clock_apply(struct tkc_clock *clock, uint64_t reading, uint32_t command,
@@ -765,9 +770,9 @@ enum tkc_code tkc_ntp_advance(struct tkc_ntp *ntp, uint64_t reading);
  * to the front if it is accepted:
  *   - FREQ and TICK are requests: TKC_ADJ_FREQUENCY with the frequency clamped to 32768000 in
  *     either direction, and TKC_ADJ_TICK. The discipline then keeps steering.
- *   - SET_TIME and STEP clear the discipline (ntp_clear in kernel/time/ntp.c): the phase, the rest
- *     of adjtime, the errors and the second of a leap are forgotten.
- *   - The seconds that SET_TIME, STEP and RESUME jump over never begin, and no leap second of
+ *   - SET_TIME, STEP and LEAP clear the discipline (ntp_clear in kernel/time/ntp.c): the phase, the
+ *     rest of adjtime, the errors and the second of a leap are forgotten.
+ *   - The seconds that SET_TIME, STEP, LEAP and RESUME jump over never begin, and no leap second of
  *     theirs happens.
  *
  * Returns, in this order:
@@ -882,6 +887,13 @@ TKC_INLINE enum tkc_code tkc_clock_set_tai_offset(struct tkc_clock *clock, uint6
 						  int64_t sec)
 {
 	return tkc_clock_apply(clock, reading, TKC_CMD_TAI_OFFSET, sec, 0);
+}
+
+/* Moves REALTIME by -1 s or 1 s, and sets the TAI offset to `tai` s. */
+TKC_INLINE enum tkc_code tkc_clock_leap(struct tkc_clock *clock, uint64_t reading, int64_t by,
+					uint32_t tai)
+{
+	return tkc_clock_apply(clock, reading, TKC_CMD_LEAP, by, tai);
 }
 
 TKC_INLINE enum tkc_code tkc_clock_suspend(struct tkc_clock *clock, uint64_t reading)

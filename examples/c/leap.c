@@ -1,7 +1,6 @@
 /* SPDX-License-Identifier: MIT OR Apache-2.0 */
-/* Inserts a leap second: REALTIME goes back by a second and the TAI offset grows by one, at one
- * reading. Both commands are applied to a copy of the clocks, and one snapshot is published after
- * them, so no reader sees REALTIME back without the new offset: TAI never goes back. */
+/* Inserts a leap second: REALTIME goes back by a second and the TAI offset grows by one, by one
+ * command. So no snapshot has REALTIME back without the new offset: TAI never goes back. */
 #include <stdio.h>
 #include <tkcore.h>
 
@@ -9,19 +8,6 @@
 /* 2016-12-31 23:59:59 UTC, a second before the last leap second that was inserted */
 #define OPENING INT64_C(1483228799)
 #define OFFSET_BEFORE 36
-
-/* Applies both commands to a copy, which replaces the clocks only if neither is refused. */
-static enum tkc_code insert_second(struct tkc_clock *clock, uint64_t reading, int64_t offset)
-{
-	struct tkc_clock after = *clock;
-	enum tkc_code code = tkc_clock_step(&after, reading, -1, 0);
-
-	if (code == TKC_OK)
-		code = tkc_clock_set_tai_offset(&after, reading, offset);
-	if (code == TKC_OK)
-		*clock = after;
-	return code;
-}
 
 /* Prints REALTIME and TAI at a reading of a snapshot, as a reader gets them. */
 static int show(const struct tkc_snapshot *published, uint64_t reading)
@@ -52,7 +38,7 @@ int main(void)
 	if (tkc_snapshot_reading(&midnight, &published, TKC_CLOCK_REALTIME, OPENING + 1, 0) ||
 	    show(&published, midnight - HZ / 2) || show(&published, midnight))
 		return 1;
-	if (insert_second(&clock, midnight, OFFSET_BEFORE + 1))
+	if (tkc_clock_leap(&clock, midnight, -1, OFFSET_BEFORE + 1))
 		return 1;
 	tkc_clock_snapshot(&published, &clock);
 	return show(&published, midnight) || show(&published, midnight + HZ / 2) ||

@@ -18,6 +18,8 @@ static int64_t some_number(uint32_t command)
 		return (int64_t)below(2100) + 8950;
 	case TKC_CMD_TAI_OFFSET:
 		return (int64_t)below(100003) - 1;
+	case TKC_CMD_LEAP:
+		return (int64_t)below(4) - 2;
 	default:
 		return (int64_t)below(80000000) - 40000000;
 	}
@@ -36,7 +38,7 @@ static void fill_count(struct tkc_clock *clock, const struct tkc_counter *counte
 
 static bool is_command_code(uint32_t code, uint32_t command)
 {
-	if (command > TKC_CMD_RESUME)
+	if (command > TKC_CMD_LEAP)
 		return code == TKC_BAD_COMMAND;
 	return code <= TKC_RANGE;
 }
@@ -44,7 +46,7 @@ static bool is_command_code(uint32_t code, uint32_t command)
 static void try_command(struct tkc_clock *of)
 {
 	struct tkc_clock *clock = put(rooms.clock, of, sizeof(*of));
-	uint32_t command = one_in(20) ? (uint32_t)some() : (uint32_t)below(8);
+	uint32_t command = one_in(20) ? (uint32_t)some() : (uint32_t)below(9);
 	uint64_t before[TKC_WORDS], after[TKC_WORDS], reading;
 	int64_t frequency, tick;
 	uint32_t code;
@@ -60,7 +62,7 @@ static void try_command(struct tkc_clock *of)
 	else
 		check(after[0] == before[0] + 1 && after[1] == reading);
 	check((code == TKC_FULL) ==
-	      (command <= TKC_CMD_RESUME && before[0] >= INT64_MAX));
+	      (command <= TKC_CMD_LEAP && before[0] >= INT64_MAX));
 	*of = *clock;
 }
 

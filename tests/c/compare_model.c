@@ -47,7 +47,7 @@ static uint64_t reading_near(const struct model *model)
 
 static void try_command(struct tkc_clock *clock, struct model *model)
 {
-	uint32_t command = (uint32_t)(below(30) ? below(8) : some());
+	uint32_t command = (uint32_t)(below(30) ? below(9) : some());
 	uint64_t reading = reading_near(model);
 	uint32_t nsec = (uint32_t)(below(8) ? below(1000000001) : some());
 	int64_t number = (int64_t)some();
@@ -60,6 +60,10 @@ static void try_command(struct tkc_clock *clock, struct model *model)
 		number = (int64_t)below(70000000) - 35000000;
 	if ((command == TKC_CMD_SET_TIME || command == TKC_CMD_STEP) && below(2))
 		number = (int64_t)below(8277292037);
+	if (command == TKC_CMD_LEAP && below(8)) {
+		number = (int64_t)below(4) - 2;
+		nsec = (uint32_t)below(100003);
+	}
 	CHECK(tkc_clock_apply(clock, reading, command, number, nsec) ==
 	      model_apply(model, reading, command, number, nsec));
 	compare(clock, model);

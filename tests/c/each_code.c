@@ -56,7 +56,7 @@ static void commands(struct tkc_clock *clock, const struct tkc_counter *counter)
 	MEET(TKC_INVALID, tkc_clock_open_at(clock, counter, 0, 0, 0, 1, 0));
 	MEET(TKC_OK, tkc_clock_open_at(clock, counter, 0, 1, 0, 1, 0));
 	MEET(TKC_OK, tkc_clock_open(clock, counter, 1000, 1700000000, 0));
-	MEET(TKC_BAD_COMMAND, tkc_clock_apply(clock, 1000, 8, 0, 0));
+	MEET(TKC_BAD_COMMAND, tkc_clock_apply(clock, 1000, 9, 0, 0));
 	MEET(TKC_AWAKE, tkc_clock_apply(clock, 1000, TKC_CMD_RESUME, 0, 0));
 	MEET(TKC_BEHIND, tkc_clock_apply(clock, 999, TKC_CMD_UPDATE, 0, 0));
 	MEET(TKC_INVALID, tkc_clock_apply(clock, 1000, TKC_CMD_TICK, 8999, 0));

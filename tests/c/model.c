@@ -97,6 +97,8 @@ static bool is_number_invalid(uint32_t command, int64_t number, uint32_t nsec)
 		return number < 9000 || number > 11000;
 	case TKC_CMD_TAI_OFFSET:
 		return number < 0 || number > 100000;
+	case TKC_CMD_LEAP:
+		return (number != -1 && number != 1) || nsec > 100000;
 	case TKC_CMD_RESUME:
 		return number < 0 || number > 9223372035 || nsec > 999999999;
 	default:
@@ -125,6 +127,10 @@ static void change(struct model *model, uint32_t command, int64_t number, uint32
 	case TKC_CMD_TAI_OFFSET:
 		model->tai = number;
 		break;
+	case TKC_CMD_LEAP:
+		model->real += number * NANOS;
+		model->tai = nsec;
+		break;
 	case TKC_CMD_SUSPEND:
 		model->asleep = true;
 		break;
@@ -142,10 +148,11 @@ uint32_t model_apply(struct model *model, uint64_t reading, uint32_t command, in
 		     uint32_t nsec)
 {
 	struct model next = *model;
-	bool sets = command == TKC_CMD_SET_TIME || command == TKC_CMD_STEP;
+	bool sets = command == TKC_CMD_SET_TIME || command == TKC_CMD_STEP ||
+		    command == TKC_CMD_LEAP;
 	i128 real;
 
-	if (command > TKC_CMD_RESUME)
+	if (command > TKC_CMD_LEAP)
 		return TKC_BAD_COMMAND;
 	if (model->front >= INT64_MAX)
 		return TKC_FULL;

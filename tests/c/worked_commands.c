@@ -24,7 +24,7 @@ static const struct stored OPENED = {
 
 static const struct command refused_commands[] = {
 	{ 1000, TKC_CMD_UPDATE, 0, 0, TKC_OK },
-	{ 2000, 8, 0, 0, TKC_BAD_COMMAND },
+	{ 2000, 9, 0, 0, TKC_BAD_COMMAND },
 	{ 2000, UINT32_MAX, 0, 0, TKC_BAD_COMMAND },
 	{ 2000, TKC_CMD_RESUME, 0, 0, TKC_AWAKE },
 	{ 4294967296, TKC_CMD_UPDATE, 0, 0, TKC_INVALID },
@@ -34,6 +34,23 @@ static const struct command refused_commands[] = {
 	{ 999, TKC_CMD_UPDATE, 0, 0, TKC_BEHIND },
 	{ 2000, TKC_CMD_SUSPEND, 0, 0, TKC_OK },
 	{ 3000, TKC_CMD_UPDATE, 0, 0, TKC_ASLEEP },
+};
+
+/* An insertion: REALTIME is a second less and the TAI offset a second more, in one command. */
+static const struct command leap_commands[] = {
+	{ 1000, TKC_CMD_TAI_OFFSET, 37, 0, TKC_OK },
+	{ 1000, TKC_CMD_LEAP, 0, 37, TKC_INVALID },
+	{ 1000, TKC_CMD_LEAP, -2, 39, TKC_INVALID },
+	{ 1000, TKC_CMD_LEAP, -1, 100001, TKC_INVALID },
+	{ 1000, TKC_CMD_LEAP, -1, 38, TKC_OK },
+};
+
+/* The clocks after that: the word of the TAI offset is twice the offset. */
+static const struct stored LEAPT = {
+	.words = { 2, 1000, 16777216, 16777216000, 0, 1699999999000000000, 0, 76,
+		   16777216000, 0 },
+	.frequency = 0,
+	.tick = 10000,
 };
 
 /* A cycle later MONOTONIC would be past its limit, 946,080,000 s. */
@@ -48,7 +65,7 @@ static const struct command counted_commands[] = {
 	{ 1000, TKC_CMD_UPDATE, 0, 0, TKC_OK },
 	{ 1000, TKC_CMD_UPDATE, 0, 0, TKC_FULL },
 	{ 0, TKC_CMD_RESUME, -1, 0, TKC_FULL },
-	{ 1000, 8, 0, 0, TKC_BAD_COMMAND },
+	{ 1000, 9, 0, 0, TKC_BAD_COMMAND },
 };
 
 /* The clocks that the commands of a table are applied to. */
@@ -95,6 +112,9 @@ void try_commands(void)
 	try_each(openings, try_opening);
 	clock = opened();
 	try_each(refused_commands, try_command);
+	clock = opened();
+	try_each(leap_commands, try_command);
+	check_clock(&clock, &LEAPT);
 	clock = opened_wide();
 	try_each(last_commands, try_command);
 	clock = opened();

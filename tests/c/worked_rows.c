@@ -20,7 +20,7 @@ _Static_assert(TKC_BAD_BITS == 32 && TKC_BAD_SHIFT == 33 && TKC_BAD_MULT == 34 &
 _Static_assert(TKC_CMD_UPDATE == 0 && TKC_CMD_SET_TIME == 1 &&
 	       TKC_CMD_STEP == 2 && TKC_CMD_FREQ == 3 && TKC_CMD_TICK == 4 &&
 	       TKC_CMD_TAI_OFFSET == 5 && TKC_CMD_SUSPEND == 6 &&
-	       TKC_CMD_RESUME == 7, "commands");
+	       TKC_CMD_RESUME == 7 && TKC_CMD_LEAP == 8, "commands");
 _Static_assert(TKC_CLOCK_REALTIME == 0 && TKC_CLOCK_MONOTONIC == 1 &&
 	       TKC_CLOCK_MONOTONIC_RAW == 4 && TKC_CLOCK_REALTIME_COARSE == 5 &&
 	       TKC_CLOCK_MONOTONIC_COARSE == 6 && TKC_CLOCK_BOOTTIME == 7 &&

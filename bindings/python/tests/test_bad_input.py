@@ -164,7 +164,7 @@ class Arguments:
         some, near = self.some, self.near
 
         def number():
-            return rng.choice([some(), rng.randrange(8)])
+            return rng.choice([some(), rng.randrange(9)])
 
         self.calls = [
             lambda: (self.clock.apply, some(), number(), some(), some()),
@@ -252,8 +252,10 @@ class Numbers(unittest.TestCase):
         self.refused(tkcore.Invalid, -1, (0, 100_000), clock.set_tai_offset, 5, -1)
         clock.update(1000)
         self.refused(tkcore.Behind, 999, (1000, 1000 + 2**31 - 1), clock.update, 999)
-        for number in (8, -1, 2**32):
-            self.refused(tkcore.BadCommand, number, (0, 7), clock.apply, 2000, number)
+        for number in (9, -1, 2**32):
+            self.refused(tkcore.BadCommand, number, (0, 8), clock.apply, 2000, number)
+        self.refused(tkcore.Invalid, 2, (-1, 1), clock.apply, 2000, tkcore.Command.LEAP, 2, 37)
+        self.refused(tkcore.Invalid, 0, (1, 1), clock.apply, 2000, tkcore.Command.LEAP, 0, 37)
         for other in (1.5, "5", None):
             with self.assertRaises(TypeError):
                 clock.update(other)

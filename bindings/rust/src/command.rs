@@ -19,6 +19,15 @@ pub enum Command {
     Tick(i64),
     /// Sets TAI minus REALTIME, 0 to 100,000 s (adjtimex(2), ADJ_TAI).
     Tai(i64),
+    /// Makes a leap second: moves REALTIME by `by` seconds, -1 or 1, and sets TAI minus REALTIME to
+    /// `tai`, 0 to 100,000 s (`accumulate_nsecs_to_secs`). -1 inserts a second. REALTIME must then
+    /// be in the range of `SetTime`.
+    Leap {
+        /// The seconds by which REALTIME moves.
+        by: i64,
+        /// TAI minus REALTIME after it, in seconds.
+        tai: u32,
+    },
     /// Puts the clocks to sleep: none moves until `Resume` (`timekeeping_suspend`).
     Suspend,
     /// Wakes the clocks, which count again starting at the reading. BOOTTIME, REALTIME and TAI
@@ -37,6 +46,7 @@ impl Command {
             Command::Freq(frequency) => (3, frequency, 0),
             Command::Tick(tick) => (4, tick, 0),
             Command::Tai(offset) => (5, offset, 0),
+            Command::Leap { by, tai } => (8, by, tai),
             Command::Suspend => (6, 0, 0),
             Command::Resume(slept) => (7, slept.sec, slept.nsec),
         }

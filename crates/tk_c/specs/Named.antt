@@ -1,13 +1,14 @@
 -- The numbers of commands and clocks in C: enum tkc_command and enum tkc_clock_id of include/tkcore.h.
-use Rattle.std.specs.Prelude.{ℕ, ℤ, Option, Some, None, nat_eq, if◌then◌else◌}
+use Rattle.std.specs.Prelude.{ℕ, ℤ, pos, Option, Some, None, nat_eq, if◌then◌else◌}
 use Rattle.tk_clock.specs.declared.timespec.Timespec.{Timespec}
 use Rattle.tk_clock.specs.declared.command.Command.{Command}
-use Rattle.tk_clock.specs.declared.command.Command.TheVariants.{Update, SetTime, Step, Freq, Tick, Tai, Suspend, Resume}
+use Rattle.tk_clock.specs.declared.command.Command.TheVariants.{Update, SetTime, Step, Freq, Tick, Tai, Leap, Suspend, Resume}
 use Rattle.tk_clock.specs.declared.clock_id.ClockId.{ClockId}
 use Rattle.tk_clock.specs.declared.clock_id.ClockId.TheVariants.{Realtime, Monotonic, Boottime, Tai as TaiClock, RealtimeCoarse, MonotonicCoarse, MonotonicRaw}
 
--- the command with this number, if there is one; `number` is the seconds of a time, a frequency, a
--- tick or a TAI offset
+-- the command with this number, if there is one; `number` is the seconds of a time or of a leap, a
+-- frequency, a tick or a TAI offset, and `nsec` is the nanoseconds of a time, or the TAI offset
+-- after a leap, in seconds
 abbrev pub command_named : ℕ → ℤ → ℕ → Option Command
 command_named command number nsec =
     let time : Timespec = record { sec = number; nsec = nsec } in
@@ -19,6 +20,7 @@ command_named command number nsec =
     else if nat_eq command 5 then Some (Tai number)
     else if nat_eq command 6 then Some Suspend
     else if nat_eq command 7 then Some (Resume time)
+    else if nat_eq command 8 then Some (Leap number (pos nsec))
     else None
 
 -- the clock with this number, as in clock_gettime(2), if there is one

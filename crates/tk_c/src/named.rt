@@ -18,6 +18,10 @@ pub(crate) fn command_named(command: u32, number: i64, nsec: u32) -> Option<Comm
         5 => Some(Command::Tai(number)),
         6 => Some(Command::Suspend),
         7 => Some(Command::Resume(time)),
+        8 => Some(Command::Leap {
+            by: number,
+            tai: i64::from(nsec),
+        }),
         _ => None,
     }
 }

@@ -13,6 +13,7 @@ from .snapshot import ClockId, Snapshot
 _NSECS = (0, NANOS - 1)
 SETTABLE = (0, 8_277_292_035)
 TICKS = (9_000, 11_000)
+_TAI_OFFSETS = (0, 100_000)
 
 
 class Command(enum.IntEnum):
@@ -26,13 +27,14 @@ class Command(enum.IntEnum):
     TAI_OFFSET = 5
     SUSPEND = 6
     RESUME = 7
+    LEAP = 8
 
 
-# The range of a command's number, and whether it has nanoseconds too.
+# The ranges of a command's number and of its nanoseconds, or of its TAI offset.
 _NUMBERS = {
-    Command.SET_TIME: (SETTABLE, True), Command.STEP: (I64, True), Command.FREQ: (I64, False),
-    Command.TICK: (TICKS, False), Command.TAI_OFFSET: ((0, 100_000), False),
-    Command.RESUME: ((0, 9_223_372_035), True),
+    Command.SET_TIME: (SETTABLE, _NSECS), Command.STEP: (I64, _NSECS), Command.FREQ: (I64, U32),
+    Command.TICK: (TICKS, U32), Command.TAI_OFFSET: (_TAI_OFFSETS, U32),
+    Command.RESUME: ((0, 9_223_372_035), _NSECS), Command.LEAP: ((-1, 1), _TAI_OFFSETS),
 }
 
 
@@ -68,7 +70,7 @@ class Commanded:
         readings = (0, self.counter.max_reading)
         code = self._call_apply(
             fit(reading, U64, Invalid, "reading", readings),
-            fit(command, U32, BadCommand, "command", (0, 7)),
+            fit(command, U32, BadCommand, "command", (0, 8)),
             fit(number, I64, Invalid, "number"), fit(nsec, U32, Invalid, "nsec", _NSECS))
         if code:
             self._refuse(code, reading, command, number, nsec)
@@ -108,6 +110,12 @@ class Commanded:
         """Sets TAI minus REALTIME, 0 to 100000 s. Raises what `apply` does."""
         self.apply(reading, Command.TAI_OFFSET, offset)
 
+    def leap(self, reading: int, by: int, tai: int) -> None:
+        """Makes a leap second: moves REALTIME by -1 or 1 s, and sets TAI minus REALTIME, 0 to
+        100000 s. -1 inserts a second. Raises what `apply` does.
+        """
+        self.apply(reading, Command.LEAP, by, tai)
+
     def suspend(self, reading: int) -> None:
         """Puts the clocks to sleep: none moves until `resume`. Raises what `apply` does."""
         self.apply(reading, Command.SUSPEND)
@@ -134,24 +142,28 @@ class Commanded:
     def _refuse(self, code: int, reading: int, command: int, number: int, nsec: int) -> NoReturn:
         """Raises the exception of a code, with the argument that it is for."""
         if code == BadCommand.code:
-            raise BadCommand("command", command, (0, 7))
+            raise BadCommand("command", command, (0, 8))
         self._refuse_reading(code, reading)
         if code == Invalid.code:
-            within, has_nsec = _NUMBERS.get(Command(command), (I64, False))
+            within, nsecs = _NUMBERS.get(Command(command), (I64, U32))
             fit(number, within, Invalid, "number")
-            fit(nsec, _NSECS if has_nsec else U32, Invalid, "nsec")
-            self._refuse_time(reading, number * NANOS + nsec, command == Command.STEP)
+            fit(nsec, nsecs, Invalid, "tai" if command == Command.LEAP else "nsec")
+            if command == Command.LEAP and number == 0:
+                raise Invalid("the size of a leap second, in s,", 0, (1, 1))
+            moves = command in (Command.STEP, Command.LEAP)
+            time = number * NANOS + (0 if command == Command.LEAP else nsec)
+            self._refuse_time(reading, time, moves)
         raise BY_CODE[code](f"{Command(command).name} is refused")
 
-    def _refuse_time(self, reading: int, time: int, is_step: bool) -> NoReturn:
-        """Raises Invalid for a time, or an amount of a step, in ns: REALTIME may be set neither
-        below MONOTONIC at the reading nor to its limit."""
+    def _refuse_time(self, reading: int, time: int, moves: bool) -> NoReturn:
+        """Raises Invalid for a time, or an amount that moves REALTIME, in ns: REALTIME may be set
+        neither below MONOTONIC at the reading nor to its limit."""
         snapshot = self.snapshot()
         monotonic = snapshot.get(reading, ClockId.MONOTONIC)
         ahead = snapshot.words()[5]  # REALTIME minus MONOTONIC, in ns
-        start = monotonic + ahead if is_step else 0
+        start = monotonic + ahead if moves else 0
         within = (monotonic - start, SETTABLE[1] * NANOS + NANOS - 1 - start)
-        what = "the step of REALTIME, in ns," if is_step else "REALTIME, in ns,"
+        what = "the step of REALTIME, in ns," if moves else "REALTIME, in ns,"
         raise Invalid(what, time, within)
 
 

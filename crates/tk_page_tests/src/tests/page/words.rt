@@ -51,29 +51,40 @@ fn each_publication_shows_its_own_words(rt: HostRuntime) -> Result<(), Fail> {
                 1,
             ],
         ),
+        (
+            1_000_000_000,
+            Command::Tai(37),
+            [
+                3,
+                1_000_000_000,
+                18_463_326,
+                1_677_721_000_000_000,
+                1,
+                OPENED_REAL,
+                0,
+                74,
+                0,
+                1,
+            ],
+        ),
+        (
+            1_000_000_000,
+            Command::Leap { by: -1, tai: 38 },
+            [
+                4,
+                1_000_000_000,
+                18_463_326,
+                1_677_721_000_000_000,
+                1,
+                OPENED_REAL - 1_000_000_000,
+                0,
+                76,
+                0,
+                1,
+            ],
+        ),
     ] {
         desk.command(&rt, &page, reading, cmd)?;
-        assert_same(&rt, &viewer.read(&rt, &page).words(), &words);
-    }
-    Ok(())
-}
-
-#[test]
-fn a_leap_second_comes_with_its_tai_offset(rt: HostRuntime) -> Result<(), Fail> {
-    let (page, mut desk, mut viewer) = opened_page(&rt, rt.alloc()).ok_or("no page")?;
-    // the word of the TAI offset is twice the offset
-    for (cmd, front, real, tai) in [
-        (Command::Tai(37), 1, OPENED_REAL, 74),
-        (
-            Command::Leap { by: -1, tai: 38 },
-            2,
-            OPENED_REAL - 1_000_000_000,
-            76,
-        ),
-        (Command::Leap { by: 1, tai: 37 }, 3, OPENED_REAL, 74),
-    ] {
-        desk.command(&rt, &page, 0, cmd)?;
-        let words = [front, 0, 16_777_216, 0, 0, real, 0, tai, 0, 0];
         assert_same(&rt, &viewer.read(&rt, &page).words(), &words);
     }
     Ok(())
