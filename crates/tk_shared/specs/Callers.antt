@@ -12,7 +12,8 @@ use Rattle.tk_clock.specs.Life.{NeverFalls}
 use Rattle.tk_clock.specs.Limits.{listed_most}
 use Rattle.tk_clock.specs.Monotonic.{monotonic}
 use Rattle.tk_clock.specs.Refusal.{clock_refusal}
-use Rattle.tk_clock.specs.Snapshot.{snapshot_of}
+use Rattle.tk_clock.specs.Snapshot.{Snapshot, snapshot_of}
+use Rattle.tk_keeper.specs.Keeper.{ReadsAs}
 use Rattle.tk_page.specs.History.{Begins, Sight}
 use Rattle.atomic_table.specs.Seated.{TableId}
 use Rattle.tk_now.specs.Life.{AreReadings}
@@ -64,6 +65,19 @@ pub record IsKnownBy (one other : Known) : Type 0 where
   pub learnt : IsPrefix one.learnt.publications other.learnt.publications
   pub commands : IsPrefix one.noticed.commands other.noticed.commands
   pub log : IsPrefix one.noticed.log other.noticed.log
+
+-- a call that read the page once, and returned the snapshot of the history that the caller has now
+-- seen, which extends the former one. The snapshot's clocks are the history's. Nothing else of the
+-- caller changed
+pub record HasRead (old new : Known) (snapshot : Snapshot) : Type 0 where
+  pub reads : new.reads ≡ old.reads + 1
+  pub extends : Begins old.seen new.seen
+  pub answer : snapshot ≡ snapshot_of new.seen
+  pub clocks : ReadsAs new.seen snapshot.base
+  pub id : new.id ≡ old.id
+  pub accepted : new.accepted ≡ old.accepted
+  pub learnt : new.learnt ≡ old.learnt
+  pub noticed : new.noticed ≡ old.noticed
 
 -- a caller that was informed of everything under the lock: it has seen a whole history, and knows
 -- all of its snapshots and the readings of all of its commands, in order. All callers' readings so

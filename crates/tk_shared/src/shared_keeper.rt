@@ -2,11 +2,9 @@
 ghost use Rattle.std.specs.Prelude.{◌≡◌, ◌+◌, ◌≤◌, length, replicate, IfOk, MatchResult};
 ghost use mathlib.Core.List.{IsPrefix};
 ghost use Rattle.tk_clock.specs.Snapshot.{snapshot_of};
-ghost use Rattle.tk_keeper.specs.Keeper.{ReadsAs};
-ghost use Rattle.tk_page.specs.History.{Begins};
 ghost use Rattle.tk_latch.specs.Latch.{IsRead, IsMoved, opened_reader};
 ghost use Rattle.tk_now.specs.Views.{opened_notice_writer};
-ghost use Rattle.tk_shared.specs.Callers.{IsAccepted, IsRefused, IsSameCaller, newcomers};
+ghost use Rattle.tk_shared.specs.Callers.{HasRead, IsAccepted, IsRefused, IsSameCaller, newcomers};
 ghost use Rattle.tk_shared.specs.Opening.{AreNamed, IsNamed, most_callers};
 ghost use Rattle.tk_shared.specs.Readings.{EndsAtReading, IsRefusedAtReading};
 
@@ -133,18 +131,11 @@ impl<L: Named, C: Counter> SharedKeeper<L, C> {
     /// Returns the latest snapshot on the page, which is no older than any that this caller has
     /// seen.
     ///
-    /// It reads the page once, as clause `reads` states, and doesn't take the lock. If its first
-    /// try fails, it waits for the thread that holds the words of the page.
+    /// It reads the page once, as `reads` of `HasRead` states, and doesn't take the lock. If its
+    /// first try fails, it waits for the thread that holds the words of the page.
     #[inline(always)]
     pub fn read<R: Wait>(&self, rt: &R, caller: &mut Caller<L>) -> Snapshot
-        ensures reads { caller.new.reads ≡ caller.old.reads + 1 }
-        ensures extends { Begins caller.old.seen caller.new.seen }
-        ensures answer { result ≡ snapshot_of caller.new.seen }
-        ensures clocks { ReadsAs caller.new.seen result.base }
-        ensures same { (caller.new.id ≡ caller.old.id)
-            × (caller.new.accepted ≡ caller.old.accepted)
-            × (caller.new.learnt ≡ caller.old.learnt)
-            × (caller.new.noticed ≡ caller.old.noticed) }
+        ensures read { HasRead caller.old caller.new result }
     {
         self.read_at::<AtRead, R>(rt, caller)
     }
@@ -155,14 +146,7 @@ impl<L: Named, C: Counter> SharedKeeper<L, C> {
     /// contains its read, which is faster than a call that several places share.
     #[inline(always)]
     pub fn read_at<P, R: Wait>(&self, rt: &R, caller: &mut Caller<L>) -> Snapshot
-        ensures reads { caller.new.reads ≡ caller.old.reads + 1 }
-        ensures extends { Begins caller.old.seen caller.new.seen }
-        ensures answer { result ≡ snapshot_of caller.new.seen }
-        ensures clocks { ReadsAs caller.new.seen result.base }
-        ensures same { (caller.new.id ≡ caller.old.id)
-            × (caller.new.accepted ≡ caller.old.accepted)
-            × (caller.new.learnt ≡ caller.old.learnt)
-            × (caller.new.noticed ≡ caller.old.noticed) }
+        ensures read { HasRead caller.old caller.new result }
     {
         caller.viewer.read_at::<P, R>(rt, &self.shared.page)
     }
