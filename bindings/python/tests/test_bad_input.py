@@ -282,6 +282,8 @@ class Numbers(unittest.TestCase):
             self.assertFalse(error.range[0] <= error.value <= error.range[1], (error, arguments))
         if isinstance(error, tkcore.Behind):
             self.assertEqual((error.what, error.value), ("reading", arguments[0]))
+            first, last = error.range  # (of a counter of 32 bits)
+            self.assertGreater((error.value - first) % 2**32, (last - first) % 2**32)
 
 
 class Versions(unittest.TestCase):

@@ -159,7 +159,20 @@ class Arguments(unittest.TestCase):
         self.clock.update(10)
         with self.assertRaises(tkcore.Behind) as raised:
             self.clock.adjtimex(9, Timex())
-        self.assertEqual((raised.exception.value, raised.exception.range), (9, (10, 10 + 2**31 - 1)))
+        self.assertEqual((raised.exception.value, raised.exception.range),
+                         (9, (10, 10 + 2**31 - 1)))
+
+    def test_behind_a_request(self):
+        """A request without a command lets no reading before it pass."""
+        self.clock.update(10)
+        self.clock.adjtimex(1000, Timex(Mode.MAXERROR, maxerror=5))
+        for reading in (999, 11, 9, 2**31 + 10):
+            with self.assertRaises(tkcore.Behind) as raised:
+                copy.copy(self.clock).advance(reading)
+            self.assertEqual((raised.exception.value, raised.exception.range),
+                             (reading, (1000, 10 + 2**31 - 1)))
+        for reading in (1000, 10 + 2**31 - 1):
+            copy.copy(self.clock).advance(reading)
 
     def test_commands(self):
         self.clock.suspend(5)

@@ -2,7 +2,7 @@
 
 use core::fmt;
 
-use crate::{sys, Command, Counter, Refusal, Snapshot, Timespec, Unsteered};
+use crate::{sys, Command, Counter, OutOfRange, Refusal, Snapshot, Timespec, Unsteered};
 
 /// The bits of a request's `modes` (`ADJ_OFFSET` .. of adjtimex(2)).
 pub mod mode {
@@ -222,8 +222,29 @@ impl SteeredClock {
     #[cold]
     fn unsteered(&self, code: u32, reading: u64, request: &Timex) -> Unsteered {
         let refusal = Refusal::of_code(code);
-        let number = request.refused_number(refusal, &self.snapshot(), reading);
+        let number = match refusal {
+            Refusal::Invalid => request.invalid_number(&self.snapshot(), reading),
+            Refusal::Behind => Some(self.behind(reading)),
+            _ => None,
+        };
         Unsteered { refusal, number }
+    }
+
+    /// Returns a reading that is behind, with the range of those that aren't.
+    fn behind(&self, reading: u64) -> OutOfRange {
+        let (last, mask) = (self.snapshot().words()[1], self.counter.max_reading());
+        let at = |gap: u64| last.wrapping_add(gap) & mask;
+        let is_behind = |gap: u64| self.clone().advance(at(gap)) == Err(Refusal::Behind);
+        let (mut least, mut ahead) = (0, 0);
+        while ahead < mask / 2 && is_behind(ahead) {
+            (least, ahead) = (ahead + 1, (2 * ahead + 1).min(mask / 2));
+        }
+        while least < ahead {
+            let middle = least + (ahead - least) / 2;
+            (least, ahead) = if is_behind(middle) { (middle + 1, ahead) } else { (least, middle) };
+        }
+        let [value, least, most] = [reading, at(least), at(mask / 2)].map(i128::from);
+        OutOfRange { name: "reading", value, least, most }
     }
 
     /// Returns the reading at which the next second of REALTIME begins, to set a timer to.

@@ -105,27 +105,11 @@ impl Timex {
         unless_within("step", step, -ahead, SETTABLE_LIMIT - 1 - monotonic - ahead)
     }
 
-    /// Returns the number that a refused request is refused for. The snapshot is of the clocks that
-    /// refused it.
-    pub(crate) fn refused_number(
-        &self,
-        refusal: Refusal,
-        snapshot: &Snapshot,
-        reading: u64,
-    ) -> Option<OutOfRange> {
-        let mask = snapshot.counter().max_reading();
-        match refusal {
-            Refusal::Invalid => self
-                .faulty_field()
-                .or_else(|| unless_within("reading", reading, 0, mask))
-                .or_else(|| self.faulty_step(snapshot, reading)),
-            Refusal::Behind => {
-                let last = snapshot.words()[1];
-                let most = last.wrapping_add(mask / 2) & mask;
-                let [value, least, most] = [reading, last, most].map(i128::from);
-                Some(OutOfRange { name: "reading", value, least, most })
-            }
-            _ => None,
-        }
+    /// Returns the number that makes a request `Invalid`. The snapshot is of the clocks that refused
+    /// it.
+    pub(crate) fn invalid_number(&self, snapshot: &Snapshot, reading: u64) -> Option<OutOfRange> {
+        self.faulty_field()
+            .or_else(|| unless_within("reading", reading, 0, snapshot.counter().max_reading()))
+            .or_else(|| self.faulty_step(snapshot, reading))
     }
 }

@@ -236,6 +236,21 @@ fn refused_calls() {
     assert_eq!(clock.next_second(), Err(Refusal::Never));
 }
 
+/// A request without a command lets no reading before it pass.
+#[test]
+fn behind_a_request() {
+    let counter = Counter::from_hz(32, 1_000_000, 600).unwrap();
+    let mut clock = SteeredClock::open(&counter, 10, START, 1000).unwrap();
+    let request = Timex { modes: mode::MAXERROR, maxerror: 5, ..Timex::default() };
+    clock.adjtimex(1000, &request).unwrap();
+    for reading in [999, 11, 9, (1 << 31) + 10] {
+        let error = clock.clone().adjtimex(reading, &request).unwrap_err();
+        let text = format!("reading is {reading} instead of 1000 to 2147483657");
+        assert_eq!((error.refusal, error.to_string()), (Refusal::Behind, text));
+        check_number(&clock, &request, reading, error);
+    }
+}
+
 /// Requests that are refused for a number, and the text that names it. The clocks are opened at 5
 /// cycles of 1 us, and 5 s of MONOTONIC have passed at the reading 5000005.
 #[test]

@@ -128,16 +128,21 @@ class Commanded:
         """
         self.apply(reading, Command.RESUME, *split(slept, _NUMBERS[Command.RESUME][0], "slept"))
 
+    def _first_reading(self, last: int) -> int:
+        """Returns the first reading that isn't behind, from the last command's on."""
+        return last
+
     def _refuse_reading(self, code: int, reading: int) -> None:
         """Raises the exception of a code that is about the reading or the count of calls."""
-        front, start = self._front_and_last()
-        last = self.counter.max_reading
+        front, last = self._front_and_last()
+        mask = self.counter.max_reading
         if code == Full.code:
             raise Full("the number of accepted commands", front, (0, 2**63 - 2))
         if code == Invalid.code:
-            fit(reading, (0, last), Invalid, "reading")
+            fit(reading, (0, mask), Invalid, "reading")
         if code == Behind.code:
-            raise Behind("reading", reading, (start, (start + last // 2) & last))
+            within = (self._first_reading(last), (last + mask // 2) & mask)
+            raise Behind("reading", reading, within)
 
     def _refuse(self, code: int, reading: int, command: int, number: int, nsec: int) -> NoReturn:
         """Raises the exception of a code, with the argument that it is for."""

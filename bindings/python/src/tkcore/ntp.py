@@ -11,7 +11,7 @@ from ._library import (CALLS, I64, NANOS, U32, U64, NtpValue, SnapshotValue, Tim
                        raise_code)
 from .commands import SETTABLE, TICKS, Commanded, split
 from .counter import Counter
-from .errors import BY_CODE, Invalid
+from .errors import BY_CODE, Behind, Invalid
 from .snapshot import Snapshot
 
 
@@ -197,6 +197,21 @@ class SteeredClock(Commanded):
     def _refuse_call(self, code: int, reading: int) -> NoReturn:
         self._refuse_reading(code, reading)
         raise BY_CODE[code]("the request or the reading is refused")
+
+    def _first_reading(self, last: int) -> int:
+        mask = self.counter.max_reading
+
+        def is_behind(gap: int) -> bool:
+            value = NtpValue.from_buffer_copy(self._value)
+            return CALLS.tkc_ntp_advance(byref(value), (last + gap) & mask) == Behind.code
+
+        behind, ahead = -1, 0
+        while ahead < mask // 2 and is_behind(ahead):
+            behind, ahead = ahead, min(2 * ahead + 1, mask // 2)
+        while ahead - behind > 1:
+            middle = (behind + ahead) // 2
+            behind, ahead = (middle, ahead) if is_behind(middle) else (behind, middle)
+        return (last + ahead) & mask
 
     def _call_apply(self, reading: int, command: int, number: int, nsec: int) -> int:
         return CALLS.tkc_ntp_apply(byref(self._value), reading, command, number, nsec)
