@@ -8,7 +8,8 @@
  * A sleep may take SLACK ms more than the clocks say; none if it isn't given.
  */
 #define _GNU_SOURCE
-#include <errno.h>
+#include "faults.h"
+
 #include <pthread.h>
 #include <signal.h>
 #include <stdbool.h>
@@ -23,17 +24,6 @@
 enum { SECOND = 1000000000 };
 
 static int64_t slack; /* ns */
-static int faults;
-
-#define CHECK(condition)                                                     \
-	do {                                                                 \
-		if (!(condition)) {                                          \
-			printf("%s:%d: %s (errno %s)\n", __FILE__, __LINE__, \
-			       #condition, strerrorname_np(errno));          \
-			faults++;                                            \
-		}                                                            \
-	} while (0)
-
 static int64_t nanos(struct timespec time)
 {
 	return time.tv_sec * INT64_C(1000000000) + time.tv_nsec;

@@ -5,8 +5,9 @@
  * each call that sets them must fail with EPERM.
  */
 #define _GNU_SOURCE
+#include "faults.h"
+
 #include <dlfcn.h>
-#include <errno.h>
 #include <stdbool.h>
 #include <stdio.h>
 #include <string.h>
@@ -17,17 +18,6 @@
 #include <unistd.h>
 
 static const time_t START = 1000000000, SET = 2147483640;
-static int faults;
-
-#define CHECK(condition)                                                     \
-	do {                                                                 \
-		if (!(condition)) {                                          \
-			printf("%s:%d: %s (errno %s)\n", __FILE__, __LINE__, \
-			       #condition, strerrorname_np(errno));          \
-			faults++;                                            \
-		}                                                            \
-	} while (0)
-
 /* Returns whether a time is at most 100 s after the one that was set. */
 static bool is_after(time_t time, time_t set)
 {

@@ -6,7 +6,8 @@
  * something must fail with EPERM.
  */
 #define _GNU_SOURCE
-#include <errno.h>
+#include "faults.h"
+
 #include <stdbool.h>
 #include <stdio.h>
 #include <stdlib.h>
@@ -24,17 +25,6 @@
 enum { PPM = 65536 };
 
 static const time_t START = 1000000000;
-static int faults;
-
-#define CHECK(condition)                                                     \
-	do {                                                                 \
-		if (!(condition)) {                                          \
-			printf("%s:%d: %s (errno %s)\n", __FILE__, __LINE__, \
-			       #condition, strerrorname_np(errno));          \
-			faults++;                                            \
-		}                                                            \
-	} while (0)
-
 static double seconds(clockid_t clock)
 {
 	struct timespec time;
