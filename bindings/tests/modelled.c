@@ -70,6 +70,18 @@ void tkc_counter_numbers(uint32_t *bits, uint32_t *mult, uint32_t *shift,
 	*shift = counter->tkc_private[2];
 }
 
+uint64_t tkc_counter_gap(const struct tkc_counter *counter, uint64_t from, uint64_t to)
+{
+	return (to - from) & UINT64_MAX >> (64 - counter->tkc_private[0]);
+}
+
+uint64_t tkc_counter_nanos(const struct tkc_counter *counter, uint64_t cycles)
+{
+	u128 nanos = (u128)cycles * counter->tkc_private[1] >> counter->tkc_private[2];
+
+	return nanos < UINT64_MAX ? (uint64_t)nanos : UINT64_MAX;
+}
+
 static struct model open_model(const struct tkc_counter *counter)
 {
 	struct model model;
@@ -105,6 +117,47 @@ enum tkc_code tkc_clock_open(struct tkc_clock *out, const struct tkc_counter *co
 	model.real = sec * NANOS + nsec;
 	put(out, &model, counter->tkc_private[0]);
 	return TKC_OK;
+}
+
+enum tkc_code tkc_clock_open_at(struct tkc_clock *out, const struct tkc_counter *counter,
+				uint64_t reading, int64_t sec, uint32_t nsec, int64_t uptime_sec,
+				uint32_t uptime_nsec)
+{
+	i128 uptime = uptime_sec * NANOS + uptime_nsec;
+	struct model model;
+	struct tkc_clock clock;
+	struct clock_of of;
+
+	if (tkc_clock_open(&clock, counter, reading, sec, nsec) || uptime_sec < 0 ||
+	    uptime_nsec > 999999999)
+		return TKC_INVALID;
+	if (uptime_sec >= 946080000)
+		return TKC_RANGE;
+	if (uptime > sec * NANOS + nsec)
+		return TKC_INVALID;
+	memcpy(&of, &clock, sizeof(of));
+	model = open_model(counter);
+	model_from_words(&model, of.words);
+	model.mono = model.raw = (u128)uptime << of.shift;
+	model.real -= uptime;
+	put(out, &model, counter->tkc_private[0]);
+	return TKC_OK;
+}
+
+int64_t tkc_clock_frequency(const struct tkc_clock *clock)
+{
+	struct clock_of of;
+
+	memcpy(&of, clock, sizeof(of));
+	return of.frequency;
+}
+
+int64_t tkc_clock_tick(const struct tkc_clock *clock)
+{
+	struct clock_of of;
+
+	memcpy(&of, clock, sizeof(of));
+	return of.tick;
 }
 
 /* Returns the model that clocks contain. */
@@ -257,6 +310,29 @@ enum tkc_code tkc_snapshot_convert(uint64_t *out, size_t room, size_t *done,
 		out[*done] = (uint64_t)time;
 	}
 	return TKC_OK;
+}
+
+static uint64_t word(const struct tkc_snapshot *snapshot, int place)
+{
+	struct snapshot_of of;
+
+	memcpy(&of, snapshot, sizeof(of));
+	return of.words[place];
+}
+
+uint64_t tkc_snapshot_front(const struct tkc_snapshot *snapshot)
+{
+	return word(snapshot, 0);
+}
+
+uint32_t tkc_snapshot_tai(const struct tkc_snapshot *snapshot)
+{
+	return (uint32_t)(word(snapshot, 7) / 2);
+}
+
+uint32_t tkc_snapshot_asleep(const struct tkc_snapshot *snapshot)
+{
+	return (uint32_t)(word(snapshot, 7) % 2);
 }
 
 void tkc_snapshot_words(uint64_t words[TKC_WORDS], const struct tkc_snapshot *snapshot)

@@ -30,7 +30,7 @@ def rows(file, table):
     text = re.sub(r"/\*.*?\*/", "", (ROOT / "tests" / "c" / file).read_text(), flags=re.S)
     body = re.search(rf"\b{table}(?:\[\])? = (\{{.*?\n\t*\}});", text, re.S).group(1)
     body = re.sub(r"\.\w+ = ", "", body).replace("{", "(").replace("}", ",)")
-    body = re.sub(r",(\s*,)+", ",", body)
+    body = re.sub(r",(\s*,)+", ",", re.sub(r"\b(\d+)U\b", r"\1", body))
     body = re.sub(r"\b(?:TKC_)?([A-Za-z_]\w*)", lambda it: repr(NAMES.get(it[1], it[1])), body)
     body = re.sub(r"(\d+) \* (\d+)", lambda it: str(int(it[1]) * int(it[2])), body)
     return ast.literal_eval(body)

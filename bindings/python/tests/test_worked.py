@@ -33,6 +33,53 @@ class Counters(unittest.TestCase):
                     self.assertEqual(made, tkcore.Counter(bits, mult, shift))
 
 
+class Cycles(unittest.TestCase):
+    def test_gaps(self):
+        for bits, start, end, gap in rows("worked_cycles.c", "gaps"):
+            self.assertEqual(tkcore.Counter(bits, 16_777_216, 24).gap(start, end), gap)
+
+    def test_nanos(self):
+        for mult, shift, cycles, wanted in rows("worked_cycles.c", "all_nanos"):
+            self.assertEqual(tkcore.Counter(64, mult, shift).nanos(cycles), wanted)
+
+    def test_refused(self):
+        counter = nanosecond_counter()
+        for call in (lambda: counter.gap(-1, 0), lambda: counter.gap(0, -1),
+                     lambda: counter.nanos(-1)):
+            with self.assertRaises(tkcore.Invalid) as raised:
+                call()
+            self.assertEqual((raised.exception.value, raised.exception.range), (-1, (0, 2**64 - 1)))
+
+
+class Uptimes(unittest.TestCase):
+    def test_openings(self):
+        counter = nanosecond_counter()
+        for reading, sec, nsec, up_sec, up_nsec, code in rows("worked_openings.c", "openings"):
+            if NANOS in (nsec, up_nsec):
+                continue  # the package splits nanoseconds itself
+            real, uptime = nanos(sec, nsec), nanos(up_sec, up_nsec)
+            made = raises(self, code, lambda: tkcore.Clock(counter, reading, real, uptime))
+            if code != "OK":
+                self.assertFalse(made.range[0] <= made.value <= made.range[1], made)
+                continue
+            words, fresh = made.words(), tkcore.Clock(counter, reading, real).words()
+            self.assertEqual(words[1:], fresh[1:])
+            for clock, time in (("MONOTONIC", uptime), ("MONOTONIC_RAW", uptime),
+                                ("BOOTTIME", uptime), ("REALTIME", real), ("TAI", real)):
+                self.assertEqual(made.snapshot().get(reading, tkcore.ClockId[clock]), time)
+
+    def test_numbers(self):
+        clock = commanded()
+        words, frequency, tick = clock.words()
+        self.assertEqual((clock.frequency, clock.tick), (frequency, tick))
+        snapshot = clock.snapshot()
+        self.assertEqual((snapshot.front, snapshot.tai_offset, snapshot.is_asleep),
+                         (words[0], 37, False))
+        clock.suspend(10_000)
+        self.assertIs(clock.snapshot().is_asleep, True)
+        self.assertEqual(clock.snapshot().front, words[0] + 1)
+
+
 class Commands(unittest.TestCase):
     def try_all(self, clock, table):
         for reading, word, number, nsec, code in rows("worked_commands.c", table):

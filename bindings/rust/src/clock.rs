@@ -50,6 +50,25 @@ impl Clock {
         Ok(Clock { value, counter: *counter })
     }
 
+    /// Opens clocks as [`open`](Clock::open) does, except that MONOTONIC, MONOTONIC_RAW and
+    /// BOOTTIME are `uptime`, 0 s to below 946,080,000 s and at most `start`.
+    ///
+    /// # Errors
+    ///
+    /// In this order: `Invalid` if the reading, `start` or a negative `uptime` is out of its range;
+    /// `Range` if `uptime` is at the limit of MONOTONIC or past it; `Invalid` if REALTIME would be
+    /// below MONOTONIC.
+    pub fn open_at(
+        counter: &Counter,
+        reading: u64,
+        start: Timespec,
+        uptime: Timespec,
+    ) -> Result<Clock, Refusal> {
+        let value =
+            sys::clock_open_at(&counter.value, reading, start, uptime).map_err(Refusal::of_code)?;
+        Ok(Clock { value, counter: *counter })
+    }
+
     /// Makes the clocks of a counter that the result of [`words`](Clock::words) represents.
     ///
     /// # Errors
@@ -83,6 +102,18 @@ impl Clock {
     #[must_use]
     pub fn save(&self) -> [u64; SAVED_WORDS] {
         sys::clock_save(&self.value)
+    }
+
+    /// Returns the frequency as it was set, in 2^-16 ppm.
+    #[must_use]
+    pub fn frequency(&self) -> i64 {
+        sys::clock_frequency(&self.value)
+    }
+
+    /// Returns the tick, in us.
+    #[must_use]
+    pub fn tick(&self) -> i64 {
+        sys::clock_tick(&self.value)
     }
 
     /// Returns the counter of the clocks.

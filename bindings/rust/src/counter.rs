@@ -75,6 +75,20 @@ impl Counter {
         self.numbers[2]
     }
 
+    /// Returns the cycles from one reading to a later one, modulo 2^bits. Bits of the readings
+    /// above the counter's don't count.
+    #[must_use]
+    pub fn gap(&self, from: u64, to: u64) -> u64 {
+        sys::counter_gap(&self.value, from, to)
+    }
+
+    /// Returns the nanoseconds of a number of cycles at the counter's own rate, rounded down:
+    /// `cycles * mult / 2^shift`, or `u64::MAX` if they are more.
+    #[must_use]
+    pub fn nanos(&self, cycles: u64) -> u64 {
+        sys::counter_nanos(&self.value, cycles)
+    }
+
     /// Returns the greatest reading, 2^bits - 1 cycles.
     #[must_use]
     pub fn max_reading(&self) -> u64 {

@@ -75,6 +75,24 @@ impl Snapshot {
         Ok(Snapshot { value, counter: Counter::of_snapshot(&value) })
     }
 
+    /// Returns the front: the number of commands that the clocks had accepted.
+    #[must_use]
+    pub fn front(&self) -> u64 {
+        sys::snapshot_front(&self.value)
+    }
+
+    /// Returns TAI minus REALTIME, in seconds.
+    #[must_use]
+    pub fn tai_offset(&self) -> u32 {
+        sys::snapshot_tai(&self.value)
+    }
+
+    /// Returns whether the clocks are asleep: none moves until [`Resume`](crate::Command::Resume).
+    #[must_use]
+    pub fn is_asleep(&self) -> bool {
+        sys::snapshot_asleep(&self.value)
+    }
+
     /// Returns the counter whose readings the snapshot converts.
     #[must_use]
     pub fn counter(&self) -> &Counter {

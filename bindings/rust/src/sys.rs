@@ -53,6 +53,8 @@ extern "C" {
         shift: *mut u32,
         counter: *const CounterValue,
     );
+    fn tkc_counter_gap(counter: *const CounterValue, from: u64, to: u64) -> u64;
+    fn tkc_counter_nanos(counter: *const CounterValue, cycles: u64) -> u64;
     fn tkc_clock_open(
         out: *mut ClockValue,
         counter: *const CounterValue,
@@ -60,6 +62,17 @@ extern "C" {
         sec: i64,
         nsec: u32,
     ) -> u32;
+    fn tkc_clock_open_at(
+        out: *mut ClockValue,
+        counter: *const CounterValue,
+        reading: u64,
+        sec: i64,
+        nsec: u32,
+        uptime_sec: i64,
+        uptime_nsec: u32,
+    ) -> u32;
+    fn tkc_clock_frequency(clock: *const ClockValue) -> i64;
+    fn tkc_clock_tick(clock: *const ClockValue) -> i64;
     fn tkc_clock_apply(
         clock: *mut ClockValue,
         reading: u64,
@@ -75,6 +88,9 @@ extern "C" {
     ) -> u32;
     fn tkc_clock_snapshot(out: *mut SnapshotValue, clock: *const ClockValue);
     fn tkc_snapshot_counter(out: *mut CounterValue, snapshot: *const SnapshotValue);
+    fn tkc_snapshot_front(snapshot: *const SnapshotValue) -> u64;
+    fn tkc_snapshot_tai(snapshot: *const SnapshotValue) -> u32;
+    fn tkc_snapshot_asleep(snapshot: *const SnapshotValue) -> u32;
     fn tkc_clock_save(words: *mut u64, clock: *const ClockValue);
     fn tkc_clock_load(out: *mut ClockValue, words: *const u64) -> u32;
     fn tkc_snapshot_get(
@@ -172,6 +188,16 @@ pub(crate) fn counter_numbers(counter: &CounterValue) -> [u32; 3] {
     [bits, mult, shift]
 }
 
+pub(crate) fn counter_gap(counter: &CounterValue, from: u64, to: u64) -> u64 {
+    // SAFETY: the counter is a value.
+    unsafe { tkc_counter_gap(counter, from, to) }
+}
+
+pub(crate) fn counter_nanos(counter: &CounterValue, cycles: u64) -> u64 {
+    // SAFETY: the counter is a value.
+    unsafe { tkc_counter_nanos(counter, cycles) }
+}
+
 pub(crate) fn clock_open(
     counter: &CounterValue,
     reading: u64,
@@ -179,6 +205,27 @@ pub(crate) fn clock_open(
 ) -> Result<ClockValue, u32> {
     // SAFETY: `out` is valid for a write, and the counter is a value.
     made(|out| unsafe { tkc_clock_open(out, counter, reading, start.sec, start.nsec) })
+}
+
+pub(crate) fn clock_open_at(
+    counter: &CounterValue,
+    reading: u64,
+    start: Timespec,
+    uptime: Timespec,
+) -> Result<ClockValue, u32> {
+    let (Timespec { sec, nsec }, past) = (start, uptime);
+    // SAFETY: `out` is valid for a write, and the counter is a value.
+    made(|out| unsafe { tkc_clock_open_at(out, counter, reading, sec, nsec, past.sec, past.nsec) })
+}
+
+pub(crate) fn clock_frequency(clock: &ClockValue) -> i64 {
+    // SAFETY: the clock is a value.
+    unsafe { tkc_clock_frequency(clock) }
+}
+
+pub(crate) fn clock_tick(clock: &ClockValue) -> i64 {
+    // SAFETY: the clock is a value.
+    unsafe { tkc_clock_tick(clock) }
 }
 
 #[inline]
@@ -263,6 +310,21 @@ pub(crate) fn snapshot_convert(
         0 => Ok(()),
         code => Err((code, done)),
     }
+}
+
+pub(crate) fn snapshot_front(snapshot: &SnapshotValue) -> u64 {
+    // SAFETY: the snapshot is a value.
+    unsafe { tkc_snapshot_front(snapshot) }
+}
+
+pub(crate) fn snapshot_tai(snapshot: &SnapshotValue) -> u32 {
+    // SAFETY: the snapshot is a value.
+    unsafe { tkc_snapshot_tai(snapshot) }
+}
+
+pub(crate) fn snapshot_asleep(snapshot: &SnapshotValue) -> bool {
+    // SAFETY: the snapshot is a value.
+    unsafe { tkc_snapshot_asleep(snapshot) != 0 }
 }
 
 pub(crate) fn snapshot_words(snapshot: &SnapshotValue) -> [u64; WORDS] {

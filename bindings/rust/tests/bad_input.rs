@@ -7,7 +7,7 @@ mod support;
 use std::sync::atomic::AtomicU64;
 use std::sync::atomic::Ordering::Relaxed;
 
-use support::{calls, opened, some_command, Random};
+use support::{calls, opened, some_command, Random, START};
 use tkcore::{shared_words, ClockId, LATCH_WORDS, PAGE_WORDS, WORDS};
 use tkcore::{Clock, ClockWords, Counter, Latch, Page, Refusal, Snapshot};
 
@@ -64,7 +64,13 @@ fn call(random: &mut Random, clock: &mut Clock) -> bool {
                 | Counter::from_hz(numbers[0], random.some(), numbers[2] % 601).is_ok()
                 | Counter::from_khz(64, random.some(), 1 + numbers[2] % 600).is_ok()
         }
-        _ => Clock::open(&counter, random.some(), random.time()).is_ok(),
+        _ => {
+            assert!(counter.gap(random.some(), random.some()) <= counter.max_reading());
+            let (opened, uptime) = (random.some(), random.time());
+            Clock::open(&counter, opened, random.time()).is_ok()
+                | Clock::open_at(&counter, opened, START, uptime).is_ok()
+                | (counter.nanos(opened) == opened)
+        }
     }
 }
 

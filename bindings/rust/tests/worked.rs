@@ -65,6 +65,54 @@ fn openings() {
 }
 
 #[test]
+fn cycles() {
+    for row in table("worked_cycles.c", "gaps") {
+        let numbers: Vec<u64> = row.numbers();
+        let counter = Counter::new(numbers[0] as u32, 16_777_216, 24).unwrap();
+        assert_eq!(counter.gap(numbers[1], numbers[2]), numbers[3]);
+    }
+    for row in table("worked_cycles.c", "all_nanos") {
+        let numbers: Vec<u64> = row.numbers();
+        let counter = Counter::new(64, numbers[0] as u32, numbers[1] as u32).unwrap();
+        assert_eq!(counter.nanos(numbers[2]), numbers[3]);
+    }
+}
+
+#[test]
+fn openings_with_an_uptime() {
+    for row in table("worked_openings.c", "openings") {
+        let row = row.list();
+        let start = Timespec { sec: row[1].number(), nsec: row[2].number() };
+        let uptime = Timespec { sec: row[3].number(), nsec: row[4].number() };
+        let reading = row[0].number();
+        let made = Clock::open_at(&nanosecond_counter(), reading, start, uptime);
+        assert_eq!(of(&made), row[5].refusal(), "{row:?}");
+        let Ok(clock) = made else { continue };
+        for (id, time) in [
+            (ClockId::Monotonic, uptime),
+            (ClockId::MonotonicRaw, uptime),
+            (ClockId::Boottime, uptime),
+            (ClockId::Realtime, start),
+            (ClockId::Tai, start),
+        ] {
+            assert_eq!(clock.snapshot().get(id, reading), Ok(time));
+        }
+    }
+}
+
+#[test]
+fn numbers_of_clocks_and_snapshots() {
+    let mut clock = commanded();
+    let ClockWords { words, frequency, tick } = clock.words();
+    assert_eq!((clock.frequency(), clock.tick()), (frequency, tick));
+    let snapshot = clock.snapshot();
+    let found = (snapshot.front(), snapshot.tai_offset(), snapshot.is_asleep());
+    assert_eq!(found, (words[0], 37, false));
+    clock.apply(10_000, Command::Suspend).unwrap();
+    assert!(clock.snapshot().is_asleep());
+}
+
+#[test]
 fn one_command_of_each_kind() {
     assert_eq!(commanded().words(), stored("worked_rows.c", "COMMANDED"));
 }

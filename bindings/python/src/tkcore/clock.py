@@ -5,37 +5,47 @@ from __future__ import annotations
 from ctypes import byref, c_int64
 from typing import Any, Iterable, Tuple
 
-from ._library import (CALLS, I64, U64, ClockValue, SavedWords, SnapshotValue, Words, fit,
+from ._library import (CALLS, I64, NANOS, U64, ClockValue, SavedWords, SnapshotValue, Words, fit,
                        raise_code)
 from .commands import SETTABLE, Commanded, split
 from .counter import Counter
-from .errors import BY_CODE, BadWords, Invalid
+from .errors import BY_CODE, BadWords, Invalid, Range
 from .snapshot import Snapshot, words_of
+
+UPTIME_LIMIT = 946_080_000 * NANOS
 
 
 class Clock(Commanded):
     """The running clocks of a counter, opened at a reading with REALTIME at `realtime` ns since
-    1970. MONOTONIC, MONOTONIC_RAW and BOOTTIME are 0 there.
+    1970. MONOTONIC, MONOTONIC_RAW and BOOTTIME are `uptime` ns there, 0 if it isn't given.
 
-    The reading is 0 to 2^bits - 1 cycles, and `realtime` is below 8277292036 s. A refused command
-    changes nothing. Apply a command, usually `update`, at least once in each half of the counter's
-    range.
+    The reading is 0 to 2^bits - 1 cycles, `realtime` is below 8277292036 s, and `uptime` is below
+    946080000 s and not above `realtime`. A refused command changes nothing. Apply a command, usually
+    `update`, at least once in each half of the counter's range.
 
     Don't let two threads use one Clock without a lock. A Snapshot may be shared.
 
-    Raises Invalid if the reading or `realtime` is out of its range.
+    Raises, in this order: Invalid if the reading, `realtime` or a negative `uptime` is out of its
+    range; Range if `uptime` is at the limit of MONOTONIC or past it; Invalid if `realtime` is below
+    `uptime`.
     """
 
     __slots__ = ("_value", "counter")
 
     counter: Counter
 
-    def __init__(self, counter: Counter, reading: int, realtime: int) -> None:
+    def __init__(self, counter: Counter, reading: int, realtime: int, uptime: int = 0) -> None:
         value = ClockValue()
         reading = fit(reading, U64, Invalid, "reading", (0, counter.max_reading))
-        sec, nsec = split(realtime, SETTABLE, "realtime")
-        code = CALLS.tkc_clock_open(byref(value), byref(counter._value), reading, sec, nsec)
-        raise_code(code, "reading", reading, (0, counter.max_reading))
+        real = split(realtime, SETTABLE, "realtime")
+        past = divmod(fit(min(uptime, UPTIME_LIMIT), (0, UPTIME_LIMIT), Invalid, "uptime",
+                          (0, UPTIME_LIMIT - 1)), NANOS)
+        code = CALLS.tkc_clock_open_at(byref(value), byref(counter._value), reading, *real, *past)
+        if code == Range.code:
+            raise Range("uptime", uptime, (0, UPTIME_LIMIT - 1))
+        if code:
+            fit(reading, (0, counter.max_reading), Invalid, "reading")
+            raise BY_CODE[code]("realtime", realtime, (uptime, SETTABLE[1] * NANOS + NANOS - 1))
         self._value, self.counter = value, counter
 
     @classmethod
@@ -87,6 +97,16 @@ class Clock(Commanded):
         words = SavedWords()
         CALLS.tkc_clock_save(words, byref(self._value))
         return tuple(words)
+
+    @property
+    def frequency(self) -> int:
+        """The frequency as it was set, in 2^-16 ppm."""
+        return CALLS.tkc_clock_frequency(byref(self._value))
+
+    @property
+    def tick(self) -> int:
+        """The tick, in us."""
+        return CALLS.tkc_clock_tick(byref(self._value))
 
     def snapshot(self) -> Snapshot:
         """Returns a snapshot of the clocks, for reads."""

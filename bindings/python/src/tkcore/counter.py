@@ -6,7 +6,7 @@ from ctypes import byref, c_uint32
 from typing import Any
 
 from ._library import CALLS, U32, U64, CounterValue, SnapshotValue, fit
-from .errors import BY_CODE, BadBits, BadMult, BadRate, BadShift
+from .errors import BY_CODE, BadBits, BadMult, BadRate, BadShift, Invalid
 
 _BITS, _SHIFTS, _MULTS = (8, 64), (0, 32), (256, 3_869_339_906)
 _RATES, _SPANS = (1, 2**32 - 1), (1, 600)
@@ -94,6 +94,23 @@ class Counter:
     def max_reading(self) -> int:
         """The greatest reading, 2^bits - 1 cycles."""
         return 2**self.bits - 1
+
+    def gap(self, start: int, end: int) -> int:
+        """Returns the cycles from one reading to a later one, modulo 2^bits. Bits of the readings
+        above the counter's don't count.
+
+        Raises Invalid if a reading isn't 0 to 2^64 - 1.
+        """
+        return CALLS.tkc_counter_gap(byref(self._value), fit(start, U64, Invalid, "start"),
+                                     fit(end, U64, Invalid, "end"))
+
+    def nanos(self, cycles: int) -> int:
+        """Returns the nanoseconds of a number of cycles at the counter's own rate, rounded down:
+        cycles * mult / 2^shift, or 2^64 - 1 if they are more.
+
+        Raises Invalid if `cycles` isn't 0 to 2^64 - 1.
+        """
+        return CALLS.tkc_counter_nanos(byref(self._value), fit(cycles, U64, Invalid, "cycles"))
 
     def __eq__(self, other: object) -> bool:
         if not isinstance(other, Counter):

@@ -70,6 +70,21 @@ class Snapshot:
         CALLS.tkc_snapshot_words(words, byref(self._value))
         return tuple(words)
 
+    @property
+    def front(self) -> int:
+        """The number of commands that the clocks had accepted."""
+        return CALLS.tkc_snapshot_front(byref(self._value))
+
+    @property
+    def tai_offset(self) -> int:
+        """TAI minus REALTIME, in s."""
+        return CALLS.tkc_snapshot_tai(byref(self._value))
+
+    @property
+    def is_asleep(self) -> bool:
+        """Whether the clocks are asleep: none moves until `Clock.resume`."""
+        return bool(CALLS.tkc_snapshot_asleep(byref(self._value)))
+
     def get(self, reading: int, clock: int) -> int:
         """Returns a clock's time at a reading, in ns.
 

@@ -126,6 +126,10 @@ fn items(text: &mut std::str::Chars) -> Vec<Item> {
     }
 }
 
+fn factor(text: &str) -> Option<i128> {
+    text.trim().trim_end_matches('U').parse().ok()
+}
+
 fn item(word: &str) -> Item {
     let known = match word {
         "true" => Some(1),
@@ -134,7 +138,7 @@ fn item(word: &str) -> Item {
         "INT64_MAX" => Some(i128::from(i64::MAX)),
         "UINT32_MAX" => Some(i128::from(u32::MAX)),
         "UINT64_MAX" => Some(i128::from(u64::MAX)),
-        _ => word.split('*').map(|part| part.trim().parse::<i128>().ok()).product(),
+        _ => word.split('*').map(factor).product(),
     };
     match known {
         Some(number) => Item::Number(number),
