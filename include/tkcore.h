@@ -171,12 +171,13 @@ enum tkc_code {
 	 * command or call documents; SET_TIME, STEP or tkc_clock_open_at would put REALTIME below
 	 * MONOTONIC; STEP would put REALTIME outside the range of SET_TIME. */
 	TKC_INVALID = 4,
-	/* The reading is behind the last accepted command's reading (clocksource_delta). RESUME
-	 * never returns this code. */
+	/* The reading is behind the last accepted command's reading (clocksource_delta). For steered
+	 * clocks also: it is behind the beginning of the present second, or behind the last request
+	 * with modes. RESUME never returns this code. */
 	TKC_BEHIND = 5,
 	/* A clock would be at or past its limit. For a command: MONOTONIC or BOOTTIME after it, or
-	 * REALTIME or TAI after it unless it is SET_TIME or STEP. For a read: the clock that is
-	 * read. For tkc_clock_open_at: MONOTONIC. A change of counter also returns it if
+	 * REALTIME or TAI after it unless it is SET_TIME, STEP or LEAP. For a read: the clock that
+	 * is read. For tkc_clock_open_at: MONOTONIC. A change of counter also returns it if
 	 * MONOTONIC_RAW is too far ahead of MONOTONIC for the new counter. */
 	TKC_RANGE = 6,
 	/* The clock counts, and the time is below its limit, but it is further away than the

@@ -68,7 +68,9 @@ class Invalid(Refused, ValueError):
 
 
 class Behind(Refused):
-    """The reading is behind the last accepted command's reading."""
+    """The reading is behind the last accepted command's. For a SteeredClock also: it is behind the
+    beginning of the present second, or behind the last request with modes.
+    """
 
     code = 5
 
