@@ -41,10 +41,10 @@
  *   - REALTIME can be set to times below 8277292036 s (TIME_SETTOD_SEC_MAX). These three constants
  *     are in include/linux/time64.h and ktime.h.
  *   - The front of clocks is the number of commands that they have accepted. A change of counter is
- *     one of them. The front is 0 after tkc_clock_open. Clocks whose front is 2^63 - 1 or more
- *     refuse every command with TKC_FULL. The front of a tkc_ntp is the number of accepted calls.
- *     Only words can make clocks with a front above 2^63 - 1 (tkc_clock_from_words,
- *     tkc_clock_load).
+ *     one of them. The front is 0 after tkc_clock_open and tkc_clock_open_at. Clocks whose front is
+ *     2^63 - 1 or more refuse every command with TKC_FULL. The front of a tkc_ntp is the number of
+ *     accepted calls. Only words can make clocks with a front above 2^63 - 1
+ *     (tkc_clock_from_words, tkc_clock_load).
  *   - A reading is behind the last command's reading if it is more than half of 2^bits - 1 cycles
  *     ahead of it (clocksource_delta in kernel/time/timekeeping_internal.h). So apply at least one
  *     command, usually an UPDATE, in each half of the counter's range.
@@ -52,9 +52,9 @@
  * The multiplier
  *   At a frequency and a tick, a cycle adds this multiplier to MONOTONIC, in 2^-shift ns:
  *       mult * (tick * 100 * 2^16 + frequency) / (10^6 * 2^16), rounded down,
- *   with the frequency limited to 32768000 in either direction, 500 ppm. SET_TIME, STEP, SUSPEND
- *   and RESUME keep the frequency, the tick and the part of MONOTONIC below a nanosecond. A read
- *   rounds down to whole nanoseconds.
+ *   with the frequency limited to 32768000 in either direction, 500 ppm. SET_TIME, STEP, LEAP,
+ *   SUSPEND and RESUME keep the frequency, the tick and the part of MONOTONIC below a nanosecond. A
+ *   read rounds down to whole nanoseconds.
  *
  * Values
  *   A tkc_counter, a tkc_clock, a tkc_ntp and a tkc_snapshot are plain bytes of the size below.
@@ -168,12 +168,12 @@ enum tkc_code {
 	/* The clocks are awake, and the command is RESUME. */
 	TKC_AWAKE = 3,
 	/* One of: the reading is above 2^bits - 1; an argument is outside the range that its
-	 * command or call documents; SET_TIME, STEP or tkc_clock_open_at would put REALTIME below
-	 * MONOTONIC; STEP would put REALTIME outside the range of SET_TIME. */
+	 * command or call documents; SET_TIME, STEP, LEAP or tkc_clock_open_at would put REALTIME
+	 * below MONOTONIC; STEP or LEAP would put REALTIME outside the range of SET_TIME. */
 	TKC_INVALID = 4,
 	/* The reading is behind the last accepted command's reading (clocksource_delta). For steered
 	 * clocks also: it is behind the beginning of the present second, or behind the last request
-	 * with modes. RESUME never returns this code. */
+	 * with modes and without TKC_ADJ_ADJTIME. RESUME never returns this code. */
 	TKC_BEHIND = 5,
 	/* A clock would be at or past its limit. For a command: MONOTONIC or BOOTTIME after it, or
 	 * REALTIME or TAI after it unless it is SET_TIME, STEP or LEAP. For a read: the clock that
@@ -181,8 +181,8 @@ enum tkc_code {
 	 * MONOTONIC_RAW is too far ahead of MONOTONIC for the new counter. */
 	TKC_RANGE = 6,
 	/* The clock counts, and the time is below its limit, but it is further away than the
-	 * readings that tkc_snapshot_reading searches: look again, in a later snapshot, from half
-	 * of the counter's range on. */
+	 * readings that tkc_snapshot_reading searches. Apply a command at or before the last of
+	 * these readings, and look again in its snapshot. */
 	TKC_FURTHER = 8,
 	/* The clock doesn't reach the time: the clocks are asleep, the clock is a coarse one, or it
 	 * reaches its limit first. Only a command can change that. */
@@ -389,8 +389,8 @@ enum tkc_sta {
 	/* A second is inserted at the end of the day, or its last second is deleted. */
 	TKC_STA_INS = 0x0010,
 	TKC_STA_DEL = 0x0020,
-	/* The clock isn't synchronized. The library sets it at tkc_ntp_open, at a set or a step, and
-	 * when maxerror has grown to more than 16000000. */
+	/* The clock isn't synchronized. The library sets it at tkc_ntp_open, at a set, a step or a
+	 * LEAP, and when maxerror has grown to more than 16000000. */
 	TKC_STA_UNSYNC = 0x0040,
 	/* Offsets leave the frequency as it is. */
 	TKC_STA_FREQHOLD = 0x0080,
@@ -573,8 +573,8 @@ TKC_MUST_CHECK
 enum tkc_code tkc_clock_change_counter(struct tkc_clock *clock, uint64_t reading,
 				       const struct tkc_counter *counter, uint64_t first);
 
-/* Return the frequency of the clocks as it was set, in 2^-16 ppm, and their tick in us: what
- * tkc_clock_words stores of them. */
+/* Return the frequency of the clocks as it was set, also beyond 500 ppm, in 2^-16 ppm, and their
+ * tick in us: the numbers that tkc_clock_words stores. */
 TKC_PURE int64_t tkc_clock_frequency(const struct tkc_clock *clock);
 TKC_PURE int64_t tkc_clock_tick(const struct tkc_clock *clock);
 
@@ -737,8 +737,8 @@ enum tkc_code tkc_clock_load(struct tkc_clock *out, const uint64_t words[TKC_SAV
  * a reading counts as behind, and tkc_ntp_next_second finds no reading.
  *
  * TKC_BEHIND refuses a reading that is behind the last command, the beginning of the present
- * second, or the last request with modes other than those of TKC_ADJ_ADJTIME. Earlier calls that
- * changed nothing refuse no reading.
+ * second, or the last request with modes and without TKC_ADJ_ADJTIME. FREQ and TICK are such
+ * requests. A reading may be behind an earlier call that changed nothing.
  */
 
 /*
@@ -760,7 +760,7 @@ enum tkc_code tkc_ntp_open(struct tkc_ntp *out, const struct tkc_counter *counte
  *   TKC_ASLEEP   the clocks are asleep
  *   TKC_INVALID  the reading is above 2^bits - 1
  *   TKC_BEHIND   the reading is behind the last command's, the beginning of the present second, or
- *                the last request with modes
+ *                the last request with modes and without TKC_ADJ_ADJTIME
  *   TKC_RANGE    a clock would be at or past its limit
  */
 TKC_MUST_CHECK

@@ -26,8 +26,8 @@
  *     may read it. MONOTONIC may go back by the change of the rate times the time since the
  *     writer's reading (as in ktime_get_mono_fast_ns in kernel/time/timekeeping.c).
  *   A writer that has both publishes on the page first.
- *   If readers run on other processors, give each its own cache lines: alignas(64), or
- *   _Alignas(64) in C before C23, and no other data in its last line.
+ *   If readers run on other processors, give the page and the latch their own cache lines, by
+ *   alignas(64), or _Alignas(64) in C before C23. Put no other data into their last line.
  *
  * If the writer dies
  *   A writer may die at any instruction. Readers then see what its last store left:
