@@ -254,8 +254,8 @@ uint32_t model_get(const struct model *model, uint32_t clock, uint64_t reading, 
 	return *time >= end ? TKC_RANGE : TKC_OK;
 }
 
-/* Returns whether a read this number of cycles after the last reading gives the time or a later. A
- * clock never goes back there, so from the first such number of cycles on, each read does until the
+/* Returns whether a read this number of cycles after the last reading gives the time or a later one.
+ * A clock never goes back there. So after the first such number of cycles every read does, until the
  * clock is at its limit. */
 static bool has_reached(const struct model *model, uint32_t clock, uint64_t cycles, i128 wanted)
 {

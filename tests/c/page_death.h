@@ -57,7 +57,7 @@ struct shared {
 extern struct shared *shared;
 extern struct tkc_counter counters[COUNTERS];
 
-/* Of a life: where it is. */
+/* How far a writer's life has come. */
 struct life {
 	int place; /* the store before which it dies, or -1 */
 	int checks; /* what readers find before each store */

@@ -46,7 +46,7 @@ static void check_time(const struct tkc_snapshot *snapshot, uint32_t clock, uint
 }
 
 /* Checks the times at the opening, and that all else is as in clocks that are just opened: the
- * words but for MONOTONIC, MONOTONIC_RAW and the offset of REALTIME. */
+ * words except for MONOTONIC, MONOTONIC_RAW and the offset of REALTIME. */
 static void check_opened(const struct opening *row, const struct tkc_clock *clock,
 			 const struct tkc_clock *fresh)
 {
