@@ -138,7 +138,7 @@ impl<C: Counter> SharedKeeper<C> {
     }
 }
 
-/// A keeper with a counter of its own.
+/// A keeper whose counter only its commands read.
 type TickedKeeper = SharedKeeper<Ticker>;
 
 fn gives(keeper: &TickedKeeper, caller: &mut Caller, count: u64) {
