@@ -68,7 +68,7 @@ def table_by_dask(data, table, rows, killed):
 
 @contextlib.contextmanager
 def a_scheduler(work):
-    """Starts a scheduler with two workers, as programs of their own. Gives its address."""
+    """Starts a scheduler with two workers, as separate programs. Yields its address."""
     file, python = str(Path(work, "scheduler.json")), [sys.executable, "-m"]
     with open(Path(work, "scheduler.log"), "wb") as log, contextlib.ExitStack() as ended:
         for command in (["scheduler", "--port", "0", "--no-dashboard"],

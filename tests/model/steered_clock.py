@@ -49,7 +49,7 @@ class Clock:
         return monotonic + offsets[clock]
 
     def reading_of(self, time):
-        """The first reading from the last one on at which REALTIME is `time` or later, or None."""
+        """The first reading, starting at the last one, at which REALTIME is `time` or later, or None."""
         missing = ((time - self.real_offset) << self.counter.shift) - self.amount
         cycles = max(0, -(-missing // self.mult()))
         if self.asleep and missing > 0 or cycles > (2**self.counter.bits - 1) // 2:

@@ -2,9 +2,9 @@
 
     all.py [MODULE..]
 
-Without a module, it runs all: that of chronyd, which waits for a minute, next to the others. A test
-that fails is run once more, with nothing beside it: they measure times, and a busy machine can hold
-up a program for longer than a test allows.
+Without a module, it runs all. The test of chronyd, which waits for a minute, runs next to the
+others. A test that fails is run once more, alone: the tests measure times, and a busy machine can
+hold up a program for longer than a test allows.
 """
 import pathlib
 import subprocess

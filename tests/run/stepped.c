@@ -1,14 +1,14 @@
 /* SPDX-License-Identifier: MIT OR Apache-2.0 */
 /*
- * Kills a process after each number of instructions of a call that sets the
+ * Kills processes at equally distant instructions of a call that sets the
  * clocks, while others read.
  *
  *     stepped COUNT
  *
  * A writer is traced through its call, an instruction at a time. COUNT others
- * are killed at instructions of it that are equally far apart, whatever they
- * have locked or half written. After each, the clocks are set once more, which
- * must succeed. Prints the counts, as killed does.
+ * are killed in that call, whatever they have locked or half written. After
+ * each, the clocks are set once more, which must succeed. Prints the counts, as
+ * killed does.
  */
 #define _GNU_SOURCE
 #include "readers.h"

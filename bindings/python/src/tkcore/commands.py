@@ -129,7 +129,7 @@ class Commanded:
         self.apply(reading, Command.RESUME, *split(slept, _NUMBERS[Command.RESUME][0], "slept"))
 
     def _first_reading(self, last: int) -> int:
-        """Returns the first reading that isn't behind, from the last command's on."""
+        """Returns the first reading that isn't behind, starting at the last command's."""
         return last
 
     def _refuse_reading(self, code: int, reading: int) -> None:

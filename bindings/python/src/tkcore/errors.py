@@ -10,7 +10,8 @@ class Error(Exception):
 
     `code` is the number of the code in C, or None if the library wasn't called. `value` is the
     argument that was refused, and `range` its least and its greatest value, if one argument was the
-    reason. They are text for a version, and for the format of a buffer's elements.
+    reason. They are text for a version and for the format of a buffer's elements, and lists for the
+    sizes and layouts of a shared object.
     """
 
     code: ClassVar[Optional[int]] = None
@@ -90,7 +91,7 @@ class NotReached(Refused):
 
 
 class Further(NotReached):
-    """The clock is on its way to the time: look again from half of the counter's range on."""
+    """The clock is on its way to the time: look again after half of the counter's range."""
 
     code = 8
 
