@@ -307,6 +307,23 @@ class Readings(unittest.TestCase):
             raises(self, code,
                    lambda: clocks[of].snapshot().reading_at(nanos(sec, nsec), clock_id(word)))
 
+    def test_times_outside_of_int64(self):
+        """Seconds that C can't express: all clocks have reached the lower ones."""
+        asleep = commanded()
+        asleep.suspend(10_000)
+        for clock, last in ((commanded(), 9000), (asleep, 10_000)):
+            snapshot = clock.snapshot()
+            for number in tkcore.ClockId:
+                for time in (nanos(-2**63, 0), nanos(-2**63, 0) - 1, -10**30):
+                    self.assertEqual(snapshot.reading_at(time, number), last)
+                for time in (nanos(2**63, 0), 10**30):
+                    found = raises(self, "NEVER", lambda: snapshot.reading_at(time, number))
+                    self.assertEqual(found.value, time)
+            for time in (-10**30, 10**30):
+                raises(self, "BAD_CLOCK", lambda: snapshot.reading_at(time, 2))
+            with self.assertRaises(TypeError):
+                snapshot.reading_at(1.5, 0)
+
 
 class Words(unittest.TestCase):
     def test_they_give_the_values_back(self):

@@ -187,16 +187,21 @@ def load(path: Optional[str] = None) -> Any:
 CALLS = load()
 
 
+def integer(value: Any, what: str) -> int:
+    """Returns the number that an integer of any type has. Raises TypeError for anything else."""
+    try:
+        return value.__index__()
+    except AttributeError:
+        raise TypeError(f"{what} is {type(value).__name__}, not an integer") from None
+
+
 def fit(value: Any, within: Tuple[int, int], error: Type[Error], what: str,
         documented: Optional[Tuple[int, int]] = None) -> int:
     """Returns a number that can be passed to C, or raises the error with the documented range.
 
     Raises TypeError for anything else than an integer.
     """
-    try:
-        number = value.__index__()
-    except AttributeError:
-        raise TypeError(f"{what} is {type(value).__name__}, not an integer") from None
+    number = integer(value, what)
     if within[0] <= number <= within[1]:
         return number
     raise error(what, number, documented or within)

@@ -10,9 +10,9 @@ from typing import TYPE_CHECKING, Any, Iterable, Optional, Tuple, Union
 
 from ._buffers import check_apart, numbers
 from ._library import (CALLS, I64, NANOS, U32, U64, WORDS, SnapshotValue, TimeValue, Words, fit,
-                       raise_code)
+                       integer, raise_code)
 from .counter import Counter
-from .errors import BY_CODE, BadClock, BadRoom, BadWords, Invalid, Never
+from .errors import BY_CODE, BadClock, BadRoom, BadWords, Invalid
 
 if TYPE_CHECKING:
     import numpy
@@ -118,8 +118,9 @@ class Snapshot:
         """
         reading = c_uint64()
         clock = fit(clock, U32, BadClock, "clock")
-        sec, nsec = divmod(fit(time, (I64[0] * NANOS, I64[1] * NANOS + NANOS - 1), Never,
-                               "time"), NANOS)
+        time = integer(time, "time")
+        # (all clocks have reached a time below C's range, and none reaches one above it)
+        sec, nsec = divmod(max(I64[0] * NANOS, min(time, I64[1] * NANOS + NANOS - 1)), NANOS)
         code = CALLS.tkc_snapshot_reading(byref(reading), byref(self._value), clock, sec, nsec)
         raise_code(code, *(("clock", clock) if code == BadClock.code else ("time", time)))
         return reading.value
