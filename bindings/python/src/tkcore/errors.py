@@ -91,7 +91,9 @@ class NotReached(Refused):
 
 
 class Further(NotReached):
-    """The clock is on its way to the time: look again after half of the counter's range."""
+    """The clock is on its way to the time: apply a command within half of the counter's range, and
+    look again in its snapshot.
+    """
 
     code = 8
 
