@@ -140,6 +140,12 @@ fn refused_commands() {
     assert_eq!(full.words().words[0], 9_223_372_036_854_775_807);
 }
 
+#[test]
+fn an_inserted_second() {
+    let clock = try_commands(opened(), "leap_commands");
+    assert_eq!(clock.words(), stored("worked_commands.c", "LEAPT"));
+}
+
 const CHANGES: &str = "worked_changes.c";
 const REFUSED_CHANGES: &str = "worked_refused_changes.c";
 

@@ -159,6 +159,7 @@ pub fn command(word: &Item, number: i64, nsec: u32) -> Option<Command> {
         "CMD_TAI_OFFSET" => Command::Tai(number),
         "CMD_SUSPEND" => Command::Suspend,
         "CMD_RESUME" => Command::Resume(time),
+        "CMD_LEAP" => Command::Leap { by: number, tai: nsec },
         other => panic!("no command is named {other}"),
     })
 }
@@ -195,7 +196,7 @@ pub fn calls() -> u64 {
 }
 
 pub fn some_command(random: &mut Random) -> Command {
-    match random.below(8) {
+    match random.below(9) {
         0 => Command::Update,
         1 => Command::SetTime(random.time()),
         2 => Command::Step(random.time()),
@@ -203,6 +204,7 @@ pub fn some_command(random: &mut Random) -> Command {
         4 => Command::Tick(random.some() as i64),
         5 => Command::Tai(random.some() as i64),
         6 => Command::Suspend,
+        7 => Command::Leap { by: random.below(4) as i64 - 2, tai: random.some() as u32 },
         _ => Command::Resume(random.time()),
     }
 }
