@@ -171,6 +171,7 @@ class Arguments:
             lambda: (self.clock.step, some(), some()),
             lambda: (self.clock.set_time, some(), some()),
             lambda: (self.clock.resume, some(), some()),
+            lambda: (self.clock.leap, some(), rng.choice([-1, 1, some()]), number()),
             lambda: (self.clock.change_counter, some(), self.steered.counter, some()),
             lambda: (self.clock.snapshot().get, some(), number()),
             lambda: (self.clock.snapshot().reading_at, some(), number()),
@@ -188,6 +189,7 @@ class Arguments:
             lambda: (self.steered.advance, near()),
             lambda: (self.steered.apply, near(), number(), some(), some()),
             lambda: (self.steered.step, near(), some()),
+            lambda: (self.steered.leap, near(), rng.choice([-1, 1, some()]), number()),
             lambda: (self.steered.next_second,),
         ] + [lambda: (self.steered.adjtimex, near(), self.request())] * 4
 
@@ -257,11 +259,25 @@ class Numbers(unittest.TestCase):
         self.refused(tkcore.Behind, 999, (1000, 1000 + 2**31 - 1), clock.update, 999)
         for number in (9, -1, 2**32):
             self.refused(tkcore.BadCommand, number, (0, 8), clock.apply, 2000, number)
-        self.refused(tkcore.Invalid, 2, (-1, 1), clock.apply, 2000, tkcore.Command.LEAP, 2, 37)
-        self.refused(tkcore.Invalid, 0, (1, 1), clock.apply, 2000, tkcore.Command.LEAP, 0, 37)
         for other in (1.5, "5", None):
             with self.assertRaises(TypeError):
                 clock.update(other)
+
+    def test_leaps(self):
+        for clock in (opened(), tkcore.SteeredClock(nanosecond_counter(), 0, 10**18)):
+            before = clock.snapshot()
+            for by in (-2**63, -2, 2, 2**63 - 1):
+                self.refused(tkcore.Invalid, by, (-1, 1), clock.leap, 0, by, 37)
+            self.refused(tkcore.Invalid, 0, (1, 1), clock.leap, 0, 0, 37)
+            for tai in (-1, 100_001, 2**32 - 1, 2**32):
+                self.refused(tkcore.Invalid, tai, (0, 100_000), clock.leap, 0, -1, tai)
+            self.assertEqual(clock.snapshot().words()[1:], before.words()[1:])
+        # (REALTIME is 0 s, and may not be below MONOTONIC)
+        latest = 8_277_292_036 * NANOS - 1
+        clock = tkcore.Clock(nanosecond_counter(), 0, 0)
+        self.refused(tkcore.Invalid, -NANOS, (0, latest), clock.leap, 0, -1, 1)
+        clock = tkcore.Clock(nanosecond_counter(), 0, latest)
+        self.refused(tkcore.Invalid, NANOS, (-latest, 0), clock.leap, 0, 1, 1)
 
     def test_random_arguments(self):
         rng = seeded()

@@ -68,10 +68,11 @@ class Commanded:
         that is out of its range.
         """
         readings = (0, self.counter.max_reading)
+        what, nsecs = ("tai", _TAI_OFFSETS) if command == Command.LEAP else ("nsec", _NSECS)
         code = self._call_apply(
             fit(reading, U64, Invalid, "reading", readings),
             fit(command, U32, BadCommand, "command", (0, 8)),
-            fit(number, I64, Invalid, "number"), fit(nsec, U32, Invalid, "nsec", _NSECS))
+            fit(number, I64, Invalid, "number"), fit(nsec, U32, Invalid, what, nsecs))
         if code:
             self._refuse(code, reading, command, number, nsec)
 
