@@ -23,6 +23,7 @@ NANOS = 10**9
 MONOTONIC_LIMIT = 946_080_000 * NANOS
 VALUE_LIMIT = 9_223_372_036 * NANOS
 SETTABLE_LIMIT = 8_277_292_036
+TAI_LIMIT = 100_000  # s
 JOURNAL_LIMIT = 1_048_576
 LEAST_FREQUENCY, LEAST_TICK = -32_768_000, 9_000
 CLOCKS = ["realtime", "monotonic", "boottime", "tai", "realtime_coarse", "monotonic_coarse", "monotonic_raw"]
@@ -131,7 +132,7 @@ class Journal:
                    for k in range(1, place + 1) if not self.is_asleep_at(k - 1))
 
     def in_force(self, word, place, opening):
-        settings = [value for name, _, value in self.entries[:place] if name == word]
+        settings = [value for entry in self.entries[:place] if (value := set_by(entry, word)) is not None]
         return settings[-1] if settings else opening
 
     def multiplier(self, place):
@@ -183,7 +184,7 @@ class Journal:
         if sets:
             _, reading, time = self.entries[start - 1]
             base = time - self.prefix(start).monotonic(reading)
-        return base + sum(value for name, _, value in self.entries[start:] if name in ("step", "resume"))
+        return base + sum(moved_by(entry) for entry in self.entries[start:])
 
     def boot_offset(self):
         return self.opening.boot_offset + sum(value for name, _, value in self.entries if name == "resume")
@@ -203,6 +204,22 @@ class Journal:
         return monotonic
 
 
+def set_by(entry, word):
+    """Returns the frequency, the tick or the TAI offset that an entry sets, or None."""
+    name, _, value = entry
+    if name == "leap" and word == "tai":
+        return value[1]
+    return value if name == word else None
+
+
+def moved_by(entry):
+    """Returns the amount by which an entry moves REALTIME, in ns: 0 for an entry that sets it."""
+    name, _, value = entry
+    if name == "leap":
+        return value[0] * NANOS
+    return value if name in ("step", "resume") else 0
+
+
 def limit(clock):
     return MONOTONIC_LIMIT if clock.startswith("monotonic") and clock != "monotonic_raw" else VALUE_LIMIT
 
@@ -218,7 +235,9 @@ def is_bad_setting(word, fields):
     if word == "step":
         return fields[1] >= NANOS
     if word == "tai":
-        return not 0 <= fields[0] <= 100_000
+        return not 0 <= fields[0] <= TAI_LIMIT
+    if word == "leap":
+        return fields[0] not in (-1, 1) or fields[1] > TAI_LIMIT
     if word == "tick":
         return not 9_000 <= fields[0] <= 11_000
     if word == "resume":
@@ -239,15 +258,16 @@ def first_refusal(journal, word, reading, fields, is_bounded):
         return "invalid"
     if word != "resume" and counter.is_behind(last, reading):
         return "behind"
-    after = journal.followed_by((word, reading, value_of(word, fields)))
-    tested = ["monotonic", "boottime"] + (["realtime", "tai"] if word not in ("set", "step") else [])
+    entry = (word, reading, value_of(word, fields))
+    after = journal.followed_by(entry)
+    tested = ["monotonic", "boottime"] + (["realtime", "tai"] if word not in ("set", "step", "leap") else [])
     if any(after.value(clock, reading) >= limit(clock) for clock in tested):
         return "range"
     monotonic = journal.monotonic(reading)
     if word == "set" and value_of(word, fields) < monotonic:
         return "invalid"
-    if word == "step":
-        result = journal.value("realtime", reading) + value_of(word, fields)
+    if word in ("step", "leap"):
+        result = journal.value("realtime", reading) + moved_by(entry)
         if result < monotonic or not is_settable(*divmod(result, NANOS)):
             return "invalid"
     return None
@@ -269,12 +289,15 @@ def change_refusal(journal, reading, counter, first):
 
 
 def value_of(word, fields):
-    """Returns the operand that an entry keeps: a time in nanoseconds, or the number."""
+    """Returns the operand that an entry keeps: a time in nanoseconds, the number, or a leap second's numbers."""
+    if word == "leap":
+        return tuple(fields)
     if word in ("set", "step", "resume"):
         return fields[0] * NANOS + fields[1]
     return fields[0] if fields else None
 
 
+# the fields of the records of a script, which has none for a leap second
 U32, U64, I64 = range(2**32), range(2**64), range(-2**63, 2**63)
 FIELDS = {
     "open": [U32, U32, U32, U64, I64, U32], "openhz": [U32, U32, U32, U64, I64, U32],

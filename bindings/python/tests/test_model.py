@@ -13,14 +13,25 @@ import compare
 import model
 
 COMMANDS = {"update": "UPDATE", "set": "SET_TIME", "step": "STEP", "freq": "FREQ", "tick": "TICK",
-            "tai": "TAI_OFFSET", "suspend": "SUSPEND", "resume": "RESUME"}
+            "tai": "TAI_OFFSET", "suspend": "SUSPEND", "resume": "RESUME", "leap": "LEAP"}
 REFUSALS = {"asleep": tkcore.Asleep, "awake": tkcore.Awake, "invalid": tkcore.Invalid,
             "behind": tkcore.Behind, "range": tkcore.Range}
 
 
+def with_leaps(rng, rows):
+    """Returns rows in which half of the steps and TAI offsets became leap seconds, for which a
+    script has no record."""
+    def replaced(word, fields):
+        if word not in ("step", "tai") or rng.randrange(2):
+            return word, fields
+        return "leap", [fields[0], rng.choice([-1, -1, 1, 1, 0, 2]),
+                        rng.choice([0, 36, 38, 100_000, 100_001])]
+    return [replaced(*row) for row in rows]
+
+
 class Model(unittest.TestCase):
     def setUp(self):
-        self.calls = 0
+        self.calls = self.leaps = 0
 
     def answers(self, wanted, call, *arguments):
         """Makes a call, which must give the result or raise the refusal that is wanted."""
@@ -53,7 +64,7 @@ class Model(unittest.TestCase):
             of, opening = journal.counter, journal.opening
             clock = tkcore.Clock(tkcore.Counter(of.bits, of.mult, of.shift), opening.reading,
                                  opening.real_offset)
-            for word, (reading, *fields) in rows:
+            for word, (reading, *fields) in with_leaps(rng, rows):
                 if word == "get":
                     self.read(clock.snapshot(), journal, reading)
                     continue
@@ -61,7 +72,10 @@ class Model(unittest.TestCase):
                 self.answers(line[3:] if line.startswith("no,") else None, clock.apply, reading,
                              tkcore.Command[COMMANDS[word]], *fields)
                 self.assertEqual(clock.words()[0][0], len(journal.entries))
-        print(f"\n{self.calls} calls gave the answers of the definitions")
+                self.leaps += word == "leap" and line.startswith("ok")
+        self.assertGreater(self.leaps, 0)
+        print(f"\n{self.calls} calls gave the answers of the definitions, with {self.leaps} leap "
+              "seconds")
 
 
 class Rates(unittest.TestCase):

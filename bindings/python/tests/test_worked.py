@@ -1,5 +1,6 @@
 # SPDX-License-Identifier: MIT OR Apache-2.0
 """The calls whose codes and results were computed manually: the tables of tests/c/worked_*.c."""
+import itertools
 import pickle
 import unittest
 from array import array
@@ -114,6 +115,26 @@ class Commands(unittest.TestCase):
 
     def test_refused(self):
         self.try_all(opened(), "refused_commands")
+
+    def test_leap(self):
+        clock = opened()
+        self.try_all(clock, "leap_commands")
+        self.assertEqual(clock.words(), rows("worked_commands.c", "LEAPT"))
+
+    def test_leap_by_its_method(self):
+        """REALTIME moves, TAI runs on, and MONOTONIC and BOOTTIME stay."""
+        for by, opening in itertools.product((-1, 1), (tkcore.Clock, tkcore.SteeredClock)):
+            clock = opening(nanosecond_counter(), 0, nanos(1_700_000_000, 0))
+            clock.set_tai_offset(500, 37)
+            before = clock.snapshot()
+            clock.leap(1000, by, 37 - by)
+            after = clock.snapshot()
+            self.assertEqual(after.tai_offset, 37 - by)
+            moves = {"REALTIME": by * NANOS, "TAI": 0, "MONOTONIC": 0, "MONOTONIC_RAW": 0,
+                     "BOOTTIME": 0}
+            for reading, (name, amount) in itertools.product((1000, 2000), moves.items()):
+                times = [it.get(reading, tkcore.ClockId[name]) for it in (before, after)]
+                self.assertEqual(times[1] - times[0], amount, (by, opening, reading, name))
 
     def test_last(self):
         self.try_all(opened_wide(), "last_commands")
