@@ -16,7 +16,7 @@ import ntp
 from model import Counter, from_hz, is_settable
 from steered_clock import Refused, Steered
 
-COMMANDS = ["update", "set", "step", "freq", "tick", "tai", "suspend", "resume"]
+COMMANDS = ["update", "set", "step", "freq", "tick", "tai", "suspend", "resume", "leap"]
 CLOCKS = {0: "realtime", 1: "monotonic", 7: "boottime", 11: "tai"}
 DAY_END = 1_483_228_800
 
@@ -54,7 +54,7 @@ class Session:
         return "ok"
 
     def apply(self, reading, command, number, nsec):
-        if command > 7:
+        if command >= len(COMMANDS):
             raise Refused("bad_command")
         self.steered.apply(reading, COMMANDS[command], number, nsec)
         return "ok"
@@ -122,16 +122,19 @@ class Records:
         return (clock.last + min(cycles, 2**counter.bits // 2 - 1)) % 2**counter.bits
 
     def command(self):
-        command = self.random.choice(range(9))
+        command = self.random.choice(range(len(COMMANDS) + 1))
         if self.session.steered.clock.asleep and self.random.randrange(2):
             command = 7
         real = self.session.steered.clock.value("realtime", self.session.steered.clock.last) // 10**9
         number = {1: real + self.random.randrange(-5, 100_000), 2: self.random.randrange(-100, 100),
                   3: self.random.randrange(-40_000_000, 40_000_000), 4: self.random.randrange(8_999, 11_002),
-                  5: self.random.randrange(-1, 100_002), 7: self.random.randrange(100_000)}.get(command, 0)
+                  5: self.random.randrange(-1, 100_002), 7: self.random.randrange(100_000),
+                  8: self.random.choice([-1, -1, 1, 1, 0, 2])}.get(command, 0)
         if command == 1 and self.random.randrange(2):
             number = real // 86_400 * 86_400 + 86_400 - self.random.randrange(1, 4)
         nsec = self.random.choice([0, 999_999_999, self.random.randrange(10**9), 10**9])
+        if command == 8:
+            nsec = self.random.choice([0, 37, self.session.steered.clock.tai + 1, 100_000, 100_001])
         return f"apply,{self.reading()},{command},{max(-2**63, min(2**63 - 1, number))},{nsec}"
 
 

@@ -6,14 +6,14 @@ counter, and the length of each second becomes a tick and a frequency.
 """
 from dataclasses import dataclass, replace
 
-from model import NANOS, Counter, is_bad_setting, is_settable, limit, value_of
+from model import NANOS, TAI_LIMIT, Counter, is_bad_setting, is_settable, limit, value_of
 from ntp import (ADJTIME, FREQUENCY, MAX_FREQUENCY, NANO, OFFSET, ONE, PPM16, READONLY, SETOFFSET, TAI, TICK,
                  Discipline, Timex, clamp)
 
 NOMINAL = NANOS * ONE                               # the length of a nominal second
 TICK_RATE = 6_553_600                               # a tick of 1 us, in 2^-16 ppm
 FREQUENCY_LIMIT = 32_768_000
-TAI_LIMIT = 100_000                                 # s
+SETTING = "set", "step", "leap"                     # the commands that set or step REALTIME
 RATES = 9_000 * TICK_RATE - FREQUENCY_LIMIT, 11_000 * TICK_RATE + FREQUENCY_LIMIT
 
 
@@ -67,11 +67,11 @@ class Clock:
             return "behind"
         after = replace(self)
         after.do(reading, word, fields)
-        tested = ["monotonic", "boottime"] + (["realtime", "tai"] if word not in ("set", "step") else [])
+        tested = ["monotonic", "boottime"] + (["realtime", "tai"] if word not in SETTING else [])
         if any(after.value(clock, reading) >= limit(clock) for clock in tested):
             return "range"
         real = after.value("realtime", reading)
-        if word in ("set", "step") and (real < after.value("monotonic", reading) or not is_settable(*divmod(real, NANOS))):
+        if word in SETTING and (real < after.value("monotonic", reading) or not is_settable(*divmod(real, NANOS))):
             return "invalid"
         return None
 
@@ -84,6 +84,8 @@ class Clock:
             self.real_offset = value - (self.amount >> self.counter.shift)
         elif word == "step":
             self.real_offset += value
+        elif word == "leap":
+            self.real_offset, self.tai = self.real_offset + value[0] * NANOS, value[1]
         elif word == "resume":
             self.real_offset, self.boot_offset, self.asleep = self.real_offset + value, self.boot_offset + value, False
         elif word == "suspend":
@@ -192,10 +194,10 @@ class Steered:
         if word != "resume":
             self.advance(reading)
         self.command(reading, word, *fields)
-        if word in ("set", "step"):
+        if word in SETTING:
             self.ntp.clear()
             self.lag = 0
-        if word in ("set", "step", "resume"):
+        if word in (*SETTING, "resume"):
             self.mark, self.next = reading, self.clock.value("realtime", reading) // NANOS + 1
             self.steer(reading)
 
