@@ -13,8 +13,10 @@
 #define TFD_IOC_SET_TICKS _IOW('T', 0, uint64_t)
 #endif
 
-/* How long to wait for the host's timer to expire: 20 us, at most 1 s. */
-enum { EXPIRY_NAP_NANOS = 20000, EXPIRY_NAPS = 50000 };
+enum {
+	EXPIRY_NAP_NANOS = 20000, /* between two looks whether a timer expired */
+	EXPIRY_MOST_NANOS = 1000000000, /* the longest wait until it has */
+};
 
 /* No timer is set for more than 292 years. */
 static uint64_t nanos_of(const struct timespec *span)
@@ -129,16 +131,19 @@ static uint64_t unread_count(const struct timer *timer)
 }
 
 /* Lets a timer expire now, and waits until it has: the counter might move on
- * before its signal comes. A kernel without TFD_IOC_SET_TICKS counts one
+ * before its signal comes. It waits for at most a second, since the caller has
+ * the lock of the timers. A kernel without TFD_IOC_SET_TICKS counts one
  * expiry. */
 static void expire(const struct timer *timer, uint64_t count)
 {
+	uint64_t until = host_nanos(CLOCK_MONOTONIC) + EXPIRY_MOST_NANOS;
+
 	count += unread_count(timer);
 	if (timer->kind == TIMER_FILE &&
 	    !ioctl(timer->file, TFD_IOC_SET_TICKS, &count))
 		return;
 	set_host(timer, 1, 0);
-	for (int i = 0; i < EXPIRY_NAPS && !has_expired(timer); i++)
+	while (!has_expired(timer) && host_nanos(CLOCK_MONOTONIC) < until)
 		host_nap(EXPIRY_NAP_NANOS);
 }
 
