@@ -209,6 +209,8 @@ static int make_call(struct machine *m, const struct seccomp_notif *ask,
 				   (const uint64_t *)ask->data.args);
 	case SYS_clock_nanosleep:
 		return sleep_on(m, ask);
+	case SYS_restart_syscall:
+		return sleepers_resume(ask) ? CALL_LATER : CALL_HOST;
 	case SYS_adjtimex:
 		return steer(m, ask, "adjtimex", ask->data.args[0], value);
 	case SYS_clock_adjtime:

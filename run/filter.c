@@ -32,7 +32,8 @@ static const int ASKED[] = { SYS_clock_gettime, SYS_gettimeofday,
 			     SYS_settimeofday,	SYS_adjtimex,
 			     SYS_clock_adjtime, SYS_execve,
 			     SYS_execveat };
-static const int SLEEPS[] = { SYS_nanosleep, SYS_clock_nanosleep };
+static const int SLEEPS[] = { SYS_nanosleep, SYS_clock_nanosleep,
+			      SYS_restart_syscall };
 
 bool is_static_file(const char *path)
 {
@@ -170,7 +171,11 @@ bool filter_asks(long call)
 
 bool filter_asks_sleep(long call)
 {
-	return call == SLEEPS[0] || call == SLEEPS[1];
+	for (size_t i = 0; i < sizeof(SLEEPS) / sizeof(*SLEEPS); i++) {
+		if (SLEEPS[i] == call)
+			return true;
+	}
+	return false;
 }
 
 bool is_exec(const struct seccomp_notif *ask)

@@ -17,7 +17,7 @@ enum {
 	/* between two looks at signals: at least, and for each sleep */
 	SIGNALS_NANOS = 10000000,
 	SIGNALS_NANOS_EACH = 300000,
-	RESTART_CALL = 514, /* ERESTARTNOHAND of the kernel's errno.h */
+	RESTART_CALL = 516, /* ERESTART_RESTARTBLOCK of the kernel's errno.h */
 };
 
 struct sleeper {
@@ -25,7 +25,7 @@ struct sleeper {
 	struct sleep sleep;
 	struct waiter *waiter;
 	bool has_signal; /* of the process, when it was looked at */
-	bool is_stopped; /* its thread was stopped, and will call again */
+	bool is_stopped; /* its call has ended, and may go on after a stop */
 };
 
 static struct sleeper *sleepers;
@@ -61,53 +61,91 @@ static struct sleeper **find_stopped(uint32_t thread)
 	return *link ? link : NULL;
 }
 
-/* After a stop a thread makes the same call again, which ends when it would have
- * ended without the stop. Returns whether this call is one. */
-static bool resume(const struct sleep *sleep)
+/* Returns whether two calls were made by the same instruction, with the same
+ * arguments. */
+static bool is_same_call(const struct seccomp_data *one,
+			 const struct seccomp_data *other)
 {
-	struct sleeper **link = find_stopped(sleep->ask.pid);
+	return one->instruction_pointer == other->instruction_pointer &&
+	       !memcmp(one->args, other->args, sizeof(one->args));
+}
 
-	if (!link)
-		return false;
-	if (memcmp(&(*link)->sleep.ask.data, &sleep->ask.data,
-		   sizeof(sleep->ask.data))) {
+/* The kernel restarts a call by another number, in its place. A handler may have
+ * run after the stop: the sleep was over then, and this is another call. */
+bool sleepers_resume(const struct seccomp_notif *ask)
+{
+	struct sleeper **link;
+	bool is_resumed;
+
+	pthread_mutex_lock(&sleepers_lock);
+	link = find_stopped(ask->pid);
+	is_resumed =
+		link && is_same_call(&(*link)->sleep.ask.data, &ask->data);
+	if (is_resumed) {
+		(*link)->sleep.ask.id = ask->id;
+		(*link)->is_stopped = false;
+	} else if (link) {
 		remove_sleeper(link);
-		return false;
 	}
-	(*link)->sleep.ask.id = sleep->ask.id;
-	(*link)->is_stopped = false;
-	return true;
+	pthread_mutex_unlock(&sleepers_lock);
+	if (is_resumed)
+		sleepers_wake();
+	return is_resumed;
+}
+
+bool sleepers_has(int32_t thread)
+{
+	struct sleeper *sleeper;
+
+	pthread_mutex_lock(&sleepers_lock);
+	sleeper = sleepers;
+	while (sleeper && (int32_t)sleeper->sleep.ask.pid != thread)
+		sleeper = sleeper->next;
+	pthread_mutex_unlock(&sleepers_lock);
+	return sleeper;
 }
 
 bool sleepers_add(const struct sleep *sleep)
 {
-	struct sleeper *sleeper = calloc(1, sizeof(*sleeper));
+	struct sleeper *sleeper = calloc(1, sizeof(*sleeper)), **stopped;
 
 	if (!sleeper)
 		return false;
 	sleeper->sleep = *sleep;
 	pthread_mutex_lock(&sleepers_lock);
-	if (resume(sleep)) {
-		free(sleeper);
-	} else {
-		sleeper->waiter = waiter_enter_for(
-			clocks, (int32_t)sleep->ask.pid,
-			(uint32_t)sleep->clock, sleep->end.tv_sec,
-			(uint32_t)sleep->end.tv_nsec);
-		sleeper->next = sleepers;
-		sleepers = sleeper;
-	}
+	stopped = find_stopped(sleep->ask.pid);
+	if (stopped)
+		remove_sleeper(stopped);
+	sleeper->waiter = waiter_enter_for(clocks, (int32_t)sleep->ask.pid,
+					   (uint32_t)sleep->clock,
+					   sleep->end.tv_sec,
+					   (uint32_t)sleep->end.tv_nsec);
+	sleeper->next = sleepers;
+	sleepers = sleeper;
 	pthread_mutex_unlock(&sleepers_lock);
 	sleepers_wake();
 	return true;
 }
 
-static void reply(const struct sleeper *sleeper, int error)
+/* Returns false if the call has ended already. */
+static bool reply(const struct sleeper *sleeper, int error)
 {
 	struct seccomp_notif_resp reply = { .id = sleeper->sleep.ask.id,
 					    .error = -error };
 
-	ioctl(listener, SECCOMP_IOCTL_NOTIF_SEND, &reply);
+	return !ioctl(listener, SECCOMP_IOCTL_NOTIF_SEND, &reply);
+}
+
+/* Stores what is left of a span, as the kernel does at each interruption. Returns
+ * 0 or an errno. */
+static int store_rest(const struct sleep *sleep)
+{
+	struct timespec rest;
+
+	if (!sleep->rest)
+		return 0;
+	rest = machine_until(clocks, sleep->clock, &sleep->end);
+	return answer_put(&sleep->ask, sleep->rest, &rest, sizeof(rest));
 }
 
 /* Returns what signals do to a sleeper. One of the process may be another
@@ -136,28 +174,22 @@ static enum interruption interruption_of(struct sleeper *sleeper)
 }
 
 /* Ends the call of a sleeper if a signal interrupts it. A stopped one stays, to
- * be resumed. Returns whether its sleep is over. */
+ * be resumed: the kernel restarts its call, or makes EINTR of the answer if a
+ * handler runs after the stop. Returns whether its sleep is over. */
 static bool interrupt(struct sleeper *sleeper)
 {
-	const struct sleep *sleep = &sleeper->sleep;
-	struct timespec rest;
-	int error = EINTR;
+	enum interruption interruption = interruption_of(sleeper);
+	int error;
 
-	switch (interruption_of(sleeper)) {
-	case INTERRUPTED:
-		rest = machine_until(clocks, sleep->clock, &sleep->end);
-		if (sleep->rest &&
-		    answer_put(&sleep->ask, sleep->rest, &rest, sizeof(rest)))
-			error = EFAULT;
-		reply(sleeper, error);
-		return true;
-	case STOPPED:
-		sleeper->is_stopped = true;
-		reply(sleeper, RESTART_CALL);
+	if (interruption == NOT_INTERRUPTED)
 		return false;
-	default:
-		return false;
+	error = store_rest(&sleeper->sleep);
+	if (interruption == STOPPED && !error) {
+		sleeper->is_stopped = reply(sleeper, RESTART_CALL);
+		return !sleeper->is_stopped;
 	}
+	reply(sleeper, error ? error : EINTR);
+	return true;
 }
 
 static bool is_gone(const struct sleeper *sleeper)

@@ -4,6 +4,7 @@
 #include "tkrun.h"
 
 #include <stdlib.h>
+#include <sys/syscall.h>
 
 static bool is_listed(const struct tree *tree, int32_t thread)
 {
@@ -101,6 +102,15 @@ static bool has_waiter(const struct control *control, int32_t thread)
 	return false;
 }
 
+/* Returns whether a thread's call is tkrun's to answer. A restarted one is the
+ * host's unless it is a sleep that tkrun has stopped. */
+static bool is_asked(const struct thread_state *thread)
+{
+	if (thread->call == SYS_restart_syscall)
+		return sleepers_has(thread->thread);
+	return filter_asks(thread->call);
+}
+
 /* Returns whether tkrun hasn't answered a call yet. Its thread waits for the
  * answer, and for nothing else unless the call is a sleep that is listed. */
 static bool has_unanswered(const struct run *run)
@@ -108,7 +118,7 @@ static bool has_unanswered(const struct run *run)
 	for (size_t i = 0; i < run->tree.count; i++) {
 		const struct thread_state *thread = &run->tree.threads[i];
 
-		if (filter_asks(thread->call) &&
+		if (is_asked(thread) &&
 		    !(filter_asks_sleep(thread->call) &&
 		      has_waiter(run->machine.control, thread->thread)))
 			return true;

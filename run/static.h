@@ -24,7 +24,8 @@ bool filter_next(int listener, struct seccomp_notif *ask);
 /* Returns whether no process has the filter any more. */
 bool filter_is_over(int listener);
 
-/* Return whether the filter asks about a system call, and about a sleep. */
+/* Return whether the filter asks about a system call, and about a sleep. A call
+ * that the kernel restarts counts as a sleep. */
 bool filter_asks(long call);
 bool filter_asks_sleep(long call);
 
@@ -54,6 +55,14 @@ struct sleep {
 /* Adds a sleep, to answer its call at the end. Returns false if memory is
  * missing. */
 bool sleepers_add(const struct sleep *sleep);
+
+/* Goes on with a thread's sleep when the kernel restarts its call after a stop:
+ * the sleep ends when it would have ended without the stop. Returns false if this
+ * is the restart of another call. */
+bool sleepers_resume(const struct seccomp_notif *ask);
+
+/* Returns whether a thread has a sleep that isn't over. */
+bool sleepers_has(int32_t thread);
 
 /* Starts the thread that answers sleeps. Returns false if it can't. */
 bool sleepers_start(struct machine *machine, int listener);

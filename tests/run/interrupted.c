@@ -47,12 +47,12 @@ static void on_signal(int number)
 	(void)number;
 }
 
-static void catch_signal(int flags)
+static void catch_signal(int number, int flags)
 {
 	struct sigaction action = { .sa_handler = on_signal,
 				    .sa_flags = flags };
 
-	sigaction(SIGUSR1, &action, NULL);
+	sigaction(number, &action, NULL);
 }
 
 /* Starts a process that sends a signal to this one after two seconds. */
@@ -73,7 +73,7 @@ static void check_rest(int flags)
 	struct timespec span = { 20, 0 }, rest = { -1, -1 };
 	int64_t start = now();
 
-	catch_signal(flags);
+	catch_signal(SIGUSR1, flags);
 	send_later(SIGUSR1);
 	CHECK(nanosleep(&span, &rest) && errno == EINTR);
 	CHECK(is_about(now() - start, 2));
@@ -92,7 +92,7 @@ static void check_absolute(void)
 {
 	struct timespec until, rest = { -1, -1 };
 
-	catch_signal(0);
+	catch_signal(SIGUSR1, 0);
 	send_later(SIGUSR1);
 	clock_gettime(CLOCK_MONOTONIC, &until);
 	until.tv_sec += 20;
@@ -122,17 +122,45 @@ static void check_unheard(void)
 		;
 }
 
-/* A stop of two seconds leaves the end of a sleep of six. */
-static void check_stop(void)
+/* A stop leaves the end of a sleep. */
+static void sleep_six(void)
 {
 	struct timespec span = { 6, 0 };
 	int64_t start = now();
+
+	CHECK(!nanosleep(&span, NULL));
+	CHECK(is_about(now() - start, 6));
+}
+
+/* A handler of SIGCONT ends a sleep. The kernel has stored what was left when it
+ * was stopped, libtkrun.so stores what is left now. The same call sleeps anew. */
+static void sleep_twice(void)
+{
+	struct timespec span = { 20, 0 }, rest = { -1, -1 };
+	int64_t start = 0;
+	int results[2];
+
+	catch_signal(SIGCONT, 0);
+	for (int i = 0; i < 2; i++) {
+		start = now();
+		results[i] = nanosleep(&span, &rest);
+		span.tv_sec = 5;
+	}
+	CHECK(results[0] && !results[1]);
+	CHECK(is_about(now() - start, 5));
+	CHECK(nanos(rest) >= 16 * (int64_t)SECOND - slack &&
+	      nanos(rest) <= 18 * (int64_t)SECOND);
+}
+
+/* Runs a function in a process that is stopped after two seconds, for two. */
+static void check_stop(void (*run)(void))
+{
 	int status = -1;
 	pid_t child = fork();
 
 	if (!child) {
-		CHECK(!nanosleep(&span, NULL));
-		CHECK(is_about(now() - start, 6));
+		run();
+		fflush(stdout);
 		_exit(faults);
 	}
 	sleep(2);
@@ -175,7 +203,7 @@ static void check_thread(void)
 	int64_t start = now();
 	pthread_t thread;
 
-	catch_signal(SA_RESTART);
+	catch_signal(SIGUSR1, SA_RESTART);
 	pthread_create(&thread, NULL, sleep_long, &rest);
 	sleep(3);
 	pthread_kill(thread, SIGUSR1);
@@ -193,7 +221,8 @@ int main(int count, char **words)
 	check_rest(SA_RESTART);
 	check_absolute();
 	check_unheard();
-	check_stop();
+	check_stop(sleep_six);
+	check_stop(sleep_twice);
 	check_death();
 	check_thread();
 	return faults > 0;

@@ -21,6 +21,21 @@ func main() {
 """
 
 
+# stops a wait of the host, and sleeps while it goes on
+STOP = """
+wait='import select; select.poll().poll'
+env -i /usr/bin/python3 -c "$wait(5000)" & process=$!
+env -i /usr/bin/python3 -c "$wait(1000)"
+kill -STOP $process
+env -i /usr/bin/python3 -c "$wait(200)"
+kill -CONT $process
+sleep 1000
+kill -0 $process && echo "it waits"
+wait $process
+echo $?
+"""
+
+
 @unittest.skipUnless(CAN_FILTER, "the kernel lets no filter ask tkrun")
 class Static(RunTest):
     def test_reads_and_sets(self):
@@ -71,6 +86,9 @@ class Static(RunTest):
         self.assertEqual(run.stdout, "1000000000\n1000000000\nsleep 2000000000\n", run.stderr)
         self.assertEqual(run.returncode, 0)
         self.assertNotIn("reads the host's clocks", run.stderr)
+
+    def test_a_stop_leaves_a_wait_of_the_host(self):
+        self.assertEqual(self.run_on("--static", *STILL, "--", "bash", "-c", STOP), "it waits\n0\n")
 
     def test_a_tkrun_inside(self):
         inside = f"{TKRUN} --quiet {' '.join(STILL)} --start 2000000000 -- date +%s"
