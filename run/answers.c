@@ -24,12 +24,15 @@ int answer_put(const struct seccomp_notif *ask, uint64_t address,
 	struct iovec here = { (void *)value, size };
 	struct iovec there = { (void *)address, size };
 
-	if (process_vm_writev((pid_t)ask->pid, &here, 1, &there, 1, 0) ==
-	    (ssize_t)size)
+	if (filter_has_call(answered_by, ask->id) &&
+	    process_vm_writev((pid_t)ask->pid, &here, 1, &there, 1, 0) ==
+		    (ssize_t)size)
 		return 0;
 	return EFAULT;
 }
 
+/* Copies from the memory of the thread that has made a call. The call still waits
+ * afterwards, so the memory was that thread's. Returns 0 or an errno. */
 static int fetch(const struct seccomp_notif *ask, uint64_t address, void *value,
 		 size_t size)
 {
@@ -37,7 +40,8 @@ static int fetch(const struct seccomp_notif *ask, uint64_t address, void *value,
 	struct iovec there = { (void *)address, size };
 
 	if (process_vm_readv((pid_t)ask->pid, &here, 1, &there, 1, 0) ==
-	    (ssize_t)size)
+		    (ssize_t)size &&
+	    filter_has_call(answered_by, ask->id))
 		return 0;
 	return EFAULT;
 }

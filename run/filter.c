@@ -151,6 +151,13 @@ bool filter_next(int listener, struct seccomp_notif *ask)
 	return !ioctl(listener, SECCOMP_IOCTL_NOTIF_RECV, ask);
 }
 
+/* Linux 5.5 and 5.6 don't know the ioctl by its present number: EINVAL. */
+bool filter_has_call(int listener, uint64_t id)
+{
+	return !ioctl(listener, SECCOMP_IOCTL_NOTIF_ID_VALID, &id) ||
+	       errno != ENOENT;
+}
+
 void filter_continue(int listener, uint64_t id)
 {
 	struct seccomp_notif_resp reply = {

@@ -198,8 +198,7 @@ static bool is_gone(const struct sleeper *sleeper)
 
 	if (sleeper->is_stopped)
 		return !status_read((int)sleeper->sleep.ask.pid, status);
-	return ioctl(listener, SECCOMP_IOCTL_NOTIF_ID_VALID,
-		     &sleeper->sleep.ask.id);
+	return !filter_has_call(listener, sleeper->sleep.ask.id);
 }
 
 /* Returns whether a sleep is over: its time has come, or a signal ended it. */

@@ -29,6 +29,10 @@ bool filter_is_over(int listener);
 bool filter_asks(long call);
 bool filter_asks_sleep(long call);
 
+/* Returns whether a call still waits for its answer. If its thread was killed,
+ * another one may have the thread's number. */
+bool filter_has_call(int listener, uint64_t id);
+
 /* Lets the kernel make the call. */
 void filter_continue(int listener, uint64_t id);
 
@@ -39,8 +43,8 @@ bool is_exec(const struct seccomp_notif *ask);
 void answer(struct machine *machine, int listener,
 	    const struct seccomp_notif *ask);
 
-/* Copies to the memory of the thread that has made a call. Returns 0 or an
- * errno. */
+/* Copies to the memory of the thread that has made a call, if the call still
+ * waits. Returns 0 or an errno. */
 int answer_put(const struct seccomp_notif *ask, uint64_t address,
 	       const void *value, size_t size);
 
