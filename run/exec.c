@@ -5,6 +5,7 @@
  */
 #define _GNU_SOURCE
 #include "static.h"
+#include "status.h"
 
 #include <elf.h>
 #include <errno.h>
@@ -145,67 +146,95 @@ static void hide_vdso(pid_t process)
 		ptrace(PTRACE_POKEDATA, process, place, AT_IGNORE);
 }
 
-/* Stores the name of the file that a call executes, as tkrun can open it, or
- * nothing if it can't be read. */
-static void executed_file(const struct seccomp_notif *ask, char *path,
-			  size_t size)
+/* The file that a call executes, by its name in a folder. */
+struct executed {
+	char folder[64];      /* a link of /proc; none if the name needs none */
+	char name[TEXT_MOST]; /* none if it can't be read, or is the folder */
+};
+
+static void find_executed(const struct seccomp_notif *ask,
+			  struct executed *file)
 {
 	bool is_at = ask->data.nr == SYS_execveat;
 	int folder = is_at ? (int)ask->data.args[0] : AT_FDCWD;
-	char name[TEXT_MOST];
 
-	read_text((pid_t)ask->pid, ask->data.args[is_at], name, sizeof(name));
-	if (*name == '/' || (!*name && folder == AT_FDCWD))
-		snprintf(path, size, "%s", name);
+	read_text((pid_t)ask->pid, ask->data.args[is_at], file->name,
+		  sizeof(file->name));
+	if (*file->name == '/' || (!*file->name && folder == AT_FDCWD))
+		*file->folder = 0;
 	else if (folder == AT_FDCWD)
-		snprintf(path, size, "/proc/%u/cwd/%s", ask->pid, name);
+		snprintf(file->folder, sizeof(file->folder), "/proc/%u/cwd",
+			 ask->pid);
 	else
-		snprintf(path, size, "/proc/%u/fd/%d%s%s", ask->pid, folder,
-			 *name ? "/" : "", name);
+		snprintf(file->folder, sizeof(file->folder), "/proc/%u/fd/%d",
+			 ask->pid, folder);
+}
+
+/* Stores the path of an executed file, in a folder that is named so. */
+static void join_path(const struct executed *file, const char *folder,
+		      char *path, size_t size)
+{
+	snprintf(path, size, "%s%s%s", folder,
+		 *folder && *file->name ? "/" : "", file->name);
 }
 
 /* Returns whether a call executes a program that can't load the library. If the
  * call's memory can't be read, it counts as one. */
-static bool lacks_library(const struct seccomp_notif *ask, const char *path)
+static bool lacks_library(const struct seccomp_notif *ask,
+			  const struct executed *program)
 {
+	char path[2 * TEXT_MOST];
 	struct start start = {
 		.process = (pid_t)ask->pid,
 		.environment =
 			ask->data.args[ask->data.nr == SYS_execveat ? 3 : 2],
 	};
 
+	join_path(program, program->folder, path, sizeof(path));
 	if (*path && access(path, X_OK))
 		return false; /* the call will fail */
 	return is_static_file(path) || !has_preload(&start);
 }
 
-/* Names a program for a warning: by its file, or else by what executes it. */
-static void name_program(const struct seccomp_notif *ask, const char *path,
-			 char *name, size_t size)
+/* Names a program by the process that executes it. */
+static void name_by_process(const struct seccomp_notif *ask, char *name,
+			    size_t size)
 {
-	char comm[64] = "";
-	FILE *file;
+	char path[64], comm[64];
 
-	snprintf(name, size, "%.*s", (int)size - 1, path);
-	if (*path)
-		return;
-	snprintf(comm, sizeof(comm), "/proc/%u/comm", ask->pid);
-	file = fopen(comm, "re");
-	if (file && fgets(comm, sizeof(comm), file))
-		comm[strcspn(comm, "\n")] = 0;
-	if (file)
-		fclose(file);
+	snprintf(path, sizeof(path), "/proc/%u/comm", ask->pid);
+	if (!proc_read(path, comm, sizeof(comm)))
+		strcpy(comm, "a process");
+	comm[strcspn(comm, "\n")] = 0;
 	snprintf(name, size, "a program that %s executed", comm);
+}
+
+/* Names a program for a warning: by its file if that is known. The folder's own
+ * name is the same for all processes that execute the program. */
+static void name_program(const struct seccomp_notif *ask,
+			 const struct executed *program, char *name,
+			 size_t size)
+{
+	char folder[TEXT_MOST], path[2 * TEXT_MOST];
+	ssize_t length = readlink(program->folder, folder, sizeof(folder) - 1);
+
+	folder[length < 0 ? 0 : length] = 0;
+	join_path(program, folder, path, sizeof(path));
+	if (*path)
+		snprintf(name, size, "%.*s", (int)size - 1, path);
+	else
+		name_by_process(ask, name, size);
 }
 
 static void note_missed(const struct seccomp_notif *ask, int error)
 {
-	char path[2 * TEXT_MOST], name[sizeof(missed->name)];
+	char name[sizeof(missed->name)];
+	struct executed program;
 
-	executed_file(ask, path, sizeof(path));
-	if (!lacks_library(ask, path))
+	find_executed(ask, &program);
+	if (!lacks_library(ask, &program))
 		return;
-	name_program(ask, path, name, sizeof(name));
+	name_program(ask, &program, name, sizeof(name));
 	for (size_t i = 0; i < missed_count && i < MISSED_MOST; i++) {
 		if (!strcmp(missed[i].name, name))
 			return;

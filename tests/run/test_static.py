@@ -1,5 +1,6 @@
 """Programs that no library can be loaded into: static ones, in Go, and with a cleared environment."""
 import os
+import re
 import shutil
 import subprocess
 import unittest
@@ -107,6 +108,13 @@ class Static(RunTest):
                 self.assertEqual(f"tkrun: '{words[0]}' couldn't be traced, so it read the host's "
                                  "clocks: Operation not permitted" in run.stderr, is_named,
                                  run.stderr)
+
+    def test_a_program_that_cannot_be_traced_is_named_once(self):
+        folder, traced = os.path.dirname(program("static_reads")), program("traced")
+        command = f"cd {folder}; for i in 1 2 3; do {traced} ./static_reads deny; done"
+        run = self.start("--static", "--", "bash", "-c", command)
+        names = re.findall("'(.*)' couldn't be traced", run.stderr)
+        self.assertEqual(names, [f"{os.path.realpath(folder)}/./static_reads"], run.stderr)
 
     def log(self, name, *options):
         """The lines of --log, without the number of the process."""
