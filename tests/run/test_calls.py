@@ -6,6 +6,7 @@ import unittest
 from runs import CAN_FILTER, RunTest, program
 
 WAIT = 2_000_000_000
+WAITS, SYSTEM_WAITS = 43, 21  # the waits of waits.c and system.c
 
 
 class Calls(RunTest):
@@ -36,20 +37,20 @@ class Calls(RunTest):
         self.assertIn("the record ends before the first call that steered the clocks", run.stderr)
         self.assertIn("check: tkcore gives each of the first", run.stderr)
 
-    def waits(self, *arguments, least):
-        """Runs a program that prints waits, and returns how long each was."""
+    def waits(self, *arguments, count):
+        """Runs a program that prints its waits, and returns how long each was."""
         lines = [line.split() for line in self.run_on("--check", *arguments).splitlines()]
-        self.assertGreaterEqual(len(lines), least)
+        self.assertEqual(len(lines), count)
         return lines
 
-    def check_exact(self, name, least):
-        waits = self.waits("--counter", "sleeps", "--", program(name), least=least)
+    def check_exact(self, name, count):
+        waits = self.waits("--counter", "sleeps", "--", program(name), count=count)
         for wait, value in waits:
             with self.subTest(wait):
                 self.assertEqual(value, str(WAIT))
 
-    def check_at_speed(self, name, least):
-        waits = self.waits("--speed", 10, "--", program(name), least=least)
+    def check_at_speed(self, name, count):
+        waits = self.waits("--speed", 10, "--", program(name), count=count)
         for wait, value in waits:
             with self.subTest(wait):
                 self.assertTrue(re.fullmatch(r"\d+", value), value)
@@ -58,16 +59,16 @@ class Calls(RunTest):
                 self.assertLess(int(value), WAIT + 20_000_000_000)
 
     def test_waits_on_a_counter_of_sleeps(self):
-        self.check_exact("waits", 42)
+        self.check_exact("waits", WAITS)
 
     def test_waits_on_a_counter_ten_times_as_fast(self):
-        self.check_at_speed("waits", 42)
+        self.check_at_speed("waits", WAITS)
 
     def test_system_calls_on_a_counter_of_sleeps(self):
-        self.check_exact("system", 21)
+        self.check_exact("system", SYSTEM_WAITS)
 
     def test_system_calls_on_a_counter_ten_times_as_fast(self):
-        self.check_at_speed("system", 21)
+        self.check_at_speed("system", SYSTEM_WAITS)
 
     def test_many_timers_and_threads(self):
         for counter in [["--counter", "sleeps"], ["--speed", 20]]:
