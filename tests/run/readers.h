@@ -39,7 +39,7 @@ static inline void check_real(void)
 {
 	struct timespec now;
 
-	if (clock_gettime(CLOCK_REALTIME, &now) ||
+	if (clock_gettime(CLOCK_REALTIME, &now) || now.tv_sec < TIMES[0] ||
 	    now.tv_sec - TIMES[now.tv_sec >= TIMES[1]] > 3600)
 		shared->errors++;
 }
@@ -77,8 +77,11 @@ static inline pid_t start(void (*run)(void))
 
 	if (!child)
 		run();
-	if (child < 0)
+	if (child < 0) {
+		perror("fork");
+		shared->is_over = true;
 		exit(EXIT_FAILURE);
+	}
 	return child;
 }
 
@@ -86,19 +89,27 @@ static inline void start_readers(void)
 {
 	shared = mmap(NULL, sizeof(*shared), PROT_READ | PROT_WRITE,
 		      MAP_SHARED | MAP_ANONYMOUS, -1, 0);
+	if (shared == MAP_FAILED) {
+		perror("mmap");
+		exit(EXIT_FAILURE);
+	}
 	for (int i = 0; i < READERS; i++)
 		start(read_all);
 }
 
-/* Ends the readers, and prints the counts. Returns the program's status. */
+/* Ends the readers, and prints the counts. A reader that ended in another way is
+ * an error. Returns the program's status: at least one read must have been made. */
 static inline int end_readers(int killed)
 {
+	int status, ended = 0;
+
 	shared->is_over = true;
-	while (wait(NULL) > 0)
-		;
+	while (wait(&status) > 0)
+		ended += !status;
+	shared->errors += READERS - ended;
 	printf("killed %d, sets %ld, reads %ld, back %ld, errors %ld\n", killed,
 	       shared->sets, shared->reads, shared->back, shared->errors);
-	return shared->back || shared->errors;
+	return shared->back || shared->errors || !shared->reads;
 }
 
 #endif
