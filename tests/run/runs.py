@@ -1,6 +1,7 @@
 """What the tests of tkrun share."""
 import os
 import pathlib
+import re
 import shutil
 import subprocess
 import tempfile
@@ -71,6 +72,7 @@ def succeeds(*command):
 # a container may have neither
 CAN_MOUNT = IS_ROOT and succeeds("unshare", "-m", "mount", "-t", "tmpfs", "tmpfs", "/dev/shm")
 CAN_FILTER = succeeds(TKRUN, "--static", "--", "true")
+LINUX = tuple(map(int, re.match(r"(\d+)\.(\d+)", os.uname().release).groups()))
 
 
 def needs_mounts(reason):
