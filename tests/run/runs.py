@@ -72,6 +72,7 @@ def succeeds(*command):
 # a container may have neither
 CAN_MOUNT = IS_ROOT and succeeds("unshare", "-m", "mount", "-t", "tmpfs", "tmpfs", "/dev/shm")
 CAN_FILTER = succeeds(TKRUN, "--static", "--", "true")
+CAN_TRACE = succeeds(program("traced"), "true")
 LINUX = tuple(map(int, re.match(r"(\d+)\.(\d+)", os.uname().release).groups()))
 
 

@@ -17,10 +17,21 @@
 #include <signal.h>
 #include <sys/ptrace.h>
 
+/* Makes a request for a process. If it isn't allowed, or the process has been
+ * killed, the program ends. */
+static void trace(enum __ptrace_request request, pid_t process)
+{
+	if (!ptrace(request, process, 0, 0))
+		return;
+	perror("stepped: ptrace");
+	shared->is_over = true;
+	_exit(EXIT_FAILURE);
+}
+
 /* The first call finds what it needs, so that the second one only sets. */
 static void set_once(void)
 {
-	ptrace(PTRACE_TRACEME, 0, 0, 0);
+	trace(PTRACE_TRACEME, 0);
 	set_real(0);
 	raise(SIGSTOP);
 	set_real(1);
@@ -37,7 +48,7 @@ static long step(long most)
 
 	waitpid(writer, &status, 0);
 	while (WIFSTOPPED(status) && steps < most) {
-		ptrace(PTRACE_SINGLESTEP, writer, 0, 0);
+		trace(PTRACE_SINGLESTEP, writer);
 		waitpid(writer, &status, 0);
 		steps++;
 	}
@@ -54,6 +65,11 @@ int main(int count, char **words)
 
 	start_readers();
 	all = step(LONG_MAX);
+	if (!all) {
+		fprintf(stderr, "stepped: no instruction was traced\n");
+		end_readers(0);
+		return EXIT_FAILURE;
+	}
 	for (long i = 0; i < kills; i++) {
 		step(i * all / kills);
 		set_real((int)i);

@@ -3,7 +3,7 @@ of two seconds moves MONOTONIC on by two seconds."""
 import re
 import unittest
 
-from runs import CAN_FILTER, LINUX, RunTest, program
+from runs import CAN_FILTER, CAN_TRACE, LINUX, RunTest, program
 
 WAIT = 2_000_000_000
 WAITS, SYSTEM_WAITS = 43, 21  # the waits of waits.c and system.c
@@ -138,6 +138,7 @@ class Calls(RunTest):
     def test_killed_writers(self):
         self.killed("killed", 100)
 
+    @unittest.skipUnless(CAN_TRACE, "no process may be traced")
     def test_writers_killed_at_each_part_of_a_call(self):
         # some of them held the lock
         self.assertRegex(self.killed("stepped", 200), "took over [0-9]+ times from a process")

@@ -5,7 +5,8 @@ import shutil
 import subprocess
 import unittest
 
-from runs import CAN_FILTER, OTHER, STILL, TKRUN, RunTest, call, needs, needs_root, program
+from runs import (CAN_FILTER, CAN_TRACE, OTHER, STILL, TKRUN, RunTest, call, needs, needs_root,
+                  program)
 
 GO = """package main
 
@@ -101,6 +102,7 @@ class Static(RunTest):
         self.assertEqual((run.returncode, run.stdout), (125, ""))
         self.assertIn("--static: the kernel lets no filter ask tkrun", run.stderr)
 
+    @unittest.skipUnless(CAN_TRACE, "no process may be traced")
     def test_what_cannot_be_traced(self):
         for words, is_named in [([program("static_reads"), "deny"], True), (["date"], False)]:
             with self.subTest(words):
@@ -109,6 +111,7 @@ class Static(RunTest):
                                  "clocks: Operation not permitted" in run.stderr, is_named,
                                  run.stderr)
 
+    @unittest.skipUnless(CAN_TRACE, "no process may be traced")
     def test_a_program_that_cannot_be_traced_is_named_once(self):
         folder, traced = os.path.dirname(program("static_reads")), program("traced")
         command = f"cd {folder}; for i in 1 2 3; do {traced} ./static_reads deny; done"

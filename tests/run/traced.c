@@ -16,8 +16,8 @@ int main(int count, char **words)
 	int status = 0;
 
 	if (!child && count > 1) {
-		ptrace(PTRACE_TRACEME, 0, 0, 0);
-		execvp(words[1], words + 1);
+		if (!ptrace(PTRACE_TRACEME, 0, 0, 0))
+			execvp(words[1], words + 1);
 		_exit(EXIT_FAILURE);
 	}
 	while (waitpid(child, &status, 0) > 0 && WIFSTOPPED(status))
