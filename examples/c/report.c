@@ -2,7 +2,7 @@
 /*
  * Prints the report of the tkcore script on standard input. Each command and
  * each read of the script is one call of the library. A record that changes
- * the counter, or states the value that it expects, is a fault here.
+ * the counter is a fault here.
  *
  * The library keeps no journal, so no command is refused because a journal is
  * full. So the report equals the report of `tkcore replay --keep N`.
@@ -68,7 +68,9 @@ static void print_opening(const struct tkc_counter *counter)
 	printf("open,%" PRIu32 ",%" PRIu32 ",%" PRIu32 "\n", bits, mult, shift);
 }
 
-static void print_read(const struct tkc_snapshot *snapshot,
+/* Prints the line of a read. Returns whether the clock has the value that the row expects, or the
+ * row expects none. */
+static bool print_read(const struct tkc_snapshot *snapshot,
 		       const struct row *row)
 {
 	struct tkc_time time;
@@ -77,7 +79,7 @@ static void print_read(const struct tkc_snapshot *snapshot,
 	code = tkc_snapshot_get(&time, snapshot, row->clock, row->reading);
 	if (code) {
 		print_refusal(code);
-		return;
+		return !row->has_value;
 	}
 	printf("at,%s,", script_clock_word(row->clock));
 	print_time(&time);
@@ -85,6 +87,8 @@ static void print_read(const struct tkc_snapshot *snapshot,
 	    row->clock == TKC_CLOCK_REALTIME_COARSE)
 		print_utc(&time);
 	putchar('\n');
+	return !row->has_value ||
+	       row->value == (uint64_t)time.sec * 1000000000 + time.nsec;
 }
 
 /* Prints the number of accepted commands, and MONOTONIC at the last one. */
@@ -102,12 +106,13 @@ static void print_accepted(const struct tkc_snapshot *snapshot)
 }
 
 static void run_row(struct tkc_clock *clock, struct tkc_snapshot *snapshot,
-		    const struct row *row)
+		    const struct row *row, size_t record)
 {
 	uint32_t code;
 
 	if (row->is_read) {
-		print_read(snapshot, row);
+		if (!print_read(snapshot, row))
+			printf("differs,%zu,%" PRIu64 "\n", record, row->value);
 		return;
 	}
 	code = tkc_clock_apply(clock, row->reading, row->command, row->number,
@@ -127,7 +132,7 @@ static void run(struct script *script)
 	tkc_clock_snapshot(&snapshot, &script->clock);
 	print_opening(&script->counter);
 	for (size_t i = 0; i < script->count; i++)
-		run_row(&script->clock, &snapshot, &script->rows[i]);
+		run_row(&script->clock, &snapshot, &script->rows[i], i + 2);
 }
 
 static int fail(const char *text)

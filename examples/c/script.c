@@ -14,9 +14,9 @@ static const char NO_NUMBER[] = "not a number in range";
 static const char NO_MEMORY[] = "out of memory";
 
 /* What a field contains, named for the variable that stores it. */
-enum kind { READING, NUMBER, NSEC, CLOCK };
+enum kind { READING, NUMBER, NSEC, CLOCK, VALUE };
 
-/* A record after the opening: its word, and the fields after the word. */
+/* A record after the opening: its word, and the fields after the word. A read may have one more. */
 struct shape {
 	const char *word;
 	bool is_read;
@@ -34,7 +34,7 @@ static const struct shape SHAPES[] = {
 	{ "tai", false, TKC_CMD_TAI_OFFSET, 2, { READING, NUMBER } },
 	{ "suspend", false, TKC_CMD_SUSPEND, 1, { READING } },
 	{ "resume", false, TKC_CMD_RESUME, 3, { READING, NUMBER, NSEC } },
-	{ "get", true, 0, 2, { READING, CLOCK } },
+	{ "get", true, 0, 2, { READING, CLOCK, VALUE } },
 };
 
 static const struct {
@@ -89,6 +89,10 @@ static const char *parse_field(const struct field *field, enum kind kind,
 		break;
 	case CLOCK:
 		return parse_clock(field, &row->clock);
+	case VALUE:
+		row->has_value = true;
+		is_number = parse_u64(field, &row->value);
+		break;
 	}
 	return is_number ? NULL : NO_NUMBER;
 }
@@ -107,13 +111,15 @@ static const char *parse_row(const struct record *record, struct row *row)
 {
 	const struct shape *shape = find_shape(&record->fields[0]);
 	const char *wrong = NULL;
+	size_t count;
 
 	if (!shape)
 		return NO_WORD;
-	if (record->count != shape->count + 1)
+	count = record->count - 1;
+	if (count != shape->count && !(shape->is_read && count == shape->count + 1))
 		return NO_FIELDS;
 	*row = (struct row){ .is_read = shape->is_read, .command = shape->command };
-	for (size_t i = 0; i < shape->count && !wrong; i++)
+	for (size_t i = 0; i < count && !wrong; i++)
 		wrong = parse_field(&record->fields[i + 1], shape->kinds[i],
 				    row);
 	return wrong;

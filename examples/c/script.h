@@ -23,6 +23,8 @@ struct row {
 	int64_t number;
 	uint32_t nsec;
 	uint32_t clock; /* an argument of tkc_snapshot_get */
+	bool has_value; /* whether a read states the value that it expects */
+	uint64_t value; /* this value, in ns */
 };
 
 /* The clocks as the first record opens them, and the rows after it. */
