@@ -1,7 +1,7 @@
 -- An accepted entry keeps a journal legal, and leaves the state of the longer journal.
-use Rattle.std.proofs.Common.{◌≡◌, ℕ, zero, suc, ◌+◌, ◌<◌, ◌≤◌, List, [], ◌∷◌, ◌++◌, length, take, take-take, refl, sym, ◌∙◌, ap, subst, arith, false, inl, inr}
+use Rattle.std.proofs.Common.{◌≡◌, ℕ, zero, suc, ◌+◌, ◌<◌, ◌≤◌, List, [], ◌∷◌, ◌++◌, length, take, take-take, refl, sym, ◌∙◌, ap, arith, false, inl, inr}
 use Rattle.std.specs.Prelude.{ℤ, pos, ◌-◌, ◌*◌, Option, Some, None, slice_get}
-use Rattle.std.proofs.lemmas.List.{take_at, take_all, length-take, length_push}
+use Rattle.std.proofs.lemmas.List.{take_at, length-take, length_push}
 use Rattle.std.proofs.lemmas.Bool.{cases_lt}
 use Rattle.std.proofs.lemmas.Option.{slice_get_within}
 use Rattle.tk_clock.specs.declared.command.Entry.{Entry}
@@ -15,7 +15,7 @@ use Rattle.tk_clock.specs.Time.{nanoseconds}
 use Rattle.tk_counter.specs.Counter.{Counter, IsCounter, usual_tick}
 use Rattle.tk_clock.specs.State.{State, state_of, effect}
 use Rattle.tk_clock.specs.Refusal.{first_of, clock_refusal, state_refusal, first_refusal, opening_refusal, is_full}
-use Rattle.tk_clock.specs.Legal.{IsLegal, IsAccepted, IsWhole, IsStart, AtOpening, AtChange, IsUnfolded, folded_opening}
+use Rattle.tk_clock.specs.Legal.{IsLegal, IsAccepted, IsWhole, AtOpening, IsUnfolded, folded_opening}
 use Rattle.tk_clock.proofs.Append.{slice_get-append, slice_get-push, prefix-followed_by}
 use Rattle.tk_clock.proofs.Ledger.{ledger, fits_sleep, clock_refusal-state, no_more}
 use Rattle.tk_clock.proofs.Refusals.{first_refusal-room}
@@ -216,61 +216,4 @@ IsLegal-whole journal whole =
         whole.opens.3 ∙ opened-folded counter reading real,
       );
       accepted = whole.accepted;
-    }
-
-nothing_before : (journal : Journal) → length journal.entries ≡ 0 → prefix 0 journal ≡ journal
-nothing_before journal none =
-    ap (λ (es : List Entry). record journal { entries = es })
-    (take_all 0 journal.entries (omega arith))
-
--- an opening before which no command was accepted is that of newly opened clocks
-pub record IsOpened (opening : Opening) : Type 0 where
-  pub counter : Counter
-  pub reading : ℕ
-  pub real : Timespec
-  pub described : IsCounter counter
-  pub opens : opening_refusal counter reading real ≡ None
-  pub stated : opening ≡ (opened counter reading real).opening
-
-start-opened : (opening : Opening) → IsStart opening → opening.count ≡ 0 → IsOpened opening
-start-opened opening (AtOpening counter reading real described opens) none = record {
-  counter = counter;
-  reading = reading;
-  real = real;
-  described = described;
-  opens = opens;
-  stated = refl;
-}
-start-opened opening (AtChange before reading counter first starts accepted described changes) none =
-    absurd (omega (arith, none))
-
--- a legal journal is whole if no command was accepted before its first entry
-pub IsWhole-legal : (journal : Journal) → IsLegal journal → journal.opening.count ≡ 0 →
-    IsWhole journal
-IsWhole-legal journal legal none =
-    let past = legal.past.0 in
-    let count : past.opening.count + length past.entries ≡ 0 =
-    sym (ap (λ (o : Opening). o.count) legal.past.2) ∙ none in
-    let few : length past.entries ≡ 0 = omega (arith, count) in
-    let start = start-opened past.opening legal.past.1.starts (omega (arith, count)) in
-    let counter = start.counter in
-    let reading = start.reading in
-    let real = start.real in
-    let begin = opened counter reading real in
-    let empty : past ≡ begin =
-    sym (nothing_before past few)
-    ∙ ap (λ (o : Opening). let j : Journal = record { opening = o; entries = [] }
-    in j) start.stated in
-    let opening : journal.opening ≡ begin.opening =
-    legal.past.2 ∙ ap (λ k. folded_opening k (state_of past)) count
-    ∙ ap (λ (j : Journal). folded_opening 0 (state_of j)) empty
-    ∙ sym (opened-folded counter reading real) in
-    let same : journal.opening.counter ≡ counter = ap (λ (o : Opening). o.counter) opening in
-    record {
-      described = subst IsCounter (sym same) start.described;
-      opens = subst
-          (λ (k : Counter). (r : ℕ) × (t : Timespec) × (opening_refusal k r t ≡ None)
-          × (journal.opening ≡ (opened k r t).opening))
-          (sym same) (reading, real, start.opens, opening);
-      accepted = legal.accepted;
     }

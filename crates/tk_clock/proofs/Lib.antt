@@ -31,3 +31,4 @@ pub mod Lists
 pub mod Rescaling
 pub mod ChangeCounter
 pub mod ChangeLegal
+pub mod Whole

@@ -1,5 +1,5 @@
 -- Which journals can exist: clocks can have the opening's state, and all entries were accepted.
-use Rattle.std.specs.Prelude.{◌≡◌, ℕ, ◌+◌, slice_get, Some, None}
+use Rattle.std.specs.Prelude.{◌≡◌, ℕ, ◌+◌, ◌≤◌, slice_get, Some, None}
 use Rattle.tk_counter.specs.Counter.{Counter, IsCounter}
 use Rattle.tk_clock.specs.declared.timespec.Timespec.{Timespec}
 use Rattle.tk_clock.specs.declared.command.Entry.{Entry}
@@ -7,6 +7,8 @@ use Rattle.tk_clock.specs.Journal.{Opening, Journal, opened, prefix, accepted_co
 use Rattle.tk_clock.specs.State.{State, state_of}
 use Rattle.tk_clock.specs.Refusal.{clock_refusal, opening_refusal}
 use Rattle.tk_clock.specs.ChangeCounter.{changed, change_refusal}
+use Rattle.tk_clock.specs.Limits.{counted_most}
+use Rattle.tk_clock.specs.Running.{AreClocks}
 
 -- each entry was accepted after the entries before it
 abbrev pub IsAccepted : Journal → Type 0
@@ -38,8 +40,9 @@ folded_opening n state = record {
   asleep = state.base.asleep;
 }
 
--- an opening with which the clocks begin to run over a counter: they were opened with it, or their
--- counter was changed after a journal over another one, all of whose entries were accepted
+-- an opening with which the clocks of a journal begin to run over a counter: they were opened with
+-- it; their counter was changed after a journal over another one, all of whose entries were
+-- accepted; or they ran already, and this many commands are counted as accepted before
 pub data IsStart : Opening → Type 0 where
   AtOpening : (counter : Counter) (reading : ℕ) (real : Timespec) → IsCounter counter →
       opening_refusal counter reading real ≡ None → IsStart (opened counter reading real).opening
@@ -48,6 +51,8 @@ pub data IsStart : Opening → Type 0 where
       change_refusal (state_of before) reading counter first ≡ None →
       IsStart (folded_opening (accepted_count before + 1)
       (changed (state_of before) reading counter first))
+  AtClocks : (front : ℕ) (state : State) → front ≤ counted_most → AreClocks state →
+      IsStart (folded_opening front state)
 
 -- a journal that lists every command since the clocks began to run over its counter
 pub record IsUnfolded (journal : Journal) : Type 0 where

@@ -1,9 +1,10 @@
 -- The properties of every state of running clocks.
-use Rattle.std.specs.Prelude.{◌≡◌, ℕ, ◌+◌, ◌*◌, ◌/◌, ◌%◌, ◌^◌, ◌<◌, ◌≤◌, ◌⊎◌, ℤ, pos, neg_ℤ, ◌<ℤ◌, ◌≤ℤ◌}
+use Rattle.std.specs.Prelude.{◌≡◌, ℕ, ◌+◌, ◌*◌, ◌/◌, ◌%◌, ◌^◌, ◌<◌, ◌≤◌, ◌⊎◌, ℤ, pos, neg_ℤ, ◌<ℤ◌, ◌≤ℤ◌, unsigned_abs}
 use Rattle.tk_counter.specs.Counter.{Counter, IsCounter, gap, mask, fastest, second, multiplier, greatest_frequency, least_tick, greatest_tick}
 use Rattle.tk_clock.specs.declared.amount.Amount.{Amount}
 use Rattle.tk_clock.specs.declared.clock_id.ClockId.TheVariants.{Realtime, Boottime, Tai}
-use Rattle.tk_clock.specs.State.{ReadBase, base_value, forwarded}
+use Rattle.tk_clock.specs.Amount.{amount_of}
+use Rattle.tk_clock.specs.State.{ReadBase, State, base_value, forwarded}
 use Rattle.tk_clock.specs.Limits.{limit, monotonic_end, raw_end, greatest_tai}
 
 -- the numbers of a read base are in their ranges
@@ -58,3 +59,16 @@ pub record IsRunning (base : ReadBase) (frequency tick : ℤ) : Type 0 where
   pub tick_high : tick ≤ℤ greatest_tick
   pub rated : IsRated base
   pub within : IsWithin base
+
+-- a read base that clocks can have: its numbers are in their ranges, and no offset is negative
+pub record IsInRange (base : ReadBase) : Type 0 where
+  pub numbers : IsReadBase base.counter base.last base.mult (amount_of base.counter base.amount)
+      (amount_of base.counter base.raw_amount) (unsigned_abs base.tai)
+  pub real_offset : pos 0 ≤ℤ base.real_offset
+  pub boot_offset : pos 0 ≤ℤ base.boot_offset
+  pub tai : pos 0 ≤ℤ base.tai
+
+-- a state that clocks can have
+pub record AreClocks (state : State) : Type 0 where
+  pub in_range : IsInRange state.base
+  pub running : IsRunning state.base state.frequency state.tick

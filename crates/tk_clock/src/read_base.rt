@@ -90,7 +90,7 @@ impl ReadBase {
     ghost use Rattle.tk_clock.specs.Refusal.{read_refusal};
     ghost use Rattle.tk_clock.specs.State.{base_cycles, base_monotonic, base_value};
     ghost use Rattle.tk_clock.specs.Time.{nanoseconds};
-    ghost use Rattle.tk_clock.specs.Running.{IsRated, IsWithin};
+    ghost use Rattle.tk_clock.specs.Running.{IsInRange, IsRated, IsWithin};
     ghost use Rattle.tk_clock.specs.Amount.{amount_of};
     ghost use Rattle.tk_clock.specs.Words.{words_of, restored};
 
@@ -115,6 +115,15 @@ impl ReadBase {
             return None;
         }
         Some(gap)
+    }
+
+    /// Proves that the base's numbers are in their ranges. It does nothing when it runs: only its
+    /// contract is used.
+    #[inline(always)]
+    pub fn prove_ranges(&self)
+        ensures { IsInRange self.now }
+    {
+        let _ = &self.desc;
     }
 
     /// Returns MONOTONIC at the last reading.

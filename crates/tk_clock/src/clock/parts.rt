@@ -1,6 +1,6 @@
 //! Makes clocks from a snapshot and a rate, and returns the parts of clocks.
 ghost use Rattle.std.specs.Prelude.{◌≡◌, SomeIff};
-ghost use Rattle.tk_clock.specs.Running.{IsRunning};
+ghost use Rattle.tk_clock.specs.Running.{IsRunning, AreClocks};
 
 use super::Clock;
 use crate::limits::{LONGEST_TICK, SHORTEST_TICK};
@@ -36,8 +36,10 @@ impl Clock {
     /// Returns the frequency in force, in `2^-16` ppm, as it was set. Above 500 ppm or below -500
     /// ppm the clocks run at that limit.
     pub fn frequency(&self) -> i64
-        ensures { result ≡ self.now.frequency }
+        ensures value { result ≡ self.now.frequency }
+        ensures clocks { AreClocks self.now }
     {
+        self.base.prove_ranges();
         self.frequency
     }
 
