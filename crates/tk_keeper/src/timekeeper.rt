@@ -1,9 +1,10 @@
-ghost use Rattle.std.specs.Prelude.{◌≡◌, ◌≤◌, MatchResult, Some, None};
+ghost use Rattle.std.specs.Prelude.{◌≡◌, ◌≤◌};
 
 mod applying;
 mod changing;
 mod folding;
 mod latest;
+mod opening;
 mod past;
 mod replaying;
 mod running;
@@ -12,8 +13,7 @@ mod tracing;
 use crate::ring::Ring;
 use std::alloc::{Allocator, Global};
 use std::marker::Model;
-use tk_clock::{Clock, ClockId, Entry, ReadError, Refusal, Snapshot, Timespec};
-use tk_counter::CounterDesc;
+use tk_clock::{Clock, ClockId, Entry, ReadError, Snapshot, Timespec};
 
 /// The most entries that a journal lists.
 pub const LISTED_LIMIT: usize = 1_048_576;
@@ -83,42 +83,12 @@ impl<A: Allocator> Timekeeper<A> {
 }
 
 impl<A: Allocator + Copy> Timekeeper<A> {
-    ghost use Rattle.tk_clock.specs.Journal.{opened, accepted_count};
+    ghost use Rattle.tk_clock.specs.Journal.{accepted_count};
     ghost use Rattle.tk_clock.specs.Legal.{IsLegal};
     ghost use Rattle.tk_clock.specs.Limits.{counted_most};
-    ghost use Rattle.tk_clock.specs.Refusal.{opening_refusal};
     ghost use Rattle.tk_clock.specs.Snapshot.{snapshot_of};
-    ghost use Rattle.tk_counter.specs.Counter.{IsCounter};
     ghost use Rattle.tk_keeper.specs.Keeper.{entry_at, ReadsAs, CountsTrue};
     ghost use Rattle.tk_keeper.specs.Read.{IsRead};
-
-    /// Opens the clocks at a reading, with an empty journal. At `reading` (in cycles) MONOTONIC is
-    /// 0, and REALTIME is `real`, counted from 1970. Later calls allocate from `alloc`.
-    ///
-    /// # Errors
-    ///
-    /// `Refusal::Invalid` if `reading` is above the mask, or if REALTIME can't be set to `real`.
-    pub fn open(
-        alloc: A,
-        desc: CounterDesc,
-        reading: u64,
-        real: Timespec,
-    ) -> Result<Timekeeper<A>, Refusal>
-        ensures answer { MatchResult result
-            (λ keeper. (opening_refusal desc reading real ≡ None)
-            × (keeper.journal ≡ opened desc reading real) × (keeper.spare ≡ 0))
-            (λ refusal. opening_refusal desc reading real ≡ Some refusal) }
-        ensures counter { IsCounter desc }
-    {
-        let clock = Clock::open(desc, reading, real)?;
-        Ok(Timekeeper {
-            start: clock,
-            folded: 0,
-            entries: Ring::new(alloc),
-            kept: Ring::new(alloc),
-            clock,
-        })
-    }
 
     /// Returns the number of accepted commands, the folded ones included: the current front.
     pub fn len(&self) -> usize

@@ -10,6 +10,7 @@ mod memory;
 mod past;
 mod refusals;
 mod replayed;
+mod running;
 mod runs;
 mod sleep;
 mod steering;
