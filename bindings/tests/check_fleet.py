@@ -159,9 +159,11 @@ def check_all(machines, stamps, rows, work):
     check_sample(data, table, check_order(table))
     wanted = taken(table)
     killed = []
+    Path(table, "00000.npy.00.part").touch()  # as a worker that is killed may leave one
     assert table_by_dask(data, table, rows, killed) == alone
     assert len(killed) == 2 and all(killed), "no worker was killed amid the work"
     assert taken(table) == wanted, "the table of two workers differs"
+    assert not os.listdir(table), "the table's folder has other files"
     with a_scheduler(work) as address:
         shown = run_in_a_terminal(sys.executable, FOLDER / "fleet.py", "--scheduler", address,
                                   "--rows", str(rows), data, table)

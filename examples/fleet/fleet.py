@@ -19,8 +19,8 @@ by the clocks as they were opened, and by the journals.
 import argparse
 import os
 import sys
-import tempfile
 import time
+import uuid
 from pathlib import Path
 
 import numpy
@@ -60,10 +60,11 @@ class Run:
 
 
 def save(path, write):
-    """Writes a file that is there whole or not at all."""
-    with tempfile.NamedTemporaryFile(dir=path.parent, delete=False) as file:
+    """Writes a file that is there whole or not at all. A worker that dies leaves a .part of it."""
+    part = path.with_name(f"{path.name}.{uuid.uuid4().hex}.part")
+    with open(part, "wb") as file:
         write(file)
-    os.replace(file.name, path)
+    os.replace(part, path)
 
 
 def convert(folder, table, name):
@@ -130,8 +131,8 @@ def run(map_all, folder, table, rows_of_a_file=ROWS_OF_A_FILE):
     done = map_all(convert, [(folder, table, name) for name in names])
     total = sum(run.rows for run, *_ in done)
     merged = map_all(merge, merges(table, done, rows_of_a_file))
-    for run, *_ in done:
-        run.path.unlink()
+    for left in [*Path(table).glob("*.run"), *Path(table).glob("*.part")]:
+        left.unlink()
     if sum(merged) != total:
         raise RuntimeError(f"the table has {sum(merged)} rows instead of {total}")
     return total, disagreement([it[2] for it in done]), disagreement([it[3] for it in done])
