@@ -2,12 +2,14 @@
 # SPDX-License-Identifier: MIT OR Apache-2.0
 """Makes a fleet, and its table in one process, by Dask's workers, one of which is killed amid each
 half of the work, and by the workers of a scheduler, with Dask's progress bar. All tables must be
-the same, in the order of TAI, and a sample of the times those of the definitions.
+the same, in the order of TAI, and a sample of the times those of the definitions. Folders with a
+fault must be refused in one line.
 
     check_fleet.py [MACHINES STAMPS FOLDER]
 
 24 machines of 50,000 stamps are the default, in a folder that is removed at the end. In FOLDER a
-stamp takes 28 bytes.
+stamp takes 28 bytes. With few machines or stamps the work may end before a worker is killed, and
+the test fails.
 
 It needs numpy and distributed (Debian's python3-distributed).
 """
@@ -26,6 +28,7 @@ import threading
 import time
 from bisect import bisect_left, bisect_right
 from pathlib import Path
+from unittest import mock
 
 ROOT = Path(__file__).resolve().parents[2]
 FOLDER = ROOT / "examples" / "fleet"
@@ -130,7 +133,7 @@ def check_sample(data, table, firsts):
     """Compares times with those of tests/model/model.py: the table has a row of each."""
     rng = random.Random(1)
     files, scripts = files_of(table), sorted(Path(data).glob("*.csv"))
-    for number in rng.sample(range(len(scripts)), SAMPLED_MACHINES):
+    for number in rng.sample(range(len(scripts)), min(len(scripts), SAMPLED_MACHINES)):
         script = scripts[number]
         journal, records = model.parsed(script.read_bytes())
         for word, (reading, *fields) in records:
@@ -148,14 +151,44 @@ def check_sample(data, table, firsts):
             assert number in rows["machine"][start:end], (script, place)
 
 
+def check_refused(work):
+    """Checks that folders with a fault are refused in one line."""
+    data, table = Path(work, "faulty"), Path(work, "none")
+    data.mkdir()
+
+    def refused(reason, *options, status=1):
+        ran = subprocess.run([sys.executable, FOLDER / "fleet.py", "--workers", "0", *options, data,
+                              table], capture_output=True, text=True, check=False)
+        assert ran.returncode == status and not ran.stdout, (reason, ran)
+        assert reason in ran.stderr.splitlines()[-1], (reason, ran.stderr)
+
+    refused(f"{data} has 0 machines instead of 1 to 65536")
+    make.make(data, 2, 100)
+    script, stamps, seen = (Path(data, f"machine-0001.{kind}")
+                            for kind in ("csv", "stamps.npy", "seen.npy"))
+    refused("N is negative", "--workers", "-1", status=2)
+    refused("ROWS is below 1", "--rows", "0", status=2)
+    numpy.save(seen, numpy.zeros((2, 2**15 + 1), numpy.uint32))
+    refused("machine-0001 has 100 stamps, and 32769 events that all saw")
+    numpy.save(stamps, numpy.empty(0, numpy.uint64))
+    refused("machine-0001 has 0 stamps")
+    script.write_text("openhz,64,0,60,0,0,0\n", encoding="ascii")
+    refused("hz is 0 instead of 1 to 4294967295")
+    Path(table, "00000.npy").touch()
+    refused("TABLE contains a table", status=2)
+    with mock.patch.object(fleet, "MOST_MACHINES", 1), contextlib.suppress(ValueError):
+        raise AssertionError(fleet.run(fleet.map_here, data, table))
+
+
 def check_all(machines, stamps, rows, work):
+    check_refused(work)
     data, table = str(Path(work, "data")), str(Path(work, "table"))
     for folder in (data, table):
         os.makedirs(folder, exist_ok=True)
     make.make(data, machines, stamps)
     alone = fleet.run(fleet.map_here, data, table, rows)
     total, before, after = alone
-    assert total == machines * stamps and before > 10**9 > 100_000 > after, alone
+    assert total == machines * stamps and before > 100_000 > after, alone
     check_sample(data, table, check_order(table))
     wanted = taken(table)
     killed = []
@@ -177,7 +210,9 @@ def check_all(machines, stamps, rows, work):
 
 def main():
     if len(sys.argv) > 1:
-        check_all(int(sys.argv[1]), int(sys.argv[2]), fleet.ROWS_OF_A_FILE, sys.argv[3])
+        machines, stamps = map(int, sys.argv[1:3])
+        rows = min(fleet.ROWS_OF_A_FILE, machines * stamps // 12)
+        check_all(machines, stamps, rows, sys.argv[3])
         return
     with tempfile.TemporaryDirectory() as work:
         check_all(24, 50_000, 100_000, work)

@@ -4,17 +4,20 @@
 
     fleet.py [--workers N | --scheduler ADDRESS] [--rows ROWS] FOLDER TABLE
 
-FOLDER contains the files of make.py. TABLE becomes a folder with the files 00000.npy, 00001.npy,
-..: rows of TAI in ns, the number of the machine, and the event. All rows of a file are before those
-of the next one. A file has about ROWS rows, 4,000,000 if it isn't given. N is the number of
-processes on this machine, 2 if it isn't given; 0 converts in this process without Dask. With
-ADDRESS, the workers of that scheduler must see both folders.
+FOLDER contains the files of make.py. TABLE is a folder without a table, which gets the files
+00000.npy, 00001.npy, ..: rows of TAI in ns, the number of the machine, and the event. All rows of a
+file are before those of the next one. A file has about ROWS rows, 4,000,000 if it isn't given. N is
+the number of processes on this machine, 2 if it isn't given; 0 converts in this process without
+Dask. With ADDRESS, the workers of that scheduler must see both folders.
 
 One machine's stamps are one task, and one file of the table is another. A task writes its file
 under another name first, and returns only a few numbers. So Dask can repeat the tasks of a worker
 that died, and nothing is lost. A stamp takes 8 bytes of the disk until the table is whole, and 12
 in the table. The program prints the greatest disagreement between machines that saw the same event:
 by the clocks as they were opened, and by the journals.
+
+It ends with status 1 if FOLDER has no machine, or more than 65,536; if a machine has no stamp, or
+saw more than 32,768 events; or if a script, a stamp or a file has a fault.
 """
 import argparse
 import os
@@ -29,6 +32,7 @@ import tkcore
 from tkcore import ClockId
 
 ROW = numpy.dtype([("tai", "u8"), ("machine", "u2"), ("event", "i2")])
+MOST_MACHINES, MOST_EVENTS = 2**16, 2**15  # that a row can number
 ROWS_OF_A_FILE = 4_000_000
 BLOCK = 1024
 
@@ -74,6 +78,8 @@ def convert(folder, table, name):
         journal = tkcore.Journal.from_script(script)
     stamps = numpy.load(Path(folder, f"{name}.stamps.npy"))
     places, events = numpy.load(Path(folder, f"{name}.seen.npy"))
+    if not len(stamps) or len(events) > MOST_EVENTS:
+        raise ValueError(f"{name} has {len(stamps)} stamps, and {len(events)} events that all saw")
     places = places[numpy.argsort(events)]
     tai = journal.convert(stamps, ClockId.TAI, numpy.empty_like(stamps))
     before, after = journal.snapshots[0].convert(stamps[places], ClockId.REALTIME), tai[places]
@@ -128,6 +134,8 @@ def run(map_all, folder, table, rows_of_a_file=ROWS_OF_A_FILE):
     """Makes the table. `map_all` calls a function with each tuple of arguments. Returns the number
     of rows, and the disagreement by the openings and by the journals."""
     names = sorted(path.stem for path in Path(folder).glob("*.csv"))
+    if not 1 <= len(names) <= MOST_MACHINES:
+        raise ValueError(f"{folder} has {len(names)} machines instead of 1 to {MOST_MACHINES}")
     done = map_all(convert, [(folder, table, name) for name in names])
     total = sum(run.rows for run, *_ in done)
     merged = map_all(merge, merges(table, done, rows_of_a_file))
@@ -181,8 +189,13 @@ def main():
     words = parser.parse_args()
     words.folder, words.table = map(os.path.abspath, (words.folder, words.table))
     os.makedirs(words.table, exist_ok=True)
+    if words.workers < 0 or words.rows < 1 or any(Path(words.table).glob("*.npy")):
+        parser.error("N is negative, ROWS is below 1, or TABLE contains a table")
     is_by_dask = words.scheduler or words.workers
-    total, before, after, took = (run_by_dask if is_by_dask else run_here)(words)
+    try:
+        total, before, after, took = (run_by_dask if is_by_dask else run_here)(words)
+    except (OSError, ValueError, tkcore.Error) as error:
+        sys.exit(f"fleet.py: {error}")
     print(f"{total} stamps in {took:.2f} s: {total / took:.0f} a second")
     print(f"greatest disagreement by the openings: {before} ns, by the journals: {after} ns")
 
