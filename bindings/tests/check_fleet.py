@@ -109,24 +109,27 @@ def files_of(table):
     return sorted(Path(table).glob("*.npy"))
 
 
-def taken(table):
-    """Returns the digests of the table's files, and removes them."""
-    found = []
+def seen_in(path):
+    """Checks that the rows of a file are in the order of TAI. Returns the first and the last time,
+    the file's name, and the digest of its bytes."""
+    rows = numpy.load(path)
+    tai = rows["tai"]
+    assert (tai[1:] >= tai[:-1]).all(), f"{path} isn't in the order of TAI"
+    return int(tai[0]), int(tai[-1]), path.name, hashlib.blake2b(rows.data).hexdigest()
+
+
+def taken(table, data=None, map_files=map):
+    """Checks the order of all rows, and a sample of the times if `data` is given. Removes the table,
+    and returns what `seen_in` found in its files."""
+    files = list(map_files(seen_in, files_of(table)))
+    for (_, last, *_), (first, *_) in zip(files, files[1:]):
+        assert last <= first, "the files aren't in the order of TAI"
+    if data:
+        check_sample(data, table, [first for first, *_ in files])
     for path in files_of(table):
-        found.append((path.name, hashlib.blake2b(path.read_bytes()).hexdigest()))
         path.unlink()
-    return found
-
-
-def check_order(table):
-    """Checks the order of the rows. Returns the first time of each file."""
-    last, firsts = 0, []
-    for path in files_of(table):
-        tai = numpy.load(path, mmap_mode="r")["tai"]
-        assert last <= tai[0] and (tai[1:] >= tai[:-1]).all(), f"{path} isn't in the order of TAI"
-        last = tai[-1]
-        firsts.append(int(tai[0]))
-    return firsts
+    assert not os.listdir(table), "the table's folder has other files"
+    return files
 
 
 def check_sample(data, table, firsts):
@@ -189,14 +192,12 @@ def check_all(machines, stamps, rows, work):
     alone = fleet.run(fleet.map_here, data, table, rows)
     total, before, after = alone
     assert total == machines * stamps and before > 100_000 > after, alone
-    check_sample(data, table, check_order(table))
-    wanted = taken(table)
+    wanted = taken(table, data)
     killed = []
     Path(table, "00000.npy.00.part").touch()  # as a worker that is killed may leave one
     assert table_by_dask(data, table, rows, killed) == alone
     assert len(killed) == 2 and all(killed), "no worker was killed amid the work"
     assert taken(table) == wanted, "the table of two workers differs"
-    assert not os.listdir(table), "the table's folder has other files"
     with a_scheduler(work) as address:
         shown = run_in_a_terminal(sys.executable, FOLDER / "fleet.py", "--scheduler", address,
                                   "--rows", str(rows), data, table)
