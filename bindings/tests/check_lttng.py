@@ -1,8 +1,9 @@
 #!/usr/bin/env python3
 # SPDX-License-Identifier: MIT OR Apache-2.0
-"""Records events of a program by LTTng, and compares the times that babeltrace2 prints for the trace
-by the plugin of examples/babeltrace2: with babeltrace2's own while the script has no commands, and
-then with those of the definitions, across a step, a new TAI offset and a setting of the clocks.
+"""Records events of a program by LTTng, and compares the times that babeltrace2 prints for the
+trace by the plugin of examples/babeltrace2: with babeltrace2's own while the script has no
+commands, and then with those of the definitions, across a step, a new TAI offset and a setting of
+the clocks.
 
 It needs LTTng (Debian's lttng-tools and liblttng-ust-dev), gcc, and babeltrace2 with bt2. A daemon
 that it starts ends with it.
@@ -34,7 +35,8 @@ int main(void)
 
 def run(*command, **more):
     """Runs a command that must succeed, and returns its output."""
-    ran = subprocess.run(list(map(str, command)), capture_output=True, text=True, check=False, **more)
+    ran = subprocess.run(list(map(str, command)), capture_output=True, text=True, check=False,
+                         **more)
     assert ran.returncode == 0, (command, ran.stderr)
     return ran.stdout
 

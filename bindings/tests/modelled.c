@@ -246,8 +246,8 @@ enum tkc_code tkc_snapshot_get(struct tkc_time *out, const struct tkc_snapshot *
 	return code;
 }
 
-/* Returns the code of a time that a clock reaches at none of the searched readings, the last of which
- * is `far`. */
+/* Returns the code of a time that a clock reaches at none of the searched readings, the last of
+ * which is `far`. */
 static enum tkc_code unreached(const struct tkc_snapshot *snapshot, uint32_t clock, uint64_t far,
 			       i128 wanted)
 {

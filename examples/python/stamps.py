@@ -13,8 +13,8 @@ line for each event, in the order of TEXT. Its front is the number of SCRIPT's c
 reading isn't after the stamp, so SCRIPT must have no command that tkcore refuses, and no reading
 that is below the one before it.
 
-The program ends with status 1 and a line on standard error if it can't read its input, if a stamp is
-before SCRIPT's opening, or if perf's header doesn't say that the events were recorded with
+The program ends with status 1 and a line on standard error if it can't read its input, if a stamp
+is before SCRIPT's opening, or if perf's header doesn't say that the events were recorded with
 -k CLOCK_MONOTONIC_RAW, the clock that `now` opens. docs/TRACERS.md describes all steps.
 """
 import argparse

@@ -96,7 +96,8 @@ class Model(unittest.TestCase):
 
 class Arguments(unittest.TestCase):
     def setUp(self):
-        self.clock = SteeredClock(tkcore.Counter.from_hz(32, 1_000_000), 0, 1_700_000_000 * tkcore.NANOS)
+        counter = tkcore.Counter.from_hz(32, 1_000_000)
+        self.clock = SteeredClock(counter, 0, 1_700_000_000 * tkcore.NANOS)
 
     def test_other_numbers(self):
         for value in (-2**63 - 1, 2**63):

@@ -17,8 +17,8 @@ COUNT, ROUNDS, MOST = 10_000_000, 7, 1.2
 
 
 def best_times(*calls):
-    """Returns the least processor time of each call. They are made in turn, so that other work on the
-    machine slows all of them."""
+    """Returns the least processor time of each call. They are made in turn, so that other work on
+    the machine slows all of them."""
     best = [float("inf")] * len(calls)
     for _ in range(ROUNDS):
         for place, call in enumerate(calls):

@@ -127,8 +127,8 @@ pub struct Reply {
 ///
 /// Every call except [`next_second`](SteeredClock::next_second) and
 /// [`snapshot`](SteeredClock::snapshot) first lets the seconds of REALTIME up to its reading begin,
-/// each at its own reading, with its leap second and its rate. So calling often or seldom leaves the
-/// same clocks.
+/// each at its own reading, with its leap second and its rate. So calling often or seldom leaves
+/// the same clocks.
 ///
 /// ```
 /// use tkcore::{mode, status, Counter, Refusal, SteeredClock, TimeState, Timespec, Timex};
@@ -155,9 +155,9 @@ pub struct SteeredClock {
 }
 
 impl SteeredClock {
-    /// Opens clocks as [`Clock::open`](crate::Clock::open) does, with a fresh discipline. Phases are
-    /// divided into `hz` parts of a second, 1 to 1024: with the kernel's HZ, replies are the kernel's
-    /// to the last digit.
+    /// Opens clocks as [`Clock::open`](crate::Clock::open) does, with a fresh discipline. Phases
+    /// are divided into `hz` parts of a second, 1 to 1024: with the kernel's HZ, replies are the
+    /// kernel's to the last digit.
     ///
     /// # Errors
     ///
@@ -199,9 +199,9 @@ impl SteeredClock {
     ///
     /// # Errors
     ///
-    /// In this order: `Full`; `Invalid` for a request that is faulty; the other errors of `advance`;
-    /// the errors of the step of [`mode::SETOFFSET`], and the clocks have only advanced; then
-    /// `Range` for REALTIME or the TAI offset, and the step was made. `Invalid` comes with the
+    /// In this order: `Full`; `Invalid` for a request that is faulty; the other errors of
+    /// `advance`; the errors of the step of [`mode::SETOFFSET`], and the clocks have only advanced;
+    /// then `Range` for REALTIME or the TAI offset, and the step was made. `Invalid` comes with the
     /// number that is out of its range: of a field, of the reading, or of the step in ns.
     ///
     /// ```

@@ -16,12 +16,13 @@ pub enum Refusal {
     /// The reading is above 2^bits - 1, a number is out of its range, or REALTIME may not be set to
     /// the result.
     Invalid,
-    /// The reading is behind the last accepted command's. For a `SteeredClock` also: it is behind the
-    /// beginning of the present second, or behind the last request with modes.
+    /// The reading is behind the last accepted command's. For a `SteeredClock` also: it is behind
+    /// the beginning of the present second, or behind the last request with modes.
     Behind,
     /// A clock would be at or past its limit.
     Range,
-    /// The clock is on its way to the time, but doesn't reach it within half of the counter's range.
+    /// The clock is on its way to the time, but doesn't reach it within half of the counter's
+    /// range.
     Further,
     /// The clock doesn't reach the time: it is asleep or coarse, or reaches its limit first.
     Never,

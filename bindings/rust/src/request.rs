@@ -105,8 +105,8 @@ impl Timex {
         unless_within("step", step, -ahead, SETTABLE_LIMIT - 1 - monotonic - ahead)
     }
 
-    /// Returns the number that makes a request `Invalid`. The snapshot is of the clocks that refused
-    /// it.
+    /// Returns the number that makes a request `Invalid`. The snapshot is of the clocks that
+    /// refused it.
     pub(crate) fn invalid_number(&self, snapshot: &Snapshot, reading: u64) -> Option<OutOfRange> {
         self.faulty_field()
             .or_else(|| unless_within("reading", reading, 0, snapshot.counter().max_reading()))

@@ -1,7 +1,7 @@
 // SPDX-License-Identifier: MIT OR Apache-2.0
 //! The words that a page and a latch have in common: the layout, the sequence, and two copies of
-//! words, which contain the numbers of the counter. Loads are relaxed, followed by a fence where tkcore_page.h has
-//! an acquire load, because read-only memory may be loaded only so.
+//! words, which contain the numbers of the counter. Loads are relaxed, followed by a fence where
+//! tkcore_page.h has an acquire load, because read-only memory may be loaded only so.
 
 use core::sync::atomic::Ordering::{Acquire, Relaxed, Release};
 use core::sync::atomic::{fence, AtomicU64, Ordering};

@@ -354,8 +354,8 @@ fn make_of_copy(out: &mut MaybeUninit<SnapshotValue>, copy: &[u64; COPY]) -> u32
     let made = counter.as_mut_ptr();
     // SAFETY: `counter` is valid for a write.
     match unsafe { tkc_counter_new(made, bits as u32, mult as u32, shift as u32) } {
-        // SAFETY: the library has written the counter, `out` is valid for a write, and a copy begins
-        // with ten words.
+        // SAFETY: the library has written the counter, `out` is valid for a write, and a copy
+        // begins with ten words.
         0 => unsafe { tkc_snapshot_from_words(out.as_mut_ptr(), made, copy.as_ptr()) },
         code => code,
     }

@@ -26,7 +26,7 @@ __version__ = VERSION
 __all__ = [
     "Asleep", "Awake", "BadAdjust", "BadBits", "BadBuffer", "BadClock", "BadCommand", "BadLayout",
     "BadMult", "BadRate", "BadRoom", "BadShift", "BadWords", "Behind", "Busy", "Clock", "ClockId",
-    "Command", "Counter", "Error", "Full", "Further", "Invalid", "Journal", "Latch", "Mode", "NANOS",
-    "Never", "NotReached", "OtherVersion", "Page", "Range", "Refused", "Reply", "Snapshot",
+    "Command", "Counter", "Error", "Full", "Further", "Invalid", "Journal", "Latch", "Mode",
+    "NANOS", "Never", "NotReached", "OtherVersion", "Page", "Range", "Refused", "Reply", "Snapshot",
     "Status", "SteeredClock", "TimeState", "Timex",
 ]

@@ -1,7 +1,7 @@
 /* SPDX-License-Identifier: MIT OR Apache-2.0 */
 /*
- * The calls of tkcore_page.h as functions of the package's shared object. A look ends after a number
- * of tries, so that the interpreter can handle signals while a writer is inside.
+ * The calls of tkcore_page.h as functions of the package's shared object. A look ends after a
+ * number of tries, so that the interpreter can handle signals while a writer is inside.
  */
 #include <tkcore_page.h>
 

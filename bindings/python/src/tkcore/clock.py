@@ -20,8 +20,8 @@ class Clock(Commanded):
     1970. MONOTONIC, MONOTONIC_RAW and BOOTTIME are `uptime` ns there, 0 if it isn't given.
 
     The reading is 0 to 2^bits - 1 cycles, `realtime` is below 8277292036 s, and `uptime` is below
-    946080000 s and not above `realtime`. A refused command changes nothing. Apply a command, usually
-    `update`, at least once in each half of the counter's range.
+    946080000 s and not above `realtime`. A refused command changes nothing. Apply a command,
+    usually `update`, at least once in each half of the counter's range.
 
     Don't let two threads use one Clock without a lock. A Snapshot may be shared.
 

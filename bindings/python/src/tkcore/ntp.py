@@ -61,10 +61,10 @@ class TimeState(enum.IntEnum):
 class Timex:
     """A request to steer clocks, or the fields of its reply, as in adjtimex(2).
 
-    `modes` says which of the other fields of a request are given. `offset`, and `sub`, the part of a
-    second after `sec`, are in ns or in us. `freq` is in 2^-16 ppm; `maxerror`, `esterror` and `tick`
-    are in us. `constant` is the time constant, or the TAI offset in s. A request's time is the step
-    of Mode.SETOFFSET, a reply's is REALTIME.
+    `modes` says which of the other fields of a request are given. `offset`, and `sub`, the part of
+    a second after `sec`, are in ns or in us. `freq` is in 2^-16 ppm; `maxerror`, `esterror` and
+    `tick` are in us. `constant` is the time constant, or the TAI offset in s. A request's time is
+    the step of Mode.SETOFFSET, a reply's is REALTIME.
     """
 
     modes: int = 0
@@ -149,10 +149,10 @@ class SteeredClock(Commanded):
     def adjtimex(self, reading: int, request: Timex) -> Reply:
         """Does what a request asks for at a reading, and returns the reply (adjtimex(2)).
 
-        Raises, in this order: Full; Invalid for a request that is faulty; Asleep, Invalid, Behind or
-        Range for the reading; Invalid or Range for the step of Mode.SETOFFSET; Range for REALTIME or
-        the TAI offset, after the step. Invalid has the number that is out of its range: of a field,
-        of the reading, or of the step in ns.
+        Raises, in this order: Full; Invalid for a request that is faulty; Asleep, Invalid, Behind
+        or Range for the reading; Invalid or Range for the step of Mode.SETOFFSET; Range for
+        REALTIME or the TAI offset, after the step. Invalid has the number that is out of its range:
+        of a field, of the reading, or of the step in ns.
         """
         timex, state = TimexValue(), c_uint32()
         for name in _WORDS:

@@ -108,7 +108,8 @@ pub(crate) fn adjtimex(ntp: &mut NtpValue, reading: u64, request: &Timex) -> Res
         ..TimexValue::default()
     };
     let mut state = 0;
-    // SAFETY: both are references to plain numbers, the clocks are a value, and nobody else has them.
+    // SAFETY: both are references to plain numbers, the clocks are a value, and nobody else has
+    // them.
     done(unsafe { tkc_adjtimex(&mut timex, &mut state, ntp, reading) })?;
     Ok(Reply { state: TimeState::of_number(state), tai: timex.tai, timex: fields(&timex) })
 }
