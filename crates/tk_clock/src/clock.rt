@@ -46,9 +46,9 @@ impl Model for Clock {
 impl Clock {
     ghost use Rattle.tk_counter.specs.Counter.{IsCounter};
     ghost use Rattle.tk_clock.specs.Journal.{opened};
-    ghost use Rattle.tk_clock.specs.Refusal.{opening_refusal, early_refusal, state_refusal};
+    ghost use Rattle.tk_clock.specs.Refusal.{opening_refusal, early_refusal, state_value_refusal, state_refusal};
     ghost use Rattle.tk_clock.specs.State.{state_of, effect};
-    ghost use Rattle.tk_clock.specs.Effect.{IsEarly};
+    ghost use Rattle.tk_clock.specs.Effect.{IsForwarded, IsEarly};
 
     /// Opens the clocks of the counter `desc` at `reading`, in cycles. They are awake and at their
     /// usual rate, MONOTONIC is 0 and REALTIME is `real`.
@@ -109,27 +109,75 @@ impl Clock {
             (λ refusal. (state_refusal self.old reading cmd ≡ Some refusal)
             × (self.new ≡ self.old)) }
     {
-        if matches!(cmd, Command::Update) && self.update_soon(reading) {
-            return Ok(());
+        if matches!(cmd, Command::Update) {
+            return self.update_at(reading);
         }
         self.apply_any(reading, cmd)
     }
 
-    /// Applies an update of the usual kind: fewer than 2^31 cycles after the last command, during
-    /// which neither MONOTONIC nor MONOTONIC_RAW gains two whole seconds. Returns whether it did
-    /// so; if not, nothing changes.
+    /// Applies an update, as `apply` does.
+    #[inline(always)]
+    fn update_at(&mut self, reading: u64) -> Result<(), Refusal>
+        ensures { MatchResult result
+            (λ _. (state_refusal self.old reading Command.Update ≡ None)
+            × (self.new ≡ effect self.old reading Command.Update))
+            (λ refusal. (state_refusal self.old reading Command.Update ≡ Some refusal)
+            × (self.new ≡ self.old)) }
+    {
+        self.check(reading, Command::Update)?;
+        if self.update_soon(reading) {
+            return Ok(());
+        }
+        self.update_late(reading)
+    }
+
+    /// Applies an update of the usual kind, after the tests of `check`: fewer than 2^31 cycles
+    /// after the last command, during which neither MONOTONIC nor MONOTONIC_RAW gains two whole
+    /// seconds. Returns whether it did so; if not, nothing changes.
     #[inline(always)]
     fn update_soon(&mut self, reading: u64) -> bool
-        ensures { ((result ≡ true) × (state_refusal self.old reading Command.Update ≡ None)
+        requires { IsEarly self.old reading Command.Update }
+        ensures { ((result ≡ true)
+            × (state_value_refusal self.old reading Command.Update ≡ None)
             × (self.new ≡ effect self.old reading Command.Update))
             ⊎ ((result ≡ false) × (self.new ≡ self.old)) }
     {
-        let Ok(()) = self.check(reading, Command::Update) else {
-            return false;
-        };
         let Some(now) = self.base.forwarded_soon(reading) else {
             return false;
         };
+        self.take(now)
+    }
+
+    /// Applies any update after the tests of `check`. It is out of line, so that most updates don't
+    /// reserve its stack.
+    #[inline(never)]
+    fn update_late(&mut self, reading: u64) -> Result<(), Refusal>
+        requires { IsEarly self.old reading Command.Update }
+        ensures { MatchResult result
+            (λ _. (state_value_refusal self.old reading Command.Update ≡ None)
+            × (self.new ≡ effect self.old reading Command.Update))
+            (λ refusal. (state_value_refusal self.old reading Command.Update ≡ Some refusal)
+            × (self.new ≡ self.old)) }
+    {
+        let now = self.forwarded(reading, Command::Update)?;
+        if !self.take(now) {
+            return Err(Refusal::Range);
+        }
+        Ok(())
+    }
+
+    /// Replaces the base by one that was advanced, unless a clock would be at its limit. Returns
+    /// whether it did so; if not, nothing changes.
+    #[inline(always)]
+    fn take(&mut self, now: ReadBase) -> bool
+        requires { IsForwarded self.old now }
+        ensures { ((result ≡ true)
+            × (state_value_refusal self.old now.last Command.Update ≡ None)
+            × (self.new ≡ effect self.old now.last Command.Update))
+            ⊎ ((result ≡ false)
+            × (state_value_refusal self.old now.last Command.Update ≡ Some Refusal.Range)
+            × (self.new ≡ self.old)) }
+    {
         if now.is_past_limit(Command::Update) {
             return false;
         }
