@@ -43,15 +43,15 @@ time_set (SetTime time) = Some (nanoseconds time)
 time_set _ = None
 
 -- the amount by which the command moves REALTIME against MONOTONIC, in nanoseconds
--- (timekeeping_inject_offset; a leap second, accumulate_nsecs_to_secs); a setting of the time is not
--- counted here
+-- (timekeeping_inject_offset; a leap second, accumulate_nsecs_to_secs); a setting of the time is
+-- not counted here
 abbrev pub real_amount : Command → ℤ
 real_amount (Step by) = nanoseconds by
 real_amount (Leap by tai) = by *ℤ pos (10 ^ 9)
 real_amount (Resume away) = nanoseconds away
 real_amount _ = pos 0
 
--- whether the command moves REALTIME by an amount of its own, and not by a suspension
+-- whether the command moves REALTIME by a separate amount, and not by a suspension
 abbrev pub steps_real : Command → Bool
 steps_real (Step by) = true
 steps_real (Leap by tai) = true

@@ -85,7 +85,8 @@ is_well_formed Update = true
 is_well_formed (Freq frequency) = true
 is_well_formed Suspend = true
 
--- whether the command sets or steps REALTIME, so that its own test bounds the new time
+-- whether the command sets REALTIME, steps it or makes a leap second, so that a separate test
+-- bounds the new time
 abbrev pub sets_real : Command → Bool
 sets_real (SetTime time) = true
 sets_real (Step by) = true
@@ -93,7 +94,8 @@ sets_real (Leap by tai) = true
 sets_real _ = false
 
 -- whether the command leaves a clock at its limit or past it, by the clocks' values after the
--- command. If the command sets or steps REALTIME, its own tests bound REALTIME and TAI
+-- command. If the command sets REALTIME, steps it or makes a leap second, separate tests bound
+-- REALTIME and TAI
 unfoldable pub is_past_limit : (ClockId → ℤ) → Command → Bool
 is_past_limit after cmd =
     not (int_lt (after Monotonic) (limit Monotonic))

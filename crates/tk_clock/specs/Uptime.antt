@@ -11,7 +11,7 @@ use Rattle.tk_clock.specs.Refusal.{first_of, opening_refusal}
 use Rattle.tk_clock.specs.State.{ReadBase, State, state_of, base_value}
 use Rattle.tk_clock.specs.Time.{nanoseconds}
 
--- whether a time can be an uptime: it is not before 0 s
+-- whether a time can be an uptime: it is not before 0 s, and its part below a second is in range
 abbrev pub is_uptime : Timespec → Bool
 is_uptime uptime = int_le (pos 0) uptime.sec && nat_lt uptime.nsec (10 ^ 9)
 

@@ -8,7 +8,8 @@ mod rescaling;
 use tk_counter::{CounterDesc, NANOS_PER_SECOND};
 
 /// Replaces an amount of ns that doesn't fit in 63 bits. All such amounts are beyond every clock's
-/// limit. It is not 2^63, because LLVM would keep that in a register and compute the limits from it.
+/// limit. It is not 2^63, because LLVM would keep that in a register and compute the limits from
+/// it.
 const TOO_MANY_NANOS: u64 = 3 << 62;
 
 /// Bounds the cycles whose units fit in 64 bits at any multiplier: fewer cycles add less than 2^63

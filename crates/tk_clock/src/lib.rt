@@ -10,7 +10,8 @@
 //! | `ClockId`, `ReadError` | the clock that is read; why it can't be read |
 //! | `Origin` | a clock between two commands: its amount, its slope, its offset, its limit |
 //! | `Timespec` | seconds and nanoseconds |
-//! | `COUNTED_LIMIT`, `SNAPSHOT_WORDS` | the most commands that are counted; the words of a snapshot |
+//! | `COUNTED_LIMIT` | the most commands that are counted |
+//! | `SNAPSHOT_WORDS` | the number of words of a snapshot |
 //!
 //! Units: readings in cycles; amounts of time inside in `2^-shift` ns; offsets in ns; frequencies
 //! in `2^-16` ppm; ticks in microseconds; the TAI offset in seconds. No call allocates or waits.

@@ -60,7 +60,8 @@ pub(crate) fn is_settable(time: Timespec) -> bool
     time.sec >= 0 && time.sec < SETTABLE_END && is_below_a_second(time.nsec)
 }
 
-/// Returns whether clocks may be opened with this uptime, up to the limit of MONOTONIC.
+/// Returns whether a time can be an uptime. It may be at the limit of MONOTONIC or beyond it: a
+/// separate test refuses that.
 pub(crate) fn is_uptime(uptime: Timespec) -> bool
     ensures { result ≡ is_uptime uptime }
 {
@@ -105,7 +106,8 @@ pub(crate) fn is_well_formed(cmd: Command) -> bool
     }
 }
 
-/// Returns whether the command sets or steps REALTIME. If so, a separate test bounds REALTIME.
+/// Returns whether the command sets REALTIME, steps it or makes a leap second. If so, a separate
+/// test bounds REALTIME.
 pub(crate) fn sets_real(cmd: Command) -> bool
     ensures { result ≡ sets_real cmd }
 {

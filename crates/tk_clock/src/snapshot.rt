@@ -116,13 +116,14 @@ impl Snapshot {
         self.base.reading_at(clock, time)
     }
 
-    /// Returns whether `time` is further away than `reading_at` searches: the clock counts, `time` is
-    /// below its limit, and `get` returns an earlier time at every reading up to half the counter's
-    /// range after the last command.
+    /// Returns whether `time` is further away than `reading_at` searches: the clock counts, `time`
+    /// is below its limit, and `get` returns an earlier time at every reading up to half the
+    /// counter's range after the last command.
     ///
-    /// So if `reading_at` returns `None`, this says whether the clock may reach `time` later: look
-    /// again, in a later snapshot, from that half of the range on. Otherwise the clocks are asleep,
-    /// the clock is a coarse one, or it reaches its limit first.
+    /// So if `reading_at` returns `None`, this says whether the clock may reach `time` later. If
+    /// so, apply a command within that half of the range, and search again in the snapshot after
+    /// it. Otherwise the clocks are asleep, the clock is a coarse one, or it reaches its limit
+    /// first.
     pub fn is_further(&self, clock: ClockId, time: Timespec) -> bool
         ensures { IsTrue result ↔ IsFurther self.now.base clock (nanoseconds time) }
     {

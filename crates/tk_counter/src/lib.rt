@@ -11,8 +11,8 @@
 //! | `USUAL_TICK` | the tick of a clock that no command has set |
 //!
 //! Units: readings and gaps in cycles; amounts of time in `2^-shift` ns; a counter's own rate in Hz
-//! or kHz; frequencies that a clock follows in `2^-16` ppm; ticks in microseconds. No call allocates
-//! or waits.
+//! or kHz; frequencies that a clock follows in `2^-16` ppm; ticks in microseconds. No call
+//! allocates or waits.
 #![tactic(auto)]
 
 mod counter;

@@ -17,23 +17,24 @@ impl Clock {
     /// Every clock that isn't coarse has the same time, in ns, at `first` as at `reading`. The
     /// coarse clocks show the time of the change, as after any command. So both readings must be
     /// taken at the same moment: the time from one to the other isn't counted. If the shift of
-    /// `desc` is smaller than the present one, MONOTONIC and MONOTONIC_RAW lose less than `2^-shift`
-    /// ns of the part below a nanosecond; otherwise they lose nothing. The frequency as it was set,
-    /// the tick, the offsets and the TAI offset stay, and the new multiplier follows from the
-    /// frequency and the tick.
+    /// `desc` is smaller than the present one, MONOTONIC and MONOTONIC_RAW lose less than
+    /// `2^-shift` ns of the part below a nanosecond; otherwise they lose nothing. The frequency as
+    /// it was set, the tick, the offsets and the TAI offset stay, and the new multiplier follows
+    /// from the frequency and the tick.
     ///
     /// Clocks that are asleep stay asleep, and aren't brought forward. The next `Resume` takes a
     /// reading of the counter `desc`.
     ///
     /// # Errors
     ///
-    /// Returns the first test that fails, in this order. A refused change doesn't change the clocks.
+    /// Returns the first test that fails, in this order. A refused change doesn't change the
+    /// clocks.
     ///
-    /// - `Invalid`: `reading` is above the mask of the present counter, or `first` is above the mask
-    ///   of `desc`.
+    /// - `Invalid`: `reading` is above the mask of the present counter, or `first` is above the
+    ///   mask of `desc`.
     /// - `Behind`: `reading` is behind the last command, and the clocks are awake.
-    /// - `Range`: a clock would be at its limit or beyond it, or MONOTONIC_RAW would be further ahead
-    ///   of MONOTONIC than the slowest rate of `desc` allows.
+    /// - `Range`: a clock would be at its limit or beyond it, or MONOTONIC_RAW would be further
+    ///   ahead of MONOTONIC than the slowest rate of `desc` allows.
     pub fn change_counter(
         &mut self,
         reading: u64,

@@ -90,7 +90,8 @@ impl ReadBase {
     }
 
     /// Returns whether a clock is at its limit at the last reading, after a command. It doesn't
-    /// test REALTIME and TAI if the command sets REALTIME, which a separate test bounds.
+    /// test REALTIME and TAI if the command sets REALTIME, steps it or makes a leap second, because
+    /// a separate test bounds them.
     #[tactic(auto, unfolding(crate::specs::Limits::is_past_limit))]
     pub fn is_past_limit(&self, cmd: Command) -> bool
         ensures { result ≡ is_past_limit (λ clock. base_value self.now clock self.now.last) cmd }
@@ -125,8 +126,8 @@ impl ReadBase {
         }
     }
 
-    /// Returns the base with MONOTONIC and MONOTONIC_RAW at an amount, and REALTIME `real_offset` ns
-    /// after MONOTONIC.
+    /// Returns the base with MONOTONIC and MONOTONIC_RAW at an amount, and REALTIME `real_offset`
+    /// ns after MONOTONIC.
     pub fn with_uptime(self, amount: Amount, real_offset: u64) -> ReadBase
         requires rest { amount.frac < second self.counter }
         requires low { amount.sec < monotonic_end }

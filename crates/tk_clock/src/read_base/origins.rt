@@ -114,8 +114,8 @@ impl ReadBase {
         }
     }
 
-    /// Returns a clock's time at the last reading, in ns. It is out of line, so that a read ahead of
-    /// the last reading saves no register for it.
+    /// Returns a clock's time at the last reading, in ns. It is out of line, so that a read ahead
+    /// of the last reading saves no register for it.
     #[cold]
     #[inline(never)]
     fn nanos_at_last(&self, clock: ClockId) -> u64

@@ -2,8 +2,8 @@ ghost use Rattle.std.specs.Prelude.{◌≡◌, ℕ, ◌+◌, ◌*◌, ◌/◌, �
 
 use super::{CounterDesc, NANOS_PER_SECOND};
 
-/// The number of seconds at which `advance` returns `None`: the most that 63 bits of nanoseconds can
-/// represent (`KTIME_SEC_MAX`). No clock reaches it.
+/// The number of seconds at which `advance` returns `None`: the most that 63 bits of nanoseconds
+/// can represent (`KTIME_SEC_MAX`). No clock reaches it.
 pub const SECONDS_END: u64 = 9_223_372_036;
 
 impl CounterDesc {

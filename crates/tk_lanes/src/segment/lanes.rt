@@ -92,9 +92,9 @@ impl Segment {
     /// Returns the clock's time in eight lanes, in ns. `cycles` contains the number of cycles of
     /// each lane, none of them beyond the span.
     ///
-    /// With `cycles = high * 2^32 + low`, the product has two parts, each of 64 bits. A shift to the
-    /// left by `32 - shift` is part of the first factor, because the rattle backend shifts lanes by
-    /// a variable one after the other:
+    /// With `cycles = high * 2^32 + low`, the product has two parts, each of 64 bits. A shift to
+    /// the left by `32 - shift` is part of the first factor, because the rattle backend shifts
+    /// lanes by a variable one after the other:
     ///
     ///     (cycles * mult + frac) >> shift
     ///         = high * (mult << (32 - shift)) + ((low * mult + frac) >> shift)
