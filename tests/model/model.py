@@ -237,7 +237,7 @@ def is_bad_setting(word, fields):
     if word == "tai":
         return not 0 <= fields[0] <= TAI_LIMIT
     if word == "leap":
-        return fields[0] not in (-1, 1) or fields[1] > TAI_LIMIT
+        return fields[0] not in (-1, 1) or not 0 <= fields[1] <= TAI_LIMIT
     if word == "tick":
         return not 9_000 <= fields[0] <= 11_000
     if word == "resume":

@@ -147,11 +147,9 @@ class Steered:
 
     def leap(self, reading, by):
         """Makes a leap, if the clocks take it. Returns what REALTIME leaps by, in seconds."""
-        if not self.give(reading, "step", by, 0):
-            return 0
-        if 0 <= self.clock.tai - by <= TAI_LIMIT:
-            self.give(reading, "tai", self.clock.tai - by)
-        return by
+        tai = self.clock.tai - by
+        made = self.give(reading, "leap", by, tai) if 0 <= tai <= TAI_LIMIT else self.give(reading, "step", by, 0)
+        return by if made else 0
 
     def give(self, reading, word, *fields):
         """Gives a command. Returns whether the clocks take it."""

@@ -4,7 +4,7 @@ use Rattle.std.specs.Prelude.{ℤ, pos, option_map, if◌then◌else◌}
 use Rattle.std.proofs.lemmas.Nat.{pow_pos}
 use Rattle.tk_counter.specs.Counter.{Counter, gap}
 use Rattle.tk_counter.proofs.Gaps.{gap-self}
-use Rattle.tk_clock.specs.declared.command.Command.TheVariants.{Freq, Tick, Tai}
+use Rattle.tk_clock.specs.declared.command.Command.TheVariants.{Freq, Step, Tick, Tai, Leap as LeapSecond}
 use Rattle.tk_clock.specs.declared.refusal.Refusal.{Refusal}
 use Rattle.tk_clock.specs.Refusal.{state_refusal}
 use Rattle.tk_clock.specs.State.{State, effect}
@@ -12,9 +12,10 @@ use Rattle.tk_ntp.specs.declared.leap.Leap.{Leap}
 use Rattle.tk_ntp.specs.declared.leap.Leap.TheVariants.{None as NoLeap, Insert, Delete}
 use Rattle.tk_ntp.specs.declared.change.Change.{Change}
 use Rattle.tk_ntp.specs.Account.{units_at}
-use Rattle.tk_ntp.specs.Advance.{given_tai, leapt, leapt_unless, second_begun_at, tai_of_clock, with_next_second}
+use Rattle.tk_ntp.specs.Advance.{leap_of_clock, leapt, leapt_unless, second_begun_at, tai_of_clock, with_next_second}
+use Rattle.tk_ntp.specs.Asked.{given_tai}
 use Rattle.tk_ntp.specs.Change.{tick_command, frequency_command}
-use Rattle.tk_ntp.specs.Leap.{leap_step, tai_after_leap}
+use Rattle.tk_ntp.specs.Leap.{leap_seconds, tai_after_leap}
 use Rattle.tk_ntp.specs.Second.{leap_at}
 use Rattle.tk_ntp.specs.Steering.{Steered, commands}
 use Rattle.tk_ntp.specs.SteeredClock.{SteeredClock, after_or, given, given_any, given_change, rate_in_force}
@@ -104,11 +105,22 @@ record IsLeapt (at : ℕ) (before after : SteeredClock) : Type 0 where
   units : units_at at after.clock ≡ units_at at before.clock
   same : (after ≡ before) ⊎ (after.clock.base.last ≡ at)
 
-step-made : (at : ℕ) (leap : Leap) (clock : State) →
-    IsMade at clock (effect clock at (leap_step leap))
-step-made at leap clock = record {
-  units = kept_units clock.base.counter at (units_at at clock) clock.base.mult;
-  same = inr refl;
+-- an accepted leap
+leap-made : (at : ℕ) (alone : Bool) (seconds tai : ℤ) (before after : SteeredClock) →
+    after.clock ≡ effect before.clock at
+    (if alone then Step (record { sec = seconds; nsec = 0 }) else LeapSecond seconds tai) →
+    IsLeapt at before after
+leap-made at true seconds tai before after is = record {
+  units =
+      ap (units_at at) is
+      ∙ kept_units before.clock.base.counter at (units_at at before.clock) before.clock.base.mult;
+  same = inr (ap (λ (s : State). s.base.last) is);
+}
+leap-made at false seconds tai before after is = record {
+  units =
+      ap (units_at at) is
+      ∙ kept_units before.clock.base.counter at (units_at at before.clock) before.clock.base.mult;
+  same = inr (ap (λ (s : State). s.base.last) is);
 }
 
 pub at_reading : (at : ℕ) (stepped after : State) → stepped.base.last ≡ at → IsMade at stepped after →
@@ -122,21 +134,18 @@ leapt_unless-made : (refusal : Option Refusal) (at : ℕ) (leap : Leap) (steered
     IsLeapt at steered (leapt_unless refusal at leap steered)
 leapt_unless-made (Some refusal) at leap steered = record { units = refl; same = inl refl }
 leapt_unless-made None at leap steered =
-    let stepped = effect steered.clock at (leap_step leap) in
-    let tai = tai_after_leap leap (tai_of_clock steered.clock) in
-    let made = tai-made at tai stepped in
-    record {
-      units = made.units ∙ (step-made at leap steered.clock).units;
-      same = inr (at_reading at stepped (given_tai at tai stepped) refl made);
-    }
+    let tai = tai_of_clock steered.clock in
+    let after = tai_after_leap leap tai in
+    leap-made at (nat_eq after tai) (leap_seconds leap) (pos after) steered
+    (leapt_unless None at leap steered) refl
 
 leapt-made : (at : ℕ) (leap : Leap) (steered : SteeredClock) →
     IsLeapt at steered (leapt at leap steered)
 leapt-made at NoLeap steered = record { units = refl; same = inl refl }
 leapt-made at Insert steered =
-    leapt_unless-made (state_refusal steered.clock at (leap_step Insert)) at Insert steered
+    leapt_unless-made (state_refusal steered.clock at (leap_of_clock Insert steered.clock)) at Insert steered
 leapt-made at Delete steered =
-    leapt_unless-made (state_refusal steered.clock at (leap_step Delete)) at Delete steered
+    leapt_unless-made (state_refusal steered.clock at (leap_of_clock Delete steered.clock)) at Delete steered
 
 leapt_unless-mark : (refusal : Option Refusal) (at : ℕ) (leap : Leap) (steered : SteeredClock) →
     (leapt_unless refusal at leap steered).mark ≡ steered.mark
@@ -147,9 +156,9 @@ leapt-mark : (at : ℕ) (leap : Leap) (steered : SteeredClock) →
     (leapt at leap steered).mark ≡ steered.mark
 leapt-mark at NoLeap steered = refl
 leapt-mark at Insert steered =
-    leapt_unless-mark (state_refusal steered.clock at (leap_step Insert)) at Insert steered
+    leapt_unless-mark (state_refusal steered.clock at (leap_of_clock Insert steered.clock)) at Insert steered
 leapt-mark at Delete steered =
-    leapt_unless-mark (state_refusal steered.clock at (leap_step Delete)) at Delete steered
+    leapt_unless-mark (state_refusal steered.clock at (leap_of_clock Delete steered.clock)) at Delete steered
 
 -- a second that begins keeps MONOTONIC; it needs no command, or its commands are at its reading
 pub record IsSecond (at : ℕ) (before after : SteeredClock) : Type 0 where

@@ -14,9 +14,9 @@ use Rattle.tk_clock.specs.Time.{nanoseconds}
 use Rattle.tk_ntp.specs.declared.reply.Reply.{Reply}
 use Rattle.tk_ntp.specs.declared.timex.Timex.{Timex}
 use Rattle.tk_ntp.specs.Account.{IsMarked}
-use Rattle.tk_ntp.specs.Advance.{IsAdvanced, IsNoneDue, given_tai, second_time, tai_of_clock}
+use Rattle.tk_ntp.specs.Advance.{IsAdvanced, IsNoneDue, second_time, tai_of_clock}
 use Rattle.tk_ntp.specs.Applied.{IsPlain}
-use Rattle.tk_ntp.specs.Asked.{accounted_if, acts, after_command, changes_rate, forgotten, IsAsked, IsCommanded, IsRequested, real_at, restarted, second_after, steered_if, step_refusal, stepped, tai_asked, with_asked}
+use Rattle.tk_ntp.specs.Asked.{accounted_if, acts, after_command, changes_rate, forgotten, given_tai, IsAsked, IsCommanded, IsRequested, real_at, restarted, second_after, steered_if, step_refusal, stepped, tai_asked, with_asked}
 use Rattle.tk_ntp.specs.Bits.{has, adj_adjtime}
 use Rattle.tk_ntp.specs.Request.{step_of}
 use Rattle.tk_ntp.specs.Steering.{commands}

@@ -1,6 +1,5 @@
 -- Advancing to a reading and then to a later one leaves the state that the later one leaves at once.
-use Rattle.std.proofs.Common.{◌≡◌, ◌∙◌, refl, sym, subst, ℕ, ◌≤◌, ◌⊎◌, inl, inr, Bool, true, false, Option, Some, None, nat_eq, arith}
-use Rattle.std.specs.Prelude.{if◌then◌else◌, pos}
+use Rattle.std.proofs.Common.{◌≡◌, ◌∙◌, refl, sym, subst, ℕ, ◌≤◌, ◌⊎◌, inl, inr, Option, Some, None, arith}
 use Rattle.tk_counter.specs.Counter.{Counter, gap}
 use Rattle.tk_clock.specs.declared.command.Command.{Command}
 use Rattle.tk_clock.specs.declared.command.Command.TheVariants.{Update, SetTime, Step, Freq, Tick, Tai, Leap as LeapSecond, Suspend, Resume}
@@ -11,9 +10,8 @@ use Rattle.tk_clock.specs.State.{State, effect}
 use Rattle.tk_ntp.specs.declared.change.Change.{Change}
 use Rattle.tk_ntp.specs.declared.leap.Leap.{Leap}
 use Rattle.tk_ntp.specs.declared.leap.Leap.TheVariants.{None as NoLeap, Insert, Delete}
-use Rattle.tk_ntp.specs.Advance.{IsAdvanced, Arrived, Begins, IsNoneDue, given_tai, leapt, leapt_unless, second_begun_at, tai_of_clock, with_next_second}
+use Rattle.tk_ntp.specs.Advance.{IsAdvanced, Arrived, Begins, IsNoneDue, leap_of_clock, leapt, leapt_unless, second_begun_at, with_next_second}
 use Rattle.tk_ntp.specs.Change.{tick_command, frequency_command}
-use Rattle.tk_ntp.specs.Leap.{leap_step, tai_after_leap}
 use Rattle.tk_ntp.specs.Second.{leap_at}
 use Rattle.tk_ntp.specs.Steering.{commands}
 use Rattle.tk_ntp.specs.SteeredClock.{SteeredClock, after_or, given, given_any, given_change, rate_in_force}
@@ -73,32 +71,19 @@ given_change-near at change clock =
     (given_any-near at (tick_command change) clock)
     (given_any-near at (frequency_command change) ticked)
 
-if-near : (at : ℕ) (test : Bool) (before after : State) → IsNear at before after →
-    IsNear at before (if test then before else after)
-if-near at true before after h = still at before
-if-near at false before after h = h
-
-given_tai-near : (at tai : ℕ) (clock : State) → IsNear at clock (given_tai at tai clock)
-given_tai-near at tai clock =
-    if-near at (nat_eq tai (tai_of_clock clock)) clock (given at (Tai (pos tai)) clock)
-    (given-near at (Tai (pos tai)) clock)
-
 leapt_unless-near : (refusal : Option Refusal) (at : ℕ) (leap : Leap) (steered : SteeredClock) →
     IsNear at steered.clock (leapt_unless refusal at leap steered).clock
 leapt_unless-near (Some refusal) at leap steered = still at steered.clock
 leapt_unless-near None at leap steered =
-    let stepped = effect steered.clock at (leap_step leap) in
-    let tai = tai_after_leap leap (tai_of_clock steered.clock) in
-    joined at steered.clock stepped (given_tai at tai stepped)
-    (effect-near at (leap_step leap) steered.clock) (given_tai-near at tai stepped)
+    effect-near at (leap_of_clock leap steered.clock) steered.clock
 
 leapt-near : (at : ℕ) (leap : Leap) (steered : SteeredClock) →
     IsNear at steered.clock (leapt at leap steered).clock
 leapt-near at NoLeap steered = still at steered.clock
 leapt-near at Insert steered =
-    leapt_unless-near (state_refusal steered.clock at (leap_step Insert)) at Insert steered
+    leapt_unless-near (state_refusal steered.clock at (leap_of_clock Insert steered.clock)) at Insert steered
 leapt-near at Delete steered =
-    leapt_unless-near (state_refusal steered.clock at (leap_step Delete)) at Delete steered
+    leapt_unless-near (state_refusal steered.clock at (leap_of_clock Delete steered.clock)) at Delete steered
 
 second-near : (at : ℕ) (steered : SteeredClock) →
     IsNear at steered.clock (second_begun_at at steered).clock

@@ -9,10 +9,10 @@ use Rattle.tk_ntp.specs.declared.leap.Leap.TheVariants.{None as NoLeap, Insert, 
 use Rattle.tk_ntp.specs.declared.leap_plan.LeapState.{LeapState}
 use Rattle.tk_ntp.specs.declared.leap_plan.LeapState.TheVariants.{Idle, Inserting, Deleting, InProgress, Over}
 use Rattle.tk_ntp.specs.Bits.{has, sta_ins, sta_del}
-use Rattle.tk_ntp.specs.Leap.{LeapPlan, over, is_due, plan_in, leap_in, leap_step}
+use Rattle.tk_ntp.specs.Leap.{LeapPlan, over, is_due, plan_in, leap_in}
 use Rattle.tk_ntp.specs.Second.{leap_at}
 use Rattle.tk_ntp.specs.SteeredClock.{SteeredClock}
-use Rattle.tk_ntp.specs.Advance.{leapt, leapt_unless, with_next_second, second_begun_at, steps_before, seconds_left}
+use Rattle.tk_ntp.specs.Advance.{leap_of_clock, leapt, leapt_unless, with_next_second, second_begun_at, steps_before, seconds_left}
 
 -- the seconds that REALTIME goes back by
 abbrev back : Leap → ℕ
@@ -70,9 +70,11 @@ leapt-next : (reading : ℕ) (leap : Leap) (steered : SteeredClock) →
     steered.next ≤ (leapt reading leap steered).next + back leap
 leapt-next reading NoLeap steered = omega arith
 leapt-next reading Insert steered =
-    leapt_unless-next (state_refusal steered.clock reading (leap_step Insert)) reading Insert steered
+    leapt_unless-next (state_refusal steered.clock reading (leap_of_clock Insert steered.clock)) reading Insert
+    steered
 leapt-next reading Delete steered =
-    leapt_unless-next (state_refusal steered.clock reading (leap_step Delete)) reading Delete steered
+    leapt_unless-next (state_refusal steered.clock reading (leap_of_clock Delete steered.clock)) reading Delete
+    steered
 
 leapt_unless-steering : (refusal : Option Refusal) (reading : ℕ) (leap : Leap)
     (steered : SteeredClock) → (leapt_unless refusal reading leap steered).steering ≡ steered.steering
@@ -84,10 +86,10 @@ pub leapt-steering : (reading : ℕ) (leap : Leap) (steered : SteeredClock) →
     (leapt reading leap steered).steering ≡ steered.steering
 leapt-steering reading NoLeap steered = refl
 leapt-steering reading Insert steered =
-    leapt_unless-steering (state_refusal steered.clock reading (leap_step Insert)) reading Insert
+    leapt_unless-steering (state_refusal steered.clock reading (leap_of_clock Insert steered.clock)) reading Insert
     steered
 leapt-steering reading Delete steered =
-    leapt_unless-steering (state_refusal steered.clock reading (leap_step Delete)) reading Delete
+    leapt_unless-steering (state_refusal steered.clock reading (leap_of_clock Delete steered.clock)) reading Delete
     steered
 
 counted : (next after drop steps before : ℕ) → next < clock_end → next + 1 ≤ after + drop →

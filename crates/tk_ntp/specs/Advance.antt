@@ -1,8 +1,8 @@
 -- The seconds of REALTIME begin, each at its own reading (timekeeping_advance,
 -- accumulate_nsecs_to_secs, kernel/time/timekeeping.c).
-use Rattle.std.specs.Prelude.{ℕ, ◌+◌, ◌-◌, ◌*◌, ◌≤◌, pos, nat_eq, unsigned_abs, Option, Some, None, if◌then◌else◌}
+use Rattle.std.specs.Prelude.{ℕ, ◌+◌, ◌-◌, ◌*◌, ◌≤◌, pos, unsigned_abs, Option, Some, None, if◌then◌else◌}
 use Rattle.tk_counter.specs.Counter.{gap}
-use Rattle.tk_clock.specs.declared.command.Command.TheVariants.{Tai}
+use Rattle.tk_clock.specs.declared.command.Command.{Command}
 use Rattle.tk_clock.specs.declared.refusal.Refusal.{Refusal}
 use Rattle.tk_clock.specs.declared.timespec.Timespec.{Timespec}
 use Rattle.tk_clock.specs.declared.clock_id.ClockId.TheVariants.{Realtime}
@@ -14,10 +14,10 @@ use Rattle.tk_clock.specs.Time.{nanoseconds}
 use Rattle.tk_ntp.specs.declared.leap.Leap.{Leap}
 use Rattle.tk_ntp.specs.declared.leap_plan.LeapState.{LeapState}
 use Rattle.tk_ntp.specs.declared.leap_plan.LeapState.TheVariants.{Idle, Inserting, Deleting, InProgress, Over}
-use Rattle.tk_ntp.specs.Leap.{is_leap, leap_step, second_after_leap, tai_after_leap}
+use Rattle.tk_ntp.specs.Leap.{is_leap, leap_command, second_after_leap}
 use Rattle.tk_ntp.specs.Second.{leap_at}
 use Rattle.tk_ntp.specs.Steering.{second_begun}
-use Rattle.tk_ntp.specs.SteeredClock.{SteeredClock, given, steered_at}
+use Rattle.tk_ntp.specs.SteeredClock.{SteeredClock, steered_at}
 
 -- the beginning of a second of REALTIME, as a time
 abbrev pub second_time : ℕ → Timespec
@@ -27,18 +27,15 @@ second_time sec = record { sec = pos sec; nsec = 0 }
 abbrev pub tai_of_clock : State → ℕ
 tai_of_clock clock = unsigned_abs clock.base.tai
 
--- the clocks with another TAI offset, unless it is in force
-abbrev pub given_tai : ℕ → ℕ → State → State
-given_tai reading tai clock =
-    if nat_eq tai (tai_of_clock clock) then clock else given reading (Tai (pos tai)) clock
+-- the command that makes a leap of these clocks
+abbrev pub leap_of_clock : Leap → State → Command
+leap_of_clock leap clock = leap_command leap (tai_of_clock clock)
 
--- the state after the step of a leap, unless that is refused: TAI's offset changes against it
+-- the state after the command of a leap, unless that is refused
 abbrev pub leapt_unless : Option Refusal → ℕ → Leap → SteeredClock → SteeredClock
 leapt_unless (Some refusal) reading leap steered = steered
 leapt_unless None reading leap steered = record steered {
-  clock =
-      given_tai reading (tai_after_leap leap (tai_of_clock steered.clock))
-      (effect steered.clock reading (leap_step leap));
+  clock = effect steered.clock reading (leap_of_clock leap steered.clock);
   next = second_after_leap leap steered.next;
 }
 
@@ -46,7 +43,9 @@ leapt_unless None reading leap steered = record steered {
 abbrev pub leapt : ℕ → Leap → SteeredClock → SteeredClock
 leapt reading leap steered =
     if is_leap leap
-    then leapt_unless (state_refusal steered.clock reading (leap_step leap)) reading leap steered
+    then
+    leapt_unless (state_refusal steered.clock reading (leap_of_clock leap steered.clock)) reading
+    leap steered
     else steered
 
 -- the state as the next second begins at a reading, before any command: the lag is accounted for,

@@ -14,14 +14,14 @@ use Rattle.tk_clock.specs.State.{State, base_value, effect}
 use Rattle.tk_clock.specs.Time.{timespec_of}
 use Rattle.tk_ntp.specs.declared.timex.Timex.{Timex}
 use Rattle.tk_ntp.specs.declared.reply.Reply.{Reply}
-use Rattle.tk_ntp.specs.Advance.{IsAdvanced, tai_of_clock, given_tai}
+use Rattle.tk_ntp.specs.Advance.{IsAdvanced, tai_of_clock}
 use Rattle.tk_ntp.specs.Bits.{has, adj_adjtime}
 use Rattle.tk_ntp.specs.Fault.{is_faulty}
 use Rattle.tk_ntp.specs.Modes.{asked, asked_tai}
 use Rattle.tk_ntp.specs.Ntp.{cleared}
 use Rattle.tk_ntp.specs.Reply.{reply_to}
 use Rattle.tk_ntp.specs.Request.{step_of}
-use Rattle.tk_ntp.specs.SteeredClock.{SteeredClock, reading_refusal, accounted_to, steered_at}
+use Rattle.tk_ntp.specs.SteeredClock.{SteeredClock, reading_refusal, accounted_to, given, steered_at}
 
 -- the second of REALTIME that begins next, by clocks that a command has just changed
 abbrev pub second_after : State → ℕ
@@ -71,6 +71,11 @@ stepped reading (Some by) steered =
 abbrev pub tai_refusal : ℕ → ℕ → State → Option Refusal
 tai_refusal reading tai clock =
     if nat_eq tai (tai_of_clock clock) then None else state_refusal clock reading (Tai (pos tai))
+
+-- the clocks with another TAI offset, unless it is in force
+abbrev pub given_tai : ℕ → ℕ → State → State
+given_tai reading tai clock =
+    if nat_eq tai (tai_of_clock clock) then clock else given reading (Tai (pos tai)) clock
 
 -- the TAI offset after a request
 abbrev pub tai_asked : Timex → SteeredClock → ℕ

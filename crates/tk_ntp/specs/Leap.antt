@@ -2,7 +2,7 @@
 use Rattle.std.specs.Prelude.{◌≡◌, ℕ, ◌+◌, ◌-◌, ◌%◌, ℤ, pos, negsuc, Bool, true, false, not, ◌&&◌, ◌||◌, nat_eq, nat_lt, Option, Some, None, if◌then◌else◌}
 use Rattle.std.proofs.Common.{refl}
 use Rattle.tk_clock.specs.declared.command.Command.{Command}
-use Rattle.tk_clock.specs.declared.command.Command.TheVariants.{Step}
+use Rattle.tk_clock.specs.declared.command.Command.TheVariants.{Step, Leap as LeapSecond}
 use Rattle.tk_clock.specs.Limits.{greatest_tai}
 use Rattle.tk_ntp.specs.declared.leap.Leap.{Leap}
 use Rattle.tk_ntp.specs.declared.leap.Leap.TheVariants.{None as NoLeap, Insert, Delete}
@@ -66,10 +66,6 @@ is_leap NoLeap = false
 is_leap Insert = true
 is_leap Delete = true
 
--- the command that makes a leap
-abbrev pub leap_step : Leap → Command
-leap_step leap = Step (record { sec = leap_seconds leap; nsec = 0 })
-
 -- the second that begins next after a leap, if it was `sec` before it
 abbrev pub second_after_leap : Leap → ℕ → ℕ
 second_after_leap NoLeap sec = sec
@@ -81,6 +77,14 @@ abbrev pub tai_after_leap : Leap → ℕ → ℕ
 tai_after_leap NoLeap tai = tai
 tai_after_leap Insert tai = if nat_lt tai greatest_tai then tai + 1 else tai
 tai_after_leap Delete tai = tai - 1
+
+-- the command that makes a leap, at the TAI offset in force: REALTIME and the TAI offset change
+-- together, but an offset at the end of its range stays, and REALTIME is stepped alone
+abbrev pub leap_command : Leap → ℕ → Command
+leap_command leap tai =
+    if nat_eq (tai_after_leap leap tai) tai
+    then Step (record { sec = leap_seconds leap; nsec = 0 })
+    else LeapSecond (leap_seconds leap) (pos (tai_after_leap leap tai))
 
 -- no leap second is announced
 abbrev pub no_plan : LeapPlan

@@ -1,6 +1,6 @@
 ghost use Rattle.std.specs.Prelude.{◌≡◌, ◌<◌, ◌^◌, pos, ◌+ℤ◌};
 ghost use Rattle.tk_clock.specs.Limits.{greatest_tai};
-ghost use Rattle.tk_ntp.specs.Leap.{leap_seconds, tai_after_leap, leap_step, second_after_leap};
+ghost use Rattle.tk_ntp.specs.Leap.{leap_seconds, tai_after_leap, leap_command, second_after_leap};
 
 use crate::request::TAI_OFFSET_LIMIT;
 use tk_clock::{Command, Timespec};
@@ -44,14 +44,21 @@ impl Leap {
         }
     }
 
-    /// Returns the command that makes the leap: a step of REALTIME.
-    pub(crate) fn step(self) -> Command
-        ensures { result ≡ leap_step self }
+    /// Returns the command that makes the leap, at the TAI offset in force, in seconds. It moves
+    /// REALTIME and sets the TAI offset, or steps REALTIME if the TAI offset stays.
+    pub(crate) fn command(self, tai: u32) -> Command
+        ensures { result ≡ leap_command self tai }
     {
-        Command::Step(Timespec {
-            sec: self.seconds(),
-            nsec: 0,
-        })
+        let by = self.seconds();
+        let after = self.tai_after(tai);
+        if after == tai {
+            Command::Step(Timespec { sec: by, nsec: 0 })
+        } else {
+            Command::Leap {
+                by,
+                tai: i64::from(after),
+            }
+        }
     }
 
     /// Returns the second of REALTIME that begins next after the leap, if it was `sec` before it.

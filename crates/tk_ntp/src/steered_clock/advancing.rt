@@ -17,8 +17,8 @@ impl SteeredClock {
     /// Lets each second of REALTIME up to `reading` begin, in order, at the first reading at which
     /// REALTIME reaches it (`timekeeping_advance`).
     ///
-    /// As a second begins, a leap is made by a step of REALTIME and a TAI offset, and the clocks get
-    /// the rate that the second needs. A leap that the clocks refuse isn't made.
+    /// As a second begins, its leap is made by one command, and the clocks get the rate that the
+    /// second needs. A leap that the clocks refuse isn't made.
     ///
     /// # Errors
     ///
@@ -129,16 +129,16 @@ impl SteeredClock {
         leap
     }
 
-    /// Makes a leap, unless the clocks refuse its step.
+    /// Makes a leap, unless the clocks refuse its command.
     fn leap(&mut self, reading: u64, leap: Leap)
         requires some { 0 < self.old.next }
         requires early { self.old.next ≤ clock_end }
         ensures { self.new ≡ leapt reading leap self.old }
     {
-        if leap == Leap::None || self.clock.apply(reading, leap.step()).is_err() {
+        let cmd = leap.command(self.tai());
+        if leap == Leap::None || self.clock.apply(reading, cmd).is_err() {
             return;
         }
         self.next = leap.next_second(self.next);
-        let _answer = self.set_tai(reading, leap.tai_after(self.snapshot(0).tai()));
     }
 }

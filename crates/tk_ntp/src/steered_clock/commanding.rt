@@ -3,8 +3,7 @@ ghost use Rattle.std.specs.Prelude.{◌≡◌, ◌≤◌, MatchResult, Some, Non
 ghost use Rattle.tk_counter.specs.Counter.{mask};
 ghost use Rattle.tk_clock.specs.Limits.{clock_end};
 ghost use Rattle.tk_clock.specs.Refusal.{state_refusal};
-ghost use Rattle.tk_ntp.specs.Advance.{given_tai};
-ghost use Rattle.tk_ntp.specs.Asked.{tai_refusal, second_after, restarted, after_command, IsCommanded};
+ghost use Rattle.tk_ntp.specs.Asked.{given_tai, tai_refusal, second_after, restarted, after_command, IsCommanded};
 ghost use Rattle.tk_ntp.specs.SteeredClock.{accounted_to, given, given_any, given_change, steered_at};
 
 use super::SteeredClock;

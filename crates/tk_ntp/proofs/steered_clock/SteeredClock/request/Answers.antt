@@ -2,8 +2,7 @@ use Rattle.std.proofs.Common.{◌≡◌, ◌∙◌, ap, refl, subst, ℕ}
 use Rattle.std.specs.Prelude.{Option, None}
 use Rattle.tk_clock.specs.declared.refusal.Refusal.{Refusal}
 use Rattle.tk_clock.specs.Refusal.{first_of}
-use Rattle.tk_ntp.specs.Advance.{given_tai}
-use Rattle.tk_ntp.specs.Asked.{after_request, real_at, real_refusal, tai_asked, tai_refusal}
+use Rattle.tk_ntp.specs.Asked.{after_request, given_tai, real_at, real_refusal, tai_asked, tai_refusal}
 use Rattle.tk_ntp.specs.Modes.{asked_tai}
 use Rattle.tk_ntp.specs.Reply.{reply_to}
 use Rattle.tk_ntp.specs.SteeredClock.{SteeredClock}
