@@ -61,8 +61,9 @@ fresh hz = record {
   phase = pos 0;
 }
 
--- the state after REALTIME was set or stepped (ntp_clear): the state of the leap second stays, but
--- it is not due any more
+-- the state after REALTIME was set or stepped (ntp_clear): nothing is left to give, both errors are
+-- at their limit, and the clock counts as not synchronized. The leap second keeps its state, but no
+-- second at which it is due
 abbrev pub cleared : Ntp → Ntp
 cleared ntp = record ntp {
   status = bit_or ntp.status sta_unsync;

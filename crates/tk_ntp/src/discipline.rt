@@ -139,9 +139,11 @@ impl Discipline {
         })
     }
 
-    /// Forgets what steers the clock after REALTIME was set or stepped (`ntp_clear`): the phase, the
-    /// rest of `adjtime` and the second of the leap. The clock isn't synchronized then, and both
-    /// errors are the greatest. The frequency, the tick and the leap second's state stay.
+    /// Clears the discipline after REALTIME was set or stepped (`ntp_clear`).
+    ///
+    /// The offset, the phase and the rest of `adjtime` become 0, and no leap is due. Both errors are
+    /// at their limit, and the clock counts as not synchronized. The frequency, the tick, the time
+    /// constant and the state of the leap second stay.
     pub fn clear(&mut self)
         ensures { self.new ≡ cleared self.old }
     {

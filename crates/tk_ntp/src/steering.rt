@@ -65,7 +65,8 @@ impl Steering {
         self.ntp.adjtimex(request, real, tai)
     }
 
-    /// Forgets what steers the clock, and its lag, after REALTIME was set or stepped.
+    /// Clears the discipline, as `Discipline::clear`, and sets the lag to 0, after REALTIME was set or
+    /// stepped.
     pub fn clear(&mut self)
         ensures { self.new ≡ record { ntp = cleared self.old.ntp; lag = pos 0 } }
     {

@@ -29,7 +29,7 @@ impl SteeredClock {
     /// - `Behind`: `reading` is behind the last command's.
     /// - `Range`: a clock would be at its limit or beyond it.
     /// - `Behind`: `reading` is behind the beginning of the present second, or behind the last
-    ///   request that had modes.
+    ///   request that acted on the discipline: one that had modes, and not `ADJ_ADJTIME`.
     pub fn advance(&mut self, reading: u64) -> Result<(), Refusal>
         ensures answer { MatchResult result
             (λ _. (reading_refusal reading self.old ≡ None)
