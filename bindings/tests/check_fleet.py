@@ -119,8 +119,8 @@ def seen_in(path):
 
 
 def taken(table, data=None, map_files=map):
-    """Checks the order of all rows, and a sample of the times if `data` is given. Removes the table,
-    and returns what `seen_in` found in its files."""
+    """Checks the order of all rows, and a sample of the times if `data` is given. Removes the
+    table, and returns what `seen_in` found in its files."""
     files = list(map_files(seen_in, files_of(table)))
     for (_, last, *_), (first, *_) in zip(files, files[1:]):
         assert last <= first, "the files aren't in the order of TAI"
