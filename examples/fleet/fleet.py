@@ -101,7 +101,7 @@ def merge(table, number, bounds, runs, blocks, seen):
             rows["event"][place - first] = event
         parts.append(rows)
     rows = numpy.concatenate(parts)
-    rows = rows[numpy.argsort(numpy.ascontiguousarray(rows["tai"]), kind="stable")]
+    rows = rows.take(numpy.argsort(numpy.ascontiguousarray(rows["tai"]), kind="stable"))
     save(Path(table, f"{number:05}.npy"), lambda file: numpy.save(file, rows))
     return len(rows)
 
