@@ -51,6 +51,10 @@ def command(word):
     return word if isinstance(word, int) else tkcore.Command[word.replace("CMD_", "")]
 
 
+def nanos(sec, nsec):
+    return sec * tkcore.NANOS + nsec
+
+
 def nanosecond_counter():
     return tkcore.Counter(32, 16_777_216, 24)
 
