@@ -100,6 +100,9 @@ fn read_once<A: Allocator>(latch: &Latch<A>, seat: &mut Seat<(), View>) -> Attem
 }
 
 /// Loads the words of the copy that the sequence `first` names. Half of `first` is the front.
+///
+/// Each copy has its own machine code, since the processor predicts a branch. It would compute the
+/// address of a copy only after the load of the sequence.
 fn gather<A: Allocator>(
     latch: &Latch<A>,
     seat: &mut Seat<(), View>,
@@ -112,8 +115,30 @@ fn gather<A: Allocator>(
     ensures carried { seat.new.me.1 ≡ seat.old.me.1 }
     ensures words { Gathered seat.old.me.0 first result seat.new.me.0 10 }
 {
+    if first % 2 == 0 {
+        gather_copy(latch, seat, first, COPY_0)
+    } else {
+        gather_copy(latch, seat, first, COPY_1)
+    }
+}
+
+/// Loads the words of the copy at `copy`, which the sequence `first` names.
+#[inline(always)]
+fn gather_copy<A: Allocator>(
+    latch: &Latch<A>,
+    seat: &mut Seat<(), View>,
+    first: u64,
+    copy: usize,
+) -> [u64; SNAPSHOT_WORDS]
+    requires latch { seat.old.table_id ≡ latch.now.table }
+    requires reader { seat.old.me.0
+        ≡ reading seat.old.me.0.history (found_by seat.old.me.0.role) first first }
+    requires copy { copy ≡ 9 * (first % 2) }
+    ensures latch { seat.new.table_id ≡ seat.old.table_id }
+    ensures carried { seat.new.me.1 ≡ seat.old.me.1 }
+    ensures words { Gathered seat.old.me.0 first result seat.new.me.0 10 }
+{
     let shared = &latch.words.shared;
-    let copy = copy_named(first);
     let mut words = [0; SNAPSHOT_WORDS];
     words[0] = first / 2;
     for i in 1..SNAPSHOT_WORDS {
@@ -121,11 +146,4 @@ fn gather<A: Allocator>(
         words[i] = shared.load::<Loads>(seat, copy + i);
     }
     words
-}
-
-/// Returns the position of the copy that a sequence names.
-fn copy_named(sequence: u64) -> usize
-    ensures { result ≡ 9 * (sequence % 2) }
-{
-    if sequence % 2 == 0 { COPY_0 } else { COPY_1 }
 }

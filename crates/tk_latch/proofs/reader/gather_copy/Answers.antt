@@ -1,6 +1,6 @@
 use Rattle.std.proofs.Common.{rules, ◌∙◌}
 use Rattle.tk_latch.proofs.Reading.{reads_word, gathers_one}
-use Rattle.tk_latch.proofs.reader.gather.Goals as goal
+use Rattle.tk_latch.proofs.reader.gather_copy.Goals as goal
 
 pub load-requires : goal.load-requires
 load-requires g c =

@@ -1,6 +1,6 @@
 use Rattle.std.proofs.Common.{◌≡◌}
 use Rattle.tk_latch.specs.Attempt.{Gathered}
-use Rattle.tk_latch.proofs.reader.gather.Given as goal
+use Rattle.tk_latch.proofs.reader.gather_copy.Given as goal
 
 abbrev pub invariant-loop-i : goal.invariant-loop-i
 invariant-loop-i g l = record {
