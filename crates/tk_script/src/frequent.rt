@@ -49,7 +49,8 @@ fn leading_look(text: &[u8]) -> Option<(Row, &[u8])>
     Some((row, rest))
 }
 
-/// Parses the value that a read expects, after its clock, if there is one.
+/// Parses the value that a read expects, after its clock, if there is one. Most reads have none.
+#[inline(always)]
 fn leading_expected(text: &[u8]) -> Option<(Option<u64>, &[u8])>
     ensures { IfSome result (λ found. IsExpected text.now found.0 found.1.now) }
 {

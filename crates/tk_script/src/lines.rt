@@ -34,6 +34,7 @@ pub fn line_open<A: Allocator>(out: &mut Vec<u8, A>, desc: &CounterDesc) -> Resu
 /// # Errors
 ///
 /// - `Memory`: an allocation failed; `out` is as it was
+#[inline(always)]
 pub fn line_ok<A: Allocator>(
     out: &mut Vec<u8, A>,
     n: u64,

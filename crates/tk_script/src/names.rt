@@ -5,6 +5,7 @@ use crate::fields::has_word;
 use tk_clock::{ClockId, Refusal};
 
 /// Returns the clock with this name in a script. `None` means that there is none.
+#[inline(always)]
 pub fn clock_word(word: &[u8]) -> Option<ClockId>
     ensures { result ≡ clock_of word.now }
 {

@@ -68,11 +68,29 @@ fn short_number(field: &[u8]) -> Option<u64>
 
 /// Parses the digits at the beginning of a text, and returns the number and the rest. `None` means
 /// that there is no digit. It reads only the first nineteen digits.
+#[inline(always)]
 pub(crate) fn leading_number(text: &[u8]) -> Option<(u64, &[u8])>
     ensures { IfSome result (λ found. (digits : List ℕ) × (text.now ≡ digits ++ found.1.now)
         × (number_of digits ≡ Some found.0)) }
 {
-    let (value, len) = leading_digits(&text[..text.len().min(SURE_DIGITS)]);
+    if text.len() < SURE_DIGITS {
+        number_within(text, text.len())
+    } else {
+        // The compiler unrolls a loop over a fixed number of bytes.
+        number_within(text, SURE_DIGITS)
+    }
+}
+
+/// Parses the digits at the beginning of a text as `leading_number` does, within its first `most`
+/// bytes.
+#[inline(always)]
+fn number_within(text: &[u8], most: usize) -> Option<(u64, &[u8])>
+    requires sure { most ≤ 19 }
+    requires within { most ≤ length text.now }
+    ensures { IfSome result (λ found. (digits : List ℕ) × (text.now ≡ digits ++ found.1.now)
+        × (number_of digits ≡ Some found.0)) }
+{
+    let (value, len) = leading_digits(&text[..most]);
     if len == 0 {
         return None;
     }
@@ -81,6 +99,7 @@ pub(crate) fn leading_number(text: &[u8]) -> Option<(u64, &[u8])>
 
 /// Parses the digits at the beginning of at most nineteen bytes, and returns the number and the
 /// number of digits.
+#[inline(always)]
 fn leading_digits(text: &[u8]) -> (u64, usize)
     requires { length text.now ≤ 19 }
     ensures fits { result.0 < 2 ^ 64 }
@@ -92,11 +111,11 @@ fn leading_digits(text: &[u8]) -> (u64, usize)
 {
     let mut value = 0u64;
     for i in 0..text.len() {
-        let digit = text[i].wrapping_sub(b'0');
+        let digit = u64::from(text[i]).wrapping_sub(u64::from(b'0'));
         if digit > 9 {
             return (value, i);
         }
-        value = value * 10 + u64::from(digit);
+        value = value * 10 + digit;
     }
     (value, text.len())
 }

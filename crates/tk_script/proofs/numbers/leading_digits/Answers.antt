@@ -8,11 +8,11 @@ use Rattle.std.specs.Char.{is_ascii_digit, digit_value}
 use Rattle.tk_script.proofs.numbers.leading_digits.Goals as goal
 
 -- a byte at most nine above `0` is a digit, and the difference is its value
-is_digit : (byte : ℕ) → byte < 256 → (byte + 208) % 256 ≤ 9 → is_ascii_digit byte ≡ true
+is_digit : (byte : ℕ) → byte < 256 → (byte + 18446744073709551568) % 18446744073709551616 ≤ 9 → is_ascii_digit byte ≡ true
 is_digit byte h k = grind (arith, common_steps)
 
-value_of : (byte : ℕ) → byte < 256 → (byte + 208) % 256 ≤ 9 →
-    digit_value byte ≡ (byte + 208) % 256
+value_of : (byte : ℕ) → byte < 256 → (byte + 18446744073709551568) % 18446744073709551616 ≤ 9 →
+    digit_value byte ≡ (byte + 18446744073709551568) % 18446744073709551616
 value_of byte h k = grind (arith, common_steps)
 
 both : (a b : Bool) → a ≡ true → b ≡ true → (a && b) ≡ true
