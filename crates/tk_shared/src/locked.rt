@@ -1,5 +1,5 @@
 //! The value that the lock protects, and the calls on it.
-ghost use Rattle.std.specs.Prelude.{◌≡◌, ◌+◌, ◌-◌, ◌^◌, ◌<◌, max, ◌++◌, ◌∷◌, [], length, MatchResult, IsSome, None};
+ghost use Rattle.std.specs.Prelude.{◌≡◌, ◌+◌, ◌-◌, ◌^◌, ◌<◌, ◌≤◌, max, ◌++◌, ◌∷◌, [], length, MatchResult, IsSome, None};
 ghost use Rattle.tk_clock.specs.Folding.{folded_by};
 ghost use Rattle.tk_clock.specs.Journal.{accepted_count};
 ghost use Rattle.tk_clock.specs.Limits.{counted_most};
@@ -117,7 +117,10 @@ impl<L: Named, C: Counter> Locked<L, C> {
         ensures journal { let before = self.old.journal in
             self.new.journal ≡ folded_by (result - before.opening.count) before }
         ensures history { self.new.history ≡ self.old.history }
+        ensures counted { result ≤ counted_most }
     {
+        // Shows that the number of accepted commands is that small.
+        let _ = self.keeper.len();
         self.keeper.fold(keep)
     }
 }

@@ -1,6 +1,7 @@
 //! The lock, the page, the latch and the notice, and the calls on them.
 ghost use Rattle.std.specs.Prelude.{◌≡◌, ◌+◌, ◌≤◌, length, replicate, IfOk, MatchResult};
 ghost use mathlib.Core.List.{IsPrefix};
+ghost use Rattle.tk_clock.specs.Limits.{counted_most};
 ghost use Rattle.tk_clock.specs.Snapshot.{snapshot_of};
 ghost use Rattle.tk_latch.specs.Latch.{IsRead, IsMoved, opened_reader};
 ghost use Rattle.tk_now.specs.Views.{opened_notice_writer};
@@ -181,9 +182,11 @@ impl<L: Named, C: Counter> SharedKeeper<L, C> {
     ///
     /// It waits for the lock. It publishes nothing, and no reader's answers change.
     ///
-    /// No clause states the number: the lock hides the journal, and the call has no caller who could
-    /// have seen it. The clauses of `Locked::fold`, which does the work, state it.
-    pub fn fold<R: Wait>(&self, rt: &R, keep: u64) -> u64 {
+    /// The clause states only the number's bound: the lock hides the journal, and the call has no
+    /// caller who could have seen it. The clauses of `Locked::fold`, which does the work, state it.
+    pub fn fold<R: Wait>(&self, rt: &R, keep: u64) -> u64
+        ensures counted { result ≤ counted_most }
+    {
         self.locked.lock(rt).fold(keep)
     }
 }
