@@ -1,4 +1,5 @@
-//! Tests values that come from outside the contracts, and compares calls with plain implementations.
+//! Tests values that come from outside the contracts, and compares calls with plain
+//! implementations.
 
 mod clock;
 mod counter;

@@ -35,8 +35,8 @@ pub record IsFirstFault (journal : Journal) (clock : ClockId) (fronts stamps : L
   pub fault : item_of journal clock fronts stamps index ≡ Err error
   pub before : (k : ℕ) → k < index → IsOk (item_of journal clock fronts stamps k)
 
--- a trace that is converted into the caller's memory up to a place: all items before it, or the items
--- before the first fault
+-- a trace that is converted into the caller's memory up to a place: all items before it, or the
+-- items before the first fault
 abbrev pub IsTracedTo : ℕ → Journal → ClockId → List ℕ → List ℕ → List ℕ → List ℕ →
     Result ⊤ TraceError → Type 0
 IsTracedTo end journal clock fronts stamps old new (Ok done) =

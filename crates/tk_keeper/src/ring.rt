@@ -22,7 +22,10 @@ impl<T, A: Allocator> Model for Ring<T, A> {
 
     ghost Value = { Listed T };
 
-    ghost view = { λ a. record { items = drop a.gone a.all.items; capacity = deque_capacity a.all } };
+    ghost view = { λ a. record {
+      items = drop a.gone a.all.items;
+      capacity = deque_capacity a.all;
+    } };
 
     ghost invariant = { λ a. a.gone ≤ length a.all.items };
 }

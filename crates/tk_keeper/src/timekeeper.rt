@@ -22,8 +22,8 @@ pub const LISTED_LIMIT: usize = 1_048_576;
 /// that at least as many commands are accepted before the next fold.
 pub const KEEP_LIMIT: u64 = LISTED_LIMIT as u64 / 2;
 
-/// The number of commands from one kept copy of the clocks to the next: one is kept after each entry
-/// whose number is a multiple of this.
+/// The number of commands from one kept copy of the clocks to the next: one is kept after each
+/// entry whose number is a multiple of this.
 pub const KEPT_EVERY: usize = 256;
 
 /// Keeps the clocks of one counter, and the journal of all accepted commands (the kernel's

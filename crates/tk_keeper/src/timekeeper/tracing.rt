@@ -110,8 +110,8 @@ impl<A: Allocator + Copy> Timekeeper<A> {
     ///
     /// # Errors
     ///
-    /// Returns the error of the first item with a fault, as `trace_into` does, with its index in the
-    /// whole list. The items before it are written, and the rest of `out` doesn't change.
+    /// Returns the error of the first item with a fault, as `trace_into` does, with its index in
+    /// the whole list. The items before it are written, and the rest of `out` doesn't change.
     pub fn trace_from(
         &self,
         fronts: &[u64],

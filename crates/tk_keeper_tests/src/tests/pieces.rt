@@ -1,4 +1,5 @@
-//! Compares long lists, converted in pieces, with the same lists by one thread and with worked values.
+//! Compares long lists, converted in pieces, with the same lists by one thread and with worked
+//! values.
 
 mod costly;
 mod long;

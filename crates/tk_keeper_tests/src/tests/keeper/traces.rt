@@ -11,8 +11,8 @@ const OLD: u64 = 77;
 /// The most items of a trace here.
 const MOST: usize = 10_000;
 
-/// Checks the answers of all three calls, one of which goes on after half of the items: the values, or
-/// the first fault. The memory after the values must be unchanged.
+/// Checks the answers of all three calls, one of which goes on after half of the items: the values,
+/// or the first fault. The memory after the values must be unchanged.
 pub(super) fn traced(
     rt: &impl Abort,
     keeper: &Timekeeper,
@@ -55,7 +55,8 @@ fn written(rt: &impl Abort, out: &[u64], values: &[u64]) {
     }
 }
 
-/// The fronts of a trace, its stamps, the values of MONOTONIC up to the first fault, and the answer.
+/// The fronts of a trace, its stamps, the values of MONOTONIC up to the first fault, and the
+/// answer.
 type Row<'a> = (&'a [u64], &'a [u64], &'a [u64], Result<(), TraceError>);
 
 /// Checks the answers to traces of MONOTONIC.
