@@ -102,10 +102,7 @@ impl Clock {
         requires early { IsEarly self.now now.last (Command.Tai seconds) }
         ensures { IsEffect self.now now.last (Command.Tai seconds) result }
     {
-        self.settled(
-            now.with_tai(seconds.unsigned_abs() as u32),
-            Command::Tai(seconds),
-        )
+        self.settled(now.with_tai(seconds), Command::Tai(seconds))
     }
 
     /// Returns the clocks, asleep since the base's last reading.

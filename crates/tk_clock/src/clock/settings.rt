@@ -52,7 +52,7 @@ impl Clock {
     {
         let amount = Timespec { sec: by, nsec: 0 };
         let offset = self.stepped(now, amount, Command::Leap { by, tai })?;
-        Ok(self.set_to(now.with_tai(tai.unsigned_abs() as u32), offset))
+        Ok(self.set_to(now.with_tai(tai), offset))
     }
 
     /// Returns REALTIME minus MONOTONIC, in ns, after a command that moves REALTIME by an amount.

@@ -142,12 +142,13 @@ impl ReadBase {
     }
 
     /// Returns the base with TAI `seconds` after REALTIME.
-    pub fn with_tai(self, seconds: u32) -> ReadBase
-        requires { seconds ≤ greatest_tai }
-        ensures { result ≡ record self { tai = pos seconds } }
+    pub fn with_tai(self, seconds: i64) -> ReadBase
+        requires least { pos 0 ≤ℤ seconds }
+        requires most { seconds ≤ℤ pos greatest_tai }
+        ensures { result ≡ record self { tai = seconds } }
     {
         ReadBase {
-            tai: seconds,
+            tai: seconds.unsigned_abs() as u32,
             ..self
         }
     }
