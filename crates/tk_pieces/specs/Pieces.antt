@@ -6,8 +6,9 @@ use Rattle.tk_clock.specs.Journal.{Journal}
 use Rattle.tk_keeper.specs.declared.trace_error.TraceError.{TraceError}
 use Rattle.tk_keeper.specs.Trace.{item_of, AreValues, IsFirstFault}
 
--- a trace that is converted into the caller's memory up to a place: all items before it, or the items
--- before the first fault; the contents of the memory at the fault and after it are not specified
+-- a trace that is converted into the caller's memory up to a place: all items before it, or the
+-- items before the first fault; the contents of the memory at the fault and after it are not
+-- specified
 abbrev pub IsTracedUpTo : ℕ → Journal → ClockId → List ℕ → List ℕ → List ℕ →
     Result ⊤ TraceError → Type 0
 IsTracedUpTo end journal clock fronts stamps new (Ok done) =

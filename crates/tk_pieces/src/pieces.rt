@@ -2,7 +2,8 @@
 //!
 //! Then the calling thread checks the pieces in order. If a piece has a fault, the calling thread
 //! converts the list again from the beginning of the first such piece to the fault. All indices are
-//! places in the whole list, so a fault is returned as the keeper found it. `stages` makes new lists.
+//! places in the whole list, so a fault is returned as the keeper found it. `stages` makes new
+//! lists.
 ghost use Rattle.std.specs.Prelude.{◌≡◌, ◌+◌, ◌<◌, ◌≤◌, drop, length, MatchResult};
 ghost use Rattle.tk_keeper.specs.Trace.{AreValues, IsConverted, IsFault};
 ghost use Rattle.tk_pieces.specs.Input.{of_input};
@@ -95,8 +96,8 @@ pub fn trace_all_into<R: Threads + Sync, A: Allocator + Copy + Sync>(
     keeper.trace_into(fronts, stamps, clock, out)
 }
 
-/// Converts the stamps starting at index `first`, as far as `out` reaches, in pieces of `size` items,
-/// for any number of items. `out` contains the values of the items before `first` already.
+/// Converts the stamps starting at index `first`, as far as `out` reaches, in pieces of `size`
+/// items, for any number of items. `out` contains the values of the items before `first` already.
 pub(crate) fn trace_in_pieces<R: Threads + Sync, A: Allocator + Copy + Sync>(
     rt: &R,
     size: usize,
