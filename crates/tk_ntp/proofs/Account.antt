@@ -1,14 +1,14 @@
 -- What clocks were asked for is what they were given, as seconds begin.
-use Rattle.std.proofs.Common.{◌≡◌, ◌∙◌, refl, sym, ap, subst, ℕ, zero, suc, ◌+◌, ◌-◌, ◌*◌, ◌<◌, ◌≤◌, ◌⊎◌, inl, inr, arith}
+use Rattle.std.proofs.Common.{◌≡◌, ◌∙◌, refl, sym, ap, subst, ℕ, zero, suc, ◌+◌, ◌-◌, ◌*◌, ◌<◌, ◌≤◌, ◌⊎◌, inl, inr, true, false, arith}
 use Rattle.std.specs.Prelude.{ℤ, pos, ◌+ℤ◌, ◌-ℤ◌, ◌*ℤ◌, ◌<ℤ◌, ◌≤ℤ◌}
 use Rattle.std.proofs.lemmas.Int.{ints}
 use Rattle.std.proofs.Math.IntN.{suc_ℤ-*ℤ, zero-*ℤ, pos-*ℤ-pos}
-use Rattle.tk_counter.specs.Counter.{gap}
+use Rattle.tk_counter.specs.Counter.{gap, half}
 use Rattle.tk_clock.specs.declared.clock_id.ClockId.TheVariants.{Realtime}
 use Rattle.tk_clock.specs.Reach.{IsAhead, HasReached, distance}
 use Rattle.tk_clock.specs.State.{State, base_value}
 use Rattle.tk_clock.specs.Time.{nanoseconds}
-use Rattle.tk_ntp.specs.Account.{units_at, owed, cycles_to, asked_to, dropped_at, asked_of, dropped_of, IsMarked, IsAccounted}
+use Rattle.tk_ntp.specs.Account.{units_at, owed, cycles_to, asked_to, dropped_at, dropped_to, asked_of, dropped_of, IsMarked, IsAccounted}
 use Rattle.tk_ntp.specs.Advance.{IsAdvanced, Arrived, Begins, IsDue, second_begun_at, second_time, with_next_second}
 use Rattle.tk_ntp.specs.Ntp.{second_length}
 use Rattle.tk_ntp.specs.Rate.{nominal}
@@ -56,7 +56,7 @@ conserved u c m n lag after x =
     (finish (pos u *ℤ pos n) (pos c *ℤ (pos m *ℤ pos n)) (pos (u + c * m) *ℤ pos n) lag after
     (pos c *ℤ x) (products u c m n))
 
-owed_is : (s : SteeredClock) (at u : ℕ) (lag : ℤ) → s.mark ≡ at → units_at at s.clock ≡ u →
+pub owed_is : (s : SteeredClock) (at u : ℕ) (lag : ℤ) → s.mark ≡ at → units_at at s.clock ≡ u →
     s.steering.lag ≡ lag → owed s ≡ pos u *ℤ pos nominal +ℤ lag
 owed_is s at u lag m e l =
     ap (λ (k : ℕ). pos (units_at k s.clock) *ℤ pos nominal +ℤ s.steering.lag) m
@@ -78,24 +78,32 @@ units_later clock mark at order =
     let later : d ≡ g - k = later_gap base.counter base.last mark at order in
     split base.amount k d base.mult g (omega (arith, later, order))
 
+-- one account, at a reading at which MONOTONIC stays
+pub account-sum : (at : ℕ) (lag : ℤ) (before after : SteeredClock) → after.mark ≡ at →
+    after.steering.lag ≡ lag → units_at at after.clock ≡ units_at at before.clock →
+    distance before.clock.base before.mark ≤ distance before.clock.base at →
+    owed before +ℤ asked_to at before ≡ owed after +ℤ dropped_to at lag before
+account-sum at lag before after mark is units order =
+    let base = before.clock.base in
+    let u = units_at before.mark before.clock in
+    let c = cycles_to at before in
+    conserved u c base.mult nominal before.steering.lag lag
+    (pos base.counter.mult *ℤ second_length before.steering.ntp)
+    ∙ ap (λ z. z +ℤ dropped_to at lag before)
+    (sym
+    (owed_is after at (u + c * base.mult) lag mark
+    (units ∙ units_later before.clock before.mark at order) is))
+
 second-sum : (at : ℕ) (steered : SteeredClock) →
     distance steered.clock.base steered.mark ≤ distance steered.clock.base at →
     owed steered +ℤ asked_to at steered
     ≡ owed (second_begun_at at steered) +ℤ dropped_at at steered
 second-sum at steered order =
-    let base = steered.clock.base in
     let made = second-made at steered in
-    let u = units_at steered.mark steered.clock in
-    let c = cycles_to at steered in
-    let after = (with_next_second at steered).steering.lag in
-    conserved u c base.mult nominal steered.steering.lag after
-    (pos base.counter.mult *ℤ second_length steered.steering.ntp)
-    ∙ ap (λ z. z +ℤ dropped_at at steered)
-    (sym
-    (owed_is (second_begun_at at steered) at (u + c * base.mult) after made.mark
-    (made.units ∙ units_later steered.clock steered.mark at order) made.lag))
+    account-sum at (with_next_second at steered).steering.lag steered (second_begun_at at steered)
+    made.mark made.lag made.units order
 
-chained : (a b c x y p q : ℤ) → a +ℤ x ≡ b +ℤ p → b +ℤ y ≡ c +ℤ q →
+pub chained : (a b c x y p q : ℤ) → a +ℤ x ≡ b +ℤ p → b +ℤ y ≡ c +ℤ q →
     a +ℤ (x +ℤ y) ≡ c +ℤ (p +ℤ q)
 chained a b c x y p q h k = omega (arith, ints, h, k)
 
@@ -106,6 +114,12 @@ late value n h k = absurd (omega (arith, ints, h, k))
 
 pub order : (a b : ℕ) → (a < b) ⊎ (b ≤ a)
 order a b = grind arith
+
+-- REALTIME reaches the next second at no reading before the last account
+abbrev pub IsNearer : SteeredClock → Type 0
+IsNearer s = (other : ℕ) → IsAhead s.clock.base other →
+    HasReached s.clock.base Realtime (nanoseconds (second_time s.next)) other →
+    distance s.clock.base s.mark ≤ distance s.clock.base other
 
 following : (steered : SteeredClock) (reading at other : ℕ) → IsDue steered reading at →
     IsAhead steered.clock.base other →
@@ -121,9 +135,9 @@ following steered reading at other due ahead reached =
       | inr no_less ↦ no_less
     ]
 
-second-marked : (reading at : ℕ) (steered : SteeredClock) → IsDue steered reading at →
-    IsMarked (second_begun_at at steered)
-second-marked reading at steered due =
+second-nearer : (reading at : ℕ) (steered : SteeredClock) → IsDue steered reading at →
+    IsNearer (second_begun_at at steered)
+second-nearer reading at steered due =
     let end = second_begun_at at steered in
     let made = second-made at steered in
     let goal : State → ℕ → ℕ → Type 0 = λ clock mark other.
@@ -145,29 +159,69 @@ second-marked reading at steered due =
           (rw (none_here end.clock.base.counter at) (omega arith))
     ])
 
-sum-of : (reading : ℕ) (before after : SteeredClock) (h : IsAdvanced reading before after) →
-    IsMarked before →
+-- the second's reading is the last account's, and at most half the range ahead
+second-ahead : (reading at : ℕ) (steered : SteeredClock) → IsDue steered reading at →
+    distance (second_begun_at at steered).clock.base (second_begun_at at steered).mark
+    ≤ half (second_begun_at at steered).clock.base.counter
+second-ahead reading at steered due =
+    let end = second_begun_at at steered in
+    let made = second-made at steered in
+    let goal : State → Type 0 =
+    λ clock. distance clock.base at ≤ half clock.base.counter in
+    subst (λ (mark : ℕ). distance end.clock.base mark ≤ half end.clock.base.counter)
+    (sym made.mark)
+    (elim made.same as (λ _. goal end.clock) [
+      | inl e ↦ subst goal (sym e.0) due.first.ahead.1
+      | inr e ↦ subst (λ (last : ℕ). gap end.clock.base.counter last at
+          ≤ half end.clock.base.counter) (sym e)
+          (rw (none_here end.clock.base.counter at) (omega arith))
+    ])
+
+pub never : true ≡ false → ⊥
+never h = cc
+
+second-awake : (at : ℕ) (steered : SteeredClock) → steered.clock.base.asleep ≡ false →
+    (second_begun_at at steered).clock.base.asleep ≡ false
+second-awake at steered awake = (second-made at steered).asleep ∙ awake
+
+second-marked : (reading at : ℕ) (steered : SteeredClock) → IsDue steered reading at →
+    steered.clock.base.asleep ≡ false → IsMarked (second_begun_at at steered)
+second-marked reading at steered due awake = record {
+  ahead = second-ahead reading at steered due;
+  asleep = λ is. absurd (never (sym is ∙ second-awake at steered awake));
+  nearer = second-nearer reading at steered due;
+}
+
+pub sum-of : (reading : ℕ) (before after : SteeredClock) (h : IsAdvanced reading before after) →
+    IsMarked before → before.clock.base.asleep ≡ false →
     owed before +ℤ asked_of reading before after h
     ≡ owed after +ℤ dropped_of reading before after h
-sum-of reading before after (Arrived steered none) marked = refl
-sum-of reading before after (Begins steered end at due rest) marked =
+sum-of reading before after (Arrived steered none) marked awake = refl
+sum-of reading before after (Begins steered end at due rest) marked awake =
     let next = second_begun_at at steered in
     chained (owed steered) (owed next) (owed end) (asked_to at steered)
     (asked_of reading next end rest) (dropped_at at steered) (dropped_of reading next end rest)
-    (second-sum at steered (marked at due.first.ahead due.first.reached))
-    (sum-of reading next end rest (second-marked reading at steered due))
+    (second-sum at steered (marked.nearer at due.first.ahead due.first.reached))
+    (sum-of reading next end rest (second-marked reading at steered due awake)
+    (second-awake at steered awake))
 
 pub marked-after : (reading : ℕ) (before after : SteeredClock) → IsAdvanced reading before after →
-    IsMarked before → IsMarked after
-marked-after reading before after (Arrived steered none) marked = marked
-marked-after reading before after (Begins steered end at due rest) marked =
+    IsMarked before → before.clock.base.asleep ≡ false → IsMarked after
+marked-after reading before after (Arrived steered none) marked awake = marked
+marked-after reading before after (Begins steered end at due rest) marked awake =
     marked-after reading (second_begun_at at steered) end rest
-    (second-marked reading at steered due)
+    (second-marked reading at steered due awake) (second-awake at steered awake)
+
+pub awake-after : (reading : ℕ) (before after : SteeredClock) → IsAdvanced reading before after →
+    before.clock.base.asleep ≡ false → after.clock.base.asleep ≡ false
+awake-after reading before after (Arrived steered none) awake = awake
+awake-after reading before after (Begins steered end at due rest) awake =
+    awake-after reading (second_begun_at at steered) end rest (second-awake at steered awake)
 
 pub accounted_for : (reading : ℕ) (before after : SteeredClock) → IsAdvanced reading before after →
-    IsMarked before → IsAccounted reading before after
-accounted_for reading before after h marked = record {
+    before.clock.base.asleep ≡ false → IsMarked before → IsAccounted reading before after
+accounted_for reading before after h awake marked = record {
   begun = h;
-  sum = sum-of reading before after h marked;
-  marked = marked-after reading before after h marked;
+  sum = sum-of reading before after h marked awake;
+  marked = marked-after reading before after h marked awake;
 }

@@ -3,7 +3,9 @@ pub mod Gaps
 pub mod Lengths
 pub mod Near
 pub mod Often
+pub mod Passed
 pub mod History
+pub mod Accepted
 pub mod Account
 pub mod Made
 pub mod Marked
@@ -16,5 +18,6 @@ pub mod Real
 pub mod Restart
 pub mod ReadBack
 pub mod Seconds
+pub mod Settled
 pub mod Multipliers
 pub mod Worked

@@ -28,9 +28,10 @@ none_here counter at = gap-self (2 ^ counter.bits) at (pow_pos counter.bits)
 pub record IsMade (at : ℕ) (before after : State) : Type 0 where
   pub units : units_at at after ≡ units_at at before
   pub same : (after ≡ before) ⊎ (after.base.last ≡ at)
+  pub asleep : after.base.asleep ≡ before.base.asleep
 
 pub unmade : (at : ℕ) (clock : State) → IsMade at clock clock
-unmade at clock = record { units = refl; same = inl refl }
+unmade at clock = record { units = refl; same = inl refl; asleep = refl }
 
 pub joined : (at : ℕ) (a b c : State) → IsMade at a b → IsMade at b c → IsMade at a c
 joined at a b c h k = record {
@@ -42,9 +43,10 @@ joined at a b c h k = record {
     ]
     | inr e ↦ inr e
   ];
+  asleep = k.asleep ∙ h.asleep;
 }
 
-kept_units : (counter : Counter) (at units mult : ℕ) → units + gap counter at at * mult ≡ units
+pub kept_units : (counter : Counter) (at units mult : ℕ) → units + gap counter at at * mult ≡ units
 kept_units counter at units mult = rw (none_here counter at) (omega arith)
 
 -- an accepted or a refused command
@@ -63,6 +65,7 @@ tick-made at clock (Some tick) =
           kept_units clock.base.counter at (units_at at clock)
           (effect clock at (Tick tick)).base.mult;
       same = inr refl;
+      asleep = refl;
     })
 
 frequency-made : (at : ℕ) (clock : State) (frequency : Option ℤ) →
@@ -76,6 +79,7 @@ frequency-made at clock (Some frequency) =
           kept_units clock.base.counter at (units_at at clock)
           (effect clock at (Freq frequency)).base.mult;
       same = inr refl;
+      asleep = refl;
     })
 
 pub change-made : (at : ℕ) (change : Change) (clock : State) →
@@ -98,12 +102,14 @@ tai-made at tai clock =
     (record {
       units = kept_units clock.base.counter at (units_at at clock) clock.base.mult;
       same = inr refl;
+      asleep = refl;
     }))
 
 -- a leap keeps MONOTONIC; without one, nothing changes
 record IsLeapt (at : ℕ) (before after : SteeredClock) : Type 0 where
   units : units_at at after.clock ≡ units_at at before.clock
   same : (after ≡ before) ⊎ (after.clock.base.last ≡ at)
+  asleep : after.clock.base.asleep ≡ before.clock.base.asleep
 
 -- an accepted leap
 leap-made : (at : ℕ) (alone : Bool) (seconds tai : ℤ) (before after : SteeredClock) →
@@ -115,12 +121,14 @@ leap-made at true seconds tai before after is = record {
       ap (units_at at) is
       ∙ kept_units before.clock.base.counter at (units_at at before.clock) before.clock.base.mult;
   same = inr (ap (λ (s : State). s.base.last) is);
+  asleep = ap (λ (s : State). s.base.asleep) is;
 }
 leap-made at false seconds tai before after is = record {
   units =
       ap (units_at at) is
       ∙ kept_units before.clock.base.counter at (units_at at before.clock) before.clock.base.mult;
   same = inr (ap (λ (s : State). s.base.last) is);
+  asleep = ap (λ (s : State). s.base.asleep) is;
 }
 
 pub at_reading : (at : ℕ) (stepped after : State) → stepped.base.last ≡ at → IsMade at stepped after →
@@ -132,7 +140,7 @@ at_reading at stepped after is h = elim h.same as (λ _. after.base.last ≡ at)
 
 leapt_unless-made : (refusal : Option Refusal) (at : ℕ) (leap : Leap) (steered : SteeredClock) →
     IsLeapt at steered (leapt_unless refusal at leap steered)
-leapt_unless-made (Some refusal) at leap steered = record { units = refl; same = inl refl }
+leapt_unless-made (Some refusal) at leap steered = record { units = refl; same = inl refl; asleep = refl }
 leapt_unless-made None at leap steered =
     let tai = tai_of_clock steered.clock in
     let after = tai_after_leap leap tai in
@@ -141,7 +149,7 @@ leapt_unless-made None at leap steered =
 
 leapt-made : (at : ℕ) (leap : Leap) (steered : SteeredClock) →
     IsLeapt at steered (leapt at leap steered)
-leapt-made at NoLeap steered = record { units = refl; same = inl refl }
+leapt-made at NoLeap steered = record { units = refl; same = inl refl; asleep = refl }
 leapt-made at Insert steered =
     leapt_unless-made (state_refusal steered.clock at (leap_of_clock Insert steered.clock)) at Insert steered
 leapt-made at Delete steered =
@@ -168,6 +176,7 @@ pub record IsSecond (at : ℕ) (before after : SteeredClock) : Type 0 where
   pub same :
       ((after.clock ≡ before.clock) × (after.next ≡ before.next + 1))
       ⊎ (after.clock.base.last ≡ at)
+  pub asleep : after.clock.base.asleep ≡ before.clock.base.asleep
 
 pub second-made : (at : ℕ) (steered : SteeredClock) →
     IsSecond at steered (second_begun_at at steered)
@@ -195,4 +204,5 @@ second-made at steered =
         ]
         | inr e ↦ inr e
       ];
+      asleep = m.asleep ∙ l.asleep;
     }

@@ -1,44 +1,51 @@
--- REALTIME reaches the next second at no reading before the last account, after each call.
+-- Where the last account is, after each call.
 use Rattle.std.proofs.Common.{◌≡◌, ◌∙◌, refl, sym, subst, ℕ, ◌≤◌, ◌⊎◌, inl, inr, Bool, true, false, not, ◌&&◌, Option, Some, None, MatchOption, nat_eq, arith}
 use Rattle.std.specs.Prelude.{Result, Ok, Err, ⊤}
 use Rattle.std.proofs.lemmas.Grind.{common_steps}
-use Rattle.tk_counter.specs.Counter.{gap}
+use Rattle.tk_counter.specs.Counter.{gap, half}
 use Rattle.tk_clock.specs.declared.command.Command.{Command}
 use Rattle.tk_clock.specs.declared.command.Command.TheVariants.{Update, SetTime, Step, Freq, Tick, Tai, Leap, Suspend, Resume}
-use Rattle.tk_clock.specs.declared.clock_id.ClockId.TheVariants.{Realtime}
 use Rattle.tk_clock.specs.declared.refusal.Refusal.{Refusal}
 use Rattle.tk_clock.specs.declared.timespec.Timespec.{Timespec}
-use Rattle.tk_clock.specs.Reach.{IsAhead, HasReached, distance}
+use Rattle.tk_clock.specs.Reach.{distance}
 use Rattle.tk_clock.specs.State.{State, effect}
-use Rattle.tk_clock.specs.Time.{nanoseconds}
 use Rattle.tk_ntp.specs.declared.reply.Reply.{Reply}
 use Rattle.tk_ntp.specs.declared.timex.Timex.{Timex}
 use Rattle.tk_ntp.specs.Account.{IsMarked}
-use Rattle.tk_ntp.specs.Advance.{IsAdvanced, IsNoneDue, second_time, tai_of_clock}
+use Rattle.tk_ntp.specs.Advance.{IsAdvanced, IsNoneDue, tai_of_clock}
 use Rattle.tk_ntp.specs.Applied.{IsPlain}
 use Rattle.tk_ntp.specs.Asked.{accounted_if, acts, after_command, changes_rate, forgotten, given_tai, IsAsked, IsCommanded, IsRequested, real_at, restarted, second_after, steered_if, step_refusal, stepped, tai_asked, with_asked}
 use Rattle.tk_ntp.specs.Bits.{has, adj_adjtime}
 use Rattle.tk_ntp.specs.Request.{step_of}
 use Rattle.tk_ntp.specs.Steering.{commands}
 use Rattle.tk_ntp.specs.SteeredClock.{SteeredClock, rate_in_force, reading_refusal, steered_at}
-use Rattle.tk_ntp.proofs.Account.{marked-after, order}
+use Rattle.tk_ntp.proofs.Accepted.{ahead_at, awake_at}
+use Rattle.tk_ntp.proofs.Account.{awake-after, IsNearer, marked-after, never, order}
 use Rattle.tk_ntp.proofs.Made.{IsMade, at_reading, change-made, joined, none_here, tai-made}
 use Rattle.tk_ntp.proofs.Often.{none_due}
+use Rattle.tk_ntp.proofs.Passed.{still_ahead}
 
 -- the last account is at the last command
 pub marked_at_last : (s : SteeredClock) → s.mark ≡ s.clock.base.last → IsMarked s
-marked_at_last s e other ahead reached =
+marked_at_last s e =
     let base = s.clock.base in
-    subst (λ (mark : ℕ). gap base.counter base.last mark ≤ gap base.counter base.last other) (sym e)
-    (rw (none_here base.counter base.last) (omega arith))
+    record {
+      ahead =
+          subst (λ (mark : ℕ). gap base.counter base.last mark ≤ half base.counter) (sym e)
+          (rw (none_here base.counter base.last) (omega arith));
+      asleep = λ _. e;
+      nearer = λ other ahead reached.
+          subst (λ (mark : ℕ). gap base.counter base.last mark ≤ gap base.counter base.last other)
+          (sym e) (rw (none_here base.counter base.last) (omega arith));
+    }
 
 -- with the last account at a reading
 abbrev at_mark : ℕ → SteeredClock → SteeredClock
 at_mark reading s = record s { mark = reading }
 
 -- no second is due up to a reading
-none_before : (reading : ℕ) (s : SteeredClock) → IsNoneDue s reading → IsMarked (at_mark reading s)
-none_before reading s none other ahead reached =
+none_nearer : (reading : ℕ) (s : SteeredClock) → IsNoneDue s reading → IsNearer (at_mark reading s)
+none_nearer reading s none other ahead reached =
     let base = s.clock.base in
     elim (order (distance base other) (distance base reading)) as
     (λ _. distance base reading ≤ distance base other) [
@@ -46,28 +53,37 @@ none_before reading s none other ahead reached =
       | inr no_less ↦ no_less
     ]
 
+none_before : (reading : ℕ) (s : SteeredClock) → IsNoneDue s reading →
+    distance s.clock.base reading ≤ half s.clock.base.counter → s.clock.base.asleep ≡ false →
+    IsMarked (at_mark reading s)
+none_before reading s none ahead awake = record {
+  ahead = ahead;
+  asleep = λ is. absurd (never (sym is ∙ awake));
+  nearer = none_nearer reading s none;
+}
+
 -- commands at the account's reading
 marked_made : (reading : ℕ) (s0 s : SteeredClock) → s.mark ≡ reading → s.next ≡ s0.next →
     IsMade reading s0.clock s.clock → IsMarked (at_mark reading s0) → IsMarked s
 marked_made reading s0 s mark next made marked =
     elim made.same as (λ _. IsMarked s) [
-      | inl e ↦ λ other ahead reached.
+      | inl e ↦
           let goal : State → ℕ → ℕ → Type 0 = λ clock sec m.
-          IsAhead clock.base other →
-          HasReached clock.base Realtime (nanoseconds (second_time sec)) other →
-          distance clock.base m ≤ distance clock.base other in
+          IsMarked (record s { clock = clock; next = sec; mark = m }) in
+          let there : goal s0.clock s0.next reading =
+          record { ahead = marked.ahead; asleep = marked.asleep; nearer = marked.nearer } in
           subst (λ (clock : State). goal clock s.next s.mark) (sym e)
           (subst (λ (sec : ℕ). goal s0.clock sec s.mark) (sym next)
-          (subst (λ (m : ℕ). goal s0.clock s0.next m) (sym mark) (marked other))) ahead reached
+          (subst (λ (m : ℕ). goal s0.clock s0.next m) (sym mark) there))
       | inr e ↦ marked_at_last s (mark ∙ sym e)
     ]
 
-steered-made : (reading : ℕ) (s : SteeredClock) →
+pub steered-made : (reading : ℕ) (s : SteeredClock) →
     IsMade reading s.clock (steered_at reading s).clock
 steered-made reading s =
     change-made reading (commands s.clock.base.counter (rate_in_force s.clock) s.steering) s.clock
 
-restarted-last : (reading : ℕ) (clock : State) (s : SteeredClock) → clock.base.last ≡ reading →
+pub restarted-last : (reading : ℕ) (clock : State) (s : SteeredClock) → clock.base.last ≡ reading →
     (restarted reading clock s).clock.base.last ≡ reading
 restarted-last reading clock s is =
     let begun : SteeredClock =
@@ -124,15 +140,15 @@ is_zero n h = grind (arith, common_steps)
 same_number : (n : ℕ) → nat_eq n n ≡ true
 same_number n = grind (arith, common_steps)
 
-record IsIdle (reading : ℕ) (request : Timex) (s : SteeredClock) : Type 0 where
-  rate : changes_rate request.modes ≡ false
-  clock : given_tai reading (tai_asked request s) s.clock ≡ s.clock
+pub record IsIdle (reading : ℕ) (request : Timex) (s : SteeredClock) : Type 0 where
+  pub rate : changes_rate request.modes ≡ false
+  pub clock : given_tai reading (tai_asked request s) s.clock ≡ s.clock
 
 same_tai : (reading tai : ℕ) (clock : State) → tai ≡ tai_of_clock clock →
     given_tai reading tai clock ≡ clock
 same_tai reading tai clock is = rw (is, same_number (tai_of_clock clock)) refl
 
-idle : (reading : ℕ) (request : Timex) (s : SteeredClock) → acts request.modes ≡ false →
+pub idle : (reading : ℕ) (request : Timex) (s : SteeredClock) → acts request.modes ≡ false →
     IsIdle reading request s
 idle reading request s h =
     elim (either (nat_eq request.modes 0) (has request.modes adj_adjtime) h) as
@@ -155,23 +171,21 @@ request-marked : (reading : ℕ) (request : Timex) (real : Timespec) (s : Steere
     IsMarked s → IsMarked (at_mark reading s) →
     IsMarked (steered_if changes reading
     (with_asked request real (accounted_if does reading (record s { clock = clock }))))
-request-marked reading request real s clock true true idle made marked before =
+request-marked reading request real s clock true true rest made marked before =
     let asked = with_asked request real (accounted_if true reading (record s { clock = clock })) in
     marked_made reading s (steered_at reading asked) refl refl
     (joined reading s.clock clock (steered_at reading asked).clock made (steered-made reading asked))
     before
-request-marked reading request real s clock true false idle made marked before =
+request-marked reading request real s clock true false rest made marked before =
     marked_made reading s
     (with_asked request real (accounted_if true reading (record s { clock = clock }))) refl refl made
     before
-request-marked reading request real s clock false true idle made marked before =
-    absurd (never (idle refl).0)
-  where
-    never : true ≡ false → ⊥
-    never h = cc
-request-marked reading request real s clock false false idle made marked before =
+request-marked reading request real s clock false true rest made marked before =
+    absurd (never (rest refl).0)
+request-marked reading request real s clock false false rest made marked before =
     subst (λ (c : State). IsMarked (with_asked request real (record s { clock = c })))
-    (sym (idle refl).1) marked
+    (sym (rest refl).1)
+    (record { ahead = marked.ahead; asleep = marked.asleep; nearer = marked.nearer })
 
 requested-marked : (reading : ℕ) (request : Timex) (s after : SteeredClock)
     (result : Result Reply Refusal) → IsRequested reading request s result after → IsMarked s →
@@ -211,25 +225,31 @@ asked-marked reading request s s' after (Some r) result h marked then_marked bef
 
 -- after a request, for which seconds began first
 pub asked_after : (reading : ℕ) (request : Timex) (s advanced after : SteeredClock)
-    (result : Result Reply Refusal) → IsAdvanced reading s advanced →
-    IsAsked reading request advanced result after → IsMarked s → IsMarked after
-asked_after reading request s advanced after result chain h marked =
-    let there = marked-after reading s advanced chain marked in
-    let before = none_before reading advanced (none_due reading s advanced chain) in
+    (result : Result Reply Refusal) → reading_refusal reading s ≡ None →
+    IsAdvanced reading s advanced → IsAsked reading request advanced result after → IsMarked s →
+    IsMarked after
+asked_after reading request s advanced after result accepted chain h marked =
+    let awake = awake_at reading s accepted in
+    let there = marked-after reading s advanced chain marked awake in
+    let before =
+    none_before reading advanced (none_due reading s advanced chain)
+    (still_ahead reading s advanced chain (ahead_at reading s accepted))
+    (awake-after reading s advanced chain awake) in
     let steps = step-marked reading (step_of request) advanced there before in
     asked-marked reading request advanced (stepped reading (step_of request) advanced) after
     (step_refusal reading (step_of request) advanced) result h there steps.0 steps.1
 
 followed-by : (reading : ℕ) (cmd : Command) (s after : SteeredClock) (refusal : Option Refusal)
-    (result : Result ⊤ Refusal) →
+    (result : Result ⊤ Refusal) → reading_refusal reading s ≡ refusal →
     MatchOption refusal
     ((advanced : SteeredClock) × IsAdvanced reading s advanced
     × IsCommanded reading cmd advanced result after)
     (λ r. (result ≡ Err r) × (after ≡ s)) →
     IsMarked s → IsMarked after
-followed-by reading cmd s after None result h marked =
-    commanded-marked reading cmd h.0 after result h.2 (marked-after reading s h.0 h.1 marked)
-followed-by reading cmd s after (Some r) result h marked = subst IsMarked (sym h.1) marked
+followed-by reading cmd s after None result is h marked =
+    commanded-marked reading cmd h.0 after result h.2
+    (marked-after reading s h.0 h.1 marked (awake_at reading s is))
+followed-by reading cmd s after (Some r) result is h marked = subst IsMarked (sym h.1) marked
 
 -- after a command that is no request
 pub plain-marked : (resumes : Bool) (reading : ℕ) (cmd : Command) (s after : SteeredClock)
@@ -238,4 +258,4 @@ pub plain-marked : (resumes : Bool) (reading : ℕ) (cmd : Command) (s after : S
 plain-marked true reading cmd s after result h marked =
     commanded-marked reading cmd s after result h marked
 plain-marked false reading cmd s after result h marked =
-    followed-by reading cmd s after (reading_refusal reading s) result h marked
+    followed-by reading cmd s after (reading_refusal reading s) result refl h marked

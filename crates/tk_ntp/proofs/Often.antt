@@ -18,9 +18,9 @@ use Rattle.tk_ntp.specs.SteeredClock.{SteeredClock, after_or, given, given_any, 
 use Rattle.tk_ntp.proofs.Gaps.{order_kept}
 
 -- commands at a reading keep the counter, and leave its reading as it was or at that reading
-record IsNear (at : ℕ) (before after : State) : Type 0 where
-  counter : after.base.counter ≡ before.base.counter
-  last : (after.base.last ≡ before.base.last) ⊎ (after.base.last ≡ at)
+pub record IsNear (at : ℕ) (before after : State) : Type 0 where
+  pub counter : after.base.counter ≡ before.base.counter
+  pub last : (after.base.last ≡ before.base.last) ⊎ (after.base.last ≡ at)
 
 still : (at : ℕ) (clock : State) → IsNear at clock clock
 still at clock = record { counter = refl; last = inl refl }
@@ -85,7 +85,7 @@ leapt-near at Insert steered =
 leapt-near at Delete steered =
     leapt_unless-near (state_refusal steered.clock at (leap_of_clock Delete steered.clock)) at Delete steered
 
-second-near : (at : ℕ) (steered : SteeredClock) →
+pub second-near : (at : ℕ) (steered : SteeredClock) →
     IsNear at steered.clock (second_begun_at at steered).clock
 second-near at steered =
     let begun = with_next_second at steered in
@@ -96,7 +96,7 @@ second-near at steered =
     (leapt-near at leap begun) (given_change-near at change after.clock)
 
 -- two readings from the second's on stay in order
-order-near : (at : ℕ) (before after : State) (earlier later : ℕ) → IsNear at before after →
+pub order-near : (at : ℕ) (before after : State) (earlier later : ℕ) → IsNear at before after →
     distance before.base at ≤ distance before.base earlier →
     distance before.base earlier ≤ distance before.base later →
     distance after.base earlier ≤ distance after.base later

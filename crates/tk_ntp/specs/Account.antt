@@ -1,7 +1,7 @@
--- What clocks were asked for is what they were given, as seconds begin: the accounts of the lag
--- add up.
-use Rattle.std.specs.Prelude.{◌≡◌, ℕ, ◌+◌, ◌*◌, ◌≤◌, ℤ, pos, ◌+ℤ◌, ◌-ℤ◌, ◌*ℤ◌}
-use Rattle.tk_counter.specs.Counter.{gap}
+-- What clocks were asked for is what they were given: the accounts of the lag add up over every
+-- call.
+use Rattle.std.specs.Prelude.{◌≡◌, ℕ, ◌+◌, ◌*◌, ◌≤◌, ◌⊎◌, true, ℤ, pos, ◌+ℤ◌, ◌-ℤ◌, ◌*ℤ◌}
+use Rattle.tk_counter.specs.Counter.{gap, half}
 use Rattle.tk_clock.specs.declared.clock_id.ClockId.TheVariants.{Realtime}
 use Rattle.tk_clock.specs.Reach.{IsAhead, HasReached, distance}
 use Rattle.tk_clock.specs.State.{State}
@@ -33,14 +33,19 @@ asked_to reading steered =
     pos (cycles_to reading steered)
     *ℤ (pos steered.clock.base.counter.mult *ℤ second_length steered.steering.ntp)
 
--- the part of the lag that is dropped as the next second begins, because the lag is at its greatest
-abbrev pub dropped_at : ℕ → SteeredClock → ℤ
-dropped_at reading steered =
+-- the part of the lag that is dropped at a reading, if the lag is this one then
+abbrev pub dropped_to : ℕ → ℤ → SteeredClock → ℤ
+dropped_to reading lag steered =
     let base = steered.clock.base in
     steered.steering.lag
     +ℤ pos (cycles_to reading steered)
     *ℤ short_of base.counter (second_length steered.steering.ntp) base.mult
-    -ℤ (with_next_second reading steered).steering.lag
+    -ℤ lag
+
+-- the part of the lag that is dropped as the next second begins, because the lag is at its greatest
+abbrev pub dropped_at : ℕ → SteeredClock → ℤ
+dropped_at reading steered =
+    dropped_to reading (with_next_second reading steered).steering.lag steered
 
 -- the sum of what the seconds that begin were asked for
 abbrev pub asked_of : (reading : ℕ) (before after : SteeredClock) →
@@ -56,11 +61,15 @@ dropped_of reading before after (Arrived steered none) = pos 0
 dropped_of reading before after (Begins steered end at due rest) =
     dropped_at at steered +ℤ dropped_of reading (second_begun_at at steered) end rest
 
--- REALTIME reaches the next second at no reading before the last account
-abbrev pub IsMarked : SteeredClock → Type 0
-IsMarked steered = (at : ℕ) → IsAhead steered.clock.base at →
-    HasReached steered.clock.base Realtime (nanoseconds (second_time steered.next)) at →
-    distance steered.clock.base steered.mark ≤ distance steered.clock.base at
+-- where the last account is
+pub record IsMarked (steered : SteeredClock) : Type 0 where
+  -- it is at most half the counter's range after the last command, and at it while asleep
+  pub ahead : distance steered.clock.base steered.mark ≤ half steered.clock.base.counter
+  pub asleep : steered.clock.base.asleep ≡ true → steered.mark ≡ steered.clock.base.last
+  -- REALTIME reaches the next second at no reading before it
+  pub nearer : (at : ℕ) → IsAhead steered.clock.base at →
+      HasReached steered.clock.base Realtime (nanoseconds (second_time steered.next)) at →
+      distance steered.clock.base steered.mark ≤ distance steered.clock.base at
 
 -- what was asked for is what was given, up to the lag and to what was dropped, as seconds begin
 pub record IsAccounted (reading : ℕ) (before after : SteeredClock) : Type 0 where
@@ -69,3 +78,20 @@ pub record IsAccounted (reading : ℕ) (before after : SteeredClock) : Type 0 wh
       owed before +ℤ asked_of reading before after begun
       ≡ owed after +ℤ dropped_of reading before after begun
   pub marked : IsMarked after
+
+-- what was asked for is what was given, up to the lag and to what was dropped, in a call at a
+-- reading: as seconds begin, and then up to the account of the call itself, which drops what a
+-- setting of REALTIME clears
+pub record IsSettled (reading : ℕ) (before after : SteeredClock) : Type 0 where
+  pub advanced : SteeredClock
+  pub begun : IsAdvanced reading before advanced
+  pub sum :
+      owed before
+      +ℤ (asked_of reading before advanced begun +ℤ asked_to after.mark advanced)
+      ≡ owed after
+      +ℤ (dropped_of reading before advanced begun
+      +ℤ dropped_to after.mark after.steering.lag advanced)
+
+-- a call changes nothing, or its accounts add up
+abbrev pub IsBalanced : ℕ → SteeredClock → SteeredClock → Type 0
+IsBalanced reading before after = (after ≡ before) ⊎ IsSettled reading before after

@@ -60,7 +60,7 @@ impl SteeredClock {
     ghost use Rattle.tk_clock.specs.Reach.{IsFirstReached, IsNeverReached};
     ghost use Rattle.tk_clock.specs.Time.{nanoseconds};
     ghost use Rattle.tk_counter.specs.Counter.{least_tick, greatest_tick};
-    ghost use Rattle.tk_ntp.specs.Account.{IsMarked};
+    ghost use Rattle.tk_ntp.specs.Account.{owed, IsMarked};
     ghost use Rattle.tk_ntp.specs.Change.{multiplier_at};
     ghost use Rattle.tk_ntp.specs.Rate.{IsNearUsual};
     ghost use Rattle.tk_ntp.specs.SteeredClock.{steered_refusal, steered_opened, rate_in_force};
@@ -88,6 +88,7 @@ impl SteeredClock {
             × (steered ≡ steered_opened desc reading real hz))
             (λ refusal. steered_refusal desc reading real hz ≡ Some refusal) }
         ensures marked { IfOk result IsMarked }
+        ensures nothing { IfOk result (λ steered. owed steered ≡ pos 0) }
     {
         let clock = Clock::open(desc, reading, real)?;
         let Some(ntp) = Discipline::new(hz) else {

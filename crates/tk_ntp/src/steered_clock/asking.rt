@@ -1,8 +1,8 @@
 //! Answers requests, and applies commands.
-ghost use Rattle.std.specs.Prelude.{◌≡◌, false, pos, ◌≤ℤ◌, MatchResult, Some, None};
+ghost use Rattle.std.specs.Prelude.{◌≡◌, false, true, pos, ◌≤ℤ◌, MatchResult, Some, None};
 ghost use Rattle.tk_clock.specs.Command.{is_resume};
 ghost use Rattle.tk_ntp.specs.Applied.{without_reply, IsFollowed, IsPlain, IsApplied, request_of};
-ghost use Rattle.tk_ntp.specs.Account.{IsMarked};
+ghost use Rattle.tk_ntp.specs.Account.{owed, IsBalanced, IsMarked};
 ghost use Rattle.tk_ntp.specs.Advance.{tai_of_clock};
 ghost use Rattle.tk_ntp.specs.Asked.{real_at, real_refusal, acts, changes_rate, accounted_if, steered_if, with_asked, after_request, IsRequested, IsAsked, IsAnswered};
 ghost use Rattle.tk_ntp.specs.Fault.{is_faulty};
@@ -35,6 +35,8 @@ impl SteeredClock {
     ///   that `advance` and the step leave.
     pub fn adjtimex(&mut self, reading: u64, request: &Timex) -> Result<Reply, Refusal>
         ensures answer { IsAnswered reading request.now self.old result self.new }
+        // the accounts add up to what the clocks were asked for
+        ensures sum { IsMarked self.old → IsBalanced reading self.old self.new }
         // the next second is not due before the last account
         ensures marked { IsMarked self.old → IsMarked self.new }
     {
@@ -60,6 +62,11 @@ impl SteeredClock {
     ///   the state is the one that `advance` leaves.
     pub fn apply(&mut self, reading: u64, cmd: Command) -> Result<(), Refusal>
         ensures answer { IsApplied reading cmd self.old result self.new }
+        // the accounts add up to what the clocks were asked for: to nothing at a resume
+        ensures sum { IsMarked self.old → is_resume cmd ≡ false →
+            IsBalanced reading self.old self.new }
+        ensures woken { IsMarked self.old → is_resume cmd ≡ true →
+            owed self.new ≡ owed self.old }
         ensures marked { IsMarked self.old → IsMarked self.new }
     {
         match request_of(cmd) {

@@ -1,3 +1,4 @@
+use Rattle.tk_ntp.proofs.Accepted.{awake_at}
 use Rattle.tk_ntp.proofs.Account.{accounted_for}
 use Rattle.tk_ntp.proofs.History.{offset_kept}
 use Rattle.tk_ntp.proofs.Often.{at_once, none_due}
@@ -19,4 +20,4 @@ returns-clause-offset c =
 pub returns-clause-sum : goal.returns-clause-sum
 returns-clause-sum c = λ marked.
     accounted_for c.args.reading c.args.self.now c.begin_seconds.new.self c.begin_seconds.ensures
-    marked
+    (awake_at c.args.reading c.args.self.now c.in_ok-test.ensures) marked
