@@ -19,5 +19,6 @@ pub mod Restart
 pub mod ReadBack
 pub mod Seconds
 pub mod Settled
+pub mod TaiKept
 pub mod Multipliers
 pub mod Worked

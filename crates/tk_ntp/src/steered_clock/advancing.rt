@@ -5,7 +5,7 @@ ghost use Rattle.tk_clock.specs.Limits.{clock_end};
 ghost use Rattle.tk_ntp.specs.Second.{leap_at};
 ghost use Rattle.tk_ntp.specs.SteeredClock.{reading_refusal};
 ghost use Rattle.tk_ntp.specs.Account.{IsMarked, IsAccounted};
-ghost use Rattle.tk_ntp.specs.History.{IsOffsetKept};
+ghost use Rattle.tk_ntp.specs.History.{IsOffsetKept, IsTaiKept};
 ghost use Rattle.tk_ntp.specs.Often.{IsAtOnce};
 ghost use Rattle.tk_ntp.specs.Advance.{leapt, with_next_second, second_begun_at, IsDue, IsNoneDue, IsAdvanced, seconds_left};
 
@@ -42,6 +42,8 @@ impl SteeredClock {
         ensures at_once { IfOk result (λ _. IsAtOnce reading self.old self.new) }
         // no part of an offset is lost
         ensures offset { IfOk result (λ _. IsOffsetKept reading self.old self.new) }
+        // TAI runs on at each leap
+        ensures tai { IfOk result (λ _. IsTaiKept reading self.old self.new) }
         // the accounts add up to what the seconds were asked for
         ensures sum { IfOk result (λ _. IsMarked self.old → IsAccounted reading self.old self.new) }
     {

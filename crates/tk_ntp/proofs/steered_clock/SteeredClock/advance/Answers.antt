@@ -2,6 +2,7 @@ use Rattle.tk_ntp.proofs.Accepted.{awake_at}
 use Rattle.tk_ntp.proofs.Account.{accounted_for}
 use Rattle.tk_ntp.proofs.History.{offset_kept}
 use Rattle.tk_ntp.proofs.Often.{at_once, none_due}
+use Rattle.tk_ntp.proofs.TaiKept.{tai_kept}
 use Rattle.tk_ntp.proofs.steered_clock.SteeredClock.advance.Goals as goal
 
 pub returns-clause-none : goal.returns-clause-none
@@ -16,6 +17,10 @@ returns-clause-at_once c = λ before earlier first order.
 pub returns-clause-offset : goal.returns-clause-offset
 returns-clause-offset c =
     offset_kept c.args.reading c.args.self.now c.begin_seconds.new.self c.begin_seconds.ensures
+
+pub returns-clause-tai : goal.returns-clause-tai
+returns-clause-tai c =
+    tai_kept c.args.reading c.args.self.now c.begin_seconds.new.self c.begin_seconds.ensures
 
 pub returns-clause-sum : goal.returns-clause-sum
 returns-clause-sum c = λ marked.
