@@ -150,11 +150,9 @@ static void record_orders(struct machine *machine, const struct order *orders,
 static uint64_t front_of(const struct tkc_ntp *clocks)
 {
 	struct tkc_snapshot snapshot;
-	uint64_t words[TKC_WORDS];
 
 	tkc_ntp_snapshot(&snapshot, clocks);
-	tkc_snapshot_words(words, &snapshot);
-	return words[0];
+	return tkc_snapshot_front(&snapshot);
 }
 
 /* Makes changed clocks the clocks of all, by one store. */

@@ -105,11 +105,8 @@ uint64_t machine_reading(const struct shared_page *shared)
 
 bool machine_is_asleep(const struct machine *machine)
 {
-	uint64_t words[TKC_WORDS];
 	struct tkc_snapshot snapshot;
 
-	if (tkc_page_read(&machine->shared->page, &snapshot))
-		return true;
-	tkc_snapshot_words(words, &snapshot);
-	return words[7] & 1;
+	return tkc_page_read(&machine->shared->page, &snapshot) ||
+	       tkc_snapshot_asleep(&snapshot);
 }

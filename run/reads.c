@@ -58,7 +58,7 @@ SELDOM static enum tkc_code keep(struct kept *kept, uint64_t sequence,
 	code = tkc_words_checked(&kept->snapshot, words);
 	if (code)
 		return code;
-	kept->front = words[0];
+	kept->front = tkc_snapshot_front(&kept->snapshot);
 	kept->real.code = tkc_snapshot_get(&kept->real.time, &kept->snapshot,
 					   TKC_CLOCK_REALTIME_COARSE, 0);
 	kept->monotonic.code =

@@ -147,13 +147,11 @@ static uint64_t end_at_gap(struct list *list)
 
 static uint64_t front_of(const struct machine *machine)
 {
-	uint64_t words[TKC_WORDS];
 	struct tkc_snapshot snapshot;
 
 	if (tkc_page_read(&machine->shared->page, &snapshot))
 		return 0;
-	tkc_snapshot_words(words, &snapshot);
-	return words[0];
+	return tkc_snapshot_front(&snapshot);
 }
 
 bool recording_write(struct recording *recording, struct machine *machine,

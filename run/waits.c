@@ -66,6 +66,7 @@ uint64_t machine_cycles_left(struct machine *machine, uint32_t clock,
 	uint64_t reading, then, mask = machine->shared->mask;
 	struct tkc_snapshot snapshot;
 	struct tkc_time now;
+	enum tkc_code code;
 
 	if (machine_look(machine, &snapshot, &reading) ||
 	    tkc_snapshot_get(&now, &snapshot, clock, reading))
@@ -74,8 +75,9 @@ uint64_t machine_cycles_left(struct machine *machine, uint32_t clock,
 		return 0;
 	if (clock == TKC_CLOCK_REALTIME)
 		sec = without_leap(machine, now.sec, sec);
-	if (tkc_snapshot_reading(&then, &snapshot, clock, sec, nsec))
-		return machine_is_asleep(machine) ? NEVER : mask / 4;
+	code = tkc_snapshot_reading(&then, &snapshot, clock, sec, nsec);
+	if (code)
+		return code == TKC_FURTHER ? mask / 4 : NEVER;
 	then = (then - reading) & mask;
 	return then > mask / 2 ? 0 : then;
 }
