@@ -1,6 +1,9 @@
 /* SPDX-License-Identifier: MIT OR Apache-2.0 */
-/* Replays a record by tkcore, and compares the report with what the program
- * saw. */
+/*
+ * Replays a record by tkcore. The scripts state the values that the program read,
+ * and tkcore names those that differ. That commands and reads were accepted, or
+ * refused, is compared here.
+ */
 #define _GNU_SOURCE
 #include "recording.h"
 
@@ -76,81 +79,148 @@ static FILE *replay(const char *script, pid_t *child)
 	return fdopen(ends[0], "r");
 }
 
-/* Returns whether a line of the report begins with the fields of a value. */
-static bool is_value(const char *line, const char *value)
+static const char *refusal_word(uint32_t code)
 {
-	size_t length = strcspn(value, "\n");
-
-	return !strncmp(line, value, length) &&
-	       (line[length] == ',' || line[length] == '\n');
-}
-
-static void show(const char *part, uint64_t record, const char *line,
-		 const char *value)
-{
-	fprintf(stderr,
-		"tkrun: %s, record %" PRIu64
-		": the program saw '%.*s', and tkcore gives '%.*s'\n",
-		part, record, (int)strcspn(value, "\n"), value,
-		(int)strcspn(line, "\n"), line);
-}
-
-/* Compares a report with the values. A line that only one of them has differs
- * too. */
-static uint64_t compare(FILE *report, FILE *values, const char *part,
-			uint64_t *shown)
-{
-	char line[LINE_MOST], value[LINE_MOST];
-	uint64_t differ = 0;
-
-	for (uint64_t record = 1;; record++) {
-		bool has_line = fgets(line, sizeof(line), report);
-		bool has_value = fgets(value, sizeof(value), values);
-
-		if (!has_line && !has_value)
-			return differ;
-		if (has_line && has_value && is_value(line, value))
-			continue;
-		differ++;
-		if ((*shown)++ < SHOWN_MOST)
-			show(part, record, has_line ? line : "nothing",
-			     has_value ? value : "nothing");
-		if (!has_line || !has_value)
-			return differ;
+	switch (code) {
+	case TKC_FULL:
+		return "full";
+	case TKC_ASLEEP:
+		return "asleep";
+	case TKC_AWAKE:
+		return "awake";
+	case TKC_INVALID:
+		return "invalid";
+	case TKC_BEHIND:
+		return "behind";
+	case TKC_RANGE:
+		return "range";
+	default:
+		return "unknown";
 	}
+}
+
+/* The report of a part, while its lines are compared. */
+struct report {
+	const struct recording *recording;
+	const struct part *part;
+	const char *name;
+	char line[LINE_MOST]; /* of the record `record`, which counts from 1 */
+	uint64_t record, differ, *shown;
+};
+
+static uint64_t record_count(const struct part *part)
+{
+	return 1 + part->carried + part->end - part->first;
+}
+
+/* Returns the row of the record, or NULL if it is the opening, or a command of a
+ * former part. */
+static const struct record_row *row_of(const struct report *report)
+{
+	uint64_t before = 1 + report->part->carried;
+
+	if (report->record <= before)
+		return NULL;
+	return report->recording->list
+		.rows[report->part->first + report->record - before - 1];
+}
+
+/* Stores how the record's line begins if tkcore did the same. */
+static void expect(const struct report *report, char *text, size_t size)
+{
+	const struct record_row *row = row_of(report);
+
+	if (row && row->code)
+		snprintf(text, size, "no,%s\n", refusal_word(row->code));
+	else if (row && !is_command(row))
+		snprintf(text, size, "at,");
+	else
+		snprintf(text, size, report->record == 1 ? "open," : "ok,");
+}
+
+static void count_difference(struct report *report, const char *saw)
+{
+	report->differ++;
+	if ((*report->shown)++ < SHOWN_MOST)
+		fprintf(stderr,
+			"tkrun: %s, record %" PRIu64
+			": the program saw '%.*s', and tkcore gives '%.*s'\n",
+			report->name, report->record, (int)strcspn(saw, "\n"),
+			saw, (int)strcspn(report->line, "\n"), report->line);
+}
+
+/* Compares the line of the next record. */
+static void compare_line(struct report *report, const char *line)
+{
+	char expected[LINE_MOST] = "nothing";
+
+	strcpy(report->line, line);
+	report->record++;
+	if (report->record <= record_count(report->part))
+		expect(report, expected, sizeof(expected));
+	if (strncmp(line, expected, strlen(expected)))
+		count_difference(report, expected);
+}
+
+/* Counts a line `differs`, which follows that of its read. */
+static void count_value(struct report *report)
+{
+	const struct record_row *row = row_of(report);
+	char value[LINE_MOST] = "nothing";
+
+	if (row)
+		snprintf(value, sizeof(value), "%" PRId64 ".%09" PRIu32,
+			 row->number, row->nsec);
+	count_difference(report, value);
+}
+
+/* Compares a report with the rows of its part. */
+static void compare(struct report *report, FILE *lines)
+{
+	char line[LINE_MOST];
+
+	while (report->record <= record_count(report->part) &&
+	       fgets(line, sizeof(line), lines)) {
+		if (strncmp(line, "differs,", 8))
+			compare_line(report, line);
+		else
+			count_value(report);
+	}
+	if (report->record < record_count(report->part))
+		compare_line(report, "nothing");
 }
 
 static uint64_t check_part(const struct recording *recording, unsigned int part,
 			   uint64_t *shown)
 {
-	char script[PATH_MAX], name[PATH_MAX];
-	uint64_t differ = 1;
-	FILE *report, *values;
+	char script[PATH_MAX];
+	struct report report = { .recording = recording,
+				 .part = &recording->parts[part - 1],
+				 .name = script,
+				 .shown = shown };
 	int status = 0;
 	pid_t child = -1;
+	FILE *lines;
 
-	recording_part(recording, part, "", script, sizeof(script));
-	recording_part(recording, part, ".values", name, sizeof(name));
-	values = fopen(name, "re");
-	report = replay(script, &child);
-	if (values && report)
-		differ = compare(report, values, script, shown);
-	if (values)
-		fclose(values);
-	if (report)
-		fclose(report);
+	recording_part(recording, part, script, sizeof(script));
+	lines = replay(script, &child);
+	if (lines) {
+		compare(&report, lines);
+		fclose(lines);
+	}
 	if (child > 0)
 		waitpid(child, &status, 0);
-	if (status)
+	if (!lines || !WIFEXITED(status) ||
+	    (WEXITSTATUS(status) && WEXITSTATUS(status) != STATUS_DIFFERS))
 		fprintf(stderr, "tkrun: --check: tkcore refuses %s\n", script);
-	return differ;
+	return lines ? report.differ : 1;
 }
 
 uint64_t recording_check(const struct recording *recording)
 {
 	uint64_t differ = 0, shown = 0;
 
-	for (unsigned int part = 1; part <= recording->parts; part++)
+	for (unsigned int part = 1; part <= recording->part_count; part++)
 		differ += check_part(recording, part, &shown);
 	return differ;
 }

@@ -13,12 +13,12 @@
 enum { LINE_MOST = 128 }; /* more bytes than a record has */
 
 void recording_part(const struct recording *recording, unsigned int part,
-		    const char *end, char *name, size_t size)
+		    char *name, size_t size)
 {
 	if (part == 1)
-		snprintf(name, size, "%s%s", recording->path, end);
+		snprintf(name, size, "%s", recording->path);
 	else
-		snprintf(name, size, "%s.%u%s", recording->path, part, end);
+		snprintf(name, size, "%s.%u", recording->path, part);
 }
 
 static const struct {
@@ -35,131 +35,138 @@ static const struct {
 	[TKC_CMD_RESUME] = { "resume", 2 },
 };
 
-static const char *refusal_word(uint32_t code)
-{
-	switch (code) {
-	case TKC_FULL:
-		return "full";
-	case TKC_ASLEEP:
-		return "asleep";
-	case TKC_AWAKE:
-		return "awake";
-	case TKC_INVALID:
-		return "invalid";
-	case TKC_BEHIND:
-		return "behind";
-	case TKC_RANGE:
-		return "range";
-	default:
-		return "unknown";
-	}
-}
-
-/* The part that is being written. `skipped` updates are left out of it. */
-struct part {
-	FILE *script, *values;
+/* The script that is being written. */
+struct script_file {
+	FILE *file;
 	size_t bytes;
-	uint64_t skipped;
 };
 
-static void put_read(struct part *part, const struct record_row *row)
+/* A read that gave no time states no value: tkcore refuses it, too. */
+static void put_read(struct script_file *script, const struct record_row *row)
 {
 	const char *word = script_clock_word(row->kind - ROW_READ);
+	uint64_t value = (uint64_t)row->number * NANOS + row->nsec;
 
-	part->bytes += (size_t)fprintf(part->script, "get,%" PRIu64 ",%s\n",
-				       row->reading, word);
 	if (row->code)
-		fprintf(part->values, "no,%s\n", refusal_word(row->code));
+		script->bytes +=
+			(size_t)fprintf(script->file, "get,%" PRIu64 ",%s\n",
+					row->reading, word);
 	else
-		fprintf(part->values, "at,%s,%" PRId64 ".%09" PRIu32 "\n", word,
-			row->number, row->nsec);
+		script->bytes += (size_t)fprintf(
+			script->file, "get,%" PRIu64 ",%s,%" PRIu64 "\n",
+			row->reading, word, value);
 }
 
-static void put_command(struct part *part, const struct record_row *row)
+static void put_command(struct script_file *script,
+			const struct record_row *row)
 {
 	int numbers = COMMANDS[row->kind].numbers;
 
-	part->bytes += (size_t)fprintf(part->script, "%s,%" PRIu64,
-				       COMMANDS[row->kind].word, row->reading);
+	script->bytes += (size_t)fprintf(script->file, "%s,%" PRIu64,
+					 COMMANDS[row->kind].word,
+					 row->reading);
 	if (numbers > 0)
-		part->bytes +=
-			(size_t)fprintf(part->script, ",%" PRId64, row->number);
+		script->bytes += (size_t)fprintf(script->file, ",%" PRId64,
+						 row->number);
 	if (numbers > 1)
-		part->bytes +=
-			(size_t)fprintf(part->script, ",%" PRIu32, row->nsec);
-	part->bytes += (size_t)fprintf(part->script, "\n");
-	if (row->code)
-		fprintf(part->values, "no,%s\n", refusal_word(row->code));
-	else
-		fprintf(part->values, "ok,%" PRIu64 "\n",
-			row->front - part->skipped);
+		script->bytes += (size_t)fprintf(script->file, ",%" PRIu32,
+						 row->nsec);
+	script->bytes += (size_t)fprintf(script->file, "\n");
 }
 
-static void close_part(struct part *part, int *error)
+static void close_script(struct script_file *script, int *error)
 {
-	if (!part->script || !part->values ||
-	    ferror(part->script) | ferror(part->values))
+	if (!script->file || ferror(script->file))
 		*error = errno ? errno : EIO;
-	if (part->script && fclose(part->script))
-		*error = errno;
-	if (part->values && fclose(part->values))
+	if (script->file && fclose(script->file))
 		*error = errno;
 }
 
-/* Puts the commands of the former parts into a part, without the updates that
- * change nothing later: MONOTONIC's amount is exact without them. */
-static void carry_commands(struct part *part, const struct list *list,
-			   uint64_t end, uint64_t first, uint64_t mask)
+/* Puts the commands of the former parts into a script, without the updates that
+ * change nothing later: MONOTONIC's amount is exact without them. Returns their
+ * number. */
+static uint64_t carry_commands(struct script_file *script,
+			       const struct list *list, uint64_t end,
+			       const struct plan *plan)
 {
 	const struct record_row *row = NULL, *next = NULL;
-	uint64_t last = first;
+	const uint64_t longest =
+		tkc_counter_gap(&plan->counter, 0, UINT64_MAX) / 4;
+	uint64_t last = plan->first, carried = 0;
 
 	for (uint64_t i = 0; i <= end; i++) {
 		if (i < end && !is_accepted(list->rows[i]))
 			continue;
 		row = next;
 		next = i < end ? list->rows[i] : NULL;
-		if (!row)
+		if (!row || (row->kind == TKC_CMD_UPDATE && next &&
+			     tkc_counter_gap(&plan->counter, last,
+					     next->reading) <= longest))
 			continue;
-		if (row->kind == TKC_CMD_UPDATE && next &&
-		    ((next->reading - last) & mask) <= mask / 4) {
-			part->skipped++;
-			continue;
-		}
 		last = row->reading;
-		put_command(part, row);
+		put_command(script, row);
+		carried++;
 	}
+	return carried;
+}
+
+/* Adds a part that begins at a row. Returns NULL if memory is missing. */
+static struct part *add_part(struct recording *recording, uint64_t row)
+{
+	unsigned int count = recording->part_count + 1;
+	struct part *parts = reallocarray(recording->parts, count,
+					  sizeof(*parts));
+
+	if (!parts)
+		return NULL;
+	recording->parts = parts;
+	recording->part_count = count;
+	parts[count - 1] = (struct part){ 0, row, row };
+	return &parts[count - 1];
 }
 
 /*
  * Begins the next part at a row. tkcore can't open running clocks yet, so each
  * part opens the first ones, and contains all commands up to the row. A record
- * that opens clocks by their words will take the place of both.
+ * that opens clocks by their words will take the place of both. Returns NULL if
+ * the script can't be made.
  */
-static void begin_part(struct recording *recording, const struct plan *plan,
-		       const struct list *list, uint64_t row, struct part *part)
+static struct part *begin_part(struct recording *recording,
+			       const struct plan *plan, uint64_t row,
+			       struct script_file *script)
 {
+	struct part *part = add_part(recording, row);
 	char name[PATH_MAX];
 	uint32_t bits, mult, shift;
 
-	*part = (struct part){ 0 };
-	recording->parts++;
-	recording_part(recording, recording->parts, "", name, sizeof(name));
-	part->script = fopen(name, "we");
-	recording_part(recording, recording->parts, ".values", name,
-		       sizeof(name));
-	part->values = fopen(name, "we");
-	if (!part->script || !part->values)
-		return;
+	*script = (struct script_file){ 0 };
+	if (!part)
+		return NULL;
+	recording_part(recording, recording->part_count, name, sizeof(name));
+	script->file = fopen(name, "we");
+	if (!script->file)
+		return NULL;
 	tkc_counter_numbers(&bits, &mult, &shift, &plan->counter);
-	part->bytes = (size_t)fprintf(part->script,
-				      "open,%" PRIu32 ",%" PRIu32 ",%" PRIu32
-				      ",%" PRIu64 ",%" PRId64 ",%" PRIu32 "\n",
-				      bits, mult, shift, plan->first,
-				      plan->open_sec, plan->open_nsec);
-	fprintf(part->values, "open,%" PRIu32 ",%" PRIu32 ",%" PRIu32 "\n",
-		bits, mult, shift);
-	carry_commands(part, list, row, plan->first, UINT64_MAX >> (64 - bits));
+	script->bytes = (size_t)fprintf(script->file,
+					"open,%" PRIu32 ",%" PRIu32 ",%" PRIu32
+					",%" PRIu64 ",%" PRId64 ",%" PRIu32
+					"\n",
+					bits, mult, shift, plan->first,
+					plan->open_sec, plan->open_nsec);
+	part->carried = carry_commands(script, &recording->list, row, plan);
+	return part;
+}
+
+static void put_row(struct recording *recording, struct script_file *script,
+		    const struct record_row *row)
+{
+	if (is_command(row)) {
+		put_command(script, row);
+		recording->commands++;
+	} else {
+		put_read(script, row);
+		recording->reads++;
+	}
 }
 
 /* The most bytes of a part. Tests make it smaller. */
@@ -170,36 +177,27 @@ static size_t part_size(void)
 	return text ? strtoull(text, NULL, 10) : SCRIPT_LIMIT;
 }
 
-int parts_write(struct recording *recording, const struct plan *plan,
-		const struct list *list)
+int parts_write(struct recording *recording, const struct plan *plan)
 {
+	const struct list *list = &recording->list;
 	const size_t part_most = part_size();
-	struct part part;
+	struct script_file script;
+	struct part *part = begin_part(recording, plan, 0, &script);
 	int error = 0;
 
-	begin_part(recording, plan, list, 0, &part);
-	for (uint64_t i = 0; i < list->count && part.script && part.values;
-	     i++) {
-		const struct record_row *row = list->rows[i];
-
-		if (part.bytes > part_most - LINE_MOST) {
-			close_part(&part, &error);
-			begin_part(recording, plan, list, i, &part);
-			if (!part.script || !part.values ||
-			    part.bytes > part_most / 2) {
+	for (uint64_t i = 0; i < list->count && part; i++) {
+		if (script.bytes > part_most - LINE_MOST) {
+			close_script(&script, &error);
+			part = begin_part(recording, plan, i, &script);
+			if (!part || script.bytes > part_most / 2) {
 				recording->missing = i;
 				recording->error = EFBIG;
 				break;
 			}
 		}
-		if (is_command(row)) {
-			put_command(&part, row);
-			recording->commands++;
-		} else {
-			put_read(&part, row);
-			recording->reads++;
-		}
+		put_row(recording, &script, list->rows[i]);
+		part->end = i + 1;
 	}
-	close_part(&part, &error);
+	close_script(&script, &error);
 	return error;
 }

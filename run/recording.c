@@ -160,7 +160,7 @@ bool recording_write(struct recording *recording, struct machine *machine,
 	struct rows *rows = &machine->control->rows;
 	uint64_t count = atomic_load(&rows->count);
 	struct record_row *memory = NULL;
-	struct list list = { 0 };
+	struct list *list = &recording->list;
 	int error = 0;
 
 	__atomic_store_n(&recording->is_over, true, __ATOMIC_RELEASE);
@@ -171,16 +171,15 @@ bool recording_write(struct recording *recording, struct machine *machine,
 		memory = mmap(NULL, count * sizeof(*memory), PROT_READ,
 			      MAP_SHARED, recording->rows_file, 0);
 	if (memory == MAP_FAILED ||
-	    !list_rows(&list, memory, count, front_of(machine)))
+	    !list_rows(list, memory, count, front_of(machine)))
 		error = ENOMEM;
 	if (!error) {
-		recording->gap = end_at_gap(&list);
-		error = parts_write(recording, plan, &list);
+		recording->gap = end_at_gap(list);
+		error = parts_write(recording, plan);
 	}
 	if (error)
 		fprintf(stderr, "tkrun: cannot write the record '%s': %s\n",
 			recording->path, strerror(error));
-	free(list.rows);
 	close(recording->rows_file);
 	unlink(recording->rows_path);
 	return !error;

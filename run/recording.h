@@ -6,8 +6,20 @@
 #include "plan.h"
 #include "rows.h"
 
-/* The record of a run. FILE is the first part, FILE.2 the second, and so on;
- * PART.values contains what the program saw. */
+/* The rows in the order of the replay. */
+struct list {
+	const struct record_row **rows;
+	uint64_t count;
+};
+
+/* The records of a part after its opening: commands of former parts, which were
+ * all accepted, and the rows of the list from `first` to before `end`. */
+struct part {
+	uint64_t carried, first, end;
+};
+
+/* The record of a run. FILE is the first part, FILE.2 the second, and so on. Its
+ * reads state the values that the program saw. */
 struct recording {
 	const char *path;
 	char rows_path[4096];
@@ -16,7 +28,9 @@ struct recording {
 	uint64_t missing; /* the first row that is missing then */
 	uint64_t gap;	  /* the first command that is missing, or 0 */
 	uint64_t reads, commands;
-	unsigned int parts;
+	struct list list;
+	struct part *parts;
+	unsigned int part_count;
 	pthread_t thread;
 	bool is_over;
 };
@@ -26,20 +40,30 @@ struct recording {
 void recording_start(struct recording *recording, struct control *control,
 		     const struct options *options);
 
-/* Writes the scripts and their values, and removes the file of rows. Returns
- * false if they can't be written. */
+/* Writes the scripts, and removes the file of rows. Returns false if they can't be
+ * written. */
 bool recording_write(struct recording *recording, struct machine *machine,
 		     const struct plan *plan);
 
 /* Finds tkcore in tkrun's folder or in PATH, and ends tkrun if there is none. */
 void find_tkcore(void);
 
-/* Replays all parts by tkcore. Returns the number of values that differ, and
+/* Replays all parts by tkcore. Returns the number of results that differ, and
  * prints the first of them. */
 uint64_t recording_check(const struct recording *recording);
 
 /* Stores the name of a part, which counts from 1. */
 void recording_part(const struct recording *recording, unsigned int part,
-		    const char *end, char *name, size_t size);
+		    char *name, size_t size);
+
+static inline bool is_command(const struct record_row *row)
+{
+	return row->kind < ROW_READ;
+}
+
+static inline bool is_accepted(const struct record_row *row)
+{
+	return is_command(row) && !row->code;
+}
 
 #endif

@@ -59,8 +59,9 @@ void print_record(const struct run *run)
 		fprintf(stderr,
 			"tkrun: recorded %" PRIu64 " reads and %" PRIu64
 			" commands, in %u %s\n",
-			recording->reads, recording->commands, recording->parts,
-			recording->parts == 1 ? "script" : "scripts");
+			recording->reads, recording->commands,
+			recording->part_count,
+			recording->part_count == 1 ? "script" : "scripts");
 	if (recording->error)
 		fprintf(stderr,
 			"tkrun: the record ends before row %" PRIu64 ": %s\n",

@@ -149,11 +149,8 @@ static void remove_scratch(const struct run *run)
 
 	if (!*run->scratch)
 		return;
-	for (unsigned int part = 1; part <= run->recording.parts; part++) {
-		recording_part(&run->recording, part, "", name, sizeof(name));
-		unlink(name);
-		recording_part(&run->recording, part, ".values", name,
-			       sizeof(name));
+	for (unsigned int part = 1; part <= run->recording.part_count; part++) {
+		recording_part(&run->recording, part, name, sizeof(name));
 		unlink(name);
 	}
 }

@@ -105,7 +105,7 @@ class Programs(RunTest):
             record = self.folder / name
             self.run_on("--counter", "sleeps", "--start", 5, "--record", record, "--",
                         "/usr/bin/perl", "-e", "for (1..100) { sleep 60; time }")
-            records.append((record.read_text(), (self.folder / f"{name}.values").read_text()))
+            records.append(record.read_text())
         self.assertEqual(records[0], records[1])
 
     def sleeps(self, *command):

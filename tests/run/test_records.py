@@ -1,12 +1,19 @@
 """Records, --check, and the files of the clocks, also where there is no room for them."""
-import shutil
-
-from runs import TKRUN, RunTest, call, needs_mounts, program
+from runs import STILL, TKRUN, RunTest, call, needs_mounts, program
 
 SET_TIME = 1  # TKC_CMD_SET_TIME of include/tkcore.h
 
 
 class Records(RunTest):
+    def check_by(self, change, *arguments):
+        """Runs tkrun --check with a tkcore whose scripts a command has changed."""
+        copy = self.share() / "bin"
+        tkcore = copy / "tkcore"
+        tkcore.rename(copy / "real")
+        tkcore.write_text(f"#!/bin/sh\n{change} | {copy}/real \"$@\"\n")
+        tkcore.chmod(0o755)
+        return call([copy / "tkrun", "--check", *map(str, arguments)])
+
     def test_a_record_in_parts(self):
         record = self.folder / "r"
         run = self.start("--counter", "sleeps", "--record", record, "--check", "--",
@@ -14,18 +21,34 @@ class Records(RunTest):
                          "for (1..200) { sleep 60; time for 1..500 }",
                          env={"TKRUN_PART_BYTES": "1000000"})
         self.assertEqual(run.returncode, 0, run.stderr)
-        self.assertTrue((self.folder / "r.2.values").exists())
+        self.assertTrue((self.folder / "r.2").exists())
         self.assertIn("check: tkcore gives each of the", run.stderr)
 
     def test_a_value_that_differs(self):
-        record = self.folder / "r"
-        fake = self.file("tkcore", "#!/bin/sh\nsed 's/^get.*/at,realtime,1.000000000/'\n")
-        fake.chmod(0o755)
-        copy = self.share() / "bin"
-        shutil.copy(fake, copy / "tkcore")
-        run = call([copy / "tkrun", "--record", record, "--check", "--", "date"])
+        # puts a digit in front of the value that each read of REALTIME states
+        run = self.check_by("sed 's/,realtime,/&1/'", "--start", 1000000000, "--", "date")
         self.assertEqual(run.returncode, 3)
-        self.assertIn("and tkcore gives 'at,realtime,1.000000000'", run.stderr)
+        self.assertIn("the program saw '1000000000.", run.stderr)
+        self.assertIn("and tkcore gives 'at,realtime,1000000000.", run.stderr)
+
+    def test_a_command_that_differs(self):
+        run = self.check_by("sed 's/^set,.*/update,0/'", *STILL, "--", "date", "-s",
+                            "@9999999999")
+        self.assertEqual(run.returncode, 3)
+        self.assertIn("the program saw 'no,invalid', and tkcore gives 'ok,1,", run.stderr)
+
+    def test_a_shorter_report(self):
+        run = self.check_by("sed '$d'", "--", "date")
+        self.assertEqual(run.returncode, 3)
+        self.assertIn("and tkcore gives 'nothing'", run.stderr)
+
+    def test_the_record_states_the_values(self):
+        record = self.folder / "r"
+        self.run_on("--start", 1000000000, *STILL, "--record", record, "--", "bash", "-c",
+                    "date -s @2000000000; date")
+        self.assertIn(",realtime,2000000000000000000\n", record.read_text())
+        run = call(["tkcore"], stdin=record.open())
+        self.assertEqual((run.returncode, "differs" in run.stdout), (0, False))
 
     def full_disk(self, *arguments):
         """Runs a program that sets the clocks, with a record on a disk that gets full."""
