@@ -196,7 +196,8 @@ void parse_options(int count, char **words, struct options *options)
 		{ "check", 0, 0, 0 },	  { "deny-set", 0, 0, 0 },
 		{ "stamps", 0, 0, 0 },	  { "log", 1, 0, 0 },
 		{ "static", 0, 0, 0 },	  { "quiet", 0, 0, 0 },
-		{ "help", 0, 0, 'h' },	  { 0, 0, 0, 0 },
+		{ "help", 0, 0, 'h' },	  { "version", 0, 0, 'v' },
+		{ 0, 0, 0, 0 },
 	};
 	int letter, index;
 
@@ -204,10 +205,13 @@ void parse_options(int count, char **words, struct options *options)
 		.bits = 64, .maxsec = 1, .speed = 1, .every = 1
 	};
 	while ((letter = getopt_long(count, words, "+h", LIST, &index)) >= 0) {
-		if (letter == 'h') {
+		if (letter == 'h')
 			fputs(USAGE, stdout);
+		if (letter == 'v')
+			printf("tkrun %d.%d.%d\n", TKC_VERSION_MAJOR,
+			       TKC_VERSION_MINOR, TKC_VERSION_PATCH);
+		if (letter == 'h' || letter == 'v')
 			exit(0);
-		}
 		if (letter)
 			exit(STATUS_WRONG); /* getopt_long has said why */
 		parse_option(options, LIST[index].name);

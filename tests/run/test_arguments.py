@@ -1,8 +1,9 @@
 """Wrong arguments, and programs that can't be run: nothing is started."""
 import os
 import pathlib
+import re
 
-from runs import TKRUN, RunTest, call, needs_mounts
+from runs import ROOT, TKRUN, RunTest, call, needs_mounts
 
 
 class Arguments(RunTest):
@@ -33,6 +34,12 @@ class Arguments(RunTest):
             for value in values:
                 with self.subTest(option=option, value=value):
                     self.assertIn(f"--{option}", self.refuse(f"--{option}", value))
+
+    def test_help_and_version(self):
+        header = (ROOT / "include/tkcore.h").read_text()
+        numbers = re.findall("^#define TKC_VERSION_[A-Z]+ ([0-9]+)$", header, re.MULTILINE)
+        self.assertEqual(self.start("--version").stdout, f"tkrun {'.'.join(numbers)}\n")
+        self.assertIn("--counter raw|tsc|sleeps", self.start("--help").stdout)
 
     def test_unknown_options_and_missing_values(self):
         self.assertIn("unrecognized option", self.refuse("--nothing"))
