@@ -1,9 +1,10 @@
 /* SPDX-License-Identifier: MIT OR Apache-2.0 */
 /*
- * Hides the vDSO of a program that hasn't the library, when it is executed. Its
- * thread is traced from its call of execve until then.
+ * Replaces the vDSO of a program that hasn't the library, when it is executed.
+ * Its thread is traced from its call of execve until then.
  */
 #define _GNU_SOURCE
+#include "image.h"
 #include "static.h"
 #include "status.h"
 
@@ -20,15 +21,23 @@
 #include <sys/wait.h>
 #include <unistd.h>
 
-enum { TEXT_MOST = 4096, PAGE_BYTES = 4096, MISSED_MOST = 16 };
+enum { TEXT_MOST = 4096, MISSED_MOST = 16 };
 
-/* Programs without the library whose vDSO couldn't be hidden. `missed_count`
+/* Programs without the library whose vDSO couldn't be replaced. `missed_count`
  * counts those that found no place, too. */
 static struct missed {
 	char name[256];
 	int error;
 } missed[MISSED_MOST];
 static size_t missed_count;
+
+static struct machine *clocks;
+
+void exec_start(struct machine *machine, const char *folder)
+{
+	clocks = machine;
+	image_offer(machine, folder);
+}
 
 /* Of a program that is about to start: its stack's pointers. */
 struct start {
@@ -133,17 +142,25 @@ static bool has_library(const struct start *start)
 	       has_preload(start);
 }
 
-static void hide_vdso(pid_t process)
+/* Replaces the vDSO of a program without the library by the image, or else by
+ * none. */
+static void replace_vdso(pid_t process)
 {
 	struct start start;
-	uint64_t place;
+	uint64_t place, image;
 
 	if (is_tkrun(process) || !find_start(&start, process) ||
 	    has_library(&start))
 		return;
 	place = find_auxiliary(&start, AT_SYSINFO_EHDR);
-	if (place)
+	if (!place)
+		return;
+	image = image_give(process, peek(process, place + 8));
+	if (image)
+		ptrace(PTRACE_POKEDATA, process, place + 8, image);
+	else
 		ptrace(PTRACE_POKEDATA, process, place, AT_IGNORE);
+	atomic_fetch_add(&clocks->control->attached, 1);
 }
 
 /* The file that a call executes, by its name in a folder. */
@@ -261,7 +278,8 @@ void exec_print_missed(void)
 /* A thread that is gone has nothing to execute. */
 void exec_follow(int listener, const struct seccomp_notif *ask)
 {
-	if (ptrace(PTRACE_SEIZE, ask->pid, 0, PTRACE_O_TRACEEXEC) &&
+	if (ptrace(PTRACE_SEIZE, ask->pid, 0,
+		   PTRACE_O_TRACEEXEC | PTRACE_O_TRACESYSGOOD) &&
 	    errno != ESRCH)
 		note_missed(ask, errno);
 	filter_continue(listener, ask->id);
@@ -273,6 +291,6 @@ void exec_stopped(pid_t thread, int status)
 	int event = status >> 16, signal = WSTOPSIG(status);
 
 	if (event == PTRACE_EVENT_EXEC)
-		hide_vdso(thread);
+		replace_vdso(thread);
 	ptrace(PTRACE_DETACH, thread, 0, event ? 0 : signal);
 }

@@ -9,21 +9,6 @@
 
 int (*host_gettime)(clockid_t, struct timespec *) = clock_gettime;
 
-long host_call(long number, long a, long b, long c, long d, long e, long f)
-{
-	register long r10 __asm__("r10") = d;
-	register long r8 __asm__("r8") = e;
-	register long r9 __asm__("r9") = f;
-	long result;
-
-	__asm__ volatile("syscall"
-			 : "=a"(result)
-			 : "a"(number), "D"(a), "S"(b), "d"(c), "r"(r10),
-			   "r"(r8), "r"(r9)
-			 : "rcx", "r11", "memory");
-	return result;
-}
-
 uint64_t host_nanos(clockid_t clock)
 {
 	struct timespec now;

@@ -27,7 +27,21 @@ static inline bool is_bad(const struct timespec *time)
 }
 
 /* Makes a system call. Returns its result, or minus an error. */
-long host_call(long number, long a, long b, long c, long d, long e, long f);
+static inline long host_call(long number, long a, long b, long c, long d, long e,
+			     long f)
+{
+	register long r10 __asm__("r10") = d;
+	register long r8 __asm__("r8") = e;
+	register long r9 __asm__("r9") = f;
+	long result;
+
+	__asm__ volatile("syscall"
+			 : "=a"(result)
+			 : "a"(number), "D"(a), "S"(b), "d"(c), "r"(r10),
+			   "r"(r8), "r"(r9)
+			 : "rcx", "r11", "memory");
+	return result;
+}
 
 /* Returns the host's clock in ns. */
 uint64_t host_nanos(clockid_t clock);

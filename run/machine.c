@@ -1,6 +1,6 @@
 /* SPDX-License-Identifier: MIT OR Apache-2.0 */
 #define _GNU_SOURCE
-#include "machine.h"
+#include "counter.h"
 
 #include <fcntl.h>
 #include <stdio.h>
@@ -57,26 +57,9 @@ void machine_init_lock(struct control *control)
 	pthread_mutex_init(&control->lock, &attributes);
 }
 
-/* Keeps what follows from running before the counter is read: the vDSO too
- * orders rdtsc only after what precedes it. */
-static inline void fence_reading(void)
-{
-	__asm__ volatile("lfence" ::: "memory");
-}
-
-static inline uint64_t early_host(enum counter_kind kind)
-{
-	uint32_t low, high;
-
-	if (kind != COUNTER_TSC)
-		return host_nanos(CLOCK_MONOTONIC_RAW);
-	__asm__ volatile("lfence; rdtsc" : "=a"(low), "=d"(high)::"memory");
-	return (uint64_t)high << 32 | low;
-}
-
 uint64_t machine_host(enum counter_kind kind)
 {
-	uint64_t host = early_host(kind);
+	uint64_t host = early_host(kind, host_gettime);
 
 	fence_reading();
 	return host;
@@ -84,15 +67,7 @@ uint64_t machine_host(enum counter_kind kind)
 
 uint64_t machine_early_reading(const struct shared_page *shared)
 {
-	unsigned __int128 moved;
-
-	if (shared->kind == COUNTER_SLEEPS)
-		return (shared->first + atomic_load(&shared->cycles)) &
-		       shared->mask;
-	moved = early_host(shared->kind) - shared->base;
-	if (shared->scale != 1)
-		moved = moved * shared->scale >> shared->scale_shift;
-	return (shared->first + (uint64_t)moved) & shared->mask;
+	return early_reading(shared, host_gettime);
 }
 
 uint64_t machine_reading(const struct shared_page *shared)

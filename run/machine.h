@@ -196,12 +196,10 @@ int machine_adjtimex(struct machine *machine, struct timex *timex);
 bool machine_is_asleep(const struct machine *machine);
 
 /* Returns whether a reading is at or past another. */
-static inline bool machine_is_past(const struct machine *machine,
-				   uint64_t reading, uint64_t other)
+static inline bool is_past(const struct shared_page *shared, uint64_t reading,
+			   uint64_t other)
 {
-	uint64_t mask = machine->shared->mask;
-
-	return ((reading - other) & mask) <= mask / 2;
+	return ((reading - other) & shared->mask) <= shared->mask / 2;
 }
 
 /* Stores the time of a clock that is `span` later. Returns false if the clock has

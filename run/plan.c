@@ -136,7 +136,7 @@ uint64_t plan_left(const struct plan *plan, const struct machine *machine)
 	if (plan->next == plan->count)
 		return NEVER;
 	due = plan->orders[plan->next].reading;
-	if (machine_is_past(machine, reading, due))
+	if (is_past(machine->shared, reading, due))
 		return 0;
 	return (due - reading) & machine->shared->mask;
 }

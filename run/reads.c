@@ -100,7 +100,7 @@ static inline bool is_after_second(const struct machine *machine,
 				   const struct kept *kept, uint64_t reading)
 {
 	return kept->has_next &&
-	       machine_is_past(machine, reading, kept->next);
+	       is_past(machine->shared, reading, kept->next);
 }
 
 /* Loads what a snapshot is made of. */

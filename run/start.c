@@ -207,6 +207,7 @@ static void stop_child(const struct run *run)
 /* Starts the threads that answer the calls. */
 static void answer_calls(struct run *run)
 {
+	exec_start(&run->machine, run->folder);
 	if (sleepers_start(&run->machine, run->listener))
 		run->execs = answers_start(&run->machine, run->listener,
 					   run->options.log);

@@ -1,8 +1,9 @@
 /* SPDX-License-Identifier: MIT OR Apache-2.0 */
 /*
  * static.h - programs that no library can be loaded into. A filter of their
- * system calls asks tkrun for the calls about time, and their vDSO is hidden
- * when they are executed, so that they make these calls.
+ * system calls asks tkrun for the calls about time. Their vDSO is replaced when
+ * they are executed: by the image of image.c, which reads the clocks, or by none,
+ * so that they make these calls.
  */
 #ifndef STATIC_H
 #define STATIC_H
@@ -78,6 +79,9 @@ int answers_start(struct machine *machine, int listener, const char *log);
 
 /* Lets the sleeps be looked at, since the counter has moved. */
 void sleepers_wake(void);
+
+/* Lets programs that are executed have the clocks of a folder. */
+void exec_start(struct machine *machine, const char *folder);
 
 /* Lets a thread execute a program, and follows it until it has. A program
  * without the library that can't be followed is noted. */

@@ -46,6 +46,30 @@ class Static(RunTest):
                 self.assertEqual(self.run_on("--start", 1000000000, "--counter", counter, "--check",
                                              "--", program("static_reads")), "")
 
+    def test_reads_without_calls(self):
+        for counter in ["raw", "tsc"]:
+            with self.subTest(counter):
+                run = self.start("--start", 1000000000, "--counter", counter, "--",
+                                 program("static_killed"), 5)
+                counts = re.fullmatch("killed 10, sets [0-9]+, reads ([0-9]+), back 0, errors 0\n",
+                                      run.stdout)
+                self.assertTrue(counts, run.stdout + run.stderr)
+                asked = re.search("at least ([0-9]+) reads", run.stderr)
+                self.assertLess(int(asked[1]), int(counts[1]) / 4)
+
+    def reads_by_calls(self, *command):
+        """A program that can't have the image reads and is denied to set the clocks by calls."""
+        run = self.start("--static", "--start", 1000000000, "--deny-set", "--", *command, "deny")
+        self.assertEqual((run.returncode, run.stdout), (0, ""), run.stderr)
+
+    def test_a_filter_of_the_programs_own(self):
+        self.reads_by_calls(program("filtered"), program("static_reads"))
+
+    @needs_root("changes the root")
+    def test_another_root(self):
+        shutil.copy(program("static_reads"), self.folder)
+        self.reads_by_calls("chroot", self.folder, "/static_reads")
+
     def test_denied_sets(self):
         self.assertEqual(self.run_on("--start", 1000000000, "--deny-set", "--",
                                      program("static_reads"), "deny"), "")

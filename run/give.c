@@ -1,0 +1,234 @@
+/* SPDX-License-Identifier: MIT OR Apache-2.0 */
+/*
+ * Gives a program the image of run/image.c as its vDSO. tkrun traces the thread
+ * that has just executed the program, and lets it make the system calls that map
+ * the file of the clocks, and memory for the image.
+ */
+#define _GNU_SOURCE
+#include "image.h"
+#include "status.h"
+
+#include <elf.h>
+#include <errno.h>
+#include <fcntl.h>
+#include <signal.h>
+#include <stdio.h>
+#include <string.h>
+#include <sys/auxv.h>
+#include <sys/mman.h>
+#include <sys/ptrace.h>
+#include <sys/syscall.h>
+#include <sys/uio.h>
+#include <sys/user.h>
+#include <sys/wait.h>
+
+/* The file of the image, by tools/build_run. */
+__asm__(".section .rodata\n"
+	".globl image_start, image_end\n"
+	"image_start: .incbin \"" IMAGE "\"\n"
+	"image_end:\n"
+	".previous");
+extern const char image_start[], image_end[];
+
+enum {
+	CODE_64 = 0x33,		  /* cs of 64-bit programs */
+	CALL_STOP = SIGTRAP | 0x80, /* by PTRACE_O_TRACESYSGOOD */
+};
+
+/* Where the kernel's vDSO, which is the same in each program, has what is
+ * needed. 0 means that it hasn't. */
+static struct {
+	uint64_t call, gettime;
+} vdso;
+
+static union image_head head;
+static bool is_offered;
+static uint64_t filters; /* of a program that has added none */
+
+/* The vDSO of tkrun itself: its segment's size, and its dynamic section. */
+struct segment {
+	const char *base;
+	size_t size;
+	const Elf64_Dyn *dynamic;
+};
+
+static struct segment find_segment(void)
+{
+	struct segment found = { (const char *)getauxval(AT_SYSINFO_EHDR), 0,
+				 NULL };
+	const Elf64_Ehdr *start = (const Elf64_Ehdr *)found.base;
+
+	for (int i = 0; start && i < start->e_phnum; i++) {
+		const Elf64_Phdr *part =
+			(const Elf64_Phdr *)(found.base + start->e_phoff) + i;
+
+		if (part->p_type == PT_LOAD)
+			found.size = part->p_memsz;
+		if (part->p_type == PT_DYNAMIC)
+			found.dynamic = (const Elf64_Dyn *)(found.base +
+							    part->p_offset);
+	}
+	return found;
+}
+
+static uint64_t find_dynamic(const struct segment *segment, int64_t tag)
+{
+	for (const Elf64_Dyn *entry = segment->dynamic;
+	     entry && entry->d_tag != DT_NULL; entry++) {
+		if (entry->d_tag == tag)
+			return entry->d_un.d_ptr;
+	}
+	return 0;
+}
+
+/* Returns the place of a function, or 0. The names follow the symbols. */
+static uint64_t find_function(const struct segment *segment, const char *name)
+{
+	uint64_t names = find_dynamic(segment, DT_STRTAB);
+	uint64_t at = find_dynamic(segment, DT_SYMTAB);
+
+	for (; at && at + sizeof(Elf64_Sym) <= names; at += sizeof(Elf64_Sym)) {
+		const Elf64_Sym *symbol =
+			(const Elf64_Sym *)(segment->base + at);
+
+		if (symbol->st_shndx != SHN_UNDEF &&
+		    !strcmp(segment->base + names + symbol->st_name, name))
+			return symbol->st_value;
+	}
+	return 0;
+}
+
+static uint64_t filter_count(int process)
+{
+	char status[STATUS_BYTES];
+
+	if (!status_read(process, status))
+		return 0;
+	return status_number(status, "Seccomp_filters", 10);
+}
+
+/* A record needs each read, so it needs each system call. */
+void image_offer(const struct machine *machine, const char *folder)
+{
+	struct segment segment = find_segment();
+	const char *call = segment.size ? memmem(segment.base, segment.size,
+						 "\x0f\x05", 2)
+					: NULL;
+
+	vdso.call = call ? (uint64_t)(call - segment.base) : 0;
+	vdso.gettime = find_function(&segment, "__vdso_clock_gettime");
+	filters = filter_count((int)getpid()) + 1;
+	is_offered = !machine->control->rows.every && vdso.call &&
+		     (vdso.gettime || machine->shared->kind != COUNTER_RAW) &&
+		     snprintf(head.path, sizeof(head.path), "%s/page",
+			      folder) < (int)sizeof(head.path);
+}
+
+/* A thread that has executed a program, with its registers then. */
+struct target {
+	pid_t thread;
+	uint64_t call; /* the address of an instruction `syscall` */
+	struct user_regs_struct start;
+};
+
+/* Lets a thread go on to the beginning or the end of a system call, with the
+ * signals that come. Returns false if it has ended: its status stays. */
+static bool go_on(pid_t thread)
+{
+	siginfo_t info;
+	long number = 0;
+
+	for (;;) {
+		if (ptrace(PTRACE_SYSCALL, thread, 0, number) ||
+		    waitid(P_PID, (id_t)thread, &info, WSTOPPED | __WALL))
+			return false;
+		if (info.si_status == CALL_STOP)
+			return true;
+		number = info.si_status >> 8 ? 0 : info.si_status;
+	}
+}
+
+/* Lets the thread make a system call. Returns its result, or minus an error. */
+static long make_call(const struct target *target, long number, uint64_t a,
+		      uint64_t b, uint64_t c, uint64_t d, uint64_t e)
+{
+	struct user_regs_struct registers = target->start;
+
+	registers.rip = target->call;
+	registers.orig_rax = UINT64_MAX; /* no call to restart */
+	registers.rax = (uint64_t)number;
+	registers.rdi = a;
+	registers.rsi = b;
+	registers.rdx = c;
+	registers.r10 = d;
+	registers.r8 = e;
+	registers.r9 = 0;
+	if (ptrace(PTRACE_SETREGS, target->thread, 0, &registers) ||
+	    !go_on(target->thread) || !go_on(target->thread) ||
+	    ptrace(PTRACE_GETREGS, target->thread, 0, &registers))
+		return -ESRCH;
+	return (long)registers.rax;
+}
+
+/* Maps the file of the clocks at an address. */
+static bool map_page(const struct target *target, uint64_t at, uint64_t path)
+{
+	long file = make_call(target, SYS_openat, (uint64_t)AT_FDCWD, path,
+			      O_RDONLY | O_CLOEXEC, 0, 0);
+	long result;
+
+	if (file < 0)
+		return false;
+	result = make_call(target, SYS_mmap, at, SHARED_BYTES, PROT_READ,
+			   MAP_SHARED | MAP_FIXED, (uint64_t)file);
+	make_call(target, SYS_close, (uint64_t)file, 0, 0, 0, 0);
+	return result == (long)at;
+}
+
+/* Copies the image to an address, behind its head. */
+static bool copy_image(const struct target *target, uint64_t at)
+{
+	size_t size = (size_t)(image_end - image_start);
+	struct iovec here[2] = { { &head, HEAD_BYTES },
+				 { (void *)image_start, size } };
+	struct iovec there = { (void *)at, HEAD_BYTES + size };
+
+	return process_vm_writev(target->thread, here, 2, &there, 1, 0) ==
+	       (ssize_t)there.iov_len;
+}
+
+/* Maps all. Returns the image's address, or 0 if it can't. */
+static uint64_t map_all(const struct target *target)
+{
+	size_t code = (size_t)(image_end - image_start) + HEAD_BYTES;
+	size_t size = SHARED_BYTES + code;
+	long at = make_call(target, SYS_mmap, 0, size, PROT_READ | PROT_WRITE,
+			    MAP_PRIVATE | MAP_ANONYMOUS, UINT64_MAX);
+	uint64_t page = (uint64_t)at, start = page + SHARED_BYTES;
+
+	if (at < 0)
+		return 0;
+	if (copy_image(target, start) &&
+	    map_page(target, page, start + offsetof(union image_head, path)) &&
+	    !make_call(target, SYS_mprotect, start, code, PROT_READ | PROT_EXEC,
+		       0, 0))
+		return start + HEAD_BYTES;
+	make_call(target, SYS_munmap, page, size, 0, 0, 0);
+	return 0;
+}
+
+/* A filter of the program's own might end it for one of these calls. */
+uint64_t image_give(pid_t thread, uint64_t base)
+{
+	struct target target = { .thread = thread, .call = base + vdso.call };
+	uint64_t image;
+
+	if (!is_offered || filter_count(thread) != filters || !go_on(thread) ||
+	    ptrace(PTRACE_GETREGS, thread, 0, &target.start) ||
+	    target.start.cs != CODE_64)
+		return 0;
+	head.gettime = (host_clock *)(base + vdso.gettime);
+	image = map_all(&target);
+	ptrace(PTRACE_SETREGS, thread, 0, &target.start);
+	return image;
+}

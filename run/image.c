@@ -1,0 +1,122 @@
+/* SPDX-License-Identifier: MIT OR Apache-2.0 */
+/*
+ * The vDSO of programs without the library. It reads the clocks where they are
+ * mapped in front of it. For all that it can't read it makes the system call,
+ * which the filter sends to tkrun. It runs before a program has set up anything,
+ * also on the small stacks of Go. So it has no data and no thread-local
+ * variables, and calls nothing but libtkcore.a and the kernel's own vDSO.
+ */
+#define _GNU_SOURCE
+#include "image.h"
+
+#include <sys/syscall.h>
+
+enum { TRIES_MOST = 100000 }; /* while a writer is inside */
+
+#define OFFERED __attribute__((visibility("default")))
+
+/* The image's first byte. The linker defines it. */
+extern const char __ehdr_start[] __attribute__((visibility("hidden")));
+
+/* Returns an address in front of the image, where the compiler knows of nothing. */
+static const void *in_front(size_t bytes)
+{
+	const char *start = __ehdr_start;
+
+	__asm__("" : "+r"(start));
+	return start - bytes;
+}
+
+/* What a read needs. */
+struct look {
+	uint64_t words[TKC_LATCH_WORDS], reading;
+	uint64_t next; /* the reading at which the next second begins */
+	bool has_next;
+};
+
+/* Does a reader's steps once. Returns false if a writer was inside. */
+static bool try_look(const struct shared_page *shared, struct look *look)
+{
+	const struct tkc_page *page = &shared->page;
+	uint64_t sequence = atomic_load_explicit(&page->sequence,
+						 memory_order_acquire);
+	const struct next_second *next = &shared->seconds[sequence / 2 % 2];
+	const union image_head *head = in_front(HEAD_BYTES);
+
+	if (sequence % 2) {
+		__builtin_ia32_pause();
+		return false;
+	}
+	tkc_words_load(page->copies[sequence / 2 % 2], look->words,
+		       TKC_LATCH_WORDS);
+	look->next = atomic_load_explicit(&next->reading, memory_order_relaxed);
+	look->has_next =
+		atomic_load_explicit(&next->is_known, memory_order_relaxed);
+	look->reading = early_reading(shared, head->gettime);
+	fence_reading();
+	return !tkc_page_moved(&page->sequence, sequence);
+}
+
+/* Reads a clock of the page. Returns false if tkrun has to: a writer doesn't
+ * end, or the next second has to begin first, or the clock has no time. */
+static bool read_clock(uint32_t clock, struct tkc_time *out)
+{
+	const struct shared_page *shared = in_front(HEAD_BYTES + SHARED_BYTES);
+	struct tkc_snapshot snapshot;
+	struct look look;
+	int tries = 0;
+
+	while (!try_look(shared, &look)) {
+		if (++tries > TRIES_MOST)
+			return false;
+	}
+	if (look.has_next && is_past(shared, look.reading, look.next))
+		return false;
+	return !tkc_words_checked(&snapshot, look.words) &&
+	       !tkc_snapshot_get(out, &snapshot, clock, look.reading);
+}
+
+/* Returns whether the clocks of tkrun have a clock by its own number. */
+static bool has_clock(clockid_t clock)
+{
+	const unsigned int clocks =
+		1U << CLOCK_REALTIME | 1U << CLOCK_MONOTONIC |
+		1U << CLOCK_MONOTONIC_RAW | 1U << CLOCK_REALTIME_COARSE |
+		1U << CLOCK_MONOTONIC_COARSE | 1U << CLOCK_BOOTTIME |
+		1U << CLOCK_TAI;
+
+	return clock >= 0 && clock <= CLOCK_TAI && clocks >> clock & 1;
+}
+
+OFFERED int __vdso_clock_gettime(clockid_t clock, struct timespec *out)
+{
+	struct tkc_time now;
+
+	if (!has_clock(clock) || !read_clock((uint32_t)clock, &now))
+		return (int)host_call(SYS_clock_gettime, clock, (long)out, 0, 0,
+				      0, 0);
+	*out = (struct timespec){ now.sec, now.nsec };
+	return 0;
+}
+
+OFFERED int __vdso_gettimeofday(struct timeval *out, struct timezone *zone)
+{
+	struct tkc_time now;
+
+	if (!out || zone || !read_clock(TKC_CLOCK_REALTIME, &now))
+		return (int)host_call(SYS_gettimeofday, (long)out, (long)zone,
+				      0, 0, 0, 0);
+	*out = (struct timeval){ now.sec, now.nsec / 1000 };
+	return 0;
+}
+
+OFFERED time_t __vdso_time(time_t *out)
+{
+	struct tkc_time now;
+
+	if (!read_clock(TKC_CLOCK_REALTIME_COARSE, &now))
+		return host_call(SYS_time, (long)out, 0, 0, 0, 0, 0);
+	if (out)
+		*out = now.sec;
+	return now.sec;
+}
