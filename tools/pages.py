@@ -47,5 +47,5 @@ class Page:
 def pages():
     """Every page of the repository."""
     names = ["*.md", "docs/*.md", "bench/*.md", "crates/*/README.md", "crates/*/CALLING.md",
-             "bindings/*/README.md"]
+             "bindings/*/README.md", "examples/**/README.md"]
     return [Page(path) for name in names for path in sorted(ROOT.glob(name))]
