@@ -20,5 +20,6 @@ pub mod ReadBack
 pub mod Seconds
 pub mod Settled
 pub mod TaiKept
+pub mod Staged
 pub mod Multipliers
 pub mod Worked

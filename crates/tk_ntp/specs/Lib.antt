@@ -22,4 +22,5 @@ pub mod History
 pub mod Account
 pub mod Asked
 pub mod Applied
+pub mod Staged
 pub mod Numbers

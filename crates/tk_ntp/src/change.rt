@@ -42,14 +42,14 @@ impl Change {
     }
 
     /// Returns the command for the tick, if the tick changes.
-    pub(crate) fn tick_command(self) -> Option<Command>
+    pub fn tick_command(self) -> Option<Command>
         ensures { result ≡ tick_command self }
     {
         self.tick.map(Command::Tick)
     }
 
     /// Returns the command for the frequency, if the frequency changes.
-    pub(crate) fn frequency_command(self) -> Option<Command>
+    pub fn frequency_command(self) -> Option<Command>
         ensures { result ≡ frequency_command self }
     {
         self.frequency.map(Command::Freq)

@@ -46,7 +46,7 @@ impl Leap {
 
     /// Returns the command that makes the leap, at the TAI offset in force, in seconds. It moves
     /// REALTIME and sets the TAI offset, or steps REALTIME if the TAI offset stays.
-    pub(crate) fn command(self, tai: u32) -> Command
+    pub fn command(self, tai: u32) -> Command
         ensures { result ≡ leap_command self tai }
     {
         let by = self.seconds();

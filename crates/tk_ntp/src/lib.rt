@@ -7,12 +7,14 @@
 //! | `Timex`, `Reply`, `TimeState` | a request, the reply to it, and the clock's state in it |
 //! | `Leap` | what REALTIME leaps by as a second begins |
 //! | `SteeredClock` | the clocks of a counter, steered by a discipline |
+//! | `BegunSecond`, `request_of` | a second that began; the request that a command acts as |
 //! | `Steering`, `Lag` | a discipline with what its clock lags behind; the commands of a second |
 //! | `Rate`, `Change` | the frequency and the tick for a length, and the commands that set them |
 //! | `SteeredNumbers` .. | a discipline in plain numbers, as C code holds it |
 //! | `ADJ_OFFSET` .., `STA_PLL` .. | the bits of a request's `modes`, and of a status |
 #![tactic(auto)]
 
+mod begun_second;
 mod bits;
 mod change;
 mod discipline;
@@ -30,6 +32,7 @@ mod steered_clock;
 mod steering;
 mod timex;
 
+pub use begun_second::BegunSecond;
 pub use bits::{
     ADJ_ADJTIME, ADJ_ESTERROR, ADJ_FREQUENCY, ADJ_MAXERROR, ADJ_MICRO, ADJ_NANO, ADJ_OFFSET,
     ADJ_READONLY, ADJ_SETOFFSET, ADJ_STATUS, ADJ_TAI, ADJ_TICK, ADJ_TIMECONST, STA_CLOCKERR,
@@ -42,6 +45,6 @@ pub use leap::Leap;
 pub use numbers::{DisciplineNumbers, LagNumbers, LeapNumbers, SteeredNumbers, SteeringNumbers};
 pub use rate::Rate;
 pub use reply::{Reply, TimeState};
-pub use steered_clock::SteeredClock;
+pub use steered_clock::{SteeredClock, request_of};
 pub use steering::Steering;
 pub use timex::Timex;

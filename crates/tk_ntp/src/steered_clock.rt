@@ -4,10 +4,12 @@ mod advancing;
 mod asking;
 mod commanding;
 mod numbers;
+mod staging;
 
 use crate::discipline::Discipline;
 use crate::rate::Rate;
 use crate::steering::Steering;
+pub use asking::request_of;
 use std::marker::Model;
 use tk_clock::{Clock, ClockId, Refusal, Snapshot, Timespec};
 use tk_counter::CounterDesc;

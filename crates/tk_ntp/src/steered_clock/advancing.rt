@@ -52,8 +52,9 @@ impl SteeredClock {
         Ok(())
     }
 
-    /// Returns the refusal of a call at a reading.
-    fn test(&self, reading: u64) -> Result<(), Refusal>
+    /// Tests a reading for `begin_due` and `command`: returns the errors of `advance`, and changes
+    /// nothing.
+    pub fn test(&self, reading: u64) -> Result<(), Refusal>
         ensures { MatchResult result
             (λ _. reading_refusal reading self.now ≡ None)
             (λ refusal. reading_refusal reading self.now ≡ Some refusal) }
@@ -85,7 +86,7 @@ impl SteeredClock {
     }
 
     /// Returns the reading at which the next second of REALTIME begins, if it is not after `reading`.
-    fn due(&self, reading: u64) -> Option<u64>
+    pub(super) fn due(&self, reading: u64) -> Option<u64>
         ensures answer { MatchOption result
             (IsNoneDue self.now reading)
             (λ at. IsDue self.now reading at) }
@@ -104,7 +105,7 @@ impl SteeredClock {
     /// Lets the next second of REALTIME begin at a reading, in cycles, with the commands that it
     /// needs.
     #[tactic(auto, using(crate::proofs::Seconds::fewer))]
-    fn begin(&mut self, reading: u64)
+    pub(super) fn begin(&mut self, reading: u64)
         requires { self.old.next < clock_end }
         ensures state { self.new ≡ second_begun_at reading self.old }
         ensures fewer { seconds_left self.new < seconds_left self.old }

@@ -104,8 +104,17 @@ impl SteeredClock {
         self.request(reading, request)
     }
 
-    /// Does what a request asks for beyond its step.
-    fn request(&mut self, reading: u64, request: &Timex) -> Result<Reply, Refusal>
+    /// Does what a request without a fault asks for beyond its step (`Timex::step`), after the seconds
+    /// up to the reading have begun (`begin_due`). It is the last part of `adjtimex`.
+    ///
+    /// The clocks get the TAI offset, the tick and the frequency, each if it changed.
+    ///
+    /// # Errors
+    ///
+    /// - `Invalid`: `reading` is above the mask. Nothing changes.
+    /// - `Range`: REALTIME would be at its limit. Nothing changes.
+    /// - The errors of `Clock::apply`: the clocks refuse the TAI offset. Nothing changes.
+    pub fn request(&mut self, reading: u64, request: &Timex) -> Result<Reply, Refusal>
         requires sound { is_faulty request.now ≡ false }
         ensures { IsRequested reading request.now self.old result self.new }
     {
@@ -194,8 +203,9 @@ fn changes_rate(modes: u32) -> bool
     has(modes, ADJ_OFFSET | ADJ_FREQUENCY | ADJ_TICK) && !has(modes, ADJ_ADJTIME)
 }
 
-/// Returns the request that a command acts as.
-fn request_of(cmd: Command) -> Option<Timex>
+/// Returns the request that a command acts as in `SteeredClock::apply`. `None` means that it is
+/// none: it is neither `Freq` nor `Tick`.
+pub fn request_of(cmd: Command) -> Option<Timex>
     ensures { result ≡ request_of cmd }
 {
     match cmd {

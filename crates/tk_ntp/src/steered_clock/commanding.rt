@@ -78,8 +78,15 @@ impl SteeredClock {
     }
 
     /// Applies a command that is neither `Freq` nor `Tick`, after the seconds up to its reading have
-    /// begun. A refused command changes nothing.
-    pub(super) fn command(&mut self, reading: u64, cmd: Command) -> Result<(), Refusal>
+    /// begun (`begin_due`). It is the part of `apply` that lets no second begin.
+    ///
+    /// The clocks get the command, and then the tick and the frequency at the same reading, if `rate`
+    /// changed.
+    ///
+    /// # Errors
+    ///
+    /// The errors of `Clock::apply`. Nothing changes then.
+    pub fn command(&mut self, reading: u64, cmd: Command) -> Result<(), Refusal>
         ensures { IsCommanded reading cmd self.old result self.new }
     {
         let mut clock = self.clock;

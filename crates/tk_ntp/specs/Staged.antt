@@ -1,0 +1,38 @@
+-- Single seconds and their commands, for owners of a journal.
+use Rattle.std.specs.Prelude.{◌≡◌, ℕ, ◌+◌, nat_eq, Option, Some, None, MatchOption, if◌then◌else◌}
+use Rattle.tk_clock.specs.declared.refusal.Refusal.{Refusal}
+use Rattle.tk_clock.specs.Refusal.{state_refusal}
+use Rattle.tk_ntp.specs.declared.begun_second.BegunSecond.{BegunSecond}
+use Rattle.tk_ntp.specs.declared.leap.Leap.{Leap}
+use Rattle.tk_ntp.specs.declared.leap.Leap.TheVariants.{None as NoLeap, Insert, Delete}
+use Rattle.tk_ntp.specs.Advance.{leap_of_clock, second_begun_at, IsDue, IsNoneDue}
+use Rattle.tk_ntp.specs.Second.{leap_at}
+use Rattle.tk_ntp.specs.SteeredClock.{SteeredClock}
+
+-- the leap that is made: none if the clocks refuse it
+abbrev pub unless_refused : Option Refusal → Leap → Leap
+unless_refused (Some refusal) leap = NoLeap
+unless_refused None leap = leap
+
+-- the leap that steered clocks make as their next second begins at a reading
+abbrev pub leap_made : ℕ → SteeredClock → Leap
+leap_made reading steered =
+    let leap = leap_at steered.steering.ntp steered.next in
+    unless_refused (state_refusal steered.clock reading (leap_of_clock leap steered.clock)) leap
+
+-- the leap between two seconds that begin next, as the second between them begins: REALTIME goes
+-- back by a second at an insertion, and over one at a deletion
+abbrev pub leap_between : ℕ → ℕ → Leap
+leap_between before after =
+    if nat_eq after before then Insert
+    else if nat_eq after (before + 2) then Delete
+    else NoLeap
+
+-- just the next second began, if REALTIME reaches it up to a reading
+abbrev pub IsOneBegun : ℕ → SteeredClock → Option BegunSecond → SteeredClock → Type 0
+IsOneBegun reading before result after =
+    MatchOption result
+    (IsNoneDue before reading × (after ≡ before))
+    (λ second. IsDue before reading second.reading
+    × (second.leap ≡ leap_made second.reading before)
+    × (after ≡ second_begun_at second.reading before))
