@@ -1,6 +1,6 @@
-//! Makes reports of scripts, one line for each record and a second one after a read that differs, and
-//! traces of stamp files, one line for each stamp; and runs races. The crate only re-exports calls and types of the crates below it, so that
-//! a caller can import them by one name.
+//! Makes reports of scripts, one line for each record and a second one after a read that differs;
+//! and traces of stamp files, one line for each stamp; and runs races. The crate only re-exports
+//! calls and types of the crates below it, so that a caller can import them by one name.
 //!
 //! | Item | Its meaning |
 //! |---|---|

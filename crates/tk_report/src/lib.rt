@@ -1,5 +1,5 @@
-//! Makes reports of scripts, one line for each record and a second one after a read that differs, and
-//! traces of stamp files, one line for each stamp.
+//! Makes reports of scripts, one line for each record and a second one after a read that differs;
+//! and traces of stamp files, one line for each stamp.
 //!
 //! | Item | Its meaning |
 //! |---|---|
