@@ -275,13 +275,16 @@ void exec_print_missed(void)
 			missed_count - MISSED_MOST);
 }
 
-/* A thread that is gone has nothing to execute. */
+/* A thread that is killed meanwhile has nothing to execute. */
 void exec_follow(int listener, const struct seccomp_notif *ask)
 {
+	int error = 0;
+
 	if (ptrace(PTRACE_SEIZE, ask->pid, 0,
-		   PTRACE_O_TRACEEXEC | PTRACE_O_TRACESYSGOOD) &&
-	    errno != ESRCH)
-		note_missed(ask, errno);
+		   PTRACE_O_TRACEEXEC | PTRACE_O_TRACESYSGOOD))
+		error = errno;
+	if (error && filter_has_call(listener, ask->id))
+		note_missed(ask, error);
 	filter_continue(listener, ask->id);
 }
 

@@ -143,6 +143,13 @@ class Static(RunTest):
         names = re.findall("'(.*)' couldn't be traced", run.stderr)
         self.assertEqual(names, [f"{os.path.realpath(folder)}/./static_reads"], run.stderr)
 
+    def test_programs_that_are_killed_when_they_start(self):
+        # at most 0.9 ms later
+        kill = "read -t 0.000$((RANDOM % 10)) none </dev/zero; kill -9 $!; wait $!"
+        run = self.start("--static", "--", "bash", "-c", "exec 2>/dev/null; for i in {1..300}; do "
+                         f"{program('static_reads')} deny >/dev/null & {kill}; done")
+        self.assertNotIn("couldn't be traced", run.stderr)
+
     def log(self, name, *options):
         """The lines of --log, without the number of the process."""
         log = self.folder / name
