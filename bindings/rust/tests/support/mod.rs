@@ -4,7 +4,7 @@
 
 use std::{env, fs};
 
-use tkcore::{Clock, ClockId, Command, Counter, Refusal, Timespec};
+use tkcore::{Clock, ClockId, ClockWords, Command, Counter, Refusal, Timespec, WORDS};
 
 /// A part of a table in C: a number, a name without `TKC_`, or a list in braces.
 #[derive(Clone, Debug, PartialEq)]
@@ -162,6 +162,22 @@ pub fn command(word: &Item, number: i64, nsec: u32) -> Option<Command> {
         "CMD_LEAP" => Command::Leap { by: number, tai: nsec },
         other => panic!("no command is named {other}"),
     })
+}
+
+/// Returns the refusal of a call, or `None` if it succeeded.
+pub fn of<T>(made: &Result<T, Refusal>) -> Option<Refusal> {
+    made.as_ref().err().copied()
+}
+
+fn words_of(numbers: &[u64]) -> [u64; WORDS] {
+    numbers.try_into().expect("ten words")
+}
+
+/// Returns the words that a constant of tests/c lists.
+pub fn stored(file: &str, name: &str) -> ClockWords {
+    let items = table(file, name);
+    let words = words_of(&items[0].numbers::<u64>());
+    ClockWords { words, frequency: items[1].number(), tick: items[2].number() }
 }
 
 pub const START: Timespec = Timespec { sec: 1_700_000_000, nsec: 0 };
