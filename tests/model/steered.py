@@ -113,7 +113,7 @@ class SteeredOrders(Orders):
         return fields
 
     def command(self, reading):
-        words = ["update", "update", "set", "step", "freq", "tick", "tai", "suspend", "resume"]
+        words = ["update", "update", "set", "step", "leap", "freq", "tick", "tai", "suspend", "resume"]
         word = self.random.choice(words + 30 * ["resume"] if self.asleep else words)
         self.asleep = word == "suspend" or self.asleep and word != "resume"
         if word in ("update", "suspend"):
@@ -124,6 +124,8 @@ class SteeredOrders(Orders):
             day = self.random.randrange(1, 20_000) * DAY
             numbers = [self.random.choice([day - self.random.randrange(1, 6), self.number()]),
                        self.random.randrange(NANOS)]
+        elif word == "leap":
+            numbers = [self.random.choice([-1, 1, self.number()]), self.random.choice([0, 37, 100_000, self.number()])]
         elif word == "resume" and self.random.randrange(10):
             numbers = [self.random.choice([0, 1, 3, 100_000]), self.random.randrange(NANOS)]
         else:

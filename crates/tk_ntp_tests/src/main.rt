@@ -14,7 +14,7 @@
 //! | `open,BITS,MULT,SHIFT,READING,SEC,NSEC,HZ` | opens steered clocks: `open,CLOCKS` or `no,REFUSAL` |
 //! | `advance,READING` | `ok,CLOCKS`, after `no,REFUSAL` if it is refused |
 //! | `ask,READING,MODES,..` | a request, whose fields are those of `adjtimex`: a reply without its LENGTH, or `no,REFUSAL`; then `ok,CLOCKS` |
-//! | `update,READING`, `suspend,READING`, `freq,READING,N`, `tick,READING,N`, `tai,READING,N`, `set,READING,SEC,NSEC`, `step,READING,SEC,NSEC`, `resume,READING,SEC,NSEC` | a command to them: as for `advance` |
+//! | `update,READING`, `suspend,READING`, `freq,READING,N`, `tick,READING,N`, `tai,READING,N`, `set,READING,SEC,NSEC`, `step,READING,SEC,NSEC`, `leap,READING,BY,TAI`, `resume,READING,SEC,NSEC` | a command to them: as for `advance` |
 //!
 //! CLOCKS is `LAST,SEC,FRAC,REAL_OFFSET,BOOT_OFFSET,TAI,FREQUENCY,TICK,ASLEEP,NEXT`: the last
 //! reading, MONOTONIC there, the offsets, the rate in force, whether the clocks are asleep, and the

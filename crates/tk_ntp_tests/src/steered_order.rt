@@ -72,6 +72,7 @@ fn command_of(word: &str, numbers: &[i64]) -> Option<Command> {
     match numbers {
         [] => plain_command(word),
         [number] => number_command(word, *number),
+        [by, tai] if word == "leap" => Some(Command::Leap { by: *by, tai: *tai }),
         [sec, nsec] => time_command(word, time_of(*sec, *nsec)?),
         _ => None,
     }

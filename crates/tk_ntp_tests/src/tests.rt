@@ -4,6 +4,7 @@ use std::test::Fail;
 use tk_clock::Timespec;
 use tk_ntp::{Discipline, Leap, Reply, TimeState, Timex};
 
+mod lags;
 mod leaps;
 mod loops;
 mod rates;
