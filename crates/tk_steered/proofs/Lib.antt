@@ -1,0 +1,6 @@
+pub mod Changes
+pub mod Leads
+pub mod Entries
+pub mod Advances
+pub mod Folds
+pub mod Clocks

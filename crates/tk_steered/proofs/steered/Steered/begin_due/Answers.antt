@@ -1,0 +1,87 @@
+use Rattle.std.proofs.Common.{◌≡◌, ◌∙◌, ap, sym, subst, ℕ, Option, true}
+use Rattle.std.specs.Prelude.{unsigned_abs}
+use Rattle.std.proofs.lemmas.Result.{err_from_is_err_and}
+use Rattle.tk_clock.specs.declared.command.Command.{Command}
+use Rattle.tk_clock.specs.Snapshot.{Snapshot}
+use Rattle.tk_ntp.specs.declared.leap.Leap.{Leap}
+use Rattle.tk_ntp.specs.Advance.{IsDue, second_begun_at, tai_of_clock}
+use Rattle.tk_ntp.specs.Staged.{leap_made}
+use Rattle.tk_ntp.specs.SteeredClock.{SteeredClock}
+use Rattle.tk_steered.specs.Begun.{command_of, leap_command_at, second_logged}
+use Rattle.tk_steered.specs.Commands.{Lead, commands_between}
+use Rattle.tk_steered.specs.Logged.{Logged, SteeredKeeper, has_room, moved}
+use Rattle.tk_steered.proofs.Leads.{second-leads}
+use Rattle.tk_steered.proofs.steered.Steered.begin_due.Goals as goal
+
+-- the first command of a second is the one of its leap
+first_is : (at tai : ℕ) (clock : SteeredClock) (leap : Leap) (cmd : Option Command) →
+    cmd ≡ leap_command_at leap tai → leap ≡ leap_made at clock → tai ≡ tai_of_clock clock.clock →
+    cmd ≡ command_of (leap_made at clock) clock
+first_is at tai clock leap cmd is made same =
+    is ∙ ap (λ l. leap_command_at l tai) made ∙ ap (leap_command_at (leap_made at clock)) same
+
+second-lead : (at : ℕ) (clock next : SteeredClock) (cmd : Option Command) (logged : Logged) →
+    cmd ≡ command_of (leap_made at clock) clock → next ≡ second_begun_at at clock →
+    clock ≡ logged.clock →
+    Lead at (commands_between cmd logged.clock.clock next.clock) logged.clock.clock next.clock
+second-lead at clock next cmd logged is begun same =
+    subst (λ (s : SteeredClock). Lead at (commands_between cmd s.clock next.clock) s.clock next.clock)
+    same
+    (subst (λ (n : SteeredClock). Lead at (commands_between cmd clock.clock n.clock) clock.clock
+    n.clock) (sym begun)
+    (subst (λ c. Lead at (commands_between c clock.clock (second_begun_at at clock).clock)
+    clock.clock (second_begun_at at clock).clock) (sym is)
+    (second-leads at clock)))
+
+second-moved : (who at : ℕ) (clock next : SteeredClock) (cmd : Option Command)
+    (before logged : Logged) →
+    cmd ≡ command_of (leap_made at clock) clock → next ≡ second_begun_at at clock →
+    clock ≡ before.clock → logged ≡ before →
+    moved who at cmd next logged ≡ second_logged who at before
+second-moved who at clock next cmd before logged is begun same kept =
+    ap (moved who at cmd next) kept
+    ∙ ap (λ (n : SteeredClock). moved who at cmd n before) begun
+    ∙ ap (λ c. moved who at c (second_begun_at at clock) before) is
+    ∙ ap (λ (s : SteeredClock). moved who at (command_of (leap_made at s) s)
+    (second_begun_at at s) before) same
+
+pub returns-in_err-make_room-clause-begun : goal.returns-in_err-make_room-clause-begun
+returns-in_err-make_room-clause-begun g c =
+    let p = err_from_is_err_and c.from_residual.result c.from_residual.ensures.1 in
+    let due = subst (λ (k : SteeredKeeper). IsDue k.logged.clock c.args.reading
+    c.in-Some.second.reading) c.self.view_is c.in-Some.ensures.begun.0 in
+    rw (p.1, p.2)
+    (c.make_room.ensures.logged, (c.in-Some.second.reading, due), c.in_err-make_room.ensures.answer)
+
+pub take-requires-clause-lead : goal.take-requires-clause-lead
+take-requires-clause-lead g c =
+    let clock = c.self.inside.clock in
+    let at = c.in-Some.second.reading in
+    let tai : c.tai.result ≡ tai_of_clock clock.clock = ap unsigned_abs c.tai.ensures
+    ∙ ap (λ (s : Snapshot). unsigned_abs s.base.tai) c.snapshot.ensures in
+    let first = first_is at c.tai.result clock c.in-Some.second.leap c.leap_command-first.result
+    c.leap_command-first.ensures c.in-Some.ensures.begun.1 tai in
+    second-lead at clock c.begin_due.new.self c.leap_command-first.result
+    c.make_room.new.self.logged first c.in-Some.ensures.begun.2
+    (ap (λ (k : SteeredKeeper). k.logged.clock) c.self.view_is
+    ∙ ap (λ (l : Logged). l.clock) (sym c.make_room.ensures.logged))
+
+pub returns-clause-begun : goal.returns-clause-begun
+returns-clause-begun g c =
+    let clock = c.self.inside.clock in
+    let at = c.in-Some.second.reading in
+    let tai : c.tai.result ≡ tai_of_clock clock.clock = ap unsigned_abs c.tai.ensures
+    ∙ ap (λ (s : Snapshot). unsigned_abs s.base.tai) c.snapshot.ensures in
+    let first = first_is at c.tai.result clock c.in-Some.second.leap c.leap_command-first.result
+    c.leap_command-first.ensures c.in-Some.ensures.begun.1 tai in (
+      at,
+      subst (λ (k : SteeredKeeper). IsDue k.logged.clock c.args.reading at) c.self.view_is
+          c.in-Some.ensures.begun.0,
+      subst (λ (l : Logged). has_room 3 l.journal ≡ true) c.make_room.ensures.logged
+          c.in_ok-make_room.ensures.answer.0,
+      c.take.ensures.logged
+          ∙ second-moved c.args.who at clock c.begin_due.new.self c.leap_command-first.result
+          c.args.self.now.logged c.make_room.new.self.logged first c.in-Some.ensures.begun.2
+          (ap (λ (k : SteeredKeeper). k.logged.clock) c.self.view_is)
+          c.make_room.ensures.logged,
+    )

@@ -1,0 +1,5 @@
+pub mod Commands
+pub mod Logged
+pub mod Begun
+pub mod Answered
+pub mod Applied

@@ -1,0 +1,120 @@
+ghost use Rattle.std.specs.Prelude.{◌≡◌, ◌+◌, ◌≤◌, MatchResult, MatchOption, Some, None, true};
+
+mod advancing;
+mod asking;
+mod entering;
+mod folding;
+
+use std::alloc::{Allocator, Global};
+use std::marker::Model;
+use tk_clock::{Refusal, Timespec};
+use tk_counter::CounterDesc;
+use tk_keeper::Timekeeper;
+use tk_ntp::SteeredClock;
+
+/// The most entries that a second of REALTIME makes as it begins, and that a command makes: one, and
+/// one each for the tick and the frequency.
+pub const SECOND_ENTRIES: usize = 3;
+
+/// The most entries that a request makes: a step, the TAI offset, and twice the tick and the
+/// frequency.
+pub const REQUEST_ENTRIES: usize = 6;
+
+/// Keeps the clocks of one counter, steered by a discipline, and the journal of all commands that
+/// they are given: those of its callers, and those that the discipline gives.
+///
+/// Its clocks are always the clocks of its journal. It has no source of time: the caller passes the
+/// counter's reading with each call. It contains no lock.
+#[derive(Drop)]
+pub struct Steered<A: Allocator = Global> {
+    /// Contains the clocks and their journal.
+    keeper: Timekeeper<A>,
+    /// Contains the same clocks with their discipline.
+    clock: SteeredClock,
+}
+
+impl<A: Allocator> Model for Steered<A> {
+    ghost use Rattle.std.specs.Prelude.{◌≡◌};
+    ghost use Rattle.tk_clock.specs.State.{state_of};
+    ghost use Rattle.tk_steered.specs.Logged.{SteeredKeeper};
+
+    ghost Value = { SteeredKeeper };
+
+    ghost view = { λ a. record {
+      logged = record { journal = a.keeper.journal; clock = a.clock };
+      spare = a.keeper.spare;
+    } };
+
+    ghost invariant = { λ a. a.clock.clock ≡ state_of a.keeper.journal };
+}
+
+impl<A: Allocator + Copy> Steered<A> {
+    ghost use Rattle.tk_clock.specs.declared.clock_id.ClockId.TheVariants.{Realtime};
+    ghost use Rattle.tk_clock.specs.Legal.{IsLegal};
+    ghost use Rattle.tk_clock.specs.Reach.{IsFirstReached, IsNeverReached};
+    ghost use Rattle.tk_clock.specs.State.{state_of};
+    ghost use Rattle.tk_clock.specs.Time.{nanoseconds};
+    ghost use Rattle.tk_ntp.specs.Advance.{second_time};
+    ghost use Rattle.tk_ntp.specs.SteeredClock.{steered_refusal};
+    ghost use Rattle.tk_steered.specs.Logged.{logged_opened};
+
+    /// Opens the clocks of the counter `desc` at `reading`, in cycles, with an empty journal and a
+    /// fresh discipline. They are awake and at their usual rate, MONOTONIC is 0 and REALTIME is
+    /// `real`. Later calls allocate from `alloc`.
+    ///
+    /// `hz` is the number of parts of a second that phases are divided into, as in
+    /// `Discipline::new`.
+    ///
+    /// # Errors
+    ///
+    /// `Refusal::Invalid`: the errors of `SteeredClock::open`.
+    pub fn open(
+        alloc: A,
+        desc: CounterDesc,
+        reading: u64,
+        real: Timespec,
+        hz: u32,
+    ) -> Result<Steered<A>, Refusal>
+        ensures { MatchResult result
+            (λ steered. (steered_refusal desc reading real hz ≡ None)
+            × (steered.logged ≡ logged_opened desc reading real hz) × (steered.spare ≡ 0))
+            (λ refusal. steered_refusal desc reading real hz ≡ Some refusal) }
+    {
+        let keeper = Timekeeper::open(alloc, desc, reading, real)?;
+        let clock = SteeredClock::open(desc, reading, real, hz)?;
+        Ok(Steered { keeper, clock })
+    }
+
+    /// Returns the clocks with their journal: `get`, `snapshot`, `snapshot_at`, `trace`, `entry` and
+    /// `len` are its calls.
+    pub fn keeper(&self) -> &Timekeeper<A>
+        ensures journal { result.now.journal ≡ self.now.logged.journal }
+        ensures spare { result.now.spare ≡ self.now.spare }
+        ensures legal { IsLegal self.now.logged.journal }
+    {
+        // the journal is legal
+        let _count = self.keeper.len();
+        &self.keeper
+    }
+
+    /// Returns the same clocks with their discipline: `rate`, `numbers` and `is_next_further` are its
+    /// calls. A change of the returned copy doesn't change these clocks.
+    pub fn clock(&self) -> SteeredClock
+        ensures value { result ≡ self.now.logged.clock }
+        // they are the clocks of the journal
+        ensures running { result.clock ≡ state_of self.now.logged.journal }
+    {
+        self.clock
+    }
+
+    /// Returns the first reading, in cycles, at which the next second of REALTIME has begun: the one
+    /// to set a timer to (`SteeredClock::next_second`).
+    pub fn next_second(&self) -> Option<u64>
+        ensures { let nanos = nanoseconds (second_time self.now.logged.clock.next) in
+            MatchOption result
+            (IsNeverReached self.now.logged.clock.clock.base Realtime nanos)
+            (λ reading. IsFirstReached self.now.logged.clock.clock.base Realtime nanos reading) }
+    {
+        self.clock.next_second()
+    }
+}

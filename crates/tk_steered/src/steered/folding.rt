@@ -1,0 +1,45 @@
+//! Folds the journal, and reserves memory for its entries.
+ghost use Rattle.std.specs.Prelude.{◌≡◌, ◌-◌, ◌<◌, ◌≤◌, MatchResult, length, max, min};
+ghost use Rattle.tk_clock.specs.Folding.{folded_by};
+ghost use Rattle.tk_clock.specs.Journal.{accepted_count};
+ghost use Rattle.tk_clock.specs.Limits.{listed_most};
+ghost use Rattle.tk_clock.specs.declared.refusal.Refusal.TheVariants.{Memory};
+ghost use Rattle.tk_keeper.specs.Past.{IsFolded};
+
+use super::Steered;
+use std::alloc::Allocator;
+use tk_clock::Refusal;
+
+impl<A: Allocator + Copy> Steered<A> {
+    /// Folds the oldest entries into the journal's opening, so that at most `keep` entries stay
+    /// listed, and returns the number of commands folded so far (`Timekeeper::fold`). The clocks and
+    /// their discipline stay.
+    pub fn fold(&mut self, keep: u64) -> u64
+        ensures answer { let before = self.old.logged.journal in
+            result ≡ max before.opening.count (accepted_count before - keep) }
+        ensures journal { let before = self.old.logged.journal in
+            self.new.logged.journal ≡ folded_by (result - before.opening.count) before }
+        ensures same { IsFolded self.old.logged.journal self.new.logged.journal }
+        ensures clock { self.new.logged.clock ≡ self.old.logged.clock }
+        ensures spare { self.old.spare ≤ self.new.spare }
+    {
+        self.keeper.fold(keep)
+    }
+
+    /// Reserves memory for `extra` more entries, or for the number that the journal may still list if
+    /// that is lower (`Timekeeper::reserve`).
+    ///
+    /// # Errors
+    ///
+    /// `Memory` if that memory can't be allocated.
+    pub fn reserve(&mut self, extra: usize) -> Result<(), Refusal>
+        ensures answer { let wanted = min extra (listed_most - length self.old.logged.journal.entries) in
+            MatchResult result
+            (λ _. wanted ≤ self.new.spare)
+            (λ refusal. (refusal ≡ Memory) × (self.new.spare < wanted)) }
+        ensures logged { self.new.logged ≡ self.old.logged }
+        ensures spare { self.old.spare ≤ self.new.spare }
+    {
+        self.keeper.reserve(extra)
+    }
+}
