@@ -35,6 +35,8 @@ static const struct job {
 	{ "run_raw_4", CLOCK_MONOTONIC, 4, false },
 	{ "run_raw_writer", CLOCK_MONOTONIC, 1, true },
 	{ "run_coarse", CLOCK_MONOTONIC_COARSE, 1, false },
+	{ "run_static_tsc", CLOCK_MONOTONIC, 1, false },
+	{ "run_static_raw", CLOCK_MONOTONIC, 1, false },
 };
 
 static atomic_bool is_over;
