@@ -98,6 +98,13 @@ static DEFINE_MUTEX(replay_lock);
 static char *replay_text;
 static size_t replay_length;
 
+/* Returns whether a read states a value, and has given another or none. */
+static bool is_different(const struct entry *entry)
+{
+	return entry->row.has_value &&
+	       (entry->code || tkc_time_ns(&entry->time) != entry->row.value);
+}
+
 static void show_answers(struct seq_file *file, struct script *script)
 {
 	struct tkc_snapshot snapshot;
@@ -122,6 +129,9 @@ static void show_answers(struct seq_file *file, struct script *script)
 			entry.code = tkc_snapshot_get(&entry.time, &snapshot,
 						      clock, row->reading);
 		print_answer(file, &entry);
+		if (is_different(&entry))
+			seq_printf(file, "differs,%zu,%llu\n", i + 2,
+				   row->value);
 	}
 }
 
