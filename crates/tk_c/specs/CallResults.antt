@@ -1,4 +1,4 @@
--- The code of a call on steered clocks, and the count after it.
+-- The code of a call that is counted, and the count after it.
 use Rattle.std.specs.Prelude.{ℕ, ◌+◌, ⊤, Result, Ok, Err}
 use Rattle.tk_clock.specs.declared.refusal.Refusal.{Refusal}
 use Rattle.tk_c.specs.declared.code.Code.{Code}

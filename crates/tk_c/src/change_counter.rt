@@ -2,8 +2,8 @@
 ghost use Rattle.tk_c.specs.ChangeCounter.{IsChanged, KeepsCountedTimes, NeverFallsCounted};
 
 use crate::code::Code;
-use crate::counted::CountedClock;
-use tk_clock::{COUNTED_LIMIT, Refusal};
+use crate::counted::{CountedClock, count};
+use tk_clock::COUNTED_LIMIT;
 use tk_counter::CounterDesc;
 
 /// Lets the clocks go on over another counter, and counts this as a command
@@ -35,13 +35,8 @@ pub extern "C" fn tkc_clock_change_counter(
     ensures rises { NeverFallsCounted clock.old reading counter.now first clock.new }
 {
     if clock.front >= COUNTED_LIMIT {
-        return Code::from(Refusal::Full).number();
+        return Code::Full.number();
     }
-    match clock.clock.change_counter(reading, *counter, first) {
-        Ok(()) => {
-            clock.front += 1;
-            Code::Done.number()
-        }
-        Err(refusal) => Code::from(refusal).number(),
-    }
+    let called = clock.clock.change_counter(reading, *counter, first);
+    count(&mut clock.front, called)
 }

@@ -11,14 +11,15 @@ ghost use Rattle.tk_c.specs.NtpStorage.{ntp_storage};
 ghost use Rattle.tk_c.specs.Storage.{snapshot_storage};
 
 use crate::code::Code;
-use crate::counted_ntp::{CountedNtp, count};
+use crate::counted::count;
+use crate::counted_ntp::CountedNtp;
 use crate::general_registers::store_snapshot;
 use crate::named::command_named;
 use crate::ntp_storage::NtpStorage;
 use crate::reached::unreached;
 use crate::storage::SnapshotStorage;
 use crate::timex::{KernelTimex, state_number};
-use tk_clock::{COUNTED_LIMIT, Command, Refusal, Timespec};
+use tk_clock::{COUNTED_LIMIT, Command, Timespec};
 use tk_counter::CounterDesc;
 use tk_ntp::SteeredClock;
 
@@ -67,7 +68,7 @@ pub extern "C" fn tkc_ntp_advance(ntp: &mut CountedNtp, reading: u64) -> u32
     ensures { IsAdvancedTo ntp.old reading result ntp.new }
 {
     if ntp.front >= COUNTED_LIMIT {
-        return Code::from(Refusal::Full).number();
+        return Code::Full.number();
     }
     let called = ntp.steered.advance(reading);
     count(&mut ntp.front, called)
@@ -98,7 +99,7 @@ pub extern "C" fn tkc_ntp_apply(
         return Code::BadCommand.number();
     };
     if ntp.front >= COUNTED_LIMIT {
-        return Code::from(Refusal::Full).number();
+        return Code::Full.number();
     }
     apply_counted(ntp, reading, cmd)
 }
@@ -134,7 +135,7 @@ pub extern "C" fn tkc_adjtimex(
     ensures { IsNtpAnswered ntp.old reading timex.old state.old result timex.new state.new ntp.new }
 {
     if ntp.front >= COUNTED_LIMIT {
-        return Code::from(Refusal::Full).number();
+        return Code::Full.number();
     }
     ask_counted(timex, state, ntp, reading)
 }
