@@ -252,6 +252,7 @@ int main(int count, char **words)
 	start_program(&run, &before);
 	signal(SIGINT, SIG_IGN);
 	signal(SIGQUIT, SIG_IGN);
+	signal(SIGPIPE, SIG_IGN); /* nobody reads the summary */
 	drive(&run, &signals);
 	end_run(&run, is_recorded);
 	return run.status;

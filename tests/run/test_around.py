@@ -26,6 +26,19 @@ class Around(RunTest):
         self.assertEqual(self.start("--", "bash", "-c", "exit 7").returncode, 7)
         self.assertEqual(self.start("--", "bash", "-c", "kill -KILL $$").returncode, 137)
 
+    def test_a_summary_that_nobody_reads(self):
+        # the program tells its folder, which is removed also if the summary can't be written
+        run = subprocess.Popen([TKRUN, "--", "bash", "-c", "echo $TKRUN; read; exit 7"],
+                               stdin=subprocess.PIPE, stdout=subprocess.PIPE,
+                               stderr=subprocess.PIPE, text=True)
+        folder = pathlib.Path(run.stdout.readline().strip())
+        self.assertTrue(folder.exists())
+        run.stderr.close()
+        run.stdin.close()
+        self.assertEqual(run.wait(20), 7)
+        self.assertFalse(folder.exists())
+        run.stdout.close()
+
     def test_a_signal_is_passed_on(self):
         run = subprocess.Popen([TKRUN, "--quiet", "--", "bash", "-c", "echo up; exec sleep 100"],
                                stdout=subprocess.PIPE, text=True)
