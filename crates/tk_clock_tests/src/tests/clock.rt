@@ -10,6 +10,7 @@ mod reaching;
 mod reaching_random;
 mod sleep;
 mod steering;
+mod uptimes;
 mod words;
 
 use super::{are_distinct, assert_same, assert_same_at, time};
