@@ -37,7 +37,7 @@ impl SteeredClock {
         ensures answer { IsAnswered reading request.now self.old result self.new }
         // the accounts add up to what the clocks were asked for
         ensures sum { IsMarked self.old → IsBalanced reading self.old self.new }
-        // the next second is not due before the last account
+        // the last account stays after the last command, and before the next second
         ensures marked { IsMarked self.old → IsMarked self.new }
     {
         if request.is_faulty() {
