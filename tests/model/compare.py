@@ -56,12 +56,31 @@ def setting(rng, word):
 
 
 def opening(rng):
+    """The bits of a counter, its reading, whether the clocks are asleep, and the record that opens them."""
     start = [rng.choice([0, 1_700_000_000, 8_277_292_035, rng.randrange(2**32)]), rng.choice([0, 999_999_999])]
     if rng.random() < 0.2:
         counter = ["openhz", rng.choice([8, 32, 64]), rng.choice([1, 1_000, 24_000_000, 2**32 - 1]), rng.randrange(1, 601)]
-        return counter[1], counter + [rng.randrange(256)] + start
+        first = rng.randrange(256)
+        return counter[1], first, False, counter + [first] + start
     bits, mult, shift = rng.choice(COUNTERS)
-    return bits, ["open", bits, mult, shift, rng.randrange(2**bits)] + start
+    first = rng.randrange(2**bits)
+    return bits, first, False, ["open", bits, mult, shift, first] + start
+
+
+def running(rng):
+    """The same for clocks that run: those after another script, and some with a number that they can't have."""
+    journal = None
+    while journal is None:
+        journal = journal_of(bytes_of(rng, records(rng, True, False)))
+    numbers = model.numbers_of(journal)
+    if rng.random() < 0.2:
+        numbers[0] = rng.choice([1, 1_048_575, 2**32, 2**62 - 1, 2**62, 2**62 + 1, 2**64 - 1])
+    if rng.random() < 0.15:
+        place = rng.randrange(len(numbers))
+        numbers[place] = rng.choice([numbers[place] + 1, max(0, numbers[place] - 1), rng.choice(EDGES)])
+    counter, place = journal.counter, len(journal.entries)
+    record = ["openwords", counter.bits, counter.mult, counter.shift] + numbers
+    return counter.bits, journal.reading(place), journal.is_asleep_at(place), record
 
 
 def change(rng, at):
@@ -93,11 +112,12 @@ def add_values(rng, lines):
 
 
 def records(rng, has_changes, has_values=True):
-    """The records of a script, some of them with a fault, and of some scripts with changes of counter and with reads
-    that expect values."""
+    """The records of a script, some of them with a fault. With changes of counter, some scripts begin from running
+    clocks too; with values, some reads expect one."""
+    is_running = has_changes and rng.random() < 0.15
     has_changes = has_changes and rng.random() < 0.5
-    bits, first = opening(rng)
-    lines, last, asleep = [first], first[4], False
+    bits, last, asleep, first = running(rng) if is_running else opening(rng)
+    lines = [first]
     words = ["update", "set", "step", "freq", "tick", "tai", "suspend", "resume"]
     for _ in range(rng.randrange(40)):
         at = reading(rng, bits, last)

@@ -24,8 +24,10 @@ MONOTONIC_LIMIT = 946_080_000 * NANOS
 VALUE_LIMIT = 9_223_372_036 * NANOS
 SETTABLE_LIMIT = 8_277_292_036
 TAI_LIMIT = 100_000  # s
+RAW_END = 1_060_000_000  # s
 JOURNAL_LIMIT = 1_048_576
 LEAST_FREQUENCY, LEAST_TICK = -32_768_000, 9_000
+FRONT_LIMIT = 2**62
 CLOCKS = ["realtime", "monotonic", "boottime", "tai", "realtime_coarse", "monotonic_coarse", "monotonic_raw"]
 
 
@@ -301,6 +303,7 @@ def value_of(word, fields):
 U32, U64, I64 = range(2**32), range(2**64), range(-2**63, 2**63)
 FIELDS = {
     "open": [U32, U32, U32, U64, I64, U32], "openhz": [U32, U32, U32, U64, I64, U32],
+    "openwords": [U32, U32, U32] + 10 * [U64] + [I64, I64],
     "update": [U64], "suspend": [U64], "freq": [U64, I64], "tick": [U64, I64], "tai": [U64, I64],
     "set": [U64, I64, U32], "step": [U64, I64, U32], "resume": [U64, I64, U32], "get": [U64, None, U64],
     "counter": [U64, U32, U32, U32, U64],
@@ -319,7 +322,7 @@ def number(text, within):
 
 def read_record(row, record):
     word, *fields = record
-    opens = word in ("open", "openhz")
+    opens = word in ("open", "openhz", "openwords")
     if word not in FIELDS or opens != (row == 1):
         raise Fault(f"record {row}: " + ("not a valid opening" if row == 1 else "unknown word"))
     if not 0 <= len(FIELDS[word]) - len(fields) <= OPTIONAL.get(word, 0):
@@ -341,11 +344,53 @@ def read_record(row, record):
 
 
 def opened(word, fields):
-    reading, sec, nsec = fields[3:]
-    counter = Counter(*fields[:3]) if word == "open" else from_hz(*fields[:3])
-    if counter is None or counter.fault() or reading >= 2**counter.bits or not is_settable(sec, nsec):
+    """Returns the journal at the opening, without entries."""
+    numbers, rest = fields[:3], fields[3:]
+    counter = from_hz(*numbers) if word == "openhz" else Counter(*numbers)
+    if counter is None or counter.fault():
         raise Fault("record 1: not a valid opening")
-    return Journal(Opening(counter, reading, sec * NANOS + nsec))
+    opening = running(counter, *rest) if word == "openwords" else started(counter, *rest)
+    if opening is None:
+        raise Fault("record 1: not a valid opening")
+    return Journal(opening)
+
+
+def started(counter, reading, sec, nsec):
+    """Returns the clocks that are opened at a reading, or None if they can't be."""
+    if reading >= 2**counter.bits or not is_settable(sec, nsec):
+        return None
+    return Opening(counter, reading, sec * NANOS + nsec)
+
+
+def running(counter, *numbers):
+    """Returns the clocks of ten words, a frequency and a tick, or None if no running clocks are in this state."""
+    front, last, mult, frac, sec, real_offset, boot_offset, tai, raw_frac, raw_sec, frequency, tick = numbers
+    second = NANOS << counter.shift
+    opening = Opening(counter, last, real_offset, boot_offset, tai // 2, sec * second + frac,
+                      raw_sec * second + raw_frac, frequency, tick, tai % 2 == 1, front)
+    slowest = counter.multiplier(LEAST_FREQUENCY, LEAST_TICK)
+    is_running = (
+        front <= FRONT_LIMIT and last < 2**counter.bits and frac < second and raw_frac < second
+        and opening.tai <= TAI_LIMIT and not is_bad_setting("tick", [tick])
+        and mult == counter.multiplier(frequency, tick) and raw_sec < RAW_END
+        and opening.raw_units * slowest <= opening.units * counter.mult)
+    tested = ["monotonic", "boottime", "realtime", "tai"]
+    if not is_running or any(Journal(opening).value(clock, last) >= limit(clock) for clock in tested):
+        return None
+    return opening
+
+
+def numbers_of(journal):
+    """Returns the numbers of the clocks that a journal leaves, as `openwords` has them after the counter."""
+    place, second = len(journal.entries), NANOS << journal.counter.shift
+    reading = journal.reading(place)
+    sec, frac = divmod(journal.units_at(reading), second)
+    raw_sec, raw_frac = divmod(journal.raw_units_at(reading), second)
+    tai = journal.in_force("tai", place, journal.opening.tai)
+    return [journal.accepted_count(), reading, journal.multiplier(place), frac, sec, journal.real_offset(),
+            journal.boot_offset(), 2 * tai + journal.is_asleep_at(place), raw_frac, raw_sec,
+            journal.in_force("freq", place, journal.opening.frequency),
+            journal.in_force("tick", place, journal.opening.tick)]
 
 
 def time_text(nanos):
@@ -497,12 +542,19 @@ def many(scripts):
     return status, lines
 
 
+def opens_running(script):
+    """Returns whether a script begins from running clocks."""
+    return records_of(script)[0][0] == "openwords"
+
+
 def race(step, script):
     """Returns the lines of a race of one actor.
 
     The counter is read at the opening, and then once for each command.
     """
     journal, rows = named("file 0", parsed, script)
+    if opens_running(script):
+        raise Fault("file 0: a race cannot begin from running clocks")
     if any(word == "counter" for word, _ in rows):
         raise Fault("file 0: the counter of a race cannot change")
     start, reads, answers = journal.opening.reading, 0, []

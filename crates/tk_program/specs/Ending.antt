@@ -24,6 +24,7 @@ status_of endings.Differs = 3
 status_of (endings.Fault fault) = 1
 status_of (endings.Many error) = 1
 status_of (endings.File index error) = 1
+status_of (endings.Running index) = 1
 status_of (endings.Counter index) = 1
 status_of endings.Openings = 1
 status_of (endings.Race error) = 1
@@ -44,6 +45,9 @@ IsErrorLine contents old new (endings.Fault fault) =
 IsErrorLine contents old new (endings.File index error) =
     Appends (contents old) (contents new)
     (codes "tkcore: file " ++ (decimal index ++ (codes ": " ++ (script_text error ++ codes "\n"))))
+IsErrorLine contents old new (endings.Running index) =
+    Appends (contents old) (contents new)
+    (codes "tkcore: file " ++ (decimal index ++ codes ": a race cannot begin from running clocks\n"))
 IsErrorLine contents old new (endings.Counter index) =
     Appends (contents old) (contents new)
     (codes "tkcore: file " ++ (decimal index ++ codes ": the counter of a race cannot change\n"))

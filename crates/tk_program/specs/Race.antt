@@ -4,12 +4,12 @@ use Rattle.std.specs.Borrow.{Bor}
 use Rattle.std.specs.List.{All, AllZip, list_any}
 use Rattle.tk_clock.specs.Journal.{Journal, accepted_count}
 use Rattle.tk_clock.specs.Refusal.{opening_refusal}
+use Rattle.tk_clock.specs.State.{State}
 use Rattle.tk_script.specs.declared.row.Row.{Row}
 use Rattle.tk_script.specs.declared.row.Row.TheVariants as rows
-use Rattle.tk_script.specs.declared.script.Script.{Script}
+use Rattle.tk_script.specs.declared.opening.Start.TheVariants.{Opened, Running}
 use Rattle.tk_script.specs.declared.script_error.ScriptError.{ScriptError}
-use Rattle.tk_script.specs.Grammar.{Fails, parse_of}
-use Rattle.tk_script.specs.Script.{parse}
+use Rattle.tk_script.specs.Grammar.{Fails, Parse, parse_of}
 use Rattle.tk_report.specs.declared.fault.Fault.{Fault}
 use Rattle.tk_report.specs.declared.fault.Fault.TheVariants as faults
 use Rattle.tk_race.specs.declared.action.Action.{Action}
@@ -21,6 +21,7 @@ use Rattle.tk_race.specs.Race.{IsRaced}
 use Rattle.tk_race.specs.RaceError.{IsRaceError, race_error}
 use Rattle.tk_program.specs.declared.ending.Ending.{Ending}
 use Rattle.tk_program.specs.declared.ending.Ending.TheVariants as endings
+use Rattle.tk_program.specs.declared.racer.Racer.{Racer}
 use Rattle.tk_program.specs.Ending.{ending_of_file}
 use Rattle.tk_program.specs.Files.{IsReadFrom, StopsFile}
 use Rattle.tk_program.specs.Many.{EndsWriting}
@@ -33,7 +34,7 @@ is_change (rows.Change reading counter first) = true
 is_change _ = false
 
 -- whether a script changes its counter
-abbrev pub changes_counter : Script → Bool
+abbrev pub changes_counter : Racer → Bool
 changes_counter script = list_any is_change script.rows.items
 
 -- the action of an actor for a row: it gives the command, or it reads; the row's reading and
@@ -44,40 +45,55 @@ action_of (rows.Look reading clock expected) = actions.Look
 action_of (rows.Change reading counter first) = actions.Look
 
 -- the actions of an actor
-abbrev pub part_of : Script → List Action
+abbrev pub part_of : Racer → List Action
 part_of script = map action_of script.rows.items
 
 -- clocks can be opened with the script's opening
-abbrev pub IsOpenable : Script → Type 0
-IsOpenable script = opening_refusal script.desc script.reading script.real ≡ None
+abbrev pub IsOpenable : Racer → Type 0
+IsOpenable script =
+    opening_refusal script.opening.desc script.opening.reading script.opening.real ≡ None
+
+-- a script opens its clocks in the same way as the first one
+abbrev pub OpensAs : Racer → Racer → Type 0
+OpensAs first other = AreSameOpenings first.opening other.opening
+
+-- the content of a script that opens its clocks, and of one that begins from running clocks
+abbrev pub parse : Racer → Parse
+parse script = record { start = Opened script.opening; rows = script.rows.items }
+
+abbrev pub running_parse : State → ℕ → List Row → Parse
+running_parse clock front rows = record { start = Running clock front; rows = rows }
 
 -- of a folder and its files: the result of opening each name, the bytes of a file that are known,
 -- and the results of its reads
 module _ {D F : Type 0} (open_gives : D → List ℕ → Option F → Type 0)
     (remaining : F → Option (List ℕ)) (read_gives : F → Option ℕ → F → Type 0) (folder : D) where
-  -- a file of this name was read, and its bytes are this script
-  abbrev pub IsParsedFrom : List ℕ → Script → Type 0
-  IsParsedFrom name script =
+  -- a file of this name was read, and its bytes are a script with this content
+  abbrev pub IsParsedFrom : List ℕ → Parse → Type 0
+  IsParsedFrom name content =
       (text : List ℕ) × IsReadFrom open_gives remaining read_gives folder name text
-      × (parse_of text ≡ Ok (parse script))
+      × (parse_of text ≡ Ok content)
 
   -- it is a script that can race: clocks can be opened by it, and it keeps its counter
-  abbrev pub IsScriptFrom : List ℕ → Script → Type 0
+  abbrev pub IsScriptFrom : List ℕ → Racer → Type 0
   IsScriptFrom name script =
-      IsParsedFrom name script × IsOpenable script × (changes_counter script ≡ false)
+      IsParsedFrom name (parse script) × IsOpenable script × (changes_counter script ≡ false)
 
-  abbrev pub AreScriptsFrom : List (Bor (List ℕ)) → List Script → Type 0
+  abbrev pub AreScriptsFrom : List (Bor (List ℕ)) → List Racer → Type 0
   AreScriptsFrom names scripts = AllZip (λ name script. IsScriptFrom name.now script) names scripts
 
   -- why the file at this place gives no script that can race: it couldn't be read, its bytes have
-  -- this fault, an allocation failed, or its script changes its counter
+  -- this fault, an allocation failed, or its script begins from running clocks or changes its
+  -- counter
   abbrev pub StopsScript : ℕ → List ℕ → Ending → Type 0
   StopsScript place name ending =
       ((fault : Fault) × (ending ≡ endings.Fault fault)
       × StopsFile open_gives remaining read_gives folder name fault)
       ⊎ ((error : ScriptError) × (text : List ℕ) × (ending ≡ ending_of_file place error)
       × IsReadFrom open_gives remaining read_gives folder name text × Fails error (parse_of text))
-      ⊎ ((script : Script) × (ending ≡ endings.Counter place) × IsParsedFrom name script
+      ⊎ ((clock : State) × (front : ℕ) × (rows : List Row) × (ending ≡ endings.Running place)
+      × IsParsedFrom name (running_parse clock front rows))
+      ⊎ ((script : Racer) × (ending ≡ endings.Counter place) × IsParsedFrom name (parse script)
       × (changes_counter script ≡ true))
 
   -- why files don't all give scripts: one of them doesn't, and those before it do; or an allocation
@@ -85,7 +101,7 @@ module _ {D F : Type 0} (open_gives : D → List ℕ → Option F → Type 0)
   abbrev pub StopsScripts : List (Bor (List ℕ)) → Ending → Type 0
   StopsScripts names ending =
       (ending ≡ endings.Fault faults.Memory)
-      ⊎ ((place : ℕ) × (scripts : List Script) × (place < length names)
+      ⊎ ((place : ℕ) × (scripts : List Racer) × (place < length names)
       × AreScriptsFrom (take place names) scripts
       × StopsScript place (slice_index_or (map (λ name. name.now) names) place []) ending)
 
@@ -103,24 +119,24 @@ module _ {W : Type 0} (contents : W → Option (List ℕ))
   -- `count` parts were raced on clocks with this script's opening; or there are too many, an
   -- allocation failed or a thread was not started, and nothing is written. The opening is always
   -- valid
-  abbrev pub EndsParts : Script → ℕ → List (List Action) → Ending → Type 0
+  abbrev pub EndsParts : Racer → ℕ → List (List Action) → Ending → Type 0
   EndsParts first count parts ending =
       ((error : RaceError) × (ending ≡ endings.Race error)
-      × IsRaceError count first.desc first.reading first.real error
+      × IsRaceError count first.opening.desc first.opening.reading first.opening.real error
       × (error ≢ races.Invalid) × (writer' ≡ writer))
       ⊎ ((journal : Journal) × (replies : List (List RaceReply))
-      × (race_error count first.desc first.reading first.real ≡ None)
-      × IsRaced first.desc first.real parts journal replies
+      × (race_error count first.opening.desc first.opening.reading first.opening.real ≡ None)
+      × IsRaced first.opening.desc first.opening.real parts journal replies
       × EndsWritten journal replies ending)
 
   -- scripts were raced, an actor for each; or they don't all open their clocks as the first one,
   -- and nothing is written
-  abbrev pub EndsScripts : List Script → Ending → Type 0
+  abbrev pub EndsScripts : List Racer → Ending → Type 0
   EndsScripts [] ending = (ending ≡ endings.Race races.Count) × (writer' ≡ writer)
   EndsScripts (first ∷ others) ending =
-      ((All (AreSameOpenings first) others → ⊥) × (ending ≡ endings.Openings)
+      ((All (OpensAs first) others → ⊥) × (ending ≡ endings.Openings)
       × (writer' ≡ writer))
-      ⊎ (All (AreSameOpenings first) others
+      ⊎ (All (OpensAs first) others
       × EndsParts first (length (first ∷ others)) (map part_of (first ∷ others)) ending)
 
   -- the files of these names were read one after the other, and their scripts were raced; or one of
@@ -130,6 +146,6 @@ module _ {W : Type 0} (contents : W → Option (List ℕ))
       D → List (Bor (List ℕ)) → Ending → Type 0
   EndsRace open_gives remaining read_gives folder names ending =
       (StopsScripts open_gives remaining read_gives folder names ending × (writer' ≡ writer))
-      ⊎ ((scripts : List Script)
+      ⊎ ((scripts : List Racer)
       × AreScriptsFrom open_gives remaining read_gives folder names scripts
       × EndsScripts scripts ending)

@@ -34,6 +34,11 @@ pub enum Ending {
         /// The script's first fault.
         error: ScriptError,
     },
+    /// The script of a race's file begins from running clocks: status 1.
+    Running {
+        /// The file's index, from 0.
+        index: usize,
+    },
     /// The script of a race's file changes its counter, which is one for all scripts: status 1.
     Counter {
         /// The file's index, from 0.
@@ -56,7 +61,7 @@ impl Ending {
             Ending::Differs => 3,
             Ending::Faulty | Ending::Fault(_) | Ending::Many(_) => 1,
             Ending::File { .. } | Ending::Openings | Ending::Race(_) => 1,
-            Ending::Counter { .. } => 1,
+            Ending::Running { .. } | Ending::Counter { .. } => 1,
         }
     }
 
@@ -75,6 +80,12 @@ impl Ending {
             Ending::Fault(fault) => writeln!(out, "tkcore: {fault}"),
             Ending::Many(error) => writeln!(out, "tkcore: {error}"),
             Ending::File { index, error } => writeln!(out, "tkcore: file {index}: {error}"),
+            Ending::Running { index } => {
+                writeln!(
+                    out,
+                    "tkcore: file {index}: a race cannot begin from running clocks"
+                )
+            }
             Ending::Counter { index } => {
                 writeln!(
                     out,

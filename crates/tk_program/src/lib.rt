@@ -9,7 +9,7 @@
 //! | `Folder` | opens files by their names: the host's, or a test's |
 //! | `many_text` | joins the reports of many scripts into one text |
 //! | `race_text` | makes the lines of a race |
-//! | `same_opening` | compares the openings of two scripts |
+//! | `same_opening` | compares two openings of clocks |
 //! | `Ending` | says how the program ends: its status and its line of error |
 //! | `asked`, `Request`, `WordsError` | parse arguments into a request; from `tk_command_line` |
 //!
@@ -23,6 +23,7 @@ mod folder;
 mod many;
 mod openings;
 mod race_lines;
+mod racer;
 mod racing;
 mod reports_text;
 mod running;

@@ -2,20 +2,20 @@
 ghost use Rattle.std.specs.Prelude.{◌≡◌, ◌↔◌, length, map, IfOk, IsTrue};
 ghost use Rattle.std.specs.List.{All};
 ghost use Rattle.tk_clock.specs.Journal.{accepted_count};
-ghost use Rattle.tk_program.specs.Openings.{AreSameOpenings};
-ghost use Rattle.tk_program.specs.Race.{EndsParts, EndsRace, EndsScripts, EndsWritten, IsOpenable, action_of, part_of};
+ghost use Rattle.tk_program.specs.Race.{EndsParts, EndsRace, EndsScripts, EndsWritten, IsOpenable, OpensAs, action_of, part_of};
 
 use crate::ending::Ending;
 use crate::folder::Folder;
 use crate::openings::same_opening;
 use crate::race_lines::race_text;
+use crate::racer::Racer;
 use crate::scripts::read_scripts;
 use std::alloc::{AllocError, Global};
 use std::sync::Wait;
 use std::thread::Threads;
 use tk_race::{Action, NoGate, RaceError, RaceReport, race};
 use tk_report::{Fault, Sink, write_whole};
-use tk_script::{Row, Script};
+use tk_script::Row;
 
 /// Reads and parses the files, races an actor for each script, and writes the result.
 ///
@@ -57,7 +57,7 @@ fn race_all<E: Threads + Wait + Sync, W: Sink>(
     rt: &E,
     writer: &mut W,
     step: u64,
-    scripts: &[Script],
+    scripts: &[Racer],
     actors: &[Vec<Action>],
 ) -> Ending
     requires opens { All IsOpenable scripts.now }
@@ -82,7 +82,7 @@ fn race_as<E: Threads + Wait + Sync, W: Sink>(
     rt: &E,
     writer: &mut W,
     step: u64,
-    first: &Script,
+    first: &Racer,
     actors: &[Vec<Action>],
 ) -> Ending
     requires { IsOpenable first.now }
@@ -93,9 +93,9 @@ fn race_as<E: Threads + Wait + Sync, W: Sink>(
     match race(
         alloc,
         rt,
-        first.desc,
-        first.reading,
-        first.real,
+        first.opening.desc,
+        first.opening.reading,
+        first.opening.real,
         step,
         actors,
         &NoGate,
@@ -106,10 +106,12 @@ fn race_as<E: Threads + Wait + Sync, W: Sink>(
 }
 
 /// Returns whether all others have the opening of the first script.
-fn open_alike(first: &Script, others: &[Script]) -> bool
-    ensures { IsTrue result ↔ All (AreSameOpenings first.now) others.now }
+fn open_alike(first: &Racer, others: &[Racer]) -> bool
+    ensures { IsTrue result ↔ All (OpensAs first.now) others.now }
 {
-    others.iter().all(|other| same_opening(first, other))
+    others
+        .iter()
+        .all(|other| same_opening(&first.opening, &other.opening))
 }
 
 /// Writes the lines of a race.
@@ -129,7 +131,7 @@ fn write_race<W: Sink>(alloc: Global, writer: &mut W, report: &RaceReport) -> En
 }
 
 /// Makes the part of each script.
-fn actors_of(alloc: Global, scripts: &[Script]) -> Result<Vec<Vec<Action>>, AllocError>
+fn actors_of(alloc: Global, scripts: &[Racer]) -> Result<Vec<Vec<Action>>, AllocError>
     ensures count { IfOk result (λ actors. length actors.items ≡ length scripts.now) }
     ensures parts { IfOk result (λ actors.
         map (λ a. a.items) actors.items ≡ map part_of scripts.now) }

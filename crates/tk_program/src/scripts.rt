@@ -5,9 +5,10 @@ ghost use Rattle.tk_program.specs.Race.{AreScriptsFrom, IsScriptFrom, StopsScrip
 use crate::ending::Ending;
 use crate::files::read_file;
 use crate::folder::Folder;
+use crate::racer::Racer;
 use std::alloc::Global;
 use tk_report::Fault;
-use tk_script::{Row, Script};
+use tk_script::{Row, Script, Start};
 
 /// Reads and parses the script of each file, before it opens the next file.
 ///
@@ -16,13 +17,14 @@ use tk_script::{Row, Script};
 /// Returns the first fault; `Fault::Memory` may replace any other result:
 /// - `Ending::Fault` with `Fault::Read`: a file can't be opened or read
 /// - `Ending::File`: its script has a fault
+/// - `Ending::Running`: its script begins from running clocks
 /// - `Ending::Counter`: its script changes its counter
 /// - `Ending::Fault` with `Fault::Memory`: an allocation failed
 pub(crate) fn read_scripts<D: Folder>(
     alloc: Global,
     folder: &D,
     names: &[&str],
-) -> Result<Vec<Script>, Ending>
+) -> Result<Vec<Racer>, Ending>
     ensures ok { IfOk result (λ scripts. AreScriptsFrom D.Folder.open_gives D.File.Read.remaining
         D.File.Source.read_gives folder.now names.now scripts.items) }
     ensures err { IfErr result (StopsScripts D.Folder.open_gives D.File.Read.remaining
@@ -43,7 +45,7 @@ fn read_script<D: Folder>(
     folder: &D,
     place: usize,
     name: &str,
-) -> Result<Script, Ending>
+) -> Result<Racer, Ending>
     ensures ok { IfOk result (IsScriptFrom D.Folder.open_gives D.File.Read.remaining
         D.File.Source.read_gives folder.now name.now) }
     ensures err { IfErr result (StopsScript D.Folder.open_gives D.File.Read.remaining
@@ -53,21 +55,26 @@ fn read_script<D: Folder>(
         Ok(text) => text,
         Err(fault) => return Err(Ending::Fault(fault)),
     };
-    let script = match Script::from_bytes(alloc, text.as_slice()) {
+    let Script { start, rows } = match Script::from_bytes(alloc, text.as_slice()) {
         Ok(script) => script,
         Err(error) => return Err(Ending::of_file(place, error)),
     };
-    if has_change(&script) {
+    let opening = match start {
+        Start::Opened(opening) => opening,
+        Start::Running { .. } => return Err(Ending::Running { index: place }),
+    };
+    let racer = Racer { opening, rows };
+    if has_change(&racer) {
         return Err(Ending::Counter { index: place });
     }
-    Ok(script)
+    Ok(racer)
 }
 
 /// Returns whether a script changes its counter.
-fn has_change(script: &Script) -> bool
-    ensures { result ≡ changes_counter script.now }
+fn has_change(racer: &Racer) -> bool
+    ensures { result ≡ changes_counter racer.now }
 {
-    script.rows.iter().any(|row| is_change_row(row))
+    racer.rows.iter().any(|row| is_change_row(row))
 }
 
 /// Returns whether a row changes the counter.

@@ -1,7 +1,7 @@
 -- The journal after rows, row by row.
 use Rattle.std.proofs.Common.{◌≡◌, List, refl, ap}
 use Rattle.std.specs.Prelude.{Result, Ok, Err}
-use Rattle.tk_clock.specs.Journal.{Journal, opened}
+use Rattle.tk_clock.specs.Journal.{Journal}
 use Rattle.tk_clock.specs.Refusal.{first_refusal}
 use Rattle.tk_script.specs.declared.opening.Start.{Start}
 use Rattle.tk_script.specs.declared.row.Row.{Row}
@@ -9,6 +9,7 @@ use Rattle.tk_script.specs.declared.script_error.ScriptError.{ScriptError}
 use Rattle.tk_script.specs.declared.script_error.ScriptError.TheVariants as errors
 use Rattle.tk_script.specs.Coming.{opened_with, row_and}
 use Rattle.tk_script.specs.Grammar.{Fails, Parse}
+use Rattle.tk_script.specs.Start.{journal_at}
 use Rattle.tk_report.specs.Report.{after}
 use Rattle.tk_report.specs.Trace.{journal_after, journal_of}
 
@@ -22,7 +23,7 @@ journal_after-row journal row (Err fault) = refl
 -- the journal of an opened script is the journal of its rows
 pub journal_of-opened : (start : Start) (rows : Result (List Row) ScriptError) →
     journal_of (opened_with start rows)
-    ≡ journal_after (opened start.desc start.reading start.real) rows
+    ≡ journal_after (journal_at start) rows
 journal_of-opened start (Ok rows) = refl
 journal_of-opened start (Err fault) = refl
 

@@ -11,3 +11,4 @@ pub mod Journals
 pub mod Traces
 mod Worked
 pub mod Outcomes
+pub mod Beginnings

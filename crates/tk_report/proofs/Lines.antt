@@ -7,7 +7,7 @@ use Rattle.tk_clock.specs.declared.clock_id.ClockId.TheVariants.{Monotonic}
 use Rattle.tk_clock.specs.declared.command.Entry.{Entry}
 use Rattle.tk_clock.specs.declared.refusal.Refusal.{Refusal}
 use Rattle.tk_clock.specs.declared.timespec.Timespec.{Timespec}
-use Rattle.tk_clock.specs.Journal.{Journal, opened, accepted_count}
+use Rattle.tk_clock.specs.Journal.{Journal, accepted_count}
 use Rattle.tk_clock.specs.Limits.{counted_most}
 use Rattle.tk_clock.specs.Monotonic.{monotonic}
 use Rattle.tk_clock.specs.Run.{Reply, reply_if}
@@ -18,6 +18,7 @@ use Rattle.tk_script.specs.declared.row.Row.TheVariants.{Act, Look, Change}
 use Rattle.tk_script.specs.Coming.{opened_with, row_and}
 use Rattle.tk_script.specs.Grammar.{Fails, parse_of}
 use Rattle.tk_script.specs.Lines.{ok_line, open_line}
+use Rattle.tk_script.specs.Start.{journal_at}
 use Rattle.tk_script.specs.declared.opening.Start.{Start}
 use Rattle.tk_script.specs.declared.script_error.ScriptError.{ScriptError}
 use Rattle.tk_script.specs.declared.script_error.ScriptError.TheVariants as errors
@@ -110,11 +111,11 @@ pub record IsBegunBy (keep : Option ℕ) (start : Start) (all : Rows) (number fo
 
 -- after the opening's line, all rows remain
 pub IsBegunBy-start : (keep : Option ℕ) (start : Start) (all : Rows) →
-    IsBegunBy keep start all 2 0 (opened start.desc start.reading start.real) 0 all
-    (open_line start.desc)
+    IsBegunBy keep start all 2 0 (journal_at start) (journal_at start).opening.count all
+    (open_line (journal_at start).opening.counter)
 IsBegunBy-start keep start all = record {
-  whole = opened start.desc start.reading start.real;
-  alike = IsAlike-self (opened start.desc start.reading start.real);
+  whole = journal_at start;
+  alike = IsAlike-self (journal_at start);
   opens = refl;
   begun = record {
     gives = λ rows rest e lines. (_, ap (opened_with start) e, (rest, lines, refl));

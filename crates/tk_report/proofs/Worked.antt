@@ -12,6 +12,7 @@ use Rattle.tk_clock.specs.Journal.{Journal, opened}
 use Rattle.tk_clock.specs.Limits.{is_bad_setting, is_past_limit, is_well_formed}
 use Rattle.tk_keeper.specs.declared.trace_error.TraceError.TheVariants as faults
 use Rattle.tk_keeper.specs.Trace.{item_of}
+use Rattle.tk_script.specs.declared.opening.Start.TheVariants.{Opened}
 use Rattle.tk_script.specs.declared.row.Row.TheVariants.{Act, Look}
 use Rattle.tk_script.specs.Grammar.{Parse}
 use Rattle.tk_script.specs.Stamps.{Items, items_of}
@@ -28,9 +29,7 @@ since = record { sec = pos 1700000000; nsec = 0 }
 -- the second row is refused, because its reading is above the mask, and the third one reads a clock
 abbrev script : Parse
 script = record {
-  counter = nanosecond_counter;
-  reading = 0;
-  real = since;
+  start = Opened (record { desc = nanosecond_counter; reading = 0; real = since });
   rows = Act 0 (Freq (pos 65536000)) ∷ Act 4294967296 Update ∷ Look 7 Monotonic None
       ∷ Act 1000000000 (Freq (neg_ℤ (pos 32768000))) ∷ [];
 }

@@ -10,7 +10,7 @@ use Rattle.tk_clock.specs.declared.refusal.Refusal.{Refusal}
 use Rattle.tk_clock.specs.declared.refusal.ReadError.{ReadError}
 use Rattle.tk_clock.specs.declared.timespec.Timespec.{Timespec}
 use Rattle.tk_clock.specs.Clocks.{clock_value}
-use Rattle.tk_clock.specs.Journal.{Journal, accepted_count, opened}
+use Rattle.tk_clock.specs.Journal.{Journal, accepted_count}
 use Rattle.tk_clock.specs.Monotonic.{monotonic}
 use Rattle.tk_clock.specs.Refusal.{clock_refusal, first_refusal, refusal_of}
 use Rattle.tk_clock.specs.Run.{Reply, reply_if}
@@ -24,6 +24,7 @@ use Rattle.tk_script.specs.declared.script_error.ScriptError.{ScriptError}
 use Rattle.tk_script.specs.Coming.{opened_with}
 use Rattle.tk_script.specs.Grammar.{Parse, parse_of}
 use Rattle.tk_script.specs.Lines.{differs_line, open_line, ok_line, no_line, IsAtLine}
+use Rattle.tk_script.specs.Start.{journal_at}
 
 -- a script's command as an event: all of them come from the caller 0
 abbrev pub event : ℕ → Command → Entry
@@ -140,7 +141,7 @@ differences rule journal (first ∷ rows) =
 -- the number of such records of a script, and none if the script has a fault
 abbrev pub differences_of : Rule → Result Parse ScriptError → ℕ
 differences_of rule (Ok parse) =
-    differences rule (opened parse.counter parse.reading parse.real) parse.rows
+    differences rule (journal_at parse.start) parse.rows
 differences_of rule (Err fault) = 0
 
 -- the number of such records of a script with these bytes
@@ -150,8 +151,9 @@ differences_in rule bytes = differences_of rule (parse_of bytes)
 -- the report of a parsed script: the opening is the record 1
 abbrev pub IsReportOf : Rule → Parse → List ℕ → Type 0
 IsReportOf rule parse text =
-    (lines : List ℕ) × IsLines rule 2 (opened parse.counter parse.reading parse.real) parse.rows lines
-    × (text ≡ open_line parse.counter ++ lines)
+    let journal = journal_at parse.start in
+    (lines : List ℕ) × IsLines rule 2 journal parse.rows lines
+    × (text ≡ open_line journal.opening.counter ++ lines)
 
 -- the report of an opening and of rows that were parsed without a fault
 abbrev pub IsReportOfRows : Rule → Start → Result (List Row) ScriptError → List ℕ → Type 0

@@ -2,7 +2,7 @@
 -- item; and the result of reading both inputs, converting the items and writing the lines.
 use Rattle.std.specs.Prelude.{◌≡◌, ◌≢◌, ℕ, List, [], ◌∷◌, ◌++◌, flat_map, codes, decimal, Option, Bool, Result, Ok, Err, IsOk, ◌⊎◌}
 use Rattle.tk_clock.specs.declared.clock_id.ClockId.{ClockId}
-use Rattle.tk_clock.specs.Journal.{Journal, opened}
+use Rattle.tk_clock.specs.Journal.{Journal}
 use Rattle.tk_clock.specs.Refusal.{first_refusal}
 use Rattle.tk_keeper.specs.declared.trace_error.TraceError.{TraceError}
 use Rattle.tk_keeper.specs.Trace.{IsConverted, IsFirstFault}
@@ -10,6 +10,7 @@ use Rattle.tk_script.specs.declared.row.Row.{Row}
 use Rattle.tk_script.specs.declared.script_error.ScriptError.{ScriptError}
 use Rattle.tk_script.specs.declared.script_error.ScriptError.TheVariants as errors
 use Rattle.tk_script.specs.Grammar.{Parse, parse_of}
+use Rattle.tk_script.specs.Start.{journal_at}
 use Rattle.tk_script.specs.Stamps.{Items, stamps_of}
 use Rattle.tk_report.specs.declared.fault.Fault.{Fault}
 use Rattle.tk_report.specs.declared.fault.Fault.TheVariants as faults
@@ -32,7 +33,7 @@ journal_after journal (Err error) = Err error
 -- only the commands over the new counter
 abbrev pub journal_of : Result Parse ScriptError → Result Journal ScriptError
 journal_of (Ok parse) =
-    Ok (after_all (opened parse.counter parse.reading parse.real) parse.rows)
+    Ok (after_all (journal_at parse.start) parse.rows)
 journal_of (Err error) = Err error
 
 -- the line of a value, in nanoseconds

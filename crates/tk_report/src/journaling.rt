@@ -1,20 +1,22 @@
 //! Makes the clocks after the commands of a script.
-ghost use Rattle.std.specs.Prelude.{◌≡◌, ◌<◌, IfErr, None, OnOk};
-ghost use Rattle.tk_clock.specs.Journal.{accepted_count, opened};
+ghost use Rattle.std.specs.Prelude.{◌≡◌, ◌<◌, IfErr, OnOk};
+ghost use Rattle.tk_clock.specs.Journal.{accepted_count};
 ghost use Rattle.tk_clock.specs.Limits.{counted_most};
-ghost use Rattle.tk_clock.specs.Refusal.{first_refusal, opening_refusal};
+ghost use Rattle.tk_clock.specs.Refusal.{first_refusal};
 ghost use Rattle.tk_script.specs.Coming.{IsReady, coming};
 ghost use Rattle.tk_script.specs.Grammar.{Gives, parse_of};
+ghost use Rattle.tk_script.specs.Start.{IsOpenable, journal_at};
 ghost use Rattle.tk_report.specs.Report.{after};
 ghost use Rattle.tk_report.specs.Trace.{journal_after, journal_of};
 
 use crate::applying::CALLER;
+use crate::beginning::keeper_at;
 use std::alloc::{Allocator, Global};
 use tk_clock::Refusal;
 use tk_keeper::Timekeeper;
 use tk_script::{Row, RowReader, ScriptError, Start};
 
-/// Opens clocks with a script's opening, applies its commands, and returns them with their journal.
+/// Begins the clocks of a script, applies its commands, and returns them with their journal.
 ///
 /// It skips refused commands and reads of clocks. It folds the journal only at a change of counter,
 /// so every command after 1,048,576 accepted ones over one counter is refused as `Full`.
@@ -30,7 +32,7 @@ pub fn keeper_of(alloc: Global, script: &[u8]) -> Result<Timekeeper, ScriptError
     keeper_after(alloc, start, &mut rows)
 }
 
-/// Opens clocks with `start`, applies the remaining commands of `rows`, and returns the clocks.
+/// Begins clocks with `start`, applies the remaining commands of `rows`, and returns the clocks.
 ///
 /// One call of `RowReader::open` must have returned `start` and `rows`. The journal is allocated
 /// from `alloc`; the reader of the rows allocates from its own allocator. In all else it acts as
@@ -44,12 +46,12 @@ pub fn keeper_after<A: Allocator + Copy>(
     start: Start,
     rows: &mut RowReader<'_>,
 ) -> Result<Timekeeper<A>, ScriptError>
-    requires opens { opening_refusal start.desc start.reading start.real ≡ None }
+    requires opens { IsOpenable start }
     requires ready { IsReady rows.old }
     ensures { Gives (λ keeper. keeper.journal) result
-        (journal_after (opened start.desc start.reading start.real) (coming rows.old)) }
+        (journal_after (journal_at start) (coming rows.old)) }
 {
-    let mut keeper = Timekeeper::open(alloc, start.desc, start.reading, start.real).unwrap();
+    let mut keeper = keeper_at(alloc, start);
     'rows: while let Some(row) = rows.next_row()? {
         obey(&mut keeper, row)?;
     }

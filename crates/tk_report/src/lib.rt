@@ -26,6 +26,7 @@
 #![tactic(auto)]
 
 mod applying;
+mod beginning;
 mod checked_report;
 mod converting;
 mod fault;

@@ -1,18 +1,19 @@
 ghost use Rattle.std.specs.Prelude.{◌≡◌, ◌++◌, ◌<◌, ◌≤◌, ◌-◌, ◌^◌, List, ℕ, OnOk, IfOk, IfErr, MatchResult, None};
 ghost use Rattle.std.specs.Option.{ForSome};
 ghost use Rattle.tk_clock.specs.Journal.{accepted_count};
-ghost use Rattle.tk_clock.specs.Refusal.{opening_refusal};
 ghost use Rattle.tk_clock.specs.Limits.{counted_most, most_kept};
 ghost use Rattle.tk_clock.specs.Time.{nanoseconds};
 ghost use Rattle.tk_keeper.specs.Read.{read_fault};
 ghost use Rattle.tk_script.specs.Coming.{IsReady, coming, opened_with};
 ghost use Rattle.tk_script.specs.Lines.{IsWritable};
 ghost use Rattle.tk_script.specs.Grammar.{Fails, parse_of};
+ghost use Rattle.tk_script.specs.Start.{IsOpenable};
 ghost use Rattle.tk_clock.specs.Folding.{IsAlike};
 ghost use Rattle.tk_report.specs.Folding.{counting_rule_of, rule_of, since_after, since_answer};
 ghost use Rattle.tk_report.specs.Report.{IsLine, IsLookLine, IsReport, IsReportBy, IsReportOfRows, IsReportUnlimited, after, change_reply, difference, differences_in, differences_of, differs_text, event, missed, missed_at, missed_if, reply_by, reply_line};
 
 use crate::applying::apply;
+use crate::beginning::keeper_at;
 use crate::checked_report::CheckedReport;
 use std::alloc::{Allocator, Global};
 use tk_clock::{ClockId, Command, Refusal, Timespec};
@@ -26,7 +27,8 @@ use tk_script::{
 #[derive(Drop)]
 struct Clocks<A: Allocator> {
     keeper: Timekeeper<A>,
-    /// The number of commands before the present counter: 0, or the number of its change.
+    /// The number of commands before the present counter: those before the script's beginning, or
+    /// the number of its change.
     since: usize,
 }
 
@@ -101,7 +103,7 @@ pub fn report_rows<A: Allocator + Copy>(
     rows: &mut RowReader<'_>,
     keep: Option<u64>,
 ) -> Result<CheckedReport<A>, ScriptError>
-    requires opens { opening_refusal start.desc start.reading start.real ≡ None }
+    requires opens { IsOpenable start }
     requires ready { IsReady rows.old }
     requires keep { ForSome keep (λ n. n ≤ most_kept) }
     ensures { MatchResult result
@@ -109,12 +111,13 @@ pub fn report_rows<A: Allocator + Copy>(
         × (report.differences ≡ differences_of (rule_of keep) (opened_with start (coming rows.old))))
         (λ error. Fails error (coming rows.old)) }
 {
-    let keeper = Timekeeper::open(alloc, start.desc, start.reading, start.real).unwrap();
-    let mut clocks = Clocks { keeper, since: 0 };
+    let keeper = keeper_at(alloc, start);
+    let (desc, since) = (keeper.snapshot().desc(), keeper.len());
+    let mut clocks = Clocks { keeper, since };
     let mut calendar = Calendar::new(alloc);
     let mut text = Vec::new(alloc);
     let (mut number, mut differences) = (1u64, 0u64);
-    line_open(&mut text, &start.desc)?;
+    line_open(&mut text, &desc)?;
     'rows: while let Some(row) = rows.next_row()? {
         number += 1;
         let missed = add_line(&mut text, &mut calendar, &mut clocks, keep, row)?;

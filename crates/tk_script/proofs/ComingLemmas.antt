@@ -100,13 +100,7 @@ parse-open reader start records left first e two split given =
   where
     by : (rows : Result (List Row) ScriptError)
         → (rows >>= λ given.
-        Ok (record {
-          counter = start.desc;
-          reading = start.reading;
-          real = start.real;
-          rows =
-              given;
-        })) ≡ opened_with start rows
+        Ok (record { start = start; rows = given })) ≡ opened_with start rows
     by (Ok rows) = refl
     by (Err fault) = refl
 

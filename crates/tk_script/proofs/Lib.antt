@@ -11,3 +11,4 @@ pub mod ComingLemmas
 pub mod GrammarLemmas
 pub mod TextLemmas
 pub mod DigitLemmas
+pub mod RunningClocks

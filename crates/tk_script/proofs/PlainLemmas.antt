@@ -193,14 +193,14 @@ field_at-last (first ∷ fields) field zero same = absurd (omega (arith, same))
 field_at-last (first ∷ fields) field (suc i) same =
     field_at-last fields field i (omega (arith, same))
 
--- one more field, which is kept if it is one of the first seven
+-- one more field, which is kept if it is one of the first sixteen
 pub HasFields-kept : (fields : List (List ℕ)) (old new : Fields) (field : Bor (List ℕ)) →
-    HasFields fields old → new.count ≡ old.count + 1 → old.count < 7 →
+    HasFields fields old → new.count ≡ old.count + 1 → old.count < 16 →
     new.first ≡ set old.first old.count field → HasFields (fields ++ field.now ∷ []) new
 HasFields-kept fields old new field has count few written = record {
   count = omega (arith, count, has.count, length_push fields field.now);
   places = ap length written ∙ length-set old.first old.count field ∙ has.places;
-  first = λ i other inside seven here. elim (cases_eq i old.count) [
+  first = λ i other inside early here. elim (cases_eq i old.count) [
     | inl last ↦
         let same : other ≡ field = here ∙ ap (λ (fs : List (Bor (List ℕ))). get_or fs i other) written
         ∙ rw last (get_or-set_same old.first old.count field other (omega (arith, few, has.places))) in
@@ -211,19 +211,19 @@ HasFields-kept fields old new field has count few written = record {
         ∙ ap (λ (fs : List (Bor (List ℕ))). get_or fs i other) written
         ∙ get_or-set_other old.first old.count i field other before in
         field_at-more fields (field.now ∷ []) i other.now
-        (has.first i other (omega (arith, inside, count, before)) seven same)
+        (has.first i other (omega (arith, inside, count, before)) early same)
   ];
 }
 
 pub HasFields-counted : (fields : List (List ℕ)) (old new : Fields) (field : List ℕ) →
-    HasFields fields old → new.count ≡ old.count + 1 → 7 ≤ old.count →
+    HasFields fields old → new.count ≡ old.count + 1 → 16 ≤ old.count →
     new.first ≡ old.first → HasFields (fields ++ field ∷ []) new
 HasFields-counted fields old new field has count many same = record {
   count = omega (arith, count, has.count, length_push fields field);
   places = ap length same ∙ has.places;
-  first = λ i other inside seven here.
+  first = λ i other inside early here.
       field_at-more fields (field ∷ []) i other.now
-      (has.first i other (omega (arith, seven, many)) seven
+      (has.first i other (omega (arith, early, many)) early
       (here ∙ ap (λ (fs : List (Bor (List ℕ))). get_or fs i other) same));
 }
 

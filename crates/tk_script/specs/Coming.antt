@@ -38,5 +38,5 @@ Steps (Some row) old new =
 -- a script with this opening and the rows of a reading, or the fault of that reading
 abbrev pub opened_with : Start → Result (List Row) ScriptError → Result Parse ScriptError
 opened_with start (Ok rows) =
-    Ok (record { counter = start.desc; reading = start.reading; real = start.real; rows = rows })
+    Ok (record { start = start; rows = rows })
 opened_with start (Err fault) = Err fault

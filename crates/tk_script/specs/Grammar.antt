@@ -1,21 +1,18 @@
 -- The meaning of a script: its records, parsed from the first to the last, or the first fault.
 use Rattle.std.specs.Prelude.{◌≡◌, ℕ, List, [], ◌∷◌, length, Result, Ok, Err, nat_lt, if◌then◌else◌}
-use Rattle.tk_counter.specs.Counter.{Counter}
-use Rattle.tk_clock.specs.declared.timespec.Timespec.{Timespec}
 use Rattle.tk_script.specs.Field.{◌>>=◌}
 use Rattle.tk_script.specs.Opening.{start_of}
 use Rattle.tk_script.specs.Rows.{rows_of}
 use Rattle.tk_script.specs.Records.{records_of, most_bytes}
+use Rattle.tk_script.specs.declared.opening.Start.{Start}
 use Rattle.tk_script.specs.declared.row.Row.{Row}
 use Rattle.tk_script.specs.declared.script_error.ScriptError.{ScriptError}
 use Rattle.tk_script.specs.declared.script_error.ScriptError.TheVariants as errors
 
 -- the content of a script, regardless of its place in memory
 pub record Parse : Type 0 where
-  -- the opening of the clocks: the counter, its reading in cycles, and REALTIME at that reading
-  pub counter : Counter
-  pub reading : ℕ
-  pub real : Timespec
+  -- how the clocks begin
+  pub start : Start
   -- the commands, the reads and the changes of counter, in order
   pub rows : List Row
 
@@ -24,7 +21,7 @@ unfoldable pub parse_records : List (List (List ℕ)) → Result Parse ScriptErr
 parse_records [] = Err errors.Empty
 parse_records (first ∷ later) =
     start_of first >>= λ start. (rows_of 2 later >>= λ rows.
-    Ok (record { counter = start.desc; reading = start.reading; real = start.real; rows = rows }))
+    Ok (record { start = start; rows = rows }))
 
 -- the content of a script with these bytes
 unfoldable pub parse_of : List ℕ → Result Parse ScriptError

@@ -1,6 +1,9 @@
 pub mod Number
 pub mod Word
 pub mod Field
+pub mod Start
+pub mod Counters
+pub mod RunningClocks
 pub mod Opening
 pub mod Rows
 pub mod Records

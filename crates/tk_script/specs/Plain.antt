@@ -26,11 +26,11 @@ cut_after field (byte ∷ rest) =
 abbrev pub cut_at_commas : List ℕ → List (List ℕ)
 cut_at_commas line = cut_after [] line
 
--- the number of these fields, and the first seven of them
+-- the number of these fields, and the first sixteen of them, as many as the longest record has
 pub record HasFields (fields : List (List ℕ)) (found : Fields) : Type 0 where
   pub count : found.count ≡ length fields
-  pub places : length found.first ≡ 7
-  pub first : (i : ℕ) (field : Bor (List ℕ)) → i < found.count → i < 7 →
+  pub places : length found.first ≡ 16
+  pub first : (i : ℕ) (field : Bor (List ℕ)) → i < found.count → i < 16 →
       field ≡ get_or found.first i field → field_at fields i ≡ Some field.now
 
 -- a line ends at `end`, by a line feed or with the text, and the bytes `rest` follow

@@ -5,9 +5,4 @@ use Rattle.tk_script.specs.Grammar.{Parse}
 -- the content of a script, regardless of its place in memory
 abbrev pub parse : Script → Parse
 parse script =
-    record {
-      counter = script.desc;
-      reading = script.reading;
-      real = script.real;
-      rows = script.rows.items;
-    }
+    record { start = script.start; rows = script.rows.items }

@@ -9,6 +9,9 @@ use crate::records::Records;
 use crate::script_error::ScriptError;
 use tk_clock::{ClockId, Timespec};
 
+/// The number of fields of the longest record, `openwords`.
+pub(crate) const MOST_FIELDS: usize = 16;
+
 /// Returns whether the bytes are this keyword. Most keywords differ in length.
 pub(crate) fn has_word(bytes: &[u8], word: &[u8]) -> bool
     ensures { result ≡ is_word bytes.now word.now }
@@ -17,9 +20,9 @@ pub(crate) fn has_word(bytes: &[u8], word: &[u8]) -> bool
 }
 
 /// Returns the field at an index, or an empty field after the last one. All calls of this module
-/// take an index below 7, the number of fields of the longest form.
+/// take an index below `MOST_FIELDS`.
 pub(crate) fn field<'a>(fields: &'a Records<'_>, i: usize) -> &'a [u8]
-    requires { i < 7 }
+    requires { i < 16 }
     ensures { result.now ≡ spec.field (fields_of fields.now) i }
 {
     fields.get(i).unwrap_or(&[])
@@ -27,7 +30,7 @@ pub(crate) fn field<'a>(fields: &'a Records<'_>, i: usize) -> &'a [u8]
 
 /// Parses an unsigned 64-bit number in the record `row`.
 pub(crate) fn number_at(row: u64, fields: &Records<'_>, i: usize) -> Result<u64, ScriptError>
-    requires { i < 7 }
+    requires { i < 16 }
     ensures { result ≡ spec.number_at row (fields_of fields.now) i }
 {
     number(field(fields, i)).ok_or(ScriptError::Number { row })
@@ -35,7 +38,7 @@ pub(crate) fn number_at(row: u64, fields: &Records<'_>, i: usize) -> Result<u64,
 
 /// Parses an unsigned 32-bit number.
 pub(crate) fn number32_at(row: u64, fields: &Records<'_>, i: usize) -> Result<u32, ScriptError>
-    requires { i < 7 }
+    requires { i < 16 }
     ensures { result ≡ spec.number32_at row (fields_of fields.now) i }
 {
     number32(field(fields, i)).ok_or(ScriptError::Number { row })
@@ -43,7 +46,7 @@ pub(crate) fn number32_at(row: u64, fields: &Records<'_>, i: usize) -> Result<u3
 
 /// Parses a signed 64-bit number.
 pub(crate) fn signed_at(row: u64, fields: &Records<'_>, i: usize) -> Result<i64, ScriptError>
-    requires { i < 7 }
+    requires { i < 16 }
     ensures { result ≡ spec.signed_at row (fields_of fields.now) i }
 {
     signed(field(fields, i)).ok_or(ScriptError::Number { row })
@@ -52,7 +55,7 @@ pub(crate) fn signed_at(row: u64, fields: &Records<'_>, i: usize) -> Result<i64,
 /// Parses seconds, and nanoseconds in the next field.
 #[tactic(auto, unfolding(crate::specs::Field::time_at))]
 pub(crate) fn time_at(row: u64, fields: &Records<'_>, i: usize) -> Result<Timespec, ScriptError>
-    requires { i < 6 }
+    requires { i < 15 }
     ensures { result ≡ spec.time_at row (fields_of fields.now) i }
 {
     let sec = signed_at(row, fields, i)?;
@@ -62,7 +65,7 @@ pub(crate) fn time_at(row: u64, fields: &Records<'_>, i: usize) -> Result<Timesp
 
 /// Parses a clock's name.
 pub(crate) fn clock_at(row: u64, fields: &Records<'_>, i: usize) -> Result<ClockId, ScriptError>
-    requires { i < 7 }
+    requires { i < 16 }
     ensures { result ≡ spec.clock_at row (fields_of fields.now) i }
 {
     clock_word(field(fields, i)).ok_or(ScriptError::Word { row })

@@ -2,8 +2,9 @@
 //!
 //! | Item | Its meaning |
 //! |---|---|
-//! | `Script`, `Row` | hold a parsed script: the opening of the clocks, then commands, reads and changes of counter |
-//! | `RowReader`, `Start` | read a script one row at a time |
+//! | `Script`, `Row` | hold a parsed script: how the clocks begin, then commands, reads and changes of counter |
+//! | `RowReader` | reads a script one row at a time |
+//! | `Start`, `Opening` | say how clocks begin: opened with these values, or already running |
 //! | `Stamps` | holds a parsed stamp file: readings of the counter, each with its front |
 //! | `SIZE_LIMIT` | is the greatest size of a script or of a stamp file, in bytes |
 //! | `ScriptError` | names the first fault of a script or of a stamp file |
@@ -30,6 +31,7 @@ mod plain;
 mod records;
 mod row;
 mod row_reader;
+mod running_clocks;
 mod script;
 mod script_error;
 mod stamps;
@@ -39,7 +41,7 @@ pub use calendar::{Calendar, utc};
 pub use lines::{line_differs, line_no, line_ok, line_open};
 pub use names::clock_word;
 pub use numbers::number;
-pub use opening::Start;
+pub use opening::{Opening, Start};
 pub use records::SIZE_LIMIT;
 pub use row::Row;
 pub use row_reader::RowReader;

@@ -1,20 +1,22 @@
-ghost use Rattle.std.specs.Prelude.{◌≡◌, IfOk, None};
+ghost use Rattle.std.specs.Prelude.{◌≡◌, IfOk};
+ghost use Rattle.tk_script.specs.Counters as counters;
 ghost use Rattle.tk_script.specs.Cursor.{fields_of};
-ghost use Rattle.tk_clock.specs.Refusal.{opening_refusal};
+ghost use Rattle.tk_script.specs.Start.{IsOpenable};
 ghost use Rattle.tk_script.specs.Opening as spec;
 
 use crate::fields::{field, has_word, number_at, number32_at, time_at};
 use crate::records::Records;
+use crate::running_clocks::read_running;
 use crate::script_error::ScriptError;
 use tk_clock::{Clock, Timespec};
 use tk_counter::CounterDesc;
 
-/// The number of fields of an opening. No other record has as many.
-pub(crate) const OPENING_FIELDS: usize = 7;
+/// The number of fields of the records `open` and `openhz`.
+const OPENING_FIELDS: usize = 7;
 
-/// Contains the opening of a script: the values with which its clocks are opened.
-#[derive(Clone, Copy)]
-pub struct Start {
+/// Contains the values with which clocks are opened.
+#[derive(Clone, Copy, Debug, PartialEq, Eq)]
+pub struct Opening {
     /// Describes the counter.
     pub desc: CounterDesc,
     /// The counter's reading at the opening, in cycles, at most the mask.
@@ -23,10 +25,19 @@ pub struct Start {
     pub real: Timespec,
 }
 
+/// Contains the first record of a script: how its clocks begin.
+#[derive(Clone, Copy, Debug)]
+pub enum Start {
+    /// Opens clocks (`open`, `openhz`).
+    Opened(Opening),
+    /// Continues running clocks, which have accepted `front` commands, at most 2^62 (`openwords`).
+    Running { clock: Clock, front: u64 },
+}
+
 /// Names the two numbers that describe the counter, after its bits.
 #[derive(Clone, Copy)]
-enum Telling {
-    /// `open`: mult and shift.
+pub(crate) enum Telling {
+    /// `open`, `openwords`: mult and shift.
     Scale,
     /// `openhz`: the frequency in Hz, and the longest gap in seconds.
     Frequency,
@@ -36,14 +47,15 @@ enum Telling {
 #[tactic(auto, unfolding(crate::specs::Opening::start_of))]
 pub(crate) fn read_start(fields: &Records<'_>) -> Result<Start, ScriptError>
     ensures value { result ≡ spec.start_of (fields_of fields.now) }
-    ensures opens { IfOk result (λ start.
-        opening_refusal start.desc start.reading start.real ≡ None) }
+    ensures opens { IfOk result IsOpenable }
 {
     let word = field(fields, 0);
     if has_word(word, b"open") {
         read_opening(Telling::Scale, fields)
     } else if has_word(word, b"openhz") {
         read_opening(Telling::Frequency, fields)
+    } else if has_word(word, b"openwords") {
+        read_running(fields)
     } else {
         Err(ScriptError::Opening { row: 1 })
     }
@@ -53,8 +65,7 @@ pub(crate) fn read_start(fields: &Records<'_>) -> Result<Start, ScriptError>
 #[tactic(auto, unfolding(crate::specs::Opening::opening_of))]
 fn read_opening(telling: Telling, fields: &Records<'_>) -> Result<Start, ScriptError>
     ensures value { result ≡ spec.opening_of telling (fields_of fields.now) }
-    ensures opens { IfOk result (λ start.
-        opening_refusal start.desc start.reading start.real ≡ None) }
+    ensures opens { IfOk result IsOpenable }
 {
     if fields.len() != OPENING_FIELDS {
         return Err(ScriptError::Fields { row: 1 });
@@ -69,13 +80,13 @@ fn read_opening(telling: Telling, fields: &Records<'_>) -> Result<Start, ScriptE
 }
 
 /// Makes the counter of `bits` bits from two numbers, if they describe one.
-fn counter_of(
+pub(crate) fn counter_of(
     telling: Telling,
     bits: u32,
     first: u32,
     second: u32,
 ) -> Result<CounterDesc, ScriptError>
-    ensures { result ≡ spec.counter_of telling bits first second }
+    ensures { result ≡ counters.counter_of telling bits first second }
 {
     match telling {
         Telling::Scale => CounterDesc::new(bits, first, second),
@@ -87,15 +98,14 @@ fn counter_of(
 /// Makes the opening with these values, if clocks can be opened with them.
 fn started(desc: CounterDesc, reading: u64, real: Timespec) -> Result<Start, ScriptError>
     ensures value { result ≡ spec.started desc reading real }
-    ensures opens { IfOk result (λ start.
-        opening_refusal start.desc start.reading start.real ≡ None) }
+    ensures opens { IfOk result IsOpenable }
 {
     if Clock::open(desc, reading, real).is_err() {
         return Err(ScriptError::Opening { row: 1 });
     }
-    Ok(Start {
+    Ok(Start::Opened(Opening {
         desc,
         reading,
         real,
-    })
+    }))
 }

@@ -10,8 +10,8 @@ ghost use Rattle.tk_script.specs.Records.{records_after};
 ghost use Rattle.tk_script.specs.Rows.{row_of};
 ghost use Rattle.tk_script.specs.Stamps.{stamp_of};
 
+use crate::fields::MOST_FIELDS;
 use crate::frequent::{leading_row, leading_stamp};
-use crate::opening::OPENING_FIELDS;
 use crate::row::Row;
 use memchr::{memchr, memchr2};
 
@@ -20,7 +20,7 @@ use memchr::{memchr, memchr2};
 struct Fields<'a> {
     /// The first of them, as many as the longest form of a record has; if there are fewer, then
     /// empty ones.
-    first: [&'a [u8]; OPENING_FIELDS],
+    first: [&'a [u8]; MOST_FIELDS],
     /// Their number.
     count: usize,
 }
@@ -33,7 +33,7 @@ impl<'a> Fields<'a> {
             HasFields (fields ++ field.now ∷ []) self.new }
         ensures count { self.new.count ≡ self.old.count + 1 }
     {
-        if self.count < OPENING_FIELDS {
+        if self.count < MOST_FIELDS {
             self.first[self.count] = field;
         }
         self.count += 1;
@@ -89,7 +89,7 @@ impl<'a> Lines<'a> {
 
     /// Returns the field at an index of the line that was read last.
     pub(crate) fn get(&self, i: usize) -> Option<&'a [u8]>
-        requires { i < 7 }
+        requires { i < 16 }
         ensures { option_map (λ s. s.now) result ≡ field_at (cut_at_commas self.now.line.now) i }
     {
         if i < self.fields.count {
@@ -189,7 +189,7 @@ fn split_at_commas(line: &[u8]) -> Fields<'_>
     ensures { HasFields (cut_at_commas line.now) result }
 {
     let mut fields = Fields {
-        first: [&[]; OPENING_FIELDS],
+        first: [&[]; MOST_FIELDS],
         count: 0,
     };
     let mut rest = line;

@@ -76,9 +76,9 @@ impl<'a> Records<'a> {
     }
 
     /// Returns the field at an index of the record that was read last. No form of a record has a
-    /// field at 7.
+    /// field at `MOST_FIELDS`.
     pub(crate) fn get(&self, i: usize) -> Option<&[u8]>
-        requires { i < 7 }
+        requires { i < 16 }
         ensures { option_map (λ s. s.now) result ≡ field_at (fields_of self.now) i }
     {
         match self {

@@ -1,7 +1,7 @@
-ghost use Rattle.std.specs.Prelude.{◌≡◌, IfOk, MatchResult, None};
-ghost use Rattle.tk_clock.specs.Refusal.{opening_refusal};
+ghost use Rattle.std.specs.Prelude.{◌≡◌, IfOk, MatchResult};
 ghost use Rattle.tk_script.specs.Grammar.{Fails, parse_of};
 ghost use Rattle.tk_script.specs.Coming.{IsReady, Steps, coming, opened_with};
+ghost use Rattle.tk_script.specs.Start.{IsOpenable};
 
 use crate::opening::{Start, read_start};
 use crate::records::{Records, SIZE_LIMIT};
@@ -18,9 +18,9 @@ pub struct RowReader<'a> {
 }
 
 impl<'a> RowReader<'a> {
-    /// Parses the opening of a script, and returns it with a reader of the rows.
+    /// Parses the first record of a script, and returns it with a reader of the rows.
     ///
-    /// Clocks can be opened with the values of a returned opening.
+    /// Clocks can begin as it says.
     ///
     /// # Errors
     ///
@@ -33,9 +33,8 @@ impl<'a> RowReader<'a> {
             (λ opened. IsReady opened.1
             × (parse_of bytes.now ≡ opened_with opened.0 (coming opened.1)))
             (λ error. Fails error (parse_of bytes.now)) }
-        // clocks can be opened with the script's opening
-        ensures opens { IfOk result (λ opened.
-            opening_refusal opened.0.desc opened.0.reading opened.0.real ≡ None) }
+        // clocks can begin in this way
+        ensures opens { IfOk result (λ opened. IsOpenable opened.0) }
     {
         if bytes.len() > SIZE_LIMIT {
             return Err(ScriptError::TooLarge);

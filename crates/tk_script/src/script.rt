@@ -1,24 +1,19 @@
-ghost use Rattle.std.specs.Prelude.{◌≡◌, IfOk, None};
-ghost use Rattle.tk_clock.specs.Refusal.{opening_refusal};
+ghost use Rattle.std.specs.Prelude.{IfOk};
 ghost use Rattle.tk_script.specs.Grammar.{Gives, parse_of};
+ghost use Rattle.tk_script.specs.Start.{IsOpenable};
 
+use crate::opening::Start;
 use crate::row::Row;
 use crate::row_reader::RowReader;
 use crate::script_error::ScriptError;
 use std::alloc::Global;
-use tk_clock::Timespec;
-use tk_counter::CounterDesc;
 
-/// Contains a parsed script: the opening of the clocks, and then the commands, the reads and the
-/// changes of counter.
+/// Contains a parsed script: how the clocks begin, and then the commands, the reads and the changes
+/// of counter.
 #[derive(Drop)]
 pub struct Script {
-    /// Describes the counter.
-    pub desc: CounterDesc,
-    /// The counter's reading at the opening, in cycles, at most the mask.
-    pub reading: u64,
-    /// REALTIME at that reading.
-    pub real: Timespec,
+    /// Opens the clocks, or continues running ones.
+    pub start: Start,
     /// Commands and reads, in the order of their records.
     pub rows: Vec<Row>,
 }
@@ -26,7 +21,7 @@ pub struct Script {
 impl Script {
     ghost use Rattle.tk_script.specs.Script.{parse};
 
-    /// Parses the bytes of a script. Clocks can be opened with the values of a returned script.
+    /// Parses the bytes of a script. Clocks can begin as a returned script says.
     ///
     /// # Errors
     ///
@@ -34,9 +29,8 @@ impl Script {
     /// replace any other result.
     pub fn from_bytes(alloc: Global, bytes: &[u8]) -> Result<Script, ScriptError>
         ensures gives { Gives parse result (parse_of bytes.now) }
-        // clocks can be opened with the script's opening
-        ensures opens { IfOk result (λ script.
-            opening_refusal script.desc script.reading script.real ≡ None) }
+        // clocks can begin in this way
+        ensures opens { IfOk result (λ script. IsOpenable script.start) }
     {
         let (start, mut reader) = RowReader::open(alloc, bytes)?;
         let mut rows = Vec::new(alloc);
@@ -45,11 +39,6 @@ impl Script {
                 return Err(ScriptError::Memory);
             }
         }
-        Ok(Script {
-            desc: start.desc,
-            reading: start.reading,
-            real: start.real,
-            rows,
-        })
+        Ok(Script { start, rows })
     }
 }

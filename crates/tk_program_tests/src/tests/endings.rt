@@ -37,7 +37,7 @@ fn states_why_words_are_not_taken(rt: HostRuntime) -> Result<(), Fail> {
 
 #[test]
 fn states_each_ending(rt: HostRuntime) {
-    let endings: [(Ending, u8, &[u8]); 13] = [
+    let endings: [(Ending, u8, &[u8]); 14] = [
         (Ending::Done, 0, b""),
         (Ending::Faulty, 1, b""),
         (Ending::Differs, 3, b""),
@@ -70,6 +70,11 @@ fn states_each_ending(rt: HostRuntime) {
             b"tkcore: script: larger than 16777216 bytes\n",
         ),
         (Ending::Openings, 1, b"tkcore: openings differ\n"),
+        (
+            Ending::Running { index: 9 },
+            1,
+            b"tkcore: file 9: a race cannot begin from running clocks\n",
+        ),
         (
             Ending::Counter { index: 12 },
             1,

@@ -5,13 +5,14 @@ mod lines;
 mod memory;
 mod names;
 mod refused;
+mod running;
 mod scripts;
 
 use super::{assert_lines, assert_same};
 use std::alloc::{AllocError, Global};
 use std::process::Abort;
 use tk_clock::{ClockId, Command, Timespec};
-use tk_script::{Row, Script};
+use tk_script::{Row, Script, Start};
 
 /// A 32-bit counter at 1 ns per cycle, opened at reading 0.
 const OPENING: &[u8] = b"open,32,16777216,24,0,1700000000,0\n";
@@ -34,15 +35,28 @@ fn assert_opening(
     real: Timespec,
 ) {
     match Script::from_bytes(rt.alloc(), bytes) {
-        Ok(script) => {
-            let desc = script.desc;
-            let found = (desc.bits(), desc.mult(), desc.shift());
-            assert_same(rt, &found, &counter);
-            assert_same(rt, &script.reading, &reading);
-            assert_same(rt, &script.real, &real);
-        }
+        Ok(script) => assert_opened(rt, script.start, counter, reading, real),
         Err(error) => assert_same(rt, &Some(error), &None),
     }
+}
+
+/// Stops the test unless clocks are opened with these values.
+fn assert_opened(
+    rt: &impl Abort,
+    start: Start,
+    counter: (u32, u32, u32),
+    reading: u64,
+    real: Timespec,
+) {
+    let Start::Opened(opening) = start else {
+        assert!(rt; false);
+        return;
+    };
+    let desc = opening.desc;
+    let found = (desc.bits(), desc.mult(), desc.shift());
+    assert_same(rt, &found, &counter);
+    assert_same(rt, &opening.reading, &reading);
+    assert_same(rt, &opening.real, &real);
 }
 
 /// Returns a text and a later one after it.

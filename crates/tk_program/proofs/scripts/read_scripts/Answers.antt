@@ -2,7 +2,7 @@ use Rattle.std.proofs.Common.{inr, ℕ, Bor, List, [], arith, map, sym, subst}
 use Rattle.std.specs.Prelude.{slice_index_or}
 use Rattle.std.proofs.lemmas.List.{get_or-map}
 use Rattle.std.proofs.lemmas.Result.{err_from_is_err_and}
-use Rattle.tk_script.specs.declared.script.Script.{Script}
+use Rattle.tk_program.specs.declared.racer.Racer.{Racer}
 use Rattle.tk_program.specs.declared.ending.Ending.{Ending}
 use Rattle.tk_program.specs.Race.{IsScriptFrom, StopsScript}
 use Rattle.tk_program.proofs.FilesRead.{all_zip-more}
@@ -41,7 +41,7 @@ files-preserved g c =
         c.push_reserved.ensures.len,
         c.push_reserved.ensures.capacity,
       );
-      read = all_zip-more (λ (name : Bor (List ℕ)) (script : Script). IsScriptFrom
+      read = all_zip-more (λ (name : Bor (List ℕ)) (script : Racer). IsScriptFrom
           g.D.Folder.open_gives g.D.File.Read.remaining g.D.File.Source.read_gives
           c.args.folder.now name.now script)
           c.args.names.now c.files.place none c.files.scripts.items

@@ -1,22 +1,23 @@
 use Rattle.std.proofs.Common.{◌≡◌, ◌∙◌, Ok, [], ap, arith, rules, sym}
 use Rattle.std.proofs.lemmas.Result.{err_from_is_err_and}
-use Rattle.tk_clock.specs.Journal.{Journal, accepted_count, opened}
+use Rattle.tk_clock.specs.Journal.{Journal, accepted_count}
 use Rattle.tk_clock.specs.Refusal.{first_refusal}
 use Rattle.tk_script.specs.Coming.{coming}
+use Rattle.tk_script.specs.Start.{journal_at}
 use Rattle.tk_report.specs.Trace.{journal_after}
 use Rattle.tk_report.proofs.Journals.{Fails-journal_after, journal_after-row}
+use Rattle.tk_report.proofs.Beginnings.{few-at}
 use Rattle.tk_report.proofs.Lines.{counted_after}
 use Rattle.tk_report.proofs.journaling.keeper_after.Goals as goal
 
 pub rows-init : goal.rows-init
 rows-init g c =
     let start = c.args.start in
-    let opens : c.unwrap-keeper.result.journal ≡ opened start.desc start.reading start.real =
-    search rules in
+    let opens : c.keeper_at-keeper.result.journal ≡ journal_at start = c.keeper_at-keeper.ensures in
     record {
       ready = c.requires.ready;
       same = ap (λ (j : Journal). journal_after j (coming c.args.rows.now)) (sym opens);
-      count = rw opens (omega (arith, c.requires.ready.count));
+      count = rw opens (omega (arith, few-at start c.requires.opens, c.requires.ready.count));
     }
 
 pub returns-in_err-row : goal.returns-in_err-row

@@ -1,29 +1,38 @@
 use Rattle.std.proofs.Common.{◌≡◌, ◌∙◌, ◌+◌, ◌<◌, append_assoc, Option, Ok, [], ◌++◌, ℕ, List, ap, arith, rules, subst, sym}
 use Rattle.std.proofs.lemmas.Result.{err_from_is_err_and}
-use Rattle.tk_clock.specs.Journal.{accepted_count, opened}
+use Rattle.tk_clock.specs.Journal.{Journal, accepted_count}
 use Rattle.tk_clock.specs.Limits.{counted_most}
+use Rattle.tk_clock.specs.Snapshot.{Snapshot}
 use Rattle.tk_script.specs.Coming.{coming}
 use Rattle.tk_script.specs.Lines.{open_line}
+use Rattle.tk_script.specs.Start.{journal_at}
 use Rattle.tk_report.specs.Folding.{since_after}
 use Rattle.tk_report.specs.Report.{difference, differs_text, missed}
+use Rattle.tk_report.proofs.Beginnings.{count-at, few-at}
 use Rattle.tk_report.proofs.Lines.{count_after, difference_most, IsBegunBy, IsBegunBy-start, IsBegunBy-next, IsBegunBy-end, IsBegunBy-fault}
 use Rattle.tk_report.proofs.reporting.report_rows.Goals as goal
 
 pub rows-init : goal.rows-init
 rows-init g c =
+    let keep = c.args.keep in
     let start = c.args.start in
-    let opens : c.unwrap-keeper.result.journal ≡ opened start.desc start.reading start.real =
-    search rules in
-    let written : c.line_open.new.out.items ≡ open_line start.desc =
+    let all = coming c.args.rows.now in
+    let journal = journal_at start in
+    let opens : c.keeper_at-keeper.result.journal ≡ journal = c.keeper_at-keeper.ensures in
+    let since : c.len-since.result ≡ journal.opening.count =
+    c.len-since.ensures.value ∙ ap accepted_count opens ∙ count-at start in
+    let written : c.line_open.new.out.items ≡ open_line journal.opening.counter =
     c.in_ok-line_open.ensures.ok
-    ∙ ap (λ (t : List ℕ). t ++ open_line start.desc) c.new-text.ensures.items in
+    ∙ ap (λ (t : List ℕ). t ++ open_line c.desc-desc.result) c.new-text.ensures.items
+    ∙ ap open_line (c.desc-desc.ensures ∙ ap (λ (s : Snapshot). s.base.counter) c.snapshot.ensures.value
+    ∙ ap (λ (j : Journal). j.opening.counter) opens) in
     record {
       ready = c.requires.ready;
-      begun = rw (opens, written) (IsBegunBy-start c.args.keep start (coming c.args.rows.now));
-      opening = omega arith;
+      begun = rw (opens, written, since) (IsBegunBy-start keep start all);
+      opening = rw opens (omega (arith, since));
       numbered = omega (arith, c.requires.ready.count);
       found = omega arith;
-      count = rw opens (omega (arith, c.requires.ready.count));
+      count = rw opens (omega (arith, few-at start c.requires.opens, c.requires.ready.count));
     }
 
 pub returns-in_err-row : goal.returns-in_err-row

@@ -1,6 +1,7 @@
 use Rattle.std.proofs.Common.{◌≤◌, ◌+◌, ◌^◌}
 use Rattle.tk_clock.specs.Journal.{accepted_count}
 use Rattle.tk_script.specs.Coming.{IsReady, coming, records_left}
+use Rattle.tk_script.specs.Start.{most_front}
 use Rattle.tk_report.proofs.Lines.{IsBegunBy}
 use Rattle.tk_report.proofs.reporting.report_rows.Given as goal
 
@@ -15,7 +16,7 @@ invariant-rows g l = record {
   opening : l.clocks.since ≤ l.clocks.keeper.journal.opening.count;
   numbered : l.number + records_left l.rows ≤ 2 ^ 32;
   found : l.differences ≤ l.number;
-  count : accepted_count l.clocks.keeper.journal + records_left l.rows ≤ 2 ^ 32;
+  count : accepted_count l.clocks.keeper.journal + records_left l.rows ≤ most_front + 2 ^ 32;
 }
 
 abbrev pub decreases-rows : goal.decreases-rows

@@ -1,0 +1,10 @@
+use tk_script::{Opening, Row};
+
+/// Contains a script that can race: it opens its clocks, and keeps their counter.
+#[derive(Drop)]
+pub(crate) struct Racer {
+    /// The values with which the clocks are opened.
+    pub(crate) opening: Opening,
+    /// Commands and reads, in the order of their records.
+    pub(crate) rows: Vec<Row>,
+}

@@ -1,0 +1,77 @@
+//! Parses the record `openwords`, by which a script begins from running clocks.
+ghost use Rattle.std.specs.Prelude.{◌≡◌, IfOk};
+ghost use Rattle.tk_script.specs.Cursor.{fields_of};
+ghost use Rattle.tk_script.specs.Start.{IsOpenable};
+ghost use Rattle.tk_script.specs.RunningClocks as spec;
+
+use crate::fields::{MOST_FIELDS, number_at, number32_at, signed_at};
+use crate::opening::{Start, Telling, counter_of};
+use crate::records::Records;
+use crate::script_error::ScriptError;
+use tk_clock::{Clock, SNAPSHOT_WORDS, Snapshot};
+use tk_counter::CounterDesc;
+
+/// The most commands that running clocks may have accepted at the beginning of a script. All
+/// records of a script can then be counted.
+const FRONT_LIMIT: u64 = 1 << 62;
+
+/// Parses bits, mult and shift, the ten words of a snapshot, a frequency and a tick.
+#[tactic(auto, unfolding(crate::specs::RunningClocks::running_of))]
+pub(crate) fn read_running(fields: &Records<'_>) -> Result<Start, ScriptError>
+    ensures value { result ≡ spec.running_of (fields_of fields.now) }
+    ensures opens { IfOk result IsOpenable }
+{
+    if fields.len() != MOST_FIELDS {
+        return Err(ScriptError::Fields { row: 1 });
+    }
+    let bits = number32_at(1, fields, 1)?;
+    let mult = number32_at(1, fields, 2)?;
+    let shift = number32_at(1, fields, 3)?;
+    let words = words_in(fields)?;
+    let frequency = signed_at(1, fields, 14)?;
+    let tick = signed_at(1, fields, 15)?;
+    let desc = counter_of(Telling::Scale, bits, mult, shift)?;
+    continued(desc, words, frequency, tick)
+}
+
+/// Parses the ten words of a snapshot.
+#[tactic(auto, unfolding(crate::specs::RunningClocks::words_of_fields))]
+fn words_in(fields: &Records<'_>) -> Result<[u64; SNAPSHOT_WORDS], ScriptError>
+    ensures { result ≡ spec.words_of_fields (fields_of fields.now) }
+{
+    Ok([
+        number_at(1, fields, 4)?,
+        number_at(1, fields, 5)?,
+        number_at(1, fields, 6)?,
+        number_at(1, fields, 7)?,
+        number_at(1, fields, 8)?,
+        number_at(1, fields, 9)?,
+        number_at(1, fields, 10)?,
+        number_at(1, fields, 11)?,
+        number_at(1, fields, 12)?,
+        number_at(1, fields, 13)?,
+    ])
+}
+
+/// Makes the clocks of these words, frequency and tick, if running clocks can be in this state.
+fn continued(
+    desc: CounterDesc,
+    words: [u64; SNAPSHOT_WORDS],
+    frequency: i64,
+    tick: i64,
+) -> Result<Start, ScriptError>
+    ensures value { result ≡ spec.continued desc words frequency tick }
+    ensures opens { IfOk result IsOpenable }
+{
+    let Some(snapshot) = Snapshot::from_words(desc, words) else {
+        return Err(ScriptError::Opening { row: 1 });
+    };
+    let front = snapshot.front();
+    if front > FRONT_LIMIT {
+        return Err(ScriptError::Opening { row: 1 });
+    }
+    let Some(clock) = Clock::from_snapshot(snapshot, frequency, tick) else {
+        return Err(ScriptError::Opening { row: 1 });
+    };
+    Ok(Start::Running { clock, front })
+}
