@@ -3,11 +3,11 @@
 
 use crate::bench::{Bench, Job, Unit};
 use crate::digest::of_numbers;
-use crate::inputs::{OPENING, far_stamps, repeated, stamps};
+use crate::inputs::{OPENED_TIME, OPENING, far_stamps, repeated, stamps};
 use anyhow::{Context, Result, ensure};
 use std::thread::Threads;
 use std::time::Clock as Hours;
-use tk_clock::{Clock, ClockId, Command, Snapshot, Timespec};
+use tk_clock::{Clock, ClockId, Command, Snapshot};
 use tk_counter::CounterDesc;
 use tk_lanes::{lane_batch, plain_batch};
 
@@ -106,11 +106,7 @@ fn updated(unknown: u32) -> Option<Snapshot> {
         unknown.wrapping_add(24),
     )
     .ok()?;
-    let real = Timespec {
-        sec: 1_700_000_000,
-        nsec: 0,
-    };
-    let mut clock = Clock::open(desc, OPENING, real).ok()?;
+    let mut clock = Clock::open(desc, OPENING, OPENED_TIME).ok()?;
     clock.apply(OPENING, Command::Update).ok()?;
     Some(clock.snapshot(1))
 }

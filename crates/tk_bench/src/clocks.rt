@@ -2,10 +2,11 @@
 
 use crate::bench::{Bench, Job, Unit};
 use crate::digest::of_snapshot;
+use crate::inputs::OPENED_TIME;
 use anyhow::{Context, Result};
 use std::thread::Threads;
 use std::time::Clock as Hours;
-use tk_clock::{Clock, ClockId, Command, Snapshot, Timespec};
+use tk_clock::{Clock, ClockId, Command, Snapshot};
 use tk_counter::CounterDesc;
 
 /// The number of calls in a turn.
@@ -115,9 +116,5 @@ fn opened(unknown: u32, bits: u32, mult: u32) -> Option<Clock> {
         unknown.wrapping_add(24),
     )
     .ok()?;
-    let real = Timespec {
-        sec: 1_700_000_000,
-        nsec: 0,
-    };
-    Clock::open(desc, 0, real).ok()
+    Clock::open(desc, 0, OPENED_TIME).ok()
 }

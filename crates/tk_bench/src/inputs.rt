@@ -4,6 +4,13 @@ ghost use Rattle.std.specs.Prelude.{◌<◌};
 
 use anyhow::Result;
 use std::alloc::{AllocError, Global};
+use tk_clock::Timespec;
+
+/// REALTIME at the opening of all clocks.
+pub(crate) const OPENED_TIME: Timespec = Timespec {
+    sec: 1_700_000_000,
+    nsec: 0,
+};
 
 /// The reading at which the clocks of lists of stamps are opened.
 pub(crate) const OPENING: u64 = 12_345;

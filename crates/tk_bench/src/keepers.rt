@@ -2,11 +2,12 @@
 
 use crate::bench::{Bench, Job, Unit};
 use crate::digest::of_snapshot;
+use crate::inputs::OPENED_TIME;
 use anyhow::{Context, Result};
 use std::alloc::Global;
 use std::thread::Threads;
 use std::time::{Clock as Hours, Instant};
-use tk_clock::{Command, Timespec};
+use tk_clock::Command;
 use tk_counter::CounterDesc;
 use tk_keeper::{LISTED_LIMIT, Timekeeper};
 
@@ -149,9 +150,5 @@ pub(crate) fn run_keepers(rt: &(impl Threads + Hours + Sync), bench: &Bench<'_>)
 }
 
 fn opened(alloc: Global, desc: CounterDesc) -> Option<Timekeeper> {
-    let real = Timespec {
-        sec: 1_700_000_000,
-        nsec: 0,
-    };
-    Timekeeper::open(alloc, desc, 0, real).ok()
+    Timekeeper::open(alloc, desc, 0, OPENED_TIME).ok()
 }

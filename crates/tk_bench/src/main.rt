@@ -18,6 +18,7 @@ mod clocks;
 mod digest;
 mod inputs;
 mod keepers;
+mod steered;
 mod texts;
 mod traces;
 
@@ -27,6 +28,7 @@ use bench::Bench;
 use clocks::run_clocks;
 use keepers::run_keepers;
 use std::env;
+use steered::run_steered;
 use texts::run_texts;
 use traces::run_traces;
 
@@ -45,6 +47,9 @@ fn main(rt: HostRuntime) -> Result<()> {
     }
     if bench.wants_any("text_") {
         run_texts(&rt, &bench)?;
+    }
+    if bench.wants_any("ntp_") {
+        run_steered(&rt, &bench)?;
     }
     Ok(())
 }

@@ -3,12 +3,12 @@
 
 use crate::bench::{Bench, Job, Unit};
 use crate::digest::of_numbers;
-use crate::inputs::{OPENING, far_stamps, repeated, stamps};
+use crate::inputs::{OPENED_TIME, OPENING, far_stamps, repeated, stamps};
 use anyhow::{Context, Result, ensure};
 use std::alloc::Global;
 use std::thread::Threads;
 use std::time::Clock as Hours;
-use tk_clock::{ClockId, Command, Timespec};
+use tk_clock::{ClockId, Command};
 use tk_counter::CounterDesc;
 use tk_keeper::Timekeeper;
 use tk_pieces::{trace_all, trace_all_into};
@@ -125,11 +125,7 @@ fn run_forms(
 /// Opens a keeper with one command, of a counter of one nanosecond a cycle.
 fn opened(alloc: Global, unknown: u32) -> Option<Timekeeper> {
     let desc = CounterDesc::new(48, unknown.wrapping_add(16_777_216), 24).ok()?;
-    let real = Timespec {
-        sec: 1_700_000_000,
-        nsec: 0,
-    };
-    let mut keeper = Timekeeper::open(alloc, desc, OPENING, real).ok()?;
+    let mut keeper = Timekeeper::open(alloc, desc, OPENING, OPENED_TIME).ok()?;
     keeper.apply(0, OPENING, Command::Update).ok()?;
     Some(keeper)
 }
