@@ -1,6 +1,6 @@
 use super::super::assert_same;
-use super::Start;
-use tk_script::{RowReader, ScriptError};
+use std::process::Abort;
+use tk_script::{RowReader, Script, ScriptError, Start};
 
 /// A 32-bit counter at 1 ns per cycle, whose clocks have accepted 5 commands. The last one was at
 /// reading 100, MONOTONIC is 7.5 s, and TAI is 37 s ahead of REALTIME.
@@ -33,7 +33,15 @@ const WRONG: [&[u8]; 12] = [
 
 #[test]
 fn reads_running_clocks(rt: HostRuntime) {
-    let Ok((Start::Running { clock, front }, _)) = RowReader::open(rt.alloc(), RUNNING) else {
+    match Script::from_bytes(rt.alloc(), RUNNING) {
+        Ok(script) => assert_running(&rt, script.start),
+        Err(error) => assert_same(&rt, &Some(error), &None),
+    }
+}
+
+/// Stops the test unless a script begins from the clocks of `RUNNING`.
+fn assert_running(rt: &impl Abort, start: Start) {
+    let Start::Running { clock, front } = start else {
         assert!(rt; false);
         return;
     };
@@ -49,10 +57,10 @@ fn reads_running_clocks(rt: HostRuntime) {
         1,
         7,
     ];
-    assert_same(&rt, &front, &5);
-    assert_same(&rt, &clock.snapshot(front).words(), &words);
-    assert_same(&rt, &clock.frequency(), &0);
-    assert_same(&rt, &clock.tick(), &10_000);
+    assert_same(rt, &front, &5);
+    assert_same(rt, &clock.snapshot(front).words(), &words);
+    assert_same(rt, &clock.frequency(), &0);
+    assert_same(rt, &clock.tick(), &10_000);
 }
 
 #[test]
