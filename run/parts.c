@@ -126,10 +126,10 @@ static struct part *add_part(struct recording *recording, uint64_t row)
 }
 
 /*
- * Begins the next part at a row. tkcore can't open running clocks yet, so each
- * part opens the first ones, and contains all commands up to the row. A record
- * that opens clocks by their words will take the place of both. Returns NULL if
- * the script can't be made.
+ * Begins the next part at a row. The rows don't contain the words of the clocks,
+ * by which `openwords` would continue them. So each part opens the first clocks
+ * again, and contains all commands up to the row. Returns NULL if the script
+ * can't be made.
  */
 static struct part *begin_part(struct recording *recording,
 			       const struct plan *plan, uint64_t row,
