@@ -146,8 +146,8 @@ def script(rng, has_changes=True):
 
 
 def unquoted_script(rng):
-    """A script without quotes, byte order marks, changes of counter and expected values, for a program that knows no
-    more of csv than lines and commas."""
+    """A script without quotes, byte order marks, running clocks, changes of counter and expected values, for a program
+    that knows no more of csv than lines and commas."""
     ending = rng.choice(["\n", "\n", "\r\n", "\r"])
     return ending.join(",".join(map(str, line)) for line in records(rng, False, False)).encode()
 

@@ -44,7 +44,8 @@ class Journal:
 
     @classmethod
     def from_script(cls, lines: Iterable[str]) -> Journal:
-        """Returns the journal of a script of tkcore (docs/TKCORE.md), without its `get` records.
+        """Returns the journal of a script of tkcore (docs/TKCORE.md) that begins with `open` or
+        `openhz`, without its `get` records.
 
         Raises ValueError at a record that is none, and the exception of numbers that describe no
         counter or of a refused command.
