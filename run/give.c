@@ -35,8 +35,8 @@ enum {
 	CALL_STOP = SIGTRAP | 0x80, /* by PTRACE_O_TRACESYSGOOD */
 };
 
-/* Where the kernel's vDSO, which is the same in each program, has what is
- * needed. 0 means that it hasn't. */
+/* Places in the kernel's vDSO, which is the same in each program: of an
+ * instruction `syscall`, and of clock_gettime. 0 means that there is none. */
 static struct {
 	uint64_t call, gettime;
 } vdso;
@@ -185,7 +185,7 @@ static bool map_page(const struct target *target, uint64_t at, uint64_t path)
 	return result == (long)at;
 }
 
-/* Copies the image to an address, behind its head. */
+/* Copies the head to an address, and the image after it. */
 static bool copy_image(const struct target *target, uint64_t at)
 {
 	size_t size = (size_t)(image_end - image_start);

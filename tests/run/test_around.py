@@ -27,7 +27,7 @@ class Around(RunTest):
         self.assertEqual(self.start("--", "bash", "-c", "kill -KILL $$").returncode, 137)
 
     def test_a_summary_that_nobody_reads(self):
-        # the program tells its folder, which is removed also if the summary can't be written
+        # the program prints the folder, which is removed also if the summary can't be written
         run = subprocess.Popen([TKRUN, "--", "bash", "-c", "echo $TKRUN; read; exit 7"],
                                stdin=subprocess.PIPE, stdout=subprocess.PIPE,
                                stderr=subprocess.PIPE, text=True)
