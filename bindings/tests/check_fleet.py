@@ -179,8 +179,12 @@ def check_refused(work):
     refused("hz is 0 instead of 1 to 4294967295")
     Path(table, "00000.npy").touch()
     refused("TABLE contains a table", status=2)
-    with mock.patch.object(fleet, "MOST_MACHINES", 1), contextlib.suppress(ValueError):
-        raise AssertionError(fleet.run(fleet.map_here, data, table))
+    with mock.patch.object(fleet, "MOST_MACHINES", 1):
+        try:
+            made = fleet.run(fleet.map_here, data, table)
+        except ValueError as error:
+            made = str(error)
+    assert made == f"{data} has 2 machines instead of 1 to 1", made
 
 
 def check_all(machines, stamps, rows, work):
