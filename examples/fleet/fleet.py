@@ -139,7 +139,8 @@ def run(map_all, folder, table, rows_of_a_file=ROWS_OF_A_FILE):
     done = map_all(convert, [(folder, table, name) for name in names])
     total = sum(run.rows for run, *_ in done)
     merged = map_all(merge, merges(table, done, rows_of_a_file))
-    for left in [*Path(table).glob("*.run"), *Path(table).glob("*.part")]:
+    own = [run.path for run, *_ in done]
+    for left in own + [*Path(table).glob("*.run.*.part"), *Path(table).glob("*.npy.*.part")]:
         left.unlink()
     if sum(merged) != total:
         raise RuntimeError(f"the table has {sum(merged)} rows instead of {total}")
