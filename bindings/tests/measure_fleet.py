@@ -3,7 +3,7 @@
 """Measures examples/fleet: makes a fleet, and its table in one process and by 4, 2 and 1 of Dask's
 workers. All tables must be the same, in the order of TAI, and a sample of the times those of the
 definitions. Before each table, all files are written to the disk, and the stamps are dropped from
-memory. Prints the sentence of docs/PYTHON.md.
+memory. Prints the times as one sentence, for docs/PYTHON.md.
 
     measure_fleet.py [--machines N] [--stamps N] [--minutes N] [--runs N,N..] [FOLDER]
 
@@ -89,7 +89,7 @@ def measure(words, work):
 
 
 def sentence(words, took):
-    """Returns the sentence of docs/PYTHON.md."""
+    """Returns the times as one sentence. It names only the numbers of workers in WORDS."""
     parts = [f"{took[workers]:.0f} s {name}" for workers, name in WORDS.items() if workers in took]
     total = words.machines * words.stamps
     most = total / min(took.values()) / 1e6
