@@ -1,6 +1,6 @@
 # The checks of the Rust crate, which tools/check_bindings reads. They take its variables $top,
-# $dist, $work, $warnings and $sanitized, and its functions fail and left_out.
-# shellcheck shell=bash disable=SC2154
+# $dist, $work, $warnings and $sanitized, its functions fail and left_out, and its `set -e`.
+# shellcheck shell=bash disable=SC2154,SC2164
 
 check_rust() {
     export CARGO_TARGET_DIR=$work/target CARGO_NET_OFFLINE=true
