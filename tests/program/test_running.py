@@ -1,7 +1,7 @@
 """Scripts that begin from running clocks."""
 from program import OPENING, Case, Ending, run
 
-# the clocks after the first five records of WHOLE: a command at reading 1,500,000,000, asleep, 37 s to TAI
+# the clocks after OPENING and FIRST: a command at reading 1,500,000,000, asleep, 37 s to TAI
 RUNNING = ("openwords,32,16777216,24,3,1500000000,16777216,8388608000000000,1,1700000000000000000,0,75,"
            "8388608000000000,1,0,10000\n")
 
