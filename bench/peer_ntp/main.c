@@ -1,6 +1,6 @@
 /* SPDX-License-Identifier: MIT OR Apache-2.0 */
-/* The jobs of crates/tk_bench on steered clocks, in plain C. ../peer/main.rs describes the words and
- * lines. */
+/* The jobs of crates/tk_bench on steered clocks, in plain C. ../peer/main.rs describes the
+ * arguments and the lines. */
 #define _POSIX_C_SOURCE 200809L
 
 #include "ntp.h"

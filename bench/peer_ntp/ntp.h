@@ -1,7 +1,7 @@
 /* SPDX-License-Identifier: MIT OR Apache-2.0 */
-/* The discipline of kernel/time/ntp.c, and the clocks of ../c/plain.h that it steers, as hand-written
- * plain C. They get valid numbers only. Lengths are in 2^-32 ns, frequencies in 2^-16 ppm, errors and
- * ticks in microseconds. */
+/* The discipline of kernel/time/ntp.c, and the clocks of ../c/plain.h that it steers, as
+ * hand-written plain C. They get valid numbers only. Lengths are in 2^-32 ns, frequencies in 2^-16
+ * ppm, errors and ticks in microseconds. */
 #ifndef NTP_H
 #define NTP_H
 

@@ -1,6 +1,6 @@
 /* SPDX-License-Identifier: MIT OR Apache-2.0 */
-/* Clocks that a discipline steers: each second of REALTIME begins at its exact reading, and its length
- * becomes a tick and a frequency. */
+/* Clocks that a discipline steers: each second of REALTIME begins at its exact reading, and its
+ * length becomes a tick and a frequency. */
 #include "ntp.h"
 
 typedef unsigned __int128 u128;
@@ -56,7 +56,7 @@ static uint64_t reading_of(const struct plain_clock *clock, __int128 missing)
 	return (clock->last + cycles) & clock->mask;
 }
 
-/* What the cycles since the mark should have added, less what they did. */
+/* Adds to the lag what the cycles since the mark should have added, minus what they did. */
 static void account(struct steered *steered, uint64_t reading)
 {
 	const struct plain_clock *clock = &steered->clock;
