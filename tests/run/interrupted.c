@@ -186,6 +186,8 @@ static void check_death(void)
 	pid_t child = fork();
 
 	if (!child) {
+		/* a shell's background jobs ignore it */
+		signal(SIGQUIT, SIG_DFL);
 		nanosleep(&span, NULL);
 		_exit(0);
 	}
