@@ -67,7 +67,7 @@ check_crate() {
 }
 
 # The tests over the model instead of the library, compiled with the sanitizers: the crate passes C
-# only pointers and lengths of its own memory, and the model gives the same answers.
+# only pointers to memory that it has, with the right lengths, and the model gives the same answers.
 check_rust_sanitized() {
     local model=$work/model tests=(--lib) source name host runner
     mkdir -p "$model/lib"
