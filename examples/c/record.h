@@ -7,8 +7,8 @@
 #include <stddef.h>
 #include <stdint.h>
 
-/* The most fields that a record of a script has: an opening's, with its word. */
-enum { FIELDS_MOST = 7 };
+/* The most fields that a record of a script has: those of `openwords`, with its word. */
+enum { FIELDS_MOST = 16 };
 
 /* The part of a text that isn't read yet. */
 struct reader {

@@ -2,7 +2,7 @@
 /*
  * Prints the report of the tkcore script on standard input. Each command and
  * each read of the script is one call of the library. A record that changes
- * the counter is a fault here, and so is an opening by `openwords`.
+ * the counter is a fault here.
  *
  * The library keeps no journal, so no command is refused because a journal is
  * full. So the report equals the report of `tkcore replay --keep N`.

@@ -52,13 +52,32 @@ static const struct {
 
 #define COUNT_OF(array) (sizeof(array) / sizeof(*(array)))
 
-/* `counter` is bits, mult and shift, or bits, hz and maxsec. */
+/* How a script opens its clocks. */
+enum opening_kind { OPENS, OPENS_BY_HZ, OPENS_BY_WORDS, OPENING_KINDS };
+
+/* The word of each kind, and the number of fields with it. */
+static const struct {
+	const char *word;
+	size_t count;
+} OPENINGS[OPENING_KINDS] = {
+	[OPENS] = { "open", 7 },
+	[OPENS_BY_HZ] = { "openhz", 7 },
+	[OPENS_BY_WORDS] = { "openwords", 16 },
+};
+
+/* The most commands that running clocks may have accepted. */
+static const uint64_t FRONT_MOST = UINT64_C(1) << 62;
+
+/* `counter` is bits, mult and shift, or bits, hz and maxsec. The numbers of running clocks are
+ * those of tkc_clock_words. */
 struct opening {
-	bool by_frequency;
+	enum opening_kind kind;
 	uint32_t counter[3];
 	uint64_t reading;
 	int64_t sec;
 	uint32_t nsec;
+	uint64_t words[TKC_WORDS];
+	int64_t frequency, tick;
 };
 
 static const char *parse_clock(const struct field *field, uint32_t *clock)
@@ -125,44 +144,82 @@ static const char *parse_row(const struct record *record, struct row *row)
 	return wrong;
 }
 
+static enum opening_kind find_opening(const struct field *word)
+{
+	enum opening_kind kind = OPENS;
+
+	while (kind < OPENING_KINDS && !is_word(word, OPENINGS[kind].word))
+		kind++;
+	return kind;
+}
+
+/* Parses the time of an opening. Returns whether its fields are numbers. */
+static bool parse_start(const struct field *fields, struct opening *opening)
+{
+	return parse_u64(&fields[0], &opening->reading) &&
+	       parse_i64(&fields[1], &opening->sec) &&
+	       parse_u32(&fields[2], &opening->nsec);
+}
+
+/* Does the same with the numbers of running clocks. */
+static bool parse_words(const struct field *fields, struct opening *opening)
+{
+	for (size_t i = 0; i < TKC_WORDS; i++) {
+		if (!parse_u64(&fields[i], &opening->words[i]))
+			return false;
+	}
+	return parse_i64(&fields[TKC_WORDS], &opening->frequency) &&
+	       parse_i64(&fields[TKC_WORDS + 1], &opening->tick);
+}
+
 static const char *parse_opening(const struct record *record,
 				 struct opening *opening)
 {
 	const struct field *fields = record->fields;
+	bool are_numbers;
 
-	opening->by_frequency = is_word(&fields[0], "openhz");
-	if (!opening->by_frequency && !is_word(&fields[0], "open"))
+	opening->kind = find_opening(&fields[0]);
+	if (opening->kind == OPENING_KINDS)
 		return NO_OPENING;
-	if (record->count != FIELDS_MOST)
+	if (record->count != OPENINGS[opening->kind].count)
 		return NO_FIELDS;
 	for (size_t i = 0; i < COUNT_OF(opening->counter); i++) {
 		if (!parse_u32(&fields[i + 1], &opening->counter[i]))
 			return NO_NUMBER;
 	}
-	if (!parse_u64(&fields[4], &opening->reading) ||
-	    !parse_i64(&fields[5], &opening->sec) ||
-	    !parse_u32(&fields[6], &opening->nsec))
-		return NO_NUMBER;
-	return NULL;
+	are_numbers = opening->kind == OPENS_BY_WORDS
+			      ? parse_words(&fields[4], opening)
+			      : parse_start(&fields[4], opening);
+	return are_numbers ? NULL : NO_NUMBER;
+}
+
+static uint32_t open_counter(const struct opening *opening,
+			     struct tkc_counter *counter)
+{
+	const uint32_t *numbers = opening->counter;
+
+	if (opening->kind == OPENS_BY_HZ)
+		return tkc_counter_from_hz(counter, numbers[0], numbers[1],
+					   numbers[2]);
+	return tkc_counter_new(counter, numbers[0], numbers[1], numbers[2]);
 }
 
 /* Opens the clocks. Returns a fault if the library refuses the numbers. */
 static const char *open_clocks(const struct opening *opening,
 			       struct script *script)
 {
-	const uint32_t *numbers = opening->counter;
-	uint32_t code;
+	uint32_t code = open_counter(opening, &script->counter);
 
-	if (opening->by_frequency)
-		code = tkc_counter_from_hz(&script->counter, numbers[0],
-					   numbers[1], numbers[2]);
-	else
-		code = tkc_counter_new(&script->counter, numbers[0], numbers[1],
-				       numbers[2]);
-	if (!code)
+	if (!code && opening->kind != OPENS_BY_WORDS)
 		code = tkc_clock_open(&script->clock, &script->counter,
 				      opening->reading, opening->sec,
 				      opening->nsec);
+	else if (!code && opening->words[0] > FRONT_MOST)
+		code = TKC_BAD_WORDS;
+	else if (!code)
+		code = tkc_clock_from_words(&script->clock, &script->counter,
+					    opening->words, opening->frequency,
+					    opening->tick);
 	return code ? NO_OPENING : NULL;
 }
 

@@ -2,7 +2,7 @@
 /*
  * Parses the scripts of tkcore. A script begins with an opening; each row after
  * it is a command or a read of a clock. crates/tk_script/README.md describes the
- * format. The records `openwords` and `counter` are faults here.
+ * format. The record `counter` is a fault here.
  */
 #ifndef SCRIPT_H
 #define SCRIPT_H

@@ -35,7 +35,7 @@ def main():
     seed = int(sys.argv[3]) if len(sys.argv) > 3 else 1
     rng = random.Random(seed)
     for number in range(count):
-        text = compare.unquoted_script(rng)
+        text = compare.unquoted_script(rng, True)
         if written(program, text) != wanted(text):
             print(f"script {number} of seed {seed} differs:\n{text.decode()}")
             print(f"program: {written(program, text)}\nmodel: {wanted(text)}")

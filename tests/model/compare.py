@@ -111,10 +111,10 @@ def add_values(rng, lines):
             line.append(expected(rng, journal, at, fields[0]))
 
 
-def records(rng, has_changes, has_values=True):
-    """The records of a script, some of them with a fault. With changes of counter, some scripts begin from running
-    clocks too; with values, some reads expect one."""
-    is_running = has_changes and rng.random() < 0.15
+def records(rng, has_changes, has_values=True, may_run=False):
+    """The records of a script, some of them with a fault. With changes of counter or `may_run`, some scripts begin from
+    running clocks; with values, some reads expect one."""
+    is_running = (has_changes or may_run) and rng.random() < 0.15
     has_changes = has_changes and rng.random() < 0.5
     bits, last, asleep, first = running(rng) if is_running else opening(rng)
     lines = [first]
@@ -145,11 +145,11 @@ def script(rng, has_changes=True):
     return bytes_of(rng, records(rng, has_changes))
 
 
-def unquoted_script(rng):
-    """A script without quotes, byte order marks, running clocks, changes of counter and expected values, for a program
-    that knows no more of csv than lines and commas."""
+def unquoted_script(rng, may_run=False):
+    """A script without quotes, byte order marks, changes of counter and expected values, for a program that knows no more
+    of csv than lines and commas. With `may_run`, some begin from running clocks."""
     ending = rng.choice(["\n", "\n", "\r\n", "\r"])
-    return ending.join(",".join(map(str, line)) for line in records(rng, False, False)).encode()
+    return ending.join(",".join(map(str, line)) for line in records(rng, False, False, may_run)).encode()
 
 
 def bytes_of(rng, lines):
