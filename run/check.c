@@ -110,19 +110,16 @@ struct report {
 
 static uint64_t record_count(const struct part *part)
 {
-	return 1 + part->carried + part->end - part->first;
+	return 1 + part->end - part->first;
 }
 
-/* Returns the row of the record, or NULL if it is the opening, or a command of a
- * former part. */
+/* Returns the row of the record, or NULL if it is the opening. */
 static const struct record_row *row_of(const struct report *report)
 {
-	uint64_t before = 1 + report->part->carried;
-
-	if (report->record <= before)
+	if (report->record <= 1)
 		return NULL;
 	return report->recording->list
-		.rows[report->part->first + report->record - before - 1];
+		.rows[report->part->first + report->record - 2];
 }
 
 /* Stores how the record's line begins if tkcore did the same. */
@@ -135,7 +132,7 @@ static void expect(const struct report *report, char *text, size_t size)
 	else if (row && !is_command(row))
 		snprintf(text, size, "at,");
 	else
-		snprintf(text, size, report->record == 1 ? "open," : "ok,");
+		snprintf(text, size, row ? "ok," : "open,");
 }
 
 static void count_difference(struct report *report, const char *saw)

@@ -35,10 +35,11 @@ static const struct {
 	[TKC_CMD_RESUME] = { "resume", 2 },
 };
 
-/* The script that is being written. */
+/* The script that is being written, and the clocks after its commands. */
 struct script_file {
 	FILE *file;
 	size_t bytes;
+	struct tkc_clock clock;
 };
 
 /* A read that gave no time states no value: tkcore refuses it, too. */
@@ -82,32 +83,36 @@ static void close_script(struct script_file *script, int *error)
 		*error = errno;
 }
 
-/* Puts the commands of the former parts into a script, without the updates that
- * change nothing later: MONOTONIC's amount is exact without them. Returns their
- * number. */
-static uint64_t carry_commands(struct script_file *script,
-			       const struct list *list, uint64_t end,
-			       const struct plan *plan)
+/* Opens the clocks of the first part. */
+static void put_opening(struct script_file *script, const struct plan *plan)
 {
-	const struct record_row *row = NULL, *next = NULL;
-	const uint64_t longest =
-		tkc_counter_gap(&plan->counter, 0, UINT64_MAX) / 4;
-	uint64_t last = plan->first, carried = 0;
+	uint32_t bits, mult, shift;
 
-	for (uint64_t i = 0; i <= end; i++) {
-		if (i < end && !is_accepted(list->rows[i]))
-			continue;
-		row = next;
-		next = i < end ? list->rows[i] : NULL;
-		if (!row || (row->kind == TKC_CMD_UPDATE && next &&
-			     tkc_counter_gap(&plan->counter, last,
-					     next->reading) <= longest))
-			continue;
-		last = row->reading;
-		put_command(script, row);
-		carried++;
-	}
-	return carried;
+	tkc_counter_numbers(&bits, &mult, &shift, &plan->counter);
+	script->bytes += (size_t)fprintf(
+		script->file,
+		"open,%" PRIu32 ",%" PRIu32 ",%" PRIu32 ",%" PRIu64 ",%" PRId64
+		",%" PRIu32 "\n",
+		bits, mult, shift, plan->first, plan->open_sec,
+		plan->open_nsec);
+}
+
+/* Continues the clocks of the former part. */
+static void put_words(struct script_file *script)
+{
+	uint64_t words[TKC_SAVED_WORDS];
+
+	tkc_clock_save(words, &script->clock);
+	script->bytes += (size_t)fprintf(
+		script->file, "openwords,%" PRIu64 ",%" PRIu64 ",%" PRIu64,
+		words[TKC_WORDS], words[TKC_WORDS + 1], words[TKC_WORDS + 2]);
+	for (int i = 0; i < TKC_WORDS; i++)
+		script->bytes += (size_t)fprintf(script->file, ",%" PRIu64,
+						 words[i]);
+	script->bytes +=
+		(size_t)fprintf(script->file, ",%" PRId64 ",%" PRId64 "\n",
+				(int64_t)words[TKC_WORDS + 3],
+				(int64_t)words[TKC_WORDS + 4]);
 }
 
 /* Adds a part that begins at a row. Returns NULL if memory is missing. */
@@ -121,40 +126,42 @@ static struct part *add_part(struct recording *recording, uint64_t row)
 		return NULL;
 	recording->parts = parts;
 	recording->part_count = count;
-	parts[count - 1] = (struct part){ 0, row, row };
+	parts[count - 1] = (struct part){ row, row };
 	return &parts[count - 1];
 }
 
-/*
- * Begins the next part at a row. The rows don't contain the words of the clocks,
- * by which `openwords` would continue them. So each part opens the first clocks
- * again, and contains all commands up to the row. Returns NULL if the script
- * can't be made.
- */
+/* Begins the next part at a row. Returns NULL if the script can't be made. */
 static struct part *begin_part(struct recording *recording,
 			       const struct plan *plan, uint64_t row,
 			       struct script_file *script)
 {
 	struct part *part = add_part(recording, row);
 	char name[PATH_MAX];
-	uint32_t bits, mult, shift;
 
-	*script = (struct script_file){ 0 };
+	script->file = NULL;
+	script->bytes = 0;
 	if (!part)
 		return NULL;
 	recording_part(recording, recording->part_count, name, sizeof(name));
 	script->file = fopen(name, "we");
 	if (!script->file)
 		return NULL;
-	tkc_counter_numbers(&bits, &mult, &shift, &plan->counter);
-	script->bytes = (size_t)fprintf(script->file,
-					"open,%" PRIu32 ",%" PRIu32 ",%" PRIu32
-					",%" PRIu64 ",%" PRId64 ",%" PRIu32
-					"\n",
-					bits, mult, shift, plan->first,
-					plan->open_sec, plan->open_nsec);
-	part->carried = carry_commands(script, &recording->list, row, plan);
+	if (recording->part_count == 1)
+		put_opening(script, plan);
+	else
+		put_words(script);
 	return part;
+}
+
+/* Applies a command that the program's clocks accepted. If these clocks refuse it,
+ * tkcore does too, and --check reports the difference. */
+static void follow_command(struct tkc_clock *clock,
+			   const struct record_row *row)
+{
+	enum tkc_code code = tkc_clock_apply(clock, row->reading, row->kind,
+					     row->number, row->nsec);
+
+	(void)code;
 }
 
 static void put_row(struct recording *recording, struct script_file *script,
@@ -162,6 +169,8 @@ static void put_row(struct recording *recording, struct script_file *script,
 {
 	if (is_command(row)) {
 		put_command(script, row);
+		if (is_accepted(row))
+			follow_command(&script->clock, row);
 		recording->commands++;
 	} else {
 		put_read(script, row);
@@ -181,19 +190,21 @@ int parts_write(struct recording *recording, const struct plan *plan)
 {
 	const struct list *list = &recording->list;
 	const size_t part_most = part_size();
-	struct script_file script;
-	struct part *part = begin_part(recording, plan, 0, &script);
+	struct script_file script = { 0 };
+	struct part *part;
 	int error = 0;
+
+	if (tkc_clock_open(&script.clock, &plan->counter, plan->first,
+			   plan->open_sec, plan->open_nsec))
+		return EINVAL; /* unreachable: the clocks have been opened so */
+	part = begin_part(recording, plan, 0, &script);
 
 	for (uint64_t i = 0; i < list->count && part; i++) {
 		if (script.bytes > part_most - LINE_MOST) {
 			close_script(&script, &error);
 			part = begin_part(recording, plan, i, &script);
-			if (!part || script.bytes > part_most / 2) {
-				recording->missing = i;
-				recording->error = EFBIG;
+			if (!part)
 				break;
-			}
 		}
 		put_row(recording, &script, list->rows[i]);
 		part->end = i + 1;

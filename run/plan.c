@@ -53,10 +53,25 @@ static void take_orders(struct plan *plan, const struct script *script)
 	}
 }
 
+/* Stores how clocks were opened. Returns false if they aren't as just opened. */
+static bool find_opening(struct plan *plan, const struct tkc_clock *clock)
+{
+	uint64_t words[TKC_SAVED_WORDS], opened[TKC_SAVED_WORDS];
+	struct tkc_clock other;
+
+	tkc_clock_save(words, clock);
+	plan->first = words[1];
+	plan->open_sec = (int64_t)(words[5] / NANOS);
+	plan->open_nsec = (uint32_t)(words[5] % NANOS);
+	if (tkc_clock_open(&other, &plan->counter, plan->first, plan->open_sec,
+			   plan->open_nsec))
+		return false;
+	tkc_clock_save(opened, &other);
+	return !memcmp(words, opened, sizeof(words));
+}
+
 static void read_script(struct plan *plan, const char *path)
 {
-	uint64_t words[TKC_WORDS];
-	int64_t frequency, tick;
 	struct script script;
 	struct fault fault;
 	size_t length;
@@ -67,10 +82,9 @@ static void read_script(struct plan *plan, const char *path)
 		     fault.text);
 	plan->counter = script.counter;
 	plan->hz = rate_of(&plan->counter);
-	tkc_clock_words(words, &frequency, &tick, &script.clock);
-	plan->first = words[1];
-	plan->open_sec = (int64_t)(words[5] / NANOS);
-	plan->open_nsec = (uint32_t)(words[5] % NANOS);
+	if (!find_opening(plan, &script.clock))
+		fail(STATUS_WRONG,
+		     "--script: record 1: tkrun can't continue running clocks");
 	take_orders(plan, &script);
 	script_free(&script);
 	free(text);

@@ -12,14 +12,14 @@ struct list {
 	uint64_t count;
 };
 
-/* The records of a part after its opening: commands of former parts, which were
- * all accepted, and the rows of the list from `first` to before `end`. */
+/* A part has the rows of the list from `first` to before `end`. */
 struct part {
-	uint64_t carried, first, end;
+	uint64_t first, end;
 };
 
-/* The record of a run. FILE is the first part, FILE.2 the second, and so on. Its
- * reads state the values that the program saw. */
+/* The record of a run. FILE is the first part, FILE.2 the second, and so on. Each
+ * later part continues the clocks of the former one. Its reads state the values
+ * that the program saw. */
 struct recording {
 	const char *path;
 	char rows_path[4096];

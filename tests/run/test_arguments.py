@@ -68,8 +68,10 @@ class Arguments(RunTest):
         self.assertEqual(run.returncode, 0)
 
     def test_faulty_scripts(self):
+        # the clocks of the last one have accepted a command
         for text in ["", "x\n", "open,64,1,1\n", "openhz,64,1000000000,1,0,5,0\nstep,1\n",
-                     "openhz,64,1000000000,1,0,5,0\nboth,1\n"]:
+                     "openhz,64,1000000000,1,0,5,0\nboth,1\n",
+                     "openwords,32,16777216,24,1,0,16777216,0,0,5000000000,0,0,0,0,0,10000\n"]:
             self.assertIn("--script", self.refuse("--script", self.file("s", text)))
         self.assertIn("cannot read", self.refuse("--script", self.folder / "none"))
         self.assertIn("cannot read", self.refuse("--script", self.folder))

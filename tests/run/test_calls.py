@@ -129,9 +129,8 @@ class Calls(RunTest):
         counts = re.fullmatch("killed 200, sets ([0-9]+), reads [0-9]+, back 0, errors 0\n",
                               run.stdout)
         self.assertTrue(counts, run.stdout)
-        # the last part contains every command
-        last = max(self.folder.glob("r.[0-9]"), default=record)
-        sets = sum(line.startswith("set,") for line in last.read_text().splitlines())
+        sets = sum(line.startswith("set,") for part in self.folder.glob("r*")
+                   for line in part.read_text().splitlines())
         self.assertGreaterEqual(sets, int(counts[1]))
         return run.stderr
 

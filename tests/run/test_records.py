@@ -1,28 +1,79 @@
 """Records, --check, and the files of the clocks, also where there is no room for them."""
-from runs import STILL, TKRUN, RunTest, call, needs_mounts, program
+import itertools
+import os
+import sys
+
+from runs import ROOT, STILL, TKRUN, RunTest, call, needs_mounts, program
+
+sys.path.insert(0, str(ROOT / "tests/model"))
+
+# pylint: disable=wrong-import-position
+import model
 
 SET_TIME = 1  # TKC_CMD_SET_TIME of include/tkcore.h
 
+# commands of each kind that a record may contain, and one that is refused
+PARTS = """openhz,64,1000000000,1,5,1000000000,250000000
+tai,1000000000,37
+step,600000000000,-1,500000000
+tai,600000000000,100001
+set,1800000000000,1500000000,1
+suspend,2400000000000
+resume,3000000000000,86400,7
+"""
+
 
 class Records(RunTest):
-    def check_by(self, change, *arguments):
-        """Runs tkrun --check with a tkcore whose scripts a command has changed."""
+    def tkcore(self, change):
+        """Makes a tkcore whose scripts a command has changed."""
         copy = self.share() / "bin"
         tkcore = copy / "tkcore"
         tkcore.rename(copy / "real")
         tkcore.write_text(f"#!/bin/sh\n{change} | {copy}/real \"$@\"\n")
         tkcore.chmod(0o755)
-        return call([copy / "tkrun", "--check", *map(str, arguments)])
+        return tkcore
+
+    def check_by(self, change, *arguments):
+        """Runs tkrun --check with such a tkcore."""
+        return call([self.tkcore(change).parent / "tkrun", "--check", *map(str, arguments)])
+
+    def rows(self, size, *command):
+        """Runs tkrun --check with parts of so many bytes. Returns the records of each part."""
+        run = self.start(*STILL, "--record", self.folder / "r", "--check", *command,
+                         env={"TKRUN_PART_BYTES": str(size)})
+        self.assertEqual(run.returncode, 0, run.stderr)
+        self.assertIn("check: tkcore gives each of the", run.stderr)
+        parts = [self.folder / "r"]
+        while (part := self.folder / f"r.{len(parts) + 1}").exists():
+            parts.append(part)
+        self.assertIn(f"in {len(parts)} script", run.stderr)
+        return [part.read_text().splitlines() for part in parts]
 
     def test_a_record_in_parts(self):
-        record = self.folder / "r"
-        run = self.start("--counter", "sleeps", "--record", record, "--check", "--",
-                         "/usr/bin/perl", "-MTime::HiRes=time", "-e",
-                         "for (1..200) { sleep 60; time for 1..500 }",
-                         env={"TKRUN_PART_BYTES": "1000000"})
-        self.assertEqual(run.returncode, 0, run.stderr)
-        self.assertTrue((self.folder / "r.2").exists())
-        self.assertIn("check: tkcore gives each of the", run.stderr)
+        script = self.file("s", PARTS)
+        command = ["--script", script, "--", "/usr/bin/perl", "-MTime::HiRes=time", "-e",
+                   "for (1..200) { sleep 60; time for 1..5 }"]
+        [whole] = self.rows(16777216, *command)
+        parts = self.rows(4000, *command)
+        self.assertGreater(len(parts), 5)
+        self.assertEqual([line for part in parts for line in part[1:]], whole[1:])
+        # each later part opens with the clocks of the model after the former ones
+        journal, rows = model.parsed("\n".join(whole).encode())
+        rows = iter(rows)
+        for former, part in zip(parts, parts[1:]):
+            for word, (reading, *fields) in itertools.islice(rows, len(former) - 1):
+                if word != "get":
+                    journal, _ = model.done(journal, word, reading, fields, False)
+            words = ["openwords", 64, 2147483648, 31, *model.numbers_of(journal)]
+            self.assertEqual(part[0], ",".join(map(str, words)))
+
+    def test_an_opening_that_differs(self):
+        tkcore = self.tkcore("sed '/^openwords/s/,10000$/,9999/'")
+        run = call([tkcore.parent / "tkrun", *STILL, "--check", "--", "/usr/bin/perl", "-e",
+                    "for (1..200) { sleep 60; time }"],
+                   env={**os.environ, "TKRUN_PART_BYTES": "4000"})
+        self.assertEqual(run.returncode, 3, run.stderr)
+        self.assertIn("--check: tkcore refuses ", run.stderr)
 
     def test_a_value_that_differs(self):
         # puts a digit in front of the value that each read of REALTIME states
