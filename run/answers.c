@@ -2,6 +2,7 @@
 /* Answers the system calls of programs without the library. */
 #define _GNU_SOURCE
 #include "log.h"
+#include "memory.h"
 #include "static.h"
 #include "status.h"
 
@@ -11,7 +12,6 @@
 #include <sys/ioctl.h>
 #include <sys/syscall.h>
 #include <sys/time.h>
-#include <sys/uio.h>
 #include <unistd.h>
 
 static struct machine *answered;
@@ -21,29 +21,13 @@ static const char *answers_log; /* of --log, or NULL */
 int answer_put(const struct seccomp_notif *ask, uint64_t address,
 	       const void *value, size_t size)
 {
-	struct iovec here = { (void *)value, size };
-	struct iovec there = { (void *)address, size };
-
-	if (filter_has_call(answered_by, ask->id) &&
-	    process_vm_writev((pid_t)ask->pid, &here, 1, &there, 1, 0) ==
-		    (ssize_t)size)
-		return 0;
-	return EFAULT;
+	return memory_put(ask, answered_by, address, value, size);
 }
 
-/* Copies from the memory of the thread that has made a call. The call still waits
- * afterwards, so the memory was that thread's. Returns 0 or an errno. */
 static int fetch(const struct seccomp_notif *ask, uint64_t address, void *value,
 		 size_t size)
 {
-	struct iovec here = { value, size };
-	struct iovec there = { (void *)address, size };
-
-	if (process_vm_readv((pid_t)ask->pid, &here, 1, &there, 1, 0) ==
-		    (ssize_t)size &&
-	    filter_has_call(answered_by, ask->id))
-		return 0;
-	return EFAULT;
+	return memory_fetch(ask, answered_by, address, value, size);
 }
 
 /* Each of these returns 0 or an errno, or one of these. */

@@ -80,6 +80,28 @@ class Static(RunTest):
         self.assertEqual(self.run_on(*options, "--deny-set", "--", program("static_steers"),
                                      "deny"), "")
 
+    def test_addresses_that_cannot_be_written(self):
+        self.assertEqual(self.run_on("--", program("static_addresses")), "")
+
+    @needs("strace")
+    @needs_root("chooses the number of a process")
+    def test_a_thread_that_is_killed_before_its_answer_is_written(self):
+        # strace holds up each write of tkrun to another process
+        run = subprocess.Popen([TKRUN, "--quiet", "--", program("static_reused")],
+                               stdin=subprocess.PIPE, stdout=subprocess.PIPE, text=True)
+        self.assertEqual(run.stdout.readline(), "up\n")
+        threads = os.listdir(f"/proc/{run.pid}/task")
+        holds = "inject=pwrite64,process_vm_writev:delay_enter=1000ms"
+        trace = subprocess.Popen(["strace", "-o", self.folder / "calls", "-e", holds,
+                                  *(f"--attach={thread}" for thread in threads)],
+                                 stderr=subprocess.PIPE, text=True)
+        self.addCleanup(trace.communicate)
+        self.addCleanup(trace.terminate)
+        for _ in threads:
+            self.assertIn("attached", trace.stderr.readline())
+        self.assertEqual(run.communicate("\n", 60)[0], "unwritten\n")
+        self.assertRegex((self.folder / "calls").read_text(), "DELAYED")
+
     def test_sleeps(self):
         for name in ["nanosleep", "clock_nanosleep", "absolute_sleep", "usleep", "sleep"]:
             with self.subTest(name):
