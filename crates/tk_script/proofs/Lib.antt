@@ -1,6 +1,7 @@
 pub mod ListLemmas
 pub mod RecordLemmas
 pub mod PlainLemmas
+pub mod CountLemmas
 pub mod NumberLemmas
 pub mod FrequentLemmas
 pub mod CursorLemmas

@@ -177,7 +177,7 @@ cut-more before line head rest split whole =
     ∙ ap (λ (text : List ℕ). before ++ cut_at_commas text) (sym split)
 
 -- a field of some fields is at the same place of more fields
-field_at-more : (fields later : List (List ℕ)) (i : ℕ) (field : List ℕ) →
+pub field_at-more : (fields later : List (List ℕ)) (i : ℕ) (field : List ℕ) →
     field_at fields i ≡ Some field → field_at (fields ++ later) i ≡ Some field
 unfolding field_at
 field_at-more [] later i field found = cc found
@@ -240,7 +240,7 @@ no-mark (a ∷ b ∷ c ∷ rest) other =
     rw no_mark refl
 
 -- the bytes starting at an index begin with the byte at this index
-byte-first : (text : List ℕ) (i byte : ℕ) → i < length text → slice_index text i ≡ byte →
+pub byte-first : (text : List ℕ) (i byte : ℕ) → i < length text → slice_index text i ≡ byte →
     drop i text ≡ byte ∷ drop (i + 1) text
 byte-first text i byte inside same =
     rw add-one (drop-cons text i 0 inside ∙ ap (λ b. b ∷ drop (suc i) text) same)

@@ -184,7 +184,7 @@ pub(crate) fn after_line(text: &[u8]) -> Option<&[u8]>
     }
 }
 
-/// Splits a line at its commas.
+/// Splits a line at its commas. The fields that no record has are only counted.
 fn split_at_commas(line: &[u8]) -> Fields<'_>
     ensures { HasFields (cut_at_commas line.now) result }
 {
@@ -194,9 +194,26 @@ fn split_at_commas(line: &[u8]) -> Fields<'_>
     };
     let mut rest = line;
     'commas: while let Some(comma) = memchr(b',', rest) {
+        if fields.count >= MOST_FIELDS {
+            fields.count += count_fields(rest);
+            return fields;
+        }
         fields.push(&rest[..comma]);
         rest = &rest[comma + 1..];
     }
     fields.push(rest);
     fields
+}
+
+/// Returns the number of fields of a line.
+fn count_fields(line: &[u8]) -> usize
+    ensures { result ≡ length (cut_at_commas line.now) }
+{
+    let mut count = 1;
+    for i in 0..line.len() {
+        if line[i] == b',' {
+            count += 1;
+        }
+    }
+    count
 }

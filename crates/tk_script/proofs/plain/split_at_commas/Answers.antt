@@ -1,6 +1,8 @@
-use Rattle.std.proofs.Common.{◌≡◌, ◌∙◌, ◌++◌, ◌∷◌, ◌+◌, [], ℕ, List, arith, take, drop, ap, length-drop, subst, sym}
+use Rattle.std.proofs.Common.{◌≡◌, ◌∙◌, ◌++◌, ◌∷◌, ◌+◌, [], ℕ, List, arith, take, drop, ap, length-drop, refl, subst, sym}
 use Rattle.memchr.specs.Find.{is_byte}
 use Rattle.tk_script.specs.Plain.{HasFields, cut_at_commas}
+use Rattle.tk_script.specs.declared.plain.Fields.{Fields}
+use Rattle.tk_script.proofs.CountLemmas.{HasFields-more, count-most}
 use Rattle.tk_script.proofs.PlainLemmas.{cut-more, cut-whole, found-at, found-none, range-to_end}
 use Rattle.tk_script.proofs.plain.split_at_commas.Goals as goal
 
@@ -19,6 +21,21 @@ commas-preserved c =
       c.push.ensures.fields fields inv.2,
       cut-more fields rest (take comma rest) tail found.1 found.2 ∙ inv.3,
     )
+
+pub overflow_add-fields : goal.overflow_add-fields
+overflow_add-fields c =
+    let few = count-most [] c.commas.rest.now in
+    let counted = c.count_fields.ensures in
+    omega (arith, few, counted, c.commas.invariant.0)
+
+pub returns-then-fields-ge-MOST_FIELDS : goal.returns-then-fields-ge-MOST_FIELDS
+returns-then-fields-ge-MOST_FIELDS c =
+    let inv = c.commas.invariant in
+    let old = c.commas.fields in
+    let new : Fields = record { first = old.first; count = old.count + c.count_fields.result } in
+    subst (λ (fs : List (List ℕ)). HasFields fs new) inv.3
+    (HasFields-more inv.1 (cut_at_commas c.commas.rest.now) old new inv.2
+    (ap (λ (n : ℕ). old.count + n) c.count_fields.ensures) c.if-fields-ge-MOST_FIELDS.true refl)
 
 pub returns : goal.returns
 returns c =
