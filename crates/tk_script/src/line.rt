@@ -1,10 +1,11 @@
 //! Builds one line of a report on the stack, from its end to its beginning, because the first digit
 //! of a number is computed last.
 ghost use Rattle.std.specs.Prelude.{◌≡◌, ◌+◌, ◌<◌, ◌≤◌, ℕ, List, ◌++◌, OnOk, OnErr, IfErr, codes, length, decimal, drop};
+ghost use Rattle.tk_clock.specs.Limits.{clock_end};
 ghost use Rattle.tk_script.specs.Line.{HasRoom};
 ghost use Rattle.tk_script.specs.Lines.{IsWritable, time_text};
-ghost use Rattle.tk_script.specs.Utc.{nine_digits};
 
+use crate::digits::nine_digits_of;
 use crate::script_error::ScriptError;
 use itoa::write_digits;
 use std::alloc::Allocator;
@@ -72,21 +73,25 @@ impl Line {
         ensures text { self.new ≡ time_text time ++ self.old }
         ensures more { length self.new ≤ 30 + length self.old }
     {
-        self.put_fraction(time.nsec);
-        self.put_number(time.sec as u64);
+        self.put(&nine_digits_of(time.nsec));
+        self.put(b".");
+        self.put_seconds(time.sec as u64);
     }
 
-    /// Prepends a dot and nine digits: the last nine digits of a ten-digit number, whose first
-    /// digit the dot overwrites.
+    /// Prepends seconds. Those of a time since 1970 mostly have ten digits, and the last nine need no
+    /// loop.
     #[inline(always)]
-    fn put_fraction(&mut self, nsec: u32)
-        requires below { nsec < 1000000000 }
+    fn put_seconds(&mut self, sec: u64)
+        requires below { sec < clock_end }
         requires room { HasRoom 20 self.old }
-        ensures text { self.new ≡ codes "." ++ nine_digits nsec ++ self.old }
-        ensures more { length self.new ≡ 10 + length self.old }
+        ensures text { self.new ≡ decimal sec ++ self.old }
+        ensures more { length self.new ≤ 20 + length self.old }
     {
-        self.put_number(1_000_000_000 + u64::from(nsec));
-        self.bytes[self.start] = b'.';
+        if sec < 1_000_000_000 {
+            return self.put_number(sec);
+        }
+        self.put(&nine_digits_of((sec % 1_000_000_000) as u32));
+        self.put(&[b'0' + (sec / 1_000_000_000) as u8]);
     }
 
     /// Appends the line to a report. An allocation failure leaves the report unchanged.
