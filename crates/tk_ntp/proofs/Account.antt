@@ -1,30 +1,24 @@
 -- What clocks were asked for is what they were given, as seconds begin.
-use Rattle.std.proofs.Common.{◌≡◌, ◌∙◌, refl, sym, ap, subst, ℕ, zero, suc, ◌+◌, ◌-◌, ◌*◌, ◌<◌, ◌≤◌, ◌⊎◌, inl, inr, true, false, arith}
-use Rattle.std.specs.Prelude.{ℤ, pos, ◌+ℤ◌, ◌-ℤ◌, ◌*ℤ◌, ◌<ℤ◌, ◌≤ℤ◌}
-use Rattle.std.proofs.lemmas.Int.{ints}
-use Rattle.std.proofs.Math.IntN.{suc_ℤ-*ℤ, zero-*ℤ, pos-*ℤ-pos}
+use Rattle.std.proofs.Common.{◌≡◌, ◌∙◌, refl, sym, ap, subst, ℕ, ◌+◌, ◌-◌, ◌*◌, ◌<◌, ◌≤◌, ◌⊎◌, inl, inr, true, false, arith}
+use Rattle.std.specs.Prelude.{ℤ, pos, ◌+ℤ◌, ◌-ℤ◌, ◌*ℤ◌, ◌<ℤ◌, ◌≤ℤ◌, unsigned_abs}
+use Rattle.std.proofs.lemmas.Int.{ints, clamps}
+use Rattle.std.proofs.Math.IntN.{pos-*ℤ-pos}
 use Rattle.tk_counter.specs.Counter.{gap, half}
 use Rattle.tk_clock.specs.declared.clock_id.ClockId.TheVariants.{Realtime}
 use Rattle.tk_clock.specs.Reach.{IsAhead, HasReached, distance}
 use Rattle.tk_clock.specs.State.{State, base_value}
 use Rattle.tk_clock.specs.Time.{nanoseconds}
-use Rattle.tk_ntp.specs.Account.{units_at, owed, cycles_to, asked_to, dropped_at, dropped_to, asked_of, dropped_of, IsMarked, IsAccounted}
+use Rattle.tk_ntp.specs.Account.{units_at, owed, cycles_to, lag_to, asked_to, dropped_at, dropped_to, asked_of, dropped_of, AreKept, IsMarked, IsAccounted}
 use Rattle.tk_ntp.specs.Advance.{IsAdvanced, Arrived, Begins, IsDue, second_begun_at, second_time, with_next_second}
+use Rattle.tk_ntp.specs.Lag.{greatest_lag}
+use Rattle.tk_ntp.specs.Loops.{clamped_by}
 use Rattle.tk_ntp.specs.Ntp.{second_length}
 use Rattle.tk_ntp.specs.Rate.{nominal}
 use Rattle.tk_ntp.specs.SteeredClock.{SteeredClock}
 use Rattle.tk_ntp.proofs.Gaps.{later_gap}
 use Rattle.tk_ntp.proofs.Made.{none_here, second-made}
-
--- the products of sums
-taken : (c : ℕ) (a b : ℤ) → pos c *ℤ (a -ℤ b) ≡ pos c *ℤ a -ℤ pos c *ℤ b
-taken zero a b = rw (zero-*ℤ (a -ℤ b), zero-*ℤ a, zero-*ℤ b) refl
-taken (suc c) a b =
-    rw (suc_ℤ-*ℤ (pos c) (a -ℤ b), suc_ℤ-*ℤ (pos c) a, suc_ℤ-*ℤ (pos c) b)
-    (one_more (pos c *ℤ (a -ℤ b)) (pos c *ℤ a) (pos c *ℤ b) a b (taken c a b))
-  where
-    one_more : (x y z a b : ℤ) → x ≡ y -ℤ z → x +ℤ (a -ℤ b) ≡ (y +ℤ a) -ℤ (z +ℤ b)
-    one_more x y z a b h = omega (arith, ints, h)
+use Rattle.tk_ntp.proofs.Scaled.{scaled_difference}
+use borrow.Author.Differences.{abs_is}
 
 finish : (a b s lag after y : ℤ) → s ≡ a +ℤ b →
     a +ℤ lag +ℤ y ≡ s +ℤ after +ℤ (lag +ℤ (y -ℤ b) -ℤ after)
@@ -52,7 +46,7 @@ conserved : (u c m n : ℕ) (lag after x : ℤ) →
     ≡ pos (u + c * m) *ℤ pos n +ℤ after
     +ℤ (lag +ℤ pos c *ℤ (x -ℤ pos m *ℤ pos n) -ℤ after)
 conserved u c m n lag after x =
-    rw (taken c x (pos m *ℤ pos n))
+    rw (scaled_difference c x (pos m *ℤ pos n))
     (finish (pos u *ℤ pos n) (pos c *ℤ (pos m *ℤ pos n)) (pos (u + c * m) *ℤ pos n) lag after
     (pos c *ℤ x) (products u c m n))
 
@@ -218,10 +212,23 @@ awake-after reading before after (Arrived steered none) awake = awake
 awake-after reading before after (Begins steered end at due rest) awake =
     awake-after reading (second_begun_at at steered) end rest (second-awake at steered awake)
 
+-- nothing is dropped of a number within a bound
+pub kept_whole : (most : ℕ) (z : ℤ) → unsigned_abs z ≤ most → z -ℤ clamped_by most z ≡ pos 0
+kept_whole most z h = omega (arith, ints, clamps, abs_is, h)
+
+pub kept-of : (reading : ℕ) (before after : SteeredClock) (h : IsAdvanced reading before after) →
+    AreKept reading before after h
+kept-of reading before after (Arrived steered none) = tt
+kept-of reading before after (Begins steered end at due rest) = (
+  λ within. kept_whole (greatest_lag steered.clock.base.counter) (lag_to at steered) within,
+  kept-of reading (second_begun_at at steered) end rest,
+)
+
 pub accounted_for : (reading : ℕ) (before after : SteeredClock) → IsAdvanced reading before after →
     before.clock.base.asleep ≡ false → IsMarked before → IsAccounted reading before after
 accounted_for reading before after h awake marked = record {
   begun = h;
   sum = sum-of reading before after h marked awake;
+  kept = kept-of reading before after h;
   marked = marked-after reading before after h marked awake;
 }

@@ -12,12 +12,14 @@ pub mod Marked
 pub mod Needed
 pub mod Long
 pub mod Kept
+pub mod Left
 pub mod Product
 pub mod Reading
 pub mod Real
 pub mod Restart
 pub mod ReadBack
 pub mod Seconds
+pub mod Scaled
 pub mod Settled
 pub mod TaiKept
 pub mod Staged

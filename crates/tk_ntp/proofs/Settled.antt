@@ -10,15 +10,16 @@ use Rattle.tk_clock.specs.Reach.{distance}
 use Rattle.tk_clock.specs.State.{State, effect}
 use Rattle.tk_ntp.specs.declared.reply.Reply.{Reply}
 use Rattle.tk_ntp.specs.declared.timex.Timex.{Timex}
-use Rattle.tk_ntp.specs.Account.{units_at, owed, asked_to, asked_of, dropped_to, dropped_of, IsBalanced, IsMarked, IsSettled}
+use Rattle.tk_ntp.specs.Account.{units_at, owed, asked_to, asked_of, dropped_to, dropped_of, sets_by, sets_by_step, IsBalanced, IsLeft, IsMarked, IsSettled}
 use Rattle.tk_ntp.specs.Advance.{IsAdvanced}
-use Rattle.tk_ntp.specs.Applied.{IsPlain}
+use Rattle.tk_ntp.specs.Applied.{request_of, IsPlain}
 use Rattle.tk_ntp.specs.Asked.{accounted_if, acts, after_command, changes_rate, forgotten, given_tai, IsAsked, IsCommanded, IsRequested, real_at, restarted, second_after, steered_if, step_refusal, stepped, tai_asked, with_asked}
-use Rattle.tk_ntp.specs.Request.{step_of}
+use Rattle.tk_ntp.specs.Request.{no_request, step_of}
 use Rattle.tk_ntp.specs.SteeredClock.{SteeredClock, reading_refusal}
 use Rattle.tk_ntp.proofs.Accepted.{after_mark, asleep_before, awake_at}
-use Rattle.tk_ntp.proofs.Account.{account-sum, chained, never, owed_is, sum-of}
+use Rattle.tk_ntp.proofs.Account.{account-sum, chained, kept-of, never, owed_is, sum-of}
 use Rattle.tk_ntp.proofs.Gaps.{further}
+use Rattle.tk_ntp.proofs.Left.{asked-left, commanded-left}
 use Rattle.tk_ntp.proofs.Made.{IsMade, kept_units, tai-made}
 use Rattle.tk_ntp.proofs.Marked.{idle, steered-made}
 use Rattle.tk_ntp.proofs.Passed.{still_after}
@@ -71,10 +72,12 @@ stretch-sum reading before after order moved =
     ] in
     account-sum after.mark after.steering.lag before after refl refl here no_nearer
 
-settled : (reading : ℕ) (before advanced after : SteeredClock) → reading_refusal reading before ≡ None →
-    IsAdvanced reading before advanced → IsMarked before → IsMoved reading advanced after →
-    IsSettled reading before after
-settled reading before advanced after accepted chain marked moved =
+settled : (sets : SteeredClock → Bool) (reading : ℕ) (before advanced after : SteeredClock) →
+    reading_refusal reading before ≡ None → IsAdvanced reading before advanced → IsMarked before →
+    IsMoved reading advanced after →
+    IsLeft (sets advanced) after.mark after.steering.lag advanced →
+    IsSettled sets reading before after
+settled sets reading before advanced after accepted chain marked moved left =
     let base = before.clock.base in
     let order =
     still_after reading before advanced chain
@@ -90,6 +93,8 @@ settled reading before advanced after accepted chain marked moved =
           (dropped_to after.mark after.steering.lag advanced)
           (sum-of reading before advanced chain marked (awake_at reading before accepted))
           (stretch-sum reading advanced after order moved);
+      kept = kept-of reading before advanced chain;
+      left = left;
     }
 
 -- clocks that were set, stepped or woken at a reading
@@ -192,12 +197,13 @@ asked-moved reading request s s' after (Some r) result h moved = not_moved readi
 pub asked_settled : (reading : ℕ) (request : Timex) (s advanced after : SteeredClock)
     (result : Result Reply Refusal) → reading_refusal reading s ≡ None →
     IsAdvanced reading s advanced → IsAsked reading request advanced result after → IsMarked s →
-    IsSettled reading s after
+    IsSettled (sets_by_step reading (step_of request)) reading s after
 asked_settled reading request s advanced after result accepted chain h marked =
-    settled reading s advanced after accepted chain marked
+    settled (sets_by_step reading (step_of request)) reading s advanced after accepted chain marked
     (asked-moved reading request advanced (stepped reading (step_of request) advanced) after
     (step_refusal reading (step_of request) advanced) result h
     (step-moved reading (step_of request) advanced))
+    (asked-left reading request (step_of request) advanced after result h)
 
 followed-balanced : (reading : ℕ) (cmd : Command) (s after : SteeredClock)
     (refusal : Option Refusal) (result : Result ⊤ Refusal) → is_resume cmd ≡ false →
@@ -206,20 +212,46 @@ followed-balanced : (reading : ℕ) (cmd : Command) (s after : SteeredClock)
     ((advanced : SteeredClock) × IsAdvanced reading s advanced
     × IsCommanded reading cmd advanced result after)
     (λ r. (result ≡ Err r) × (after ≡ s)) →
-    IsMarked s → IsBalanced reading s after
+    IsMarked s → IsBalanced (sets_by reading cmd) reading s after
 followed-balanced reading cmd s after None result awake is h marked =
     inr
-    (settled reading s h.0 after is h.1 marked
-    (commanded-moved reading cmd h.0 after result awake h.2))
+    (settled (sets_by reading cmd) reading s h.0 after is h.1 marked
+    (commanded-moved reading cmd h.0 after result awake h.2)
+    (commanded-left reading cmd h.0 after result awake h.2))
 followed-balanced reading cmd s after (Some r) result awake is h marked = inl h.1
 
 -- after a command that is neither a request nor a resume
 pub plain_balanced : (reading : ℕ) (cmd : Command) (s after : SteeredClock)
     (result : Result ⊤ Refusal) → is_resume cmd ≡ false →
-    IsPlain (is_resume cmd) reading cmd s result after → IsMarked s → IsBalanced reading s after
+    IsPlain (is_resume cmd) reading cmd s result after → IsMarked s →
+    IsBalanced (sets_by reading cmd) reading s after
 plain_balanced reading cmd s after result awake h marked =
     followed-balanced reading cmd s after (reading_refusal reading s) result awake refl
     (subst (λ (resumes : Bool). IsPlain resumes reading cmd s result after) awake h) marked
+
+given_request : Option Timex → Timex
+given_request (Some request) = request
+given_request None = no_request
+
+-- after a command that acts as a request: it asks for no step, and sets no time
+pub request_balanced : (reading : ℕ) (cmd : Command) (request : Timex) (s after : SteeredClock) →
+    Some request ≡ request_of cmd →
+    IsBalanced (sets_by_step reading (step_of request)) reading s after →
+    IsBalanced (sets_by reading cmd) reading s after
+unfolding given_request
+request_balanced reading (Freq frequency) request s after is h =
+    subst (λ (r : Timex). IsBalanced (sets_by_step reading (step_of r)) reading s after)
+    (ap given_request is) h
+request_balanced reading (Tick tick) request s after is h =
+    subst (λ (r : Timex). IsBalanced (sets_by_step reading (step_of r)) reading s after)
+    (ap given_request is) h
+request_balanced reading Update request s after is h = absurd (cc)
+request_balanced reading (SetTime time) request s after is h = absurd (cc)
+request_balanced reading (Step by) request s after is h = absurd (cc)
+request_balanced reading (Leap by tai) request s after is h = absurd (cc)
+request_balanced reading (Tai seconds) request s after is h = absurd (cc)
+request_balanced reading Suspend request s after is h = absurd (cc)
+request_balanced reading (Resume away) request s after is h = absurd (cc)
 
 -- a resume at a reading, of clocks whose last account is at their last command
 resume-owed : (reading : ℕ) (away : Timespec) (s : SteeredClock) → s.mark ≡ s.clock.base.last →

@@ -2,11 +2,12 @@
 ghost use Rattle.std.specs.Prelude.{◌≡◌, false, true, pos, ◌≤ℤ◌, MatchResult, Some, None};
 ghost use Rattle.tk_clock.specs.Command.{is_resume};
 ghost use Rattle.tk_ntp.specs.Applied.{without_reply, IsFollowed, IsPlain, IsApplied, request_of};
-ghost use Rattle.tk_ntp.specs.Account.{owed, IsBalanced, IsMarked};
+ghost use Rattle.tk_ntp.specs.Account.{owed, sets_by, sets_by_step, IsBalanced, IsMarked};
 ghost use Rattle.tk_ntp.specs.Advance.{tai_of_clock};
 ghost use Rattle.tk_ntp.specs.Asked.{real_at, real_refusal, acts, changes_rate, accounted_if, steered_if, with_asked, after_request, IsRequested, IsAsked, IsAnswered};
 ghost use Rattle.tk_ntp.specs.Fault.{is_faulty};
 ghost use Rattle.tk_ntp.specs.Reply.{reply_to};
+ghost use Rattle.tk_ntp.specs.Request.{step_of};
 
 use super::SteeredClock;
 use crate::bits::{ADJ_ADJTIME, ADJ_FREQUENCY, ADJ_OFFSET, ADJ_TICK, has};
@@ -36,7 +37,8 @@ impl SteeredClock {
     pub fn adjtimex(&mut self, reading: u64, request: &Timex) -> Result<Reply, Refusal>
         ensures answer { IsAnswered reading request.now self.old result self.new }
         // the accounts add up to what the clocks were asked for
-        ensures sum { IsMarked self.old → IsBalanced reading self.old self.new }
+        ensures sum { IsMarked self.old →
+            IsBalanced (sets_by_step reading (step_of request.now)) reading self.old self.new }
         // the last account stays after the last command, and before the next second
         ensures marked { IsMarked self.old → IsMarked self.new }
     {
@@ -64,7 +66,7 @@ impl SteeredClock {
         ensures answer { IsApplied reading cmd self.old result self.new }
         // the accounts add up to what the clocks were asked for: to nothing at a resume
         ensures sum { IsMarked self.old → is_resume cmd ≡ false →
-            IsBalanced reading self.old self.new }
+            IsBalanced (sets_by reading cmd) reading self.old self.new }
         ensures woken { IsMarked self.old → is_resume cmd ≡ true →
             owed self.new ≡ owed self.old }
         ensures marked { IsMarked self.old → IsMarked self.new }

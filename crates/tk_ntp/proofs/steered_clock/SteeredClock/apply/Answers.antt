@@ -1,6 +1,6 @@
 use Rattle.tk_clock.specs.Command.{is_resume}
 use Rattle.tk_ntp.proofs.Marked.{plain-marked}
-use Rattle.tk_ntp.proofs.Settled.{plain_balanced, woken_owed}
+use Rattle.tk_ntp.proofs.Settled.{plain_balanced, request_balanced, woken_owed}
 use Rattle.tk_ntp.proofs.steered_clock.SteeredClock.apply.Goals as goal
 
 pub returns-in-None-clause-marked : goal.returns-in-None-clause-marked
@@ -17,3 +17,8 @@ pub returns-in-None-clause-woken : goal.returns-in-None-clause-woken
 returns-in-None-clause-woken c = λ marked resumes.
     woken_owed c.args.reading c.args.cmd c.args.self.now c.apply_plain.new.self
     c.apply_plain.result resumes c.apply_plain.ensures marked
+
+pub returns-in-Some-clause-sum : goal.returns-in-Some-clause-sum
+returns-in-Some-clause-sum c = λ marked awake.
+    request_balanced c.args.reading c.args.cmd c.in-Some.request c.args.self.now
+    c.adjtimex.new.self c.in-Some.ensures (c.adjtimex.ensures.sum marked)
