@@ -97,6 +97,21 @@ impl<A: Allocator + Copy> Steered<A> {
         &self.keeper
     }
 
+    /// Returns the clocks with their journal, and ends the steering: later commands, if any, are
+    /// those of the caller. The rate in force stays.
+    pub fn into_keeper(self) -> Timekeeper<A>
+        ensures journal { result.journal ≡ self.logged.journal }
+        ensures spare { result.spare ≡ self.spare }
+        ensures legal { IsLegal self.logged.journal }
+        // the clocks are those that the discipline steered
+        ensures running { state_of result.journal ≡ self.logged.clock.clock }
+    {
+        let keeper = self.keeper;
+        // its journal is legal
+        let _count = keeper.len();
+        keeper
+    }
+
     /// Returns the same clocks with their discipline: `rate`, `numbers` and `is_next_further` are its
     /// calls. A change of the returned copy doesn't change these clocks.
     pub fn clock(&self) -> SteeredClock

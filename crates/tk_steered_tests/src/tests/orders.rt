@@ -120,3 +120,21 @@ fn a_day_that_was_missed_is_entered(rt: HostRuntime) {
     assert_alike(&rt, &steered.clock(), &plain);
     assert_replays(&rt, &steered);
 }
+
+#[test]
+fn the_keeper_that_steering_leaves_takes_commands(rt: HostRuntime) {
+    let mut steered = opened(&rt, rt.alloc());
+    let hour = 3_600_000_000_000;
+    let _reply = steered.adjtimex(CALLER, 1_000, &offset(100_000));
+    assert_same(&rt, &steered.advance(CALLER, hour), &Ok(()));
+    let (clock, count) = (steered.clock(), steered.keeper().len() as u64);
+    let mut keeper = steered.into_keeper();
+    let wanted = clock.snapshot(count).words();
+    assert_same(&rt, &keeper.snapshot().words(), &wanted);
+    // a frequency is an entry now, and no request
+    let cmd = Command::Freq(7_000);
+    let found = keeper.apply(CALLER, hour, cmd);
+    assert_same(&rt, &found, &Ok(count + 1));
+    let entered = keeper.entry(count + 1).expect(&rt, "an entry");
+    assert_same(&rt, &(entered.cmd, entered.who), &(cmd, CALLER));
+}
