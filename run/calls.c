@@ -4,6 +4,7 @@
 
 #include <dlfcn.h>
 #include <stdlib.h>
+#include <sys/auxv.h>
 #include <unistd.h>
 
 enum {
@@ -33,6 +34,8 @@ __attribute__((noinline, cold)) static void find_machine(void)
 		atomic_store(&state, 1);
 		return;
 	}
+	if (own.shared->calls_host || !getauxval(AT_SYSINFO_EHDR))
+		host_gettime = host_gettime_by_call;
 	if (own.control)
 		atomic_fetch_add(&own.control->attached, 1);
 	atomic_store(&state, 2);

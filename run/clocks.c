@@ -165,6 +165,7 @@ void open_machine(struct run *run)
 	set_counter(run, host_hz);
 	shared->denies_set = run->options.denies_set;
 	shared->has_stamps = run->options.has_stamps;
+	shared->calls_host = run->calls_host;
 	machine_init_lock(run->machine.control);
 	shared->base = machine_host(shared->kind);
 	machine_init_clocks(&run->machine, &run->plan.clocks);

@@ -27,11 +27,10 @@
 
 enum { CODE_MOST = 64, HEADERS_MOST = 64 };
 
-static const int ASKED[] = { SYS_clock_gettime, SYS_gettimeofday,
-			     SYS_time,		SYS_clock_settime,
-			     SYS_settimeofday,	SYS_adjtimex,
-			     SYS_clock_adjtime, SYS_execve,
-			     SYS_execveat };
+static const int ASKED[] = { SYS_gettimeofday,	SYS_time,
+			     SYS_clock_settime, SYS_settimeofday,
+			     SYS_adjtimex,	SYS_clock_adjtime,
+			     SYS_execve,	SYS_execveat };
 static const int SLEEPS[] = { SYS_nanosleep, SYS_clock_nanosleep,
 			      SYS_restart_syscall };
 
@@ -56,8 +55,9 @@ bool is_static_file(const char *path)
 	return is_static;
 }
 
-/* A sleep that libtkrun.so or tkrun makes passes: see host_nap. */
-static size_t put_sleep(struct sock_filter *code, size_t at, int number)
+/* A read or a sleep of the host that libtkrun.so, the image or tkrun makes passes:
+ * see host_gettime_by_call and host_nap. */
+static size_t put_unless_host(struct sock_filter *code, size_t at, int number)
 {
 	code[at++] = (struct sock_filter)BPF_JUMP(BPF_JMP | BPF_JEQ | BPF_K,
 						  (uint32_t)number, 0, 4);
@@ -65,7 +65,7 @@ static size_t put_sleep(struct sock_filter *code, size_t at, int number)
 		BPF_LD | BPF_W | BPF_ABS,
 		offsetof(struct seccomp_data, args[5]));
 	code[at++] = (struct sock_filter)BPF_JUMP(BPF_JMP | BPF_JEQ | BPF_K,
-						  HOST_SLEEP, 0, 1);
+						  HOST_CALL, 0, 1);
 	code[at++] = (struct sock_filter)BPF_STMT(BPF_RET | BPF_K,
 						  SECCOMP_RET_ALLOW);
 	code[at++] = (struct sock_filter)BPF_STMT(BPF_RET | BPF_K,
@@ -94,10 +94,11 @@ static size_t put_all(struct sock_filter *code)
 						  SECCOMP_RET_ALLOW);
 	code[at++] = (struct sock_filter)BPF_STMT(
 		BPF_LD | BPF_W | BPF_ABS, offsetof(struct seccomp_data, nr));
+	at = put_unless_host(code, at, SYS_clock_gettime);
 	for (size_t i = 0; i < sizeof(ASKED) / sizeof(*ASKED); i++)
 		at = put_asked(code, at, ASKED[i]);
 	for (size_t i = 0; i < sizeof(SLEEPS) / sizeof(*SLEEPS); i++)
-		at = put_sleep(code, at, SLEEPS[i]);
+		at = put_unless_host(code, at, SLEEPS[i]);
 	code[at++] = (struct sock_filter)BPF_STMT(BPF_RET | BPF_K,
 						  SECCOMP_RET_ALLOW);
 	return at;
@@ -173,7 +174,7 @@ bool filter_asks(long call)
 		if (ASKED[i] == call)
 			return true;
 	}
-	return filter_asks_sleep(call);
+	return call == SYS_clock_gettime || filter_asks_sleep(call);
 }
 
 bool filter_asks_sleep(long call)

@@ -116,10 +116,12 @@ void image_offer(const struct machine *machine, const char *folder)
 					: NULL;
 
 	vdso.call = call ? (uint64_t)(call - segment.base) : 0;
-	vdso.gettime = find_function(&segment, "__vdso_clock_gettime");
+	if (!machine->shared->calls_host)
+		vdso.gettime = find_function(&segment, "__vdso_clock_gettime");
 	filters = filter_count((int)getpid()) + 1;
 	is_offered = !machine->control->rows.every && vdso.call &&
-		     (vdso.gettime || machine->shared->kind != COUNTER_RAW) &&
+		     (vdso.gettime || machine->shared->calls_host ||
+		      machine->shared->kind != COUNTER_RAW) &&
 		     snprintf(head.path, sizeof(head.path), "%s/page",
 			      folder) < (int)sizeof(head.path);
 }
@@ -227,7 +229,8 @@ uint64_t image_give(pid_t thread, uint64_t base)
 	    ptrace(PTRACE_GETREGS, thread, 0, &target.start) ||
 	    target.start.cs != CODE_64)
 		return 0;
-	head.gettime = (host_clock *)(base + vdso.gettime);
+	head.gettime = vdso.gettime ? (host_clock *)(base + vdso.gettime)
+				    : NULL;
 	image = map_all(&target);
 	ptrace(PTRACE_SETREGS, thread, 0, &target.start);
 	return image;

@@ -2,12 +2,24 @@
 #define _GNU_SOURCE
 #include "host.h"
 
+#include <errno.h>
 #include <limits.h>
 #include <linux/futex.h>
 #include <pthread.h>
 #include <sys/syscall.h>
 
 int (*host_gettime)(clockid_t, struct timespec *) = clock_gettime;
+
+int host_gettime_by_call(clockid_t clock, struct timespec *out)
+{
+	long result = host_call(SYS_clock_gettime, clock, (long)out, 0, 0, 0,
+				HOST_CALL);
+
+	if (!result)
+		return 0;
+	errno = (int)-result;
+	return -1;
+}
 
 uint64_t host_nanos(clockid_t clock)
 {
@@ -21,7 +33,7 @@ void host_nap(uint64_t nanos)
 {
 	struct timespec span = span_of(nanos);
 
-	host_call(SYS_nanosleep, (long)&span, 0, 0, 0, 0, HOST_SLEEP);
+	host_call(SYS_nanosleep, (long)&span, 0, 0, 0, 0, HOST_CALL);
 }
 
 int host_futex_wait(_Atomic uint32_t *futex, uint32_t value, uint64_t until)

@@ -13,6 +13,11 @@ enum { NANOS = 1000000000 };
 /* The host's clock_gettime. libtkrun.so sets it to the C library's. */
 extern int (*host_gettime)(clockid_t, struct timespec *);
 
+/* The same by a system call that is the host's. The C library's makes one too if
+ * the vDSO can't read the host's clocksource, but the filter of a run would send
+ * that to tkrun. */
+int host_gettime_by_call(clockid_t clock, struct timespec *out);
+
 /* Returns a span, or a time, of these ns. */
 static inline struct timespec span_of(uint64_t nanos)
 {
@@ -46,9 +51,9 @@ static inline long host_call(long number, long a, long b, long c, long d, long e
 /* Returns the host's clock in ns. */
 uint64_t host_nanos(clockid_t clock);
 
-/* The sixth argument of a sleep that is the host's: the filter of a run lets it
- * pass. */
-#define HOST_SLEEP 0x746b7275
+/* The sixth argument of a call that is the host's, which the kernel ignores: the
+ * filter of a run lets it pass. */
+#define HOST_CALL 0x746b7275
 
 /* Sleeps for `nanos` ns of the host's time, or until a signal comes. */
 void host_nap(uint64_t nanos);

@@ -34,6 +34,13 @@ struct look {
 	bool has_next;
 };
 
+/* For a host whose vDSO would make another call, which the filter doesn't know. */
+static int gettime_by_call(clockid_t clock, struct timespec *out)
+{
+	return (int)host_call(SYS_clock_gettime, clock, (long)out, 0, 0, 0,
+			      HOST_CALL);
+}
+
 /* Does a reader's steps once. Returns false if a writer was inside. */
 static bool try_look(const struct shared_page *shared, struct look *look)
 {
@@ -52,7 +59,8 @@ static bool try_look(const struct shared_page *shared, struct look *look)
 	look->next = atomic_load_explicit(&next->reading, memory_order_relaxed);
 	look->has_next =
 		atomic_load_explicit(&next->is_known, memory_order_relaxed);
-	look->reading = early_reading(shared, head->gettime);
+	look->reading = early_reading(
+		shared, head->gettime ? head->gettime : gettime_by_call);
 	fence_reading();
 	return !tkc_page_moved(&page->sequence, sequence);
 }

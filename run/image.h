@@ -11,7 +11,8 @@ enum { PAGE_BYTES = 4096, FOLDER_MOST = 4000 };
  * file `page` of the clocks. */
 union image_head {
 	struct {
-		host_clock *gettime; /* the kernel's own vDSO's */
+		/* the kernel's own vDSO's, or NULL if it can't read clocks */
+		host_clock *gettime;
 		char path[FOLDER_MOST]; /* of the file `page` */
 	};
 	char bytes[PAGE_BYTES];

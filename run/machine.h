@@ -46,6 +46,7 @@ struct shared_page {
 	uint64_t base, scale, mask, first;
 	uint32_t scale_shift;
 	bool denies_set, has_stamps;
+	bool calls_host; /* the vDSO can't read the host's clocks */
 	double nanos_per_cycle; /* of the host */
 	double speed;		/* ns of the counter in a ns of the host */
 	uint64_t update_nanos;	/* the span between two updates */

@@ -215,6 +215,17 @@ static void run_first_orders(struct run *run)
 	machine_unlock(&run->machine, &saved);
 }
 
+/* A tkrun that runs in another one with a filter must not get its clocks. */
+static void find_host_clock(struct run *run)
+{
+	bool makes_calls = vdso_makes_calls();
+
+	if (makes_calls)
+		host_gettime = host_gettime_by_call;
+	/* tests make programs read by calls where the vDSO can read */
+	run->calls_host = makes_calls || getenv("TKRUN_HOST_CALLS");
+}
+
 static struct run run;
 
 static void remove_all(void)
@@ -229,6 +240,7 @@ int main(int count, char **words)
 
 	parse_options(count, words, &run.options);
 	is_recorded = run.options.record || run.options.is_checked;
+	find_host_clock(&run);
 	preload_library();
 	if (run.options.is_checked)
 		find_tkcore();

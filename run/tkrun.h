@@ -23,7 +23,12 @@ struct run {
 	void (*on_limit)(int); /* what SIGXFSZ did before tkrun ignored it */
 	int listener; /* by which the kernel asks, or -1 */
 	int execs;    /* from which programs to execute come, or -1 */
+	bool calls_host; /* the vDSO can't read the host's clocks */
 };
+
+/* Returns whether the C library reads the host's clocks by system calls: the vDSO
+ * can't read the host's clocksource, or there is no vDSO. */
+bool vdso_makes_calls(void);
 
 /* Makes the clocks of the options. Ends tkrun if it can't. */
 void open_machine(struct run *run);

@@ -57,6 +57,32 @@ class Static(RunTest):
                 asked = re.search("at least ([0-9]+) reads", run.stderr)
                 self.assertLess(int(asked[1]), int(counts[1]) / 4)
 
+    @unittest.skipUnless(CAN_TRACE, "no process may be traced")
+    def test_a_host_whose_vdso_reads_no_clock(self):
+        hides = program("novdso")
+        options = ["--quiet", "--static", "--start", "1000000000"]
+        for command in [[program("reads")], [hides, program("reads")], [program("static_reads")]]:
+            with self.subTest(command):
+                run = call([hides, TKRUN, *options, "--", *command])
+                self.assertEqual((run.returncode, run.stdout, run.stderr), (0, "", ""))
+
+    @unittest.skipUnless(CAN_TRACE, "no process may be traced")
+    def test_a_tkrun_inside_whose_vdso_reads_no_clock(self):
+        # on the clocks outside, the second would last for a thousand
+        inside = [program("novdso"), TKRUN, "--quiet", "--start", "2000000000", "--", "bash", "-c",
+                  "sleep 1; date +%s"]
+        second = int(self.run_on("--static", "--speed", "0.001", "--", *inside))
+        self.assertIn(second, range(2000000001, 2000000060))
+
+    def test_an_image_whose_vdso_reads_no_clock(self):
+        run = self.start("--start", 1000000000, "--", program("static_killed"), 5,
+                         env={"TKRUN_HOST_CALLS": "1"})
+        counts = re.fullmatch("killed 10, sets [0-9]+, reads ([0-9]+), back 0, errors 0\n",
+                              run.stdout)
+        self.assertTrue(counts, run.stdout + run.stderr)
+        asked = re.search("at least ([0-9]+) reads", run.stderr)
+        self.assertLess(int(asked[1]), int(counts[1]) / 4)
+
     def reads_by_calls(self, *command):
         """A program that can't have the image reads and is denied to set the clocks by calls."""
         run = self.start("--static", "--start", 1000000000, "--deny-set", "--", *command, "deny")
