@@ -1,6 +1,7 @@
 -- What clocks were asked for is what they were given, over each call.
 use Rattle.std.proofs.Common.{◌≡◌, ◌∙◌, refl, sym, ap, subst, ℕ, ◌≤◌, ◌⊎◌, inl, inr, Bool, true, false, Option, Some, None, MatchOption, arith}
-use Rattle.std.specs.Prelude.{pos, ◌+ℤ◌, Result, Ok, Err, ⊤}
+use Rattle.std.specs.Prelude.{pos, ◌+ℤ◌, ◌*ℤ◌, Result, Ok, Err, ⊤}
+use Rattle.std.proofs.Math.IntN.{+ℤ_idr}
 use Rattle.tk_clock.specs.declared.command.Command.{Command}
 use Rattle.tk_clock.specs.declared.command.Command.TheVariants.{Update, SetTime, Step, Freq, Tick, Tai, Leap, Suspend, Resume}
 use Rattle.tk_clock.specs.declared.refusal.Refusal.{Refusal}
@@ -14,6 +15,7 @@ use Rattle.tk_ntp.specs.Account.{units_at, owed, asked_to, asked_of, dropped_to,
 use Rattle.tk_ntp.specs.Advance.{IsAdvanced}
 use Rattle.tk_ntp.specs.Applied.{request_of, IsPlain}
 use Rattle.tk_ntp.specs.Asked.{accounted_if, acts, after_command, changes_rate, forgotten, given_tai, IsAsked, IsCommanded, IsRequested, real_at, restarted, second_after, steered_if, step_refusal, stepped, tai_asked, with_asked}
+use Rattle.tk_ntp.specs.Rate.{nominal}
 use Rattle.tk_ntp.specs.Request.{no_request, step_of}
 use Rattle.tk_ntp.specs.SteeredClock.{SteeredClock, reading_refusal}
 use Rattle.tk_ntp.proofs.Accepted.{after_mark, asleep_before, awake_at}
@@ -298,3 +300,12 @@ owed-opened s mark none lag =
     let base = s.clock.base in
     owed_is s base.last 0 (pos 0) mark
     (kept_units base.counter base.last base.amount base.mult ∙ none) lag
+
+-- of clocks that were just opened with an uptime
+pub owed-running : (s : SteeredClock) (units : ℕ) → s.mark ≡ s.clock.base.last →
+    s.clock.base.amount ≡ units → s.steering.lag ≡ pos 0 → owed s ≡ pos units *ℤ pos nominal
+owed-running s units mark counted lag =
+    let base = s.clock.base in
+    owed_is s base.last units (pos 0) mark
+    (kept_units base.counter base.last base.amount base.mult ∙ counted) lag
+    ∙ +ℤ_idr (pos units *ℤ pos nominal)

@@ -16,6 +16,7 @@ pub mod Lag
 pub mod Change
 pub mod Steering
 pub mod SteeredClock
+pub mod Uptime
 pub mod Advance
 pub mod Often
 pub mod History

@@ -5,6 +5,7 @@ mod asking;
 mod commanding;
 mod numbers;
 mod staging;
+mod uptime;
 
 use crate::discipline::Discipline;
 use crate::rate::Rate;

@@ -10,6 +10,7 @@ mod loops;
 mod rates;
 mod readings;
 mod requests;
+mod uptimes;
 
 /// A discipline at a second of REALTIME.
 #[derive(Drop)]
