@@ -85,9 +85,9 @@
  *   always may. A kernel module must follow the list in docs/C.md, "In the Linux kernel". In short:
  *     - Link the archive of `tools/build_c --backend rattle`. The archive of LLVM uses the red zone
  *       below the stack pointer, and requires a stack that is aligned to 16 bytes.
- *     - tkc_snapshot_convert, tkc_ntp_open, tkc_ntp_advance, tkc_ntp_apply and tkc_adjtimex use SSE
- *       registers: call them between kernel_fpu_begin() and kernel_fpu_end(), and only if
- *       irq_fpu_usable(). All other calls may then be made in any context.
+ *     - tkc_snapshot_convert, tkc_ntp_open, tkc_ntp_open_at, tkc_ntp_advance, tkc_ntp_apply and
+ *       tkc_adjtimex use SSE registers: call them between kernel_fpu_begin() and kernel_fpu_end(),
+ *       and only if irq_fpu_usable(). All other calls may then be made in any context.
  *   Two threads must not write one value at the same time, and no thread may write a value while
  *   another reads it. The caller's lock must prevent both (as timekeeper_lock does, and tk_core.seq
  *   for readers). tkcore_page.h contains a page for such readers. A reader in an NMI must not wait
@@ -750,6 +750,16 @@ enum tkc_code tkc_clock_load(struct tkc_clock *out, const uint64_t words[TKC_SAV
 TKC_MUST_CHECK
 enum tkc_code tkc_ntp_open(struct tkc_ntp *out, const struct tkc_counter *counter, uint64_t reading,
 			   int64_t sec, uint32_t nsec, uint32_t hz);
+
+/*
+ * Opens clocks that have an uptime at this reading: MONOTONIC, MONOTONIC_RAW and BOOTTIME are
+ * uptime_sec s plus uptime_nsec ns, as by tkc_clock_open_at. All else is as by tkc_ntp_open.
+ * Returns the code of tkc_clock_open_at, or TKC_INVALID if hz is out of its range.
+ */
+TKC_MUST_CHECK
+enum tkc_code tkc_ntp_open_at(struct tkc_ntp *out, const struct tkc_counter *counter,
+			      uint64_t reading, int64_t sec, uint32_t nsec, int64_t uptime_sec,
+			      uint32_t uptime_nsec, uint32_t hz);
 
 /*
  * Begins each second of REALTIME up to the reading (second_overflow in kernel/time/ntp.c), and adds

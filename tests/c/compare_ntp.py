@@ -13,7 +13,7 @@ sys.path.insert(0, str(Path(__file__).resolve().parents[1] / "model"))
 
 # pylint: disable=wrong-import-position
 import ntp
-from model import Counter, from_hz, is_settable
+from model import Counter, from_hz, is_settable, limit
 from steered_clock import Refused, Steered
 
 COMMANDS = ["update", "set", "step", "freq", "tick", "tai", "suspend", "resume", "leap"]
@@ -47,6 +47,17 @@ class Session:
         if reading >= 2**bits or not is_settable(sec, nsec) or not 1 <= hz <= 1024:
             raise Refused("invalid")
         self.steered = Steered(Counter(bits, mult, shift), reading, sec * 10**9 + nsec, hz)
+        return "open"
+
+    def openat(self, bits, mult, shift, reading, sec, nsec, hz, uptime_sec, uptime_nsec):
+        real, uptime = sec * 10**9 + nsec, uptime_sec * 10**9 + uptime_nsec
+        if reading >= 2**bits or not is_settable(sec, nsec) or uptime_sec < 0 or uptime_nsec >= 10**9:
+            raise Refused("invalid")
+        if uptime >= limit("monotonic"):
+            raise Refused("range")
+        if real < uptime or not 1 <= hz <= 1024:
+            raise Refused("invalid")
+        self.steered = Steered(Counter(bits, mult, shift), reading, real, hz, uptime)
         return "open"
 
     def advance(self, reading):
@@ -104,7 +115,12 @@ class Records:
         reading = self.random.choice([0, 2**bits - 1, self.random.randrange(2**bits), min(2**bits, 2**64 - 1)])
         sec = self.random.choice([0, DAY_END - 3, DAY_END - 2, 1_700_000_000, 8_277_292_030, 8_277_292_036])
         hz = self.random.choice([1, 100, 250, 1000, 1024, self.random.randrange(1026)])
-        return f"open,{bits},{counter.mult},{counter.shift},{reading},{sec},{self.random.choice([0, 999_999_999])},{hz}"
+        fields = [bits, counter.mult, counter.shift, reading, sec, self.random.choice([0, 999_999_999]), hz]
+        if self.random.randrange(2):
+            return ",".join(map(str, ["open", *fields]))
+        uptime = [self.random.choice([0, 1, 3_600, sec, sec + 1, 946_079_900, 946_079_999, 946_080_000, -1]),
+                  self.random.choice([0, 0, 999_999_999, 10**9, self.random.randrange(10**9)])]
+        return ",".join(map(str, ["openat", *fields, *uptime]))
 
     def reading(self):
         """A reading some seconds after the last one; seldom one behind it or the account, or above the mask."""

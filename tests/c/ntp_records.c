@@ -47,10 +47,9 @@ static uint32_t make_counter(struct tkc_counter *counter, const struct record *r
 {
 	const uint64_t *n = record->numbers;
 
-	if (!strcmp(record->word, "open"))
-		return tkc_counter_new(counter, (uint32_t)n[0], (uint32_t)n[1],
-				       (uint32_t)n[2]);
-	return tkc_counter_from_hz(counter, (uint32_t)n[0], n[1], (uint32_t)n[2]);
+	if (!strcmp(record->word, "openhz"))
+		return tkc_counter_from_hz(counter, (uint32_t)n[0], n[1], (uint32_t)n[2]);
+	return tkc_counter_new(counter, (uint32_t)n[0], (uint32_t)n[1], (uint32_t)n[2]);
 }
 
 static void open_clocks(struct session *session, const struct record *record, char *line)
@@ -60,8 +59,13 @@ static void open_clocks(struct session *session, const struct record *record, ch
 	uint32_t code;
 
 	check(!make_counter(&session->counter, record));
-	code = tkc_ntp_open(&session->ntp, &session->counter, n[3], (int64_t)n[4],
-			    (uint32_t)n[5], (uint32_t)n[6]);
+	if (!strcmp(record->word, "openat"))
+		code = tkc_ntp_open_at(&session->ntp, &session->counter, n[3], (int64_t)n[4],
+				       (uint32_t)n[5], (int64_t)n[7], (uint32_t)n[8],
+				       (uint32_t)n[6]);
+	else
+		code = tkc_ntp_open(&session->ntp, &session->counter, n[3], (int64_t)n[4],
+				    (uint32_t)n[5], (uint32_t)n[6]);
 	check(!code || !memcmp(&session->ntp, &before, sizeof(before)));
 	print_code(line, "open", code);
 }

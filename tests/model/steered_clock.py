@@ -112,8 +112,10 @@ class Steered:
     """Clocks and a discipline. `mark` is the reading that the lag was computed at, `next` the second of
     REALTIME that begins next, `front` the number of accepted calls."""
 
-    def __init__(self, counter, reading, real, hz):
-        self.clock, self.ntp, self.front = Clock(counter, reading, real), Discipline(hz), 0
+    def __init__(self, counter, reading, real, hz, uptime=0):
+        units = uptime << counter.shift
+        self.clock = Clock(counter, reading, real - uptime, amount=units, raw_amount=units)
+        self.ntp, self.front = Discipline(hz), 0
         self.lag, self.mark, self.next = 0, reading, real // NANOS + 1
 
     def command(self, reading, word, *fields):

@@ -46,6 +46,14 @@ class Session:
                                   sec * tkcore.NANOS + nsec, hz)
         return "open"
 
+    def openat(self, bits, mult, shift, reading, sec, nsec, hz, past_sec, past_nsec):
+        if past_nsec >= tkcore.NANOS:
+            return "no,TKC_INVALID"  # the package splits nanoseconds itself
+        self.clock = SteeredClock(tkcore.Counter(bits, mult, shift), reading,
+                                  sec * tkcore.NANOS + nsec, hz,
+                                  past_sec * tkcore.NANOS + past_nsec)
+        return "open"
+
     def openhz(self, bits, hz, maxsec, *others):
         counter = tkcore.Counter.from_hz(bits, hz, maxsec)
         return self.open(counter.bits, counter.mult, counter.shift, *others)
@@ -155,6 +163,20 @@ class Arguments(unittest.TestCase):
             with self.assertRaises(tkcore.Invalid):
                 SteeredClock(counter, 0, 0, hz)
         self.assertEqual(SteeredClock(counter, 0, 0, 1024).next_second(), 1_000_000)
+
+    def test_an_opening_with_an_uptime(self):
+        counter = tkcore.Counter.from_hz(32, 1_000_000)
+        hour, limit = 3600 * tkcore.NANOS, 946_080_000 * tkcore.NANOS
+        clock = SteeredClock(counter, 5, 1_700_000_000 * tkcore.NANOS, uptime=hour + 7)
+        clock.advance(1_000_005)
+        now = clock.snapshot()
+        self.assertEqual([now.get(1_000_005, tkcore.ClockId[name]) - tkcore.NANOS
+                          for name in ("MONOTONIC", "MONOTONIC_RAW", "BOOTTIME", "REALTIME")],
+                         [hour + 7, hour + 7, hour + 7, 1_700_000_000 * tkcore.NANOS])
+        for error, real, uptime in [(tkcore.Invalid, 5, -1), (tkcore.Range, 5, limit),
+                                    (tkcore.Invalid, 5, 6)]:
+            with self.assertRaises(error):
+                SteeredClock(counter, 0, real, uptime=uptime)
 
     def test_behind(self):
         self.clock.update(10)

@@ -172,6 +172,25 @@ impl SteeredClock {
         Ok(SteeredClock { value, counter: *counter })
     }
 
+    /// Opens clocks as [`open`](SteeredClock::open) does, except that MONOTONIC, MONOTONIC_RAW and
+    /// BOOTTIME are `uptime`, 0 s to below 946,080,000 s and at most `start`.
+    ///
+    /// # Errors
+    ///
+    /// In this order: those of [`Clock::open_at`](crate::Clock::open_at); `Invalid` if `hz` is out
+    /// of its range.
+    pub fn open_at(
+        counter: &Counter,
+        reading: u64,
+        start: Timespec,
+        uptime: Timespec,
+        hz: u32,
+    ) -> Result<SteeredClock, Refusal> {
+        let value = sys::ntp_open_at(&counter.value, reading, start, uptime, hz)
+            .map_err(Refusal::of_code)?;
+        Ok(SteeredClock { value, counter: *counter })
+    }
+
     /// Lets each second of REALTIME up to a reading begin.
     ///
     /// # Errors

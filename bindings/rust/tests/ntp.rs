@@ -219,6 +219,28 @@ fn any_call() {
 }
 
 #[test]
+fn openings_with_an_uptime() {
+    let counter = Counter::from_hz(32, 1_000_000, 600).unwrap();
+    let uptime = Timespec { sec: 3_600, nsec: 7 };
+    let mut clock = SteeredClock::open_at(&counter, 5, START, uptime, 250).unwrap();
+    assert_eq!(clock.advance(1_000_005), Ok(()));
+    let now = clock.snapshot();
+    for id in [ClockId::Monotonic, ClockId::MonotonicRaw, ClockId::Boottime] {
+        assert_eq!(now.get(id, 1_000_005), Ok(Timespec { sec: 3_601, nsec: 7 }));
+    }
+    let (limit, long) = (Timespec { sec: 946_080_000, nsec: 0 }, Timespec { sec: 6, nsec: 0 });
+    let short = Timespec { sec: 5, nsec: 0 };
+    for (start, uptime, hz, refusal) in [
+        (short, limit, 0, Refusal::Range),
+        (short, long, 250, Refusal::Invalid),
+        (short, short, 0, Refusal::Invalid),
+    ] {
+        let opened = SteeredClock::open_at(&counter, 5, start, uptime, hz);
+        assert_eq!(opened.err(), Some(refusal));
+    }
+}
+
+#[test]
 fn refused_calls() {
     let counter = Counter::from_hz(32, 1_000_000, 600).unwrap();
     let start = Timespec { sec: 1_700_000_000, nsec: 0 };

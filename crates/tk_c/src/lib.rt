@@ -50,7 +50,7 @@ pub use counters::{
 pub use cycles::{tkc_counter_gap, tkc_counter_nanos};
 pub use ntp::{
     tkc_adjtimex, tkc_ntp_advance, tkc_ntp_apply, tkc_ntp_next_second, tkc_ntp_open,
-    tkc_ntp_snapshot,
+    tkc_ntp_open_at, tkc_ntp_snapshot,
 };
 pub use ntp_storage::NtpStorage;
 pub use parts::{

@@ -1,8 +1,9 @@
 //! Steers clocks by a discipline.
-ghost use Rattle.std.specs.Prelude.{◌≡◌, ◌<◌, MatchOption};
+ghost use Rattle.std.specs.Prelude.{◌≡◌, ◌<◌, MatchOption, MatchResult};
 ghost use Rattle.tk_clock.specs.Limits.{counted_most};
 ghost use Rattle.tk_clock.specs.declared.timespec.Timespec.{Timespec};
 ghost use Rattle.tk_ntp.specs.SteeredClock.{steered_refusal, steered_opened};
+ghost use Rattle.tk_ntp.specs.Uptime.{steered_running_refusal, steered_running};
 ghost use Rattle.tk_c.specs.Codes.{number_of, code_of_refusal};
 ghost use Rattle.tk_c.specs.CountedNtp.{IsAdvancedTo, IsCommandCounted, IsNtpApplied, IsRequestCounted, IsNtpAnswered, IsNextSecond};
 ghost use Rattle.tk_c.specs.declared.code.Code.TheVariants.{Done};
@@ -19,7 +20,7 @@ use crate::ntp_storage::NtpStorage;
 use crate::reached::unreached;
 use crate::storage::SnapshotStorage;
 use crate::timex::{KernelTimex, state_number};
-use tk_clock::{COUNTED_LIMIT, Command, Timespec};
+use tk_clock::{COUNTED_LIMIT, Command, Refusal, Timespec};
 use tk_counter::CounterDesc;
 use tk_ntp::SteeredClock;
 
@@ -48,7 +49,57 @@ pub extern "C" fn tkc_ntp_open(
         × (out.new ≡ ntp_storage 0 (steered_opened counter.now reading real hz)))
         (λ refusal. (result ≡ number_of (code_of_refusal refusal)) × (out.new ≡ out.old)) }
 {
-    match SteeredClock::open(*counter, reading, Timespec { sec, nsec }, hz) {
+    write_opened(
+        out,
+        SteeredClock::open(*counter, reading, Timespec { sec, nsec }, hz),
+    )
+}
+
+/// Opens steered clocks with an uptime at a reading of the counter, and writes them to `out`
+/// (`SteeredClock::open_at`).
+///
+/// They are as by `tkc_ntp_open`, except that MONOTONIC, MONOTONIC_RAW and BOOTTIME are `uptime_sec`
+/// s, 0 to 946,079,999, plus `uptime_nsec` ns, 0 to 999,999,999, at the reading.
+///
+/// # Errors
+///
+/// Doesn't write `out` then. Returns, in this order:
+///
+/// - the code of `tkc_clock_open_at`, if it refuses the other arguments;
+/// - `Code::Invalid` if `hz` is not 1 to 1024.
+#[unsafe(no_mangle)]
+pub extern "C" fn tkc_ntp_open_at(
+    out: &mut NtpStorage,
+    counter: &CounterDesc,
+    reading: u64,
+    sec: i64,
+    nsec: u32,
+    uptime_sec: i64,
+    uptime_nsec: u32,
+    hz: u32,
+) -> u32
+    ensures { let real : Timespec = record { sec = sec; nsec = nsec } in
+        let uptime : Timespec = record { sec = uptime_sec; nsec = uptime_nsec } in
+        MatchOption (steered_running_refusal counter.now reading real uptime hz)
+        ((result ≡ number_of Done)
+        × (out.new ≡ ntp_storage 0 (steered_running counter.now reading real uptime hz)))
+        (λ refusal. (result ≡ number_of (code_of_refusal refusal)) × (out.new ≡ out.old)) }
+{
+    let uptime = Timespec {
+        sec: uptime_sec,
+        nsec: uptime_nsec,
+    };
+    let opened = SteeredClock::open_at(*counter, reading, Timespec { sec, nsec }, uptime, hz);
+    write_opened(out, opened)
+}
+
+/// Writes opened clocks, for which no call is counted yet, or returns the code of their refusal.
+fn write_opened(out: &mut NtpStorage, opened: Result<SteeredClock, Refusal>) -> u32
+    ensures { MatchResult opened
+        (λ steered. (result ≡ number_of Done) × (out.new ≡ ntp_storage 0 steered))
+        (λ refusal. (result ≡ number_of (code_of_refusal refusal)) × (out.new ≡ out.old)) }
+{
+    match opened {
         Ok(steered) => {
             *out = NtpStorage::from(CountedNtp { steered, front: 0 });
             Code::Done.number()

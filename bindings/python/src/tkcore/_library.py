@@ -105,6 +105,8 @@ _CALLS = {
     "tkc_clock_load": (c_uint32, [_CLOCK, _WORDS]),
     "tkc_snapshot_counter": (None, [_COUNTER, _SNAPSHOT]),
     "tkc_ntp_open": (c_uint32, [_NTP, _COUNTER, c_uint64, c_int64, c_uint32, c_uint32]),
+    "tkc_ntp_open_at": (c_uint32, [_NTP, _COUNTER, c_uint64, c_int64, c_uint32, c_int64, c_uint32,
+                                   c_uint32]),
     "tkc_ntp_advance": (c_uint32, [_NTP, c_uint64]),
     "tkc_ntp_apply": (c_uint32, [_NTP, c_uint64, c_uint32, c_int64, c_uint32]),
     "tkc_adjtimex": (c_uint32, [POINTER(TimexValue), _NUMBER, _NTP, c_uint64]),

@@ -15,6 +15,22 @@ from .snapshot import Snapshot, words_of
 UPTIME_LIMIT = 946_080_000 * NANOS
 
 
+def split_uptime(uptime: int) -> Tuple[int, int]:
+    """Returns an uptime in ns as seconds and nanoseconds, for a call that tests its limit."""
+    bounded = fit(min(uptime, UPTIME_LIMIT), (0, UPTIME_LIMIT), Invalid, "uptime",
+                  (0, UPTIME_LIMIT - 1))
+    return divmod(bounded, NANOS)
+
+
+def raise_opening(code: int, counter: Counter, reading: int, realtime: int, uptime: int) -> None:
+    """Raises the exception of a code by which clocks with an uptime weren't opened, if it is one."""
+    if code == Range.code:
+        raise Range("uptime", uptime, (0, UPTIME_LIMIT - 1))
+    if code:
+        fit(reading, (0, counter.max_reading), Invalid, "reading")
+        raise BY_CODE[code]("realtime", realtime, (uptime, SETTABLE[1] * NANOS + NANOS - 1))
+
+
 class Clock(Commanded):
     """The running clocks of a counter, opened at a reading with REALTIME at `realtime` ns since
     1970. MONOTONIC, MONOTONIC_RAW and BOOTTIME are `uptime` ns there, 0 if it isn't given.
@@ -38,14 +54,9 @@ class Clock(Commanded):
         value = ClockValue()
         reading = fit(reading, U64, Invalid, "reading", (0, counter.max_reading))
         real = split(realtime, SETTABLE, "realtime")
-        past = divmod(fit(min(uptime, UPTIME_LIMIT), (0, UPTIME_LIMIT), Invalid, "uptime",
-                          (0, UPTIME_LIMIT - 1)), NANOS)
+        past = split_uptime(uptime)
         code = CALLS.tkc_clock_open_at(byref(value), byref(counter._value), reading, *real, *past)
-        if code == Range.code:
-            raise Range("uptime", uptime, (0, UPTIME_LIMIT - 1))
-        if code:
-            fit(reading, (0, counter.max_reading), Invalid, "reading")
-            raise BY_CODE[code]("realtime", realtime, (uptime, SETTABLE[1] * NANOS + NANOS - 1))
+        raise_opening(code, counter, reading, realtime, uptime)
         self._value, self.counter = value, counter
 
     @classmethod

@@ -9,6 +9,7 @@ from typing import NoReturn
 
 from ._library import (CALLS, I64, NANOS, U32, U64, NtpValue, SnapshotValue, TimexValue, fit,
                        raise_code)
+from .clock import raise_opening, split_uptime
 from .commands import SETTABLE, TICKS, Commanded, split
 from .counter import Counter
 from .errors import BY_CODE, Behind, Invalid
@@ -110,7 +111,8 @@ def _check_request(request: Timex) -> None:
 
 class SteeredClock(Commanded):
     """The running clocks of a counter, opened at a reading with REALTIME at `realtime` ns since
-    1970, and steered by a fresh discipline.
+    1970, and steered by a fresh discipline. MONOTONIC, MONOTONIC_RAW and BOOTTIME are `uptime` ns
+    there, 0 if it isn't given.
 
     Phases are divided into `hz` parts of a second, 1 to 1024: with the kernel's HZ, replies are the
     kernel's to the last digit. Every call except `next_second`, `snapshot` and `resume` first lets
@@ -121,20 +123,26 @@ class SteeredClock(Commanded):
 
     Don't let two threads use one SteeredClock without a lock. A Snapshot may be shared.
 
-    Raises Invalid if the reading, `realtime` or `hz` is out of its range.
+    Raises, in this order: Invalid if the reading, `realtime` or a negative `uptime` is out of its
+    range; Range if `uptime` is at the limit of MONOTONIC or past it; Invalid if `realtime` is below
+    `uptime` or `hz` is out of its range.
     """
 
     __slots__ = ("_value", "counter")
 
     counter: Counter
 
-    def __init__(self, counter: Counter, reading: int, realtime: int, hz: int = 250) -> None:
+    def __init__(self, counter: Counter, reading: int, realtime: int, hz: int = 250,
+                 uptime: int = 0) -> None:
         value = NtpValue()
         reading = fit(reading, U64, Invalid, "reading", (0, counter.max_reading))
-        sec, nsec = split(realtime, SETTABLE, "realtime")
-        hz = fit(hz, (1, 1024), Invalid, "hz")
-        code = CALLS.tkc_ntp_open(byref(value), byref(counter._value), reading, sec, nsec, hz)
-        raise_code(code, "reading", reading, (0, counter.max_reading))
+        real, past = split(realtime, SETTABLE, "realtime"), split_uptime(uptime)
+        parts = fit(min(max(hz, 0), 1025), (0, 1025), Invalid, "hz")
+        code = CALLS.tkc_ntp_open_at(byref(value), byref(counter._value), reading, *real, *past,
+                                     parts)
+        if code == Invalid.code and reading <= counter.max_reading and realtime >= uptime:
+            fit(hz, (1, 1024), Invalid, "hz")
+        raise_opening(code, counter, reading, realtime, uptime)
         self._value, self.counter = value, counter
 
     def advance(self, reading: int) -> None:

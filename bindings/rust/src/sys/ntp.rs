@@ -45,6 +45,16 @@ extern "C" {
         nsec: u32,
         hz: u32,
     ) -> u32;
+    fn tkc_ntp_open_at(
+        out: *mut NtpValue,
+        counter: *const CounterValue,
+        reading: u64,
+        sec: i64,
+        nsec: u32,
+        uptime_sec: i64,
+        uptime_nsec: u32,
+        hz: u32,
+    ) -> u32;
     fn tkc_ntp_advance(ntp: *mut NtpValue, reading: u64) -> u32;
     fn tkc_ntp_apply(ntp: *mut NtpValue, reading: u64, command: u32, number: i64, nsec: u32)
         -> u32;
@@ -75,6 +85,20 @@ pub(crate) fn ntp_open(
 ) -> Result<NtpValue, u32> {
     // SAFETY: `out` is valid for a write, and the counter is a value.
     made(|out| unsafe { tkc_ntp_open(out, counter, reading, start.sec, start.nsec, hz) })
+}
+
+pub(crate) fn ntp_open_at(
+    counter: &CounterValue,
+    reading: u64,
+    start: Timespec,
+    uptime: Timespec,
+    hz: u32,
+) -> Result<NtpValue, u32> {
+    let (Timespec { sec, nsec }, past) = (start, uptime);
+    // SAFETY: `out` is valid for a write, and the counter is a value.
+    made(|out| unsafe {
+        tkc_ntp_open_at(out, counter, reading, sec, nsec, past.sec, past.nsec, hz)
+    })
 }
 
 #[inline]
