@@ -78,7 +78,7 @@ static const char *parse_nsec(const char *text, uint32_t *nsec)
 	uint32_t digit = NANOS;
 
 	*nsec = 0;
-	if (*text != '.')
+	if (*text != '.' || text[1] < '0' || text[1] > '9')
 		return text;
 	while (*++text >= '0' && *text <= '9' && digit > 1) {
 		digit /= 10;
@@ -113,6 +113,19 @@ static void parse_start(struct options *options, const char *text)
 }
 
 static enum counter_kind parse_counter(const char *text)
+static void parse_uptime(struct options *options, const char *text)
+{
+	char *end = NULL;
+
+	errno = 0;
+	options->uptime_sec = strtoll(text, &end, 10);
+	if (errno || *text < '0' || *text > '9' ||
+	    *parse_nsec(end, &options->uptime_nsec) ||
+	    options->uptime_sec > UPTIME_MOST)
+		fail(STATUS_WRONG, "--uptime: '%s' isn't SEC[.NSEC] up to %d s",
+		     text, UPTIME_MOST);
+}
+
 {
 	static const char *const WORDS[] = { "raw", "tsc", "sleeps" };
 
@@ -144,7 +157,7 @@ static void parse_option(struct options *o, const char *name)
 	else if (!strcmp(name, "ahead"))
 		o->ahead = decimal(name, value, -1e9, 1e9);
 	else if (!strcmp(name, "uptime"))
-		o->uptime = decimal(name, value, 0, UPTIME_MOST);
+		parse_uptime(o, value);
 	else if (!strcmp(name, "script"))
 		o->script = value;
 	else if (!strcmp(name, "record"))
@@ -165,6 +178,7 @@ static void parse_option(struct options *o, const char *name)
 		o->is_quiet = true;
 	o->has_ahead |= !strcmp(name, "ahead");
 	o->describes_counter |= !strcmp(name, "hz") || !strcmp(name, "bits") ||
+	o->has_uptime |= !strcmp(name, "uptime");
 				!strcmp(name, "maxsec");
 }
 
@@ -173,7 +187,7 @@ static void compare_options(const struct options *o)
 {
 	if (o->has_start && o->has_ahead)
 		fail(STATUS_WRONG, "--start and --ahead exclude each other");
-	if (o->script && (o->has_start || o->has_ahead || o->uptime != 0))
+	if (o->script && (o->has_start || o->has_ahead || o->has_uptime))
 		fail(STATUS_WRONG,
 		     "--script opens the clocks, so --start, --ahead and --uptime can't");
 	if (o->every != 1 && !o->record && !o->is_checked)

@@ -14,9 +14,8 @@ enum {
 	STATUS_NOT_FOUND = 127, /* there is no PROGRAM */
 };
 
-/* The longest uptime, in s: the clocks begin each of its seconds, which takes
- * some 50 ns for one. Each count of ms or jiffies that wraps does before it. */
-enum { UPTIME_MOST = 50000000 };
+/* The longest uptime, in s: MONOTONIC ends a second later. */
+enum { UPTIME_MOST = 946079999 };
 
 struct options {
 	enum counter_kind counter;
@@ -25,10 +24,12 @@ struct options {
 	bool describes_counter; /* --hz, --bits or --maxsec is there */
 	double error_ppm,
 		speed; /* ppm; ns of the counter in a ns of the host */
-	bool has_start, has_ahead;
+	bool has_start, has_ahead, has_uptime;
 	int64_t start_sec;
 	uint32_t start_nsec;
-	double ahead, uptime; /* s */
+	double ahead; /* s */
+	int64_t uptime_sec;
+	uint32_t uptime_nsec;
 	const char *script, *record, *log;
 	uint64_t every;
 	bool is_checked, denies_set, has_stamps, is_quiet, is_static;

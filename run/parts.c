@@ -83,7 +83,7 @@ static void close_script(struct script_file *script, int *error)
 		*error = errno;
 }
 
-/* Opens the clocks of the first part. */
+/* Opens the clocks of the first part, if they have no uptime. */
 static void put_opening(struct script_file *script, const struct plan *plan)
 {
 	uint32_t bits, mult, shift;
@@ -97,7 +97,7 @@ static void put_opening(struct script_file *script, const struct plan *plan)
 		plan->open_nsec);
 }
 
-/* Continues the clocks of the former part. */
+/* Opens the clocks as they are now: after the former part, or with an uptime. */
 static void put_words(struct script_file *script)
 {
 	uint64_t words[TKC_SAVED_WORDS];
@@ -146,10 +146,10 @@ static struct part *begin_part(struct recording *recording,
 	script->file = fopen(name, "we");
 	if (!script->file)
 		return NULL;
-	if (recording->part_count == 1)
-		put_opening(script, plan);
-	else
+	if (recording->part_count > 1 || plan->uptime_sec || plan->uptime_nsec)
 		put_words(script);
+	else
+		put_opening(script, plan);
 	return part;
 }
 
@@ -194,9 +194,7 @@ int parts_write(struct recording *recording, const struct plan *plan)
 	struct part *part;
 	int error = 0;
 
-	if (tkc_clock_open(&script.clock, &plan->counter, plan->first,
-			   plan->open_sec, plan->open_nsec))
-		return EINVAL; /* unreachable: the clocks have been opened so */
+	plan_open_clock(plan, &script.clock);
 	part = begin_part(recording, plan, 0, &script);
 
 	for (uint64_t i = 0; i < list->count && part; i++) {

@@ -53,18 +53,35 @@ static void take_orders(struct plan *plan, const struct script *script)
 	}
 }
 
-/* Stores how clocks were opened. Returns false if they aren't as just opened. */
+static bool open_clock(const struct plan *plan, struct tkc_clock *clock)
+{
+	return !tkc_clock_open_at(clock, &plan->counter, plan->first,
+				  plan->open_sec, plan->open_nsec,
+				  plan->uptime_sec, plan->uptime_nsec);
+}
+
+/* The discipline adds no refusals of its own. */
+void plan_open_clock(const struct plan *plan, struct tkc_clock *clock)
+{
+	if (!open_clock(plan, clock))
+		abort();
+}
+
+/* Stores how clocks were opened: their numbers are those of tkcore.h,
+ * tkc_snapshot_words. Returns false if they aren't as just opened. */
 static bool find_opening(struct plan *plan, const struct tkc_clock *clock)
 {
-	uint64_t words[TKC_SAVED_WORDS], opened[TKC_SAVED_WORDS];
+	uint64_t words[TKC_SAVED_WORDS], opened[TKC_SAVED_WORDS], real;
 	struct tkc_clock other;
 
 	tkc_clock_save(words, clock);
 	plan->first = words[1];
-	plan->open_sec = (int64_t)(words[5] / NANOS);
-	plan->open_nsec = (uint32_t)(words[5] % NANOS);
-	if (tkc_clock_open(&other, &plan->counter, plan->first, plan->open_sec,
-			   plan->open_nsec))
+	plan->uptime_sec = (int64_t)words[4];
+	plan->uptime_nsec = (uint32_t)(words[3] >> words[TKC_WORDS + 2]);
+	real = words[5] + words[4] * NANOS + plan->uptime_nsec;
+	plan->open_sec = (int64_t)(real / NANOS);
+	plan->open_nsec = (uint32_t)(real % NANOS);
+	if (!open_clock(plan, &other))
 		return false;
 	tkc_clock_save(opened, &other);
 	return !memcmp(words, opened, sizeof(words));
@@ -118,6 +135,14 @@ void plan_make(struct plan *plan, const struct options *options, double hz)
 	struct tkc_counter counter;
 
 	*plan = (struct plan){ .hz = options->hz ? (double)options->hz
+	plan->uptime_sec = options->uptime_sec;
+	plan->uptime_nsec = options->uptime_nsec;
+	if (options->has_uptime &&
+	    (plan->open_sec < plan->uptime_sec ||
+	     (plan->open_sec == plan->uptime_sec &&
+	      plan->open_nsec < plan->uptime_nsec)))
+		fail(STATUS_WRONG,
+		     "--uptime: the clocks would have run before 1970");
 						 : round(hz) };
 	if (tkc_counter_from_hz(&counter, options->bits, (uint64_t)plan->hz,
 				options->maxsec))
@@ -132,13 +157,9 @@ void plan_make(struct plan *plan, const struct options *options, double hz)
 		     "--script opens another counter than the options describe");
 	if (!options->script)
 		set_start(plan, options);
-	plan->start_sec = plan->open_sec;
-	plan->open_sec -= (int64_t)ceil(options->uptime);
-	if (plan->open_sec < 0 && options->uptime)
-		fail(STATUS_WRONG,
-		     "--uptime: the clocks would have run before 1970");
-	if (tkc_ntp_open(&plan->clocks, &plan->counter, plan->first,
-			 plan->open_sec, plan->open_nsec, TICKS_HZ))
+	if (tkc_ntp_open_at(&plan->clocks, &plan->counter, plan->first,
+			    plan->open_sec, plan->open_nsec, plan->uptime_sec,
+			    plan->uptime_nsec, TICKS_HZ))
 		fail(STATUS_WRONG, "the clocks can't start at second %lld",
 		     (long long)plan->open_sec);
 }

@@ -11,8 +11,8 @@ struct plan {
 	struct tkc_ntp clocks;
 	double hz; /* the rate that the counter is described with */
 	uint64_t first;
-	int64_t start_sec, open_sec; /* REALTIME; the opening is before an uptime */
-	uint32_t open_nsec;
+	int64_t open_sec, uptime_sec; /* REALTIME and MONOTONIC */
+	uint32_t open_nsec, uptime_nsec;
 	struct order *orders;
 	size_t count, next;
 };
@@ -20,6 +20,9 @@ struct plan {
 /* Makes the plan of the options. `hz` is the counter's own rate. At a wrong
  * script or counter, ends tkrun with a sentence. */
 void plan_make(struct plan *plan, const struct options *options, double hz);
+
+/* Makes the opened clocks without their discipline, for a record. */
+void plan_open_clock(const struct plan *plan, struct tkc_clock *clock);
 
 /* Returns the cycles until the next order is due: 0 if it is, and NEVER if
  * there is none. */

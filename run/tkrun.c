@@ -252,7 +252,6 @@ int main(int count, char **words)
 	open_machine(&run);
 	if (is_recorded)
 		start_record(&run);
-	start_uptime(&run);
 	run_first_orders(&run);
 	prctl(PR_SET_CHILD_SUBREAPER, 1, 0, 0, 0);
 	sigemptyset(&signals);

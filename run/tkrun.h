@@ -44,9 +44,6 @@ void preload_library(void);
  * tkrun as env(1) ends. */
 void start_program(struct run *run, const sigset_t *signals);
 
-/* Lets the clocks have run for --uptime already. Ends tkrun if they can't. */
-void start_uptime(struct run *run);
-
 /* Lets programs be executed that wait for it. */
 void serve_execs(struct run *run);
 

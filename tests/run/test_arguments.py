@@ -27,7 +27,7 @@ class Arguments(RunTest):
             "start": ["", "x", "-1", "1.5.5", "2038-01-19", "2038-01-19T03:14:00", "8277292036",
                       "2038-13-19T03:14:00Z", "99999999999999999999"],
             "ahead": ["x", "", "1e10"],
-            "uptime": ["x", "", "-1", "50000001", "inf", "nan"],
+            "uptime": ["x", "", "-1", "946080000", "inf", "nan", "1e3", "1.5.5", "1.", "+1"],
             "every": ["0", "-1", "x"],
         }
         for option, values in wrong.items():
@@ -54,8 +54,7 @@ class Arguments(RunTest):
         self.refuse("--script", script, "--ahead", "1")
         self.refuse("--script", script, "--uptime", "1")
         self.assertIn("before 1970", self.refuse("--start", "5", "--uptime", "6"))
-        self.assertIn("wraps", self.refuse("--counter", "sleeps", "--bits", "8", "--hz", "1000",
-                                           "--uptime", "50000000"))
+        self.assertIn("before 1970", self.refuse("--start", "5.1", "--uptime", "5.100000001"))
         self.refuse("--counter", "sleeps", "--speed", "2")
         self.refuse("--counter", "sleeps", "--error-ppm", "1")
         self.refuse("--every", "2")

@@ -36,6 +36,16 @@ class Counters(RunTest):
                 self.assertEqual(self.run_on("--counter", "sleeps", *options, "--uptime", 3600.25,
                                              "--start", "5000.5", "--check", "--", "/usr/bin/perl",
                                              "-e", code), "3600.250 3600.250 5000.500")
+                record = self.folder / "r"
+                self.run_on("--counter", "sleeps", *options, "--uptime", "946079998.5",
+                            "--start", "8277292035.5", "--record", record, "--check", "--", "sleep",
+                            "1")
+                # a record opens the same clocks as the options
+                self.assertEqual(record.read_text().split(",")[0], "openwords")
+                self.assertEqual(
+                    self.run_on("--counter", "sleeps", "--script", record, "--check", "--",
+                                "/usr/bin/perl", "-e", code),
+                    "946079998.500 946079998.500 8277292035.500")
 
     def test_a_frequency_and_a_tick(self):
         script = self.file("s", "openhz,64,1000000000,1,0,0,0\nfreq,0,32768000\n"
