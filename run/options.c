@@ -9,6 +9,7 @@
 #include <stdio.h>
 #include <stdlib.h>
 #include <string.h>
+#include <sys/stat.h>
 
 static const char USAGE[] =
 	"usage: tkrun [OPTIONS] -- PROGRAM ARGS..\n"
@@ -112,7 +113,6 @@ static void parse_start(struct options *options, const char *text)
 	options->has_start = true;
 }
 
-static enum counter_kind parse_counter(const char *text)
 static void parse_uptime(struct options *options, const char *text)
 {
 	char *end = NULL;
@@ -126,6 +126,7 @@ static void parse_uptime(struct options *options, const char *text)
 		     text, UPTIME_MOST);
 }
 
+static enum counter_kind parse_counter(const char *text)
 {
 	static const char *const WORDS[] = { "raw", "tsc", "sleeps" };
 
@@ -177,9 +178,21 @@ static void parse_option(struct options *o, const char *name)
 	else if (!strcmp(name, "quiet"))
 		o->is_quiet = true;
 	o->has_ahead |= !strcmp(name, "ahead");
-	o->describes_counter |= !strcmp(name, "hz") || !strcmp(name, "bits") ||
 	o->has_uptime |= !strcmp(name, "uptime");
+	o->describes_counter |= !strcmp(name, "hz") || !strcmp(name, "bits") ||
 				!strcmp(name, "maxsec");
+}
+
+/* Returns whether two options name the same file, also if it isn't there yet. */
+static bool is_same_file(const char *one, const char *other)
+{
+	struct stat a, b;
+
+	if (!one || !other)
+		return false;
+	return !strcmp(one, other) ||
+	       (!stat(one, &a) && !stat(other, &b) && a.st_dev == b.st_dev &&
+		a.st_ino == b.st_ino);
 }
 
 /* Ends tkrun if two options contradict each other. */
@@ -190,6 +203,11 @@ static void compare_options(const struct options *o)
 	if (o->script && (o->has_start || o->has_ahead || o->has_uptime))
 		fail(STATUS_WRONG,
 		     "--script opens the clocks, so --start, --ahead and --uptime can't");
+	if (is_same_file(o->record, o->log) ||
+	    is_same_file(o->record, o->script) ||
+	    is_same_file(o->log, o->script))
+		fail(STATUS_WRONG,
+		     "--script, --record and --log need different files");
 	if (o->every != 1 && !o->record && !o->is_checked)
 		fail(STATUS_WRONG, "--every needs --record or --check");
 	if (o->counter == COUNTER_SLEEPS &&

@@ -87,6 +87,14 @@ static bool find_opening(struct plan *plan, const struct tkc_clock *clock)
 	return !memcmp(words, opened, sizeof(words));
 }
 
+__attribute__((noreturn)) static void fail_script(const struct fault *fault)
+{
+	if (!fault->record)
+		fail(STATUS_WRONG, "--script: %s", fault->text);
+	fail(STATUS_WRONG, "--script: record %zu: %s", fault->record,
+	     fault->text);
+}
+
 static void read_script(struct plan *plan, const char *path)
 {
 	struct script script;
@@ -95,8 +103,7 @@ static void read_script(struct plan *plan, const char *path)
 	char *text = read_file(path, &length);
 
 	if (!script_parse(&script, text, length, &fault))
-		fail(STATUS_WRONG, "--script: record %zu: %s", fault.record,
-		     fault.text);
+		fail_script(&fault);
 	plan->counter = script.counter;
 	plan->hz = rate_of(&plan->counter);
 	if (!find_opening(plan, &script.clock))
@@ -128,13 +135,6 @@ static void set_start(struct plan *plan, const struct options *options)
 		plan->open_sec = options->start_sec;
 		plan->open_nsec = options->start_nsec;
 	}
-}
-
-void plan_make(struct plan *plan, const struct options *options, double hz)
-{
-	struct tkc_counter counter;
-
-	*plan = (struct plan){ .hz = options->hz ? (double)options->hz
 	plan->uptime_sec = options->uptime_sec;
 	plan->uptime_nsec = options->uptime_nsec;
 	if (options->has_uptime &&
@@ -143,6 +143,13 @@ void plan_make(struct plan *plan, const struct options *options, double hz)
 	      plan->open_nsec < plan->uptime_nsec)))
 		fail(STATUS_WRONG,
 		     "--uptime: the clocks would have run before 1970");
+}
+
+void plan_make(struct plan *plan, const struct options *options, double hz)
+{
+	struct tkc_counter counter;
+
+	*plan = (struct plan){ .hz = options->hz ? (double)options->hz
 						 : round(hz) };
 	if (tkc_counter_from_hz(&counter, options->bits, (uint64_t)plan->hz,
 				options->maxsec))

@@ -50,12 +50,12 @@ void print_summary(const struct run *run)
 	print_host_waits(control);
 }
 
-void print_record(const struct run *run)
+void print_record(const struct run *run, bool is_written)
 {
 	const struct recording *recording = &run->recording;
 	const struct rows *rows = &run->machine.control->rows;
 
-	if (!run->options.is_quiet)
+	if (!run->options.is_quiet && is_written)
 		fprintf(stderr,
 			"tkrun: recorded %" PRIu64 " reads and %" PRIu64
 			" commands, in %u %s\n",

@@ -10,6 +10,7 @@
 #include "tkrun.h"
 
 #include <errno.h>
+#include <fcntl.h>
 #include <inttypes.h>
 #include <stdio.h>
 #include <stdlib.h>
@@ -183,7 +184,7 @@ static void end_run(struct run *run, bool is_recorded)
 	if (is_recorded) {
 		is_written = recording_write(&run->recording, &run->machine,
 					     &run->plan);
-		print_record(run);
+		print_record(run, is_written);
 		if (run->options.is_checked)
 			check_record(run, is_written);
 		remove_scratch(run);
@@ -226,6 +227,19 @@ static void find_host_clock(struct run *run)
 	run->calls_host = makes_calls || getenv("TKRUN_HOST_CALLS");
 }
 
+/* No file of tkrun may get the number of a standard one that was closed: its
+ * messages would be written to it. The program doesn't inherit these. */
+static void hold_standard_files(void)
+{
+	int file;
+
+	do {
+		file = open("/dev/null", O_RDWR | O_CLOEXEC);
+	} while (file >= 0 && file <= STDERR_FILENO);
+	if (file >= 0)
+		close(file);
+}
+
 static struct run run;
 
 static void remove_all(void)
@@ -238,6 +252,7 @@ int main(int count, char **words)
 	sigset_t signals, before;
 	bool is_recorded;
 
+	hold_standard_files();
 	parse_options(count, words, &run.options);
 	is_recorded = run.options.record || run.options.is_checked;
 	find_host_clock(&run);

@@ -53,6 +53,6 @@ bool move_counter(struct run *run);
 
 /* Print what became of the run, and of its record. */
 void print_summary(const struct run *run);
-void print_record(const struct run *run);
+void print_record(const struct run *run, bool is_written);
 
 #endif

@@ -24,11 +24,15 @@ class Arguments(RunTest):
             "maxsec": ["0", "601"],
             "error-ppm": ["x", "nan", "1000001", "-500001", ""],
             "speed": ["0", "-1", "x", "100001", "inf"],
-            "start": ["", "x", "-1", "1.5.5", "2038-01-19", "2038-01-19T03:14:00", "8277292036",
-                      "2038-13-19T03:14:00Z", "99999999999999999999"],
+            "start": ["", "x", "-1", "1.5.5", "1.", "1.0000000001", "2038-01-19",
+                      "2038-01-19T03:14:00", "8277292036", "2038-13-19T03:14:00Z",
+                      "99999999999999999999"],
             "ahead": ["x", "", "1e10"],
             "uptime": ["x", "", "-1", "946080000", "inf", "nan", "1e3", "1.5.5", "1.", "+1"],
             "every": ["0", "-1", "x"],
+            "script": ["", "/nowhere/s", "/dev/zero"],
+            "record": ["", "/nowhere/r", "/"],
+            "log": ["", "/nowhere/l", "/"],
         }
         for option, values in wrong.items():
             for value in values:
@@ -58,6 +62,12 @@ class Arguments(RunTest):
         self.refuse("--counter", "sleeps", "--speed", "2")
         self.refuse("--counter", "sleeps", "--error-ppm", "1")
         self.refuse("--every", "2")
+        (self.folder / "link").symlink_to(script)
+        same = self.folder / "same"
+        for words in [["--record", same, "--log", same], ["--script", script, "--record", script],
+                      ["--script", script, "--log", self.folder / "link"]]:
+            self.assertIn("different files", self.refuse(*words))
+        self.assertTrue(script.read_text())
 
     def test_a_script_of_another_counter(self):
         script = self.file("s", "openhz,64,1000000000,1,0,5,0\n")
@@ -72,6 +82,7 @@ class Arguments(RunTest):
                      "openhz,64,1000000000,1,0,5,0\nboth,1\n",
                      "openwords,32,16777216,24,1,0,16777216,0,0,5000000000,0,0,0,0,0,10000\n"]:
             self.assertIn("--script", self.refuse("--script", self.file("s", text)))
+        self.assertEqual(self.refuse("--script", "/dev/null"), "tkrun: --script: no record")
         self.assertIn("cannot read", self.refuse("--script", self.folder / "none"))
         self.assertIn("cannot read", self.refuse("--script", self.folder))
 

@@ -159,6 +159,26 @@ with open({str(rows)!r}, "r+b") as file:
         self.assertIn(",2000000000,", script)
         self.assertNotRegex(script, ",1[57]00000000,")
 
+    def test_closed_standard_files(self):
+        # what tkrun opens must not get their numbers; the program finds them closed
+        for closed in ["<&-", ">&-", "2>&-", "<&- >&- 2>&-"]:
+            with self.subTest(closed):
+                code = f'exec "$@" {closed}'
+                record = self.folder / "r"
+                run = call(["bash", "-c", code, "bash", TKRUN, *STILL, "--start", "5", "--record",
+                            record, "--check", "--", "bash", "-c",
+                            f"date -s @7 >&- 2>&-; date -s @8 >&- 2>&-; ls -l /proc/$$/fd >{record}.fd"],
+                           input="")
+                self.assertEqual(run.returncode, 0, run.stderr)
+                self.assertEqual(record.read_text().count("\nset,"), 2)
+                self.assertNotIn("/dev/null", (self.folder / "r.fd").read_text())
+
+    def test_a_full_device(self):
+        run = self.start("--record", "/dev/full", "--", "date")
+        self.assertEqual(run.returncode, 0)
+        self.assertIn("cannot write the record '/dev/full': No space left on device", run.stderr)
+        self.assertNotIn("recorded", run.stderr)
+
     def test_a_record_that_is_gone_is_not_checked(self):
         (self.folder / "gone").mkdir()
         run = self.start("--record", self.folder / "gone" / "r", "--check", "--", "rm", "-r",
