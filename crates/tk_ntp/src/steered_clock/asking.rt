@@ -107,7 +107,8 @@ impl SteeredClock {
     }
 
     /// Does what a request without a fault asks for beyond its step (`Timex::step`), after the seconds
-    /// up to the reading have begun (`begin_due`). It is the last part of `adjtimex`.
+    /// up to the reading have begun (`begin_due`). It is the last part of `adjtimex`, and public for
+    /// owners of a journal, such as tk_steered. Otherwise call `adjtimex`.
     ///
     /// The clocks get the TAI offset, the tick and the frequency, each if it changed.
     ///

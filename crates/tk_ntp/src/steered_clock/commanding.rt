@@ -78,7 +78,8 @@ impl SteeredClock {
     }
 
     /// Applies a command that is neither `Freq` nor `Tick`, after the seconds up to its reading have
-    /// begun (`begin_due`). It is the part of `apply` that lets no second begin.
+    /// begun (`begin_due`). It is the part of `apply` that lets no second begin, and public for owners
+    /// of a journal, such as tk_steered. Otherwise call `apply`.
     ///
     /// The clocks get the command, and then the tick and the frequency at the same reading, if `rate`
     /// changed.
