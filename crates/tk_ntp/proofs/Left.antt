@@ -91,9 +91,9 @@ commanded-left reading cmd s after (Err refusal) awake h =
     (unmoved-left s after h.1)
 
 -- clocks with the counter and the multiplier of others
-record IsSameRate (before after : State) : Type 0 where
-  counter : after.base.counter ≡ before.base.counter
-  mult : after.base.mult ≡ before.base.mult
+pub record IsSameRate (before after : State) : Type 0 where
+  pub counter : after.base.counter ≡ before.base.counter
+  pub mult : after.base.mult ≡ before.base.mult
 
 same_rate : (clock : State) → IsSameRate clock clock
 same_rate clock = record { counter = refl; mult = refl }
@@ -108,7 +108,7 @@ after_or-same : (refusal : Option Refusal) (after before : State) → IsSameRate
 after_or-same None after before h = h
 after_or-same (Some refusal) after before h = same_rate before
 
-tai-same : (reading tai : ℕ) (clock : State) → IsSameRate clock (given_tai reading tai clock)
+pub tai-same : (reading tai : ℕ) (clock : State) → IsSameRate clock (given_tai reading tai clock)
 tai-same reading tai clock =
     if-same (nat_eq tai (tai_of_clock clock)) clock (given reading (Tai (pos tai)) clock)
     (after_or-same (state_refusal clock reading (Tai (pos tai)))
@@ -148,7 +148,7 @@ if-left : (does : Bool) (reading : ℕ) (s : SteeredClock) →
 if-left true reading s = accounted-left reading s
 if-left false reading s = same-left s s refl refl
 
-requested-left : (reading : ℕ) (request : Timex) (s after : SteeredClock)
+pub requested-left : (reading : ℕ) (request : Timex) (s after : SteeredClock)
     (result : Result Reply Refusal) → IsRequested reading request s result after →
     IsLeft false after.mark after.steering.lag s
 requested-left reading request s after (Ok reply) h =

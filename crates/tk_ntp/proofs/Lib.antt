@@ -7,7 +7,10 @@ pub mod Passed
 pub mod History
 pub mod Accepted
 pub mod Account
+pub mod Called
+pub mod Contracted
 pub mod Made
+pub mod MadeUp
 pub mod Marked
 pub mod Needed
 pub mod Long
@@ -21,7 +24,9 @@ pub mod ReadBack
 pub mod Seconds
 pub mod Scaled
 pub mod Settled
+pub mod Steady
 pub mod TaiKept
 pub mod Staged
 pub mod Multipliers
+pub mod Unchanged
 pub mod Worked

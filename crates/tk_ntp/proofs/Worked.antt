@@ -1,6 +1,7 @@
 -- Worked rows: the definitions compute the replies that the kernel's own ntp.c gave to the same
 -- requests, with HZ 250.
-use Rattle.std.proofs.Common.{◌≡◌, ℕ, List, [], ◌∷◌, refl, true, false}
+use Rattle.std.proofs.Common.{◌≡◌, ℕ, List, [], ◌∷◌, refl, true, false, arith}
+use Rattle.std.proofs.lemmas.Int.{ints}
 use Rattle.std.specs.Prelude.{ℤ, pos, neg_ℤ, Some, None}
 use Rattle.tk_counter.specs.Counter.{Counter}
 use Rattle.tk_clock.specs.declared.timespec.Timespec.{Timespec}
@@ -18,6 +19,8 @@ use Rattle.tk_ntp.specs.Lag.{lag_after, made_up}
 use Rattle.tk_ntp.specs.Leap.{tai_after_leap}
 use Rattle.tk_ntp.specs.Ntp.{Ntp, fresh, cleared, second_length}
 use Rattle.tk_ntp.specs.Second.{leap_at}
+use Rattle.tk_ntp.specs.Steady.{IsSecondLong, IsSince}
+use Rattle.tk_ntp.specs.SteeredClock.{steered_opened}
 use Rattle.tk_ntp.specs.Given.{after}
 use Rattle.tk_ntp.specs.Modes.{asked}
 use Rattle.tk_ntp.specs.Reply.{reply_to}
@@ -403,3 +406,21 @@ changes : (change_of gigahertz (rate (pos 0) (pos 10000)) (rate (pos 6553600) (p
     ≡ record { tick = None; frequency = None })
 unfolding is_same
 changes = (refl, refl, refl)
+
+-- ---- the lag of clocks that were just opened is small, and they have the rate that they need
+
+opened-small : IsSince (pos 0) 0 (steered_opened gigahertz 0 (at 1700000000 0) 250)
+opened-small = record {
+  counter = omega arith;
+  rate = record {
+    range = (omega (arith, ints), omega (arith, ints));
+    given = record { at_most = omega arith; at_least = omega arith };
+  };
+  small = record { low = omega (arith, ints); high = omega (arith, ints) };
+  lag = refl;
+}
+
+-- a second of 999,900,013 cycles, and one of 9/8 of a nominal second; not one of a cycle more
+opened-long : IsSecondLong gigahertz 999900013 × IsSecondLong gigahertz 1125000000
+    × ¬ IsSecondLong gigahertz 1125000001
+opened-long = (omega arith, omega arith, omega arith)

@@ -21,6 +21,7 @@ pub mod Advance
 pub mod Often
 pub mod History
 pub mod Account
+pub mod Steady
 pub mod Asked
 pub mod Applied
 pub mod Staged

@@ -7,6 +7,7 @@ ghost use Rattle.tk_ntp.specs.SteeredClock.{reading_refusal};
 ghost use Rattle.tk_ntp.specs.Account.{IsMarked, IsAccounted};
 ghost use Rattle.tk_ntp.specs.History.{IsOffsetKept, IsTaiKept};
 ghost use Rattle.tk_ntp.specs.Often.{IsAtOnce};
+ghost use Rattle.tk_ntp.specs.Steady.{StaysSmall};
 ghost use Rattle.tk_ntp.specs.Advance.{leapt, with_next_second, second_begun_at, IsDue, IsNoneDue, IsAdvanced, seconds_left};
 
 use super::SteeredClock;
@@ -46,6 +47,8 @@ impl SteeredClock {
         ensures tai { IfOk result (λ _. IsTaiKept reading self.old self.new) }
         // the accounts add up to what the seconds were asked for
         ensures sum { IfOk result (λ _. IsMarked self.old → IsAccounted reading self.old self.new) }
+        // the lag stays small while the clocks get the rates that their seconds need
+        ensures small { IfOk result (λ _. StaysSmall reading self.old self.new) }
     {
         self.test(reading)?;
         self.begin_seconds(reading);

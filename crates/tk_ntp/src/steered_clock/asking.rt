@@ -8,6 +8,7 @@ ghost use Rattle.tk_ntp.specs.Asked.{real_at, real_refusal, acts, changes_rate, 
 ghost use Rattle.tk_ntp.specs.Fault.{is_faulty};
 ghost use Rattle.tk_ntp.specs.Reply.{reply_to};
 ghost use Rattle.tk_ntp.specs.Request.{step_of};
+ghost use Rattle.tk_ntp.specs.Steady.{is_kept_by, keeps_rate, IsSmallOrSame};
 
 use super::SteeredClock;
 use crate::bits::{ADJ_ADJTIME, ADJ_FREQUENCY, ADJ_OFFSET, ADJ_TICK, has};
@@ -39,6 +40,8 @@ impl SteeredClock {
         // the accounts add up to what the clocks were asked for
         ensures sum { IsMarked self.old →
             IsBalanced (sets_by_step reading (step_of request.now)) reading self.old self.new }
+        // the lag stays small, if it was when the clocks got their rate
+        ensures small { IsSmallOrSame (keeps_rate request.now) reading self.old self.new }
         // the last account stays after the last command, and before the next second
         ensures marked { IsMarked self.old → IsMarked self.new }
     {
@@ -67,6 +70,8 @@ impl SteeredClock {
         // the accounts add up to what the clocks were asked for: to nothing at a resume
         ensures sum { IsMarked self.old → is_resume cmd ≡ false →
             IsBalanced (sets_by reading cmd) reading self.old self.new }
+        ensures small { is_resume cmd ≡ false →
+            IsSmallOrSame (is_kept_by cmd) reading self.old self.new }
         ensures woken { IsMarked self.old → is_resume cmd ≡ true →
             owed self.new ≡ owed self.old }
         ensures marked { IsMarked self.old → IsMarked self.new }

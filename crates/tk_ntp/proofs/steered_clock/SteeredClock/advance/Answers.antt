@@ -2,6 +2,7 @@ use Rattle.tk_ntp.proofs.Accepted.{awake_at}
 use Rattle.tk_ntp.proofs.Account.{accounted_for}
 use Rattle.tk_ntp.proofs.History.{offset_kept}
 use Rattle.tk_ntp.proofs.Often.{at_once, none_due}
+use Rattle.tk_ntp.proofs.Steady.{stays_small}
 use Rattle.tk_ntp.proofs.TaiKept.{tai_kept}
 use Rattle.tk_ntp.proofs.steered_clock.SteeredClock.advance.Goals as goal
 
@@ -26,3 +27,7 @@ pub returns-clause-sum : goal.returns-clause-sum
 returns-clause-sum c = λ marked.
     accounted_for c.args.reading c.args.self.now c.begin_seconds.new.self c.begin_seconds.ensures
     (awake_at c.args.reading c.args.self.now c.in_ok-test.ensures) marked
+
+pub returns-clause-small : goal.returns-clause-small
+returns-clause-small c =
+    stays_small c.args.reading c.args.self.now c.begin_seconds.new.self c.begin_seconds.ensures

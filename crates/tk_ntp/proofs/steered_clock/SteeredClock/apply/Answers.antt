@@ -1,4 +1,5 @@
 use Rattle.tk_clock.specs.Command.{is_resume}
+use Rattle.tk_ntp.proofs.Called.{plain_small, request_small}
 use Rattle.tk_ntp.proofs.Marked.{plain-marked}
 use Rattle.tk_ntp.proofs.Settled.{plain_balanced, request_balanced, woken_owed}
 use Rattle.tk_ntp.proofs.steered_clock.SteeredClock.apply.Goals as goal
@@ -22,3 +23,13 @@ pub returns-in-Some-clause-sum : goal.returns-in-Some-clause-sum
 returns-in-Some-clause-sum c = λ marked awake.
     request_balanced c.args.reading c.args.cmd c.in-Some.request c.args.self.now
     c.adjtimex.new.self c.in-Some.ensures (c.adjtimex.ensures.sum marked)
+
+pub returns-in-None-clause-small : goal.returns-in-None-clause-small
+returns-in-None-clause-small c = λ awake.
+    plain_small c.args.reading c.args.cmd c.args.self.now c.apply_plain.new.self
+    c.apply_plain.result awake c.apply_plain.ensures
+
+pub returns-in-Some-clause-small : goal.returns-in-Some-clause-small
+returns-in-Some-clause-small c = λ awake.
+    request_small c.args.reading c.args.cmd c.in-Some.request c.args.self.now
+    c.adjtimex.new.self c.in-Some.ensures c.adjtimex.ensures.small
