@@ -47,6 +47,11 @@ impl Model for SteeredClock {
       mark = a.mark;
     } };
 
+    // `IsMarked` isn't part of it, although each public call but `begin_due`, `command` and `request`
+    // keeps it. Those three and the private calls take any reading, and `begin_next`, `account` and
+    // `restart` move the mark before the clocks get their command. The invariant would hold after each
+    // of these only if all of them required a reading that is in order and that no second is due
+    // before, so tk_steered would owe that too.
     ghost invariant = { λ a. a.next ≤ clock_end + 1 };
 
     ghost inverse = { λ s. record {
