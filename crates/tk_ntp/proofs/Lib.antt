@@ -27,6 +27,7 @@ pub mod Settled
 pub mod Steady
 pub mod TaiKept
 pub mod Staged
+pub mod Due
 pub mod Multipliers
 pub mod Unchanged
 pub mod Worked

@@ -1,5 +1,5 @@
 //! Lets the seconds of REALTIME begin.
-ghost use Rattle.std.specs.Prelude.{◌≡◌, ◌<◌, ◌≤◌, nat_lt, MatchResult, MatchOption, IfOk, Some, None};
+ghost use Rattle.std.specs.Prelude.{◌≡◌, ◌<◌, ◌≤◌, nat_lt, true, MatchResult, MatchOption, IfOk, Some, None};
 ghost use Rattle.tk_counter.specs.Counter.{half, gap};
 ghost use Rattle.tk_clock.specs.Limits.{clock_end};
 ghost use Rattle.tk_ntp.specs.Second.{leap_at};
@@ -12,7 +12,8 @@ ghost use Rattle.tk_ntp.specs.Advance.{leapt, with_next_second, second_begun_at,
 
 use super::SteeredClock;
 use crate::leap::Leap;
-use tk_clock::{Command, Refusal};
+use tk_clock::{ClockId, Command, Refusal};
+use tk_counter::NANOS_PER_SECOND;
 
 impl SteeredClock {
     /// Lets each second of REALTIME up to `reading` begin, in order, at the first reading at which
@@ -88,8 +89,38 @@ impl SteeredClock {
         }
     }
 
-    /// Returns the reading at which the next second of REALTIME begins, if it is not after `reading`.
+    /// Returns the reading at which the next second of REALTIME begins, if it is not after
+    /// `reading`.
     pub(super) fn due(&self, reading: u64) -> Option<u64>
+        ensures answer { MatchOption result
+            (IsNoneDue self.now reading)
+            (λ at. IsDue self.now reading at) }
+        ensures early { MatchOption result (Unit {0}) (λ _. self.now.next < clock_end) }
+    {
+        if self.is_early(reading) {
+            return None;
+        }
+        self.search_due(reading)
+    }
+
+    /// Returns whether a read shows that REALTIME is before the next second at `reading`, so that
+    /// no second is due. A read needs no division.
+    #[inline(always)]
+    fn is_early(&self, reading: u64) -> bool
+        ensures { result ≡ true → IsNoneDue self.now reading }
+    {
+        let now = self.snapshot(0);
+        if now.desc().is_behind(now.desc().gap(now.last(), reading)) {
+            return false;
+        }
+        match now.nanos(ClockId::Realtime, reading) {
+            Ok(nanos) => nanos < self.next * NANOS_PER_SECOND,
+            Err(_) => false,
+        }
+    }
+
+    /// Returns the result of `due`, by the reading of the next second.
+    fn search_due(&self, reading: u64) -> Option<u64>
         ensures answer { MatchOption result
             (IsNoneDue self.now reading)
             (λ at. IsDue self.now reading at) }
