@@ -21,14 +21,18 @@ is_same counter in_force wanted =
 abbrev pub unless_same : ℤ → ℤ → Option ℤ
 unless_same in_force wanted = if int_eq in_force wanted then None else Some wanted
 
+-- the numbers in which a rate differs from the rate in force
+abbrev pub difference : Rate → Rate → Change
+difference in_force wanted = record {
+  tick = unless_same in_force.tick wanted.tick;
+  frequency = unless_same in_force.frequency wanted.frequency;
+}
+
 -- the change from the rate in force to another: none if both give the same multiplier
 abbrev pub change_of : Counter → Rate → Rate → Change
 change_of counter in_force wanted =
     if is_same counter in_force wanted then record { tick = None; frequency = None }
-    else record {
-      tick = unless_same in_force.tick wanted.tick;
-      frequency = unless_same in_force.frequency wanted.frequency;
-    }
+    else difference in_force wanted
 
 -- a number in force after it may have been set
 abbrev pub set_to : ℤ → Option ℤ → ℤ

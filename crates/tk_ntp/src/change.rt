@@ -1,6 +1,6 @@
 ghost use Rattle.std.specs.Prelude.{◌≡◌, ◌≤ℤ◌, true};
 ghost use Rattle.tk_counter.specs.Counter.{least_tick, greatest_tick};
-ghost use Rattle.tk_ntp.specs.Change.{multiplier_at, is_same, unless_same, change_of, set_to, changed, tick_command, frequency_command};
+ghost use Rattle.tk_ntp.specs.Change.{multiplier_at, is_same, unless_same, difference, change_of, set_to, changed, tick_command, frequency_command};
 
 use crate::rate::Rate;
 use tk_clock::Command;
@@ -35,6 +35,15 @@ impl Change {
                 frequency: None,
             };
         }
+        Change::difference(in_force, wanted)
+    }
+
+    /// Returns the numbers in which a rate differs from the rate `in_force`, also if both give the
+    /// same multiplier.
+    pub fn difference(in_force: Rate, wanted: Rate) -> Change
+        ensures value { result ≡ difference in_force wanted }
+        ensures rate { changed in_force result ≡ wanted }
+    {
         Change {
             tick: unless_same(in_force.tick, wanted.tick),
             frequency: unless_same(in_force.frequency, wanted.frequency),
