@@ -1,5 +1,5 @@
 -- Single seconds and their commands, for owners of a journal.
-use Rattle.std.specs.Prelude.{◌≡◌, ℕ, ◌+◌, nat_eq, Option, Some, None, MatchOption, if◌then◌else◌}
+use Rattle.std.specs.Prelude.{◌≡◌, ℕ, ◌+◌, nat_eq, Bool, true, false, Option, Some, None, MatchOption, if◌then◌else◌}
 use Rattle.tk_clock.specs.declared.refusal.Refusal.{Refusal}
 use Rattle.tk_clock.specs.Refusal.{state_refusal}
 use Rattle.tk_ntp.specs.declared.begun_second.BegunSecond.{BegunSecond}
@@ -27,6 +27,11 @@ leap_between before after =
     if nat_eq after before then Insert
     else if nat_eq after (before + 2) then Delete
     else NoLeap
+
+-- whether the next second is due up to a reading
+abbrev pub IsDueIf : Bool → SteeredClock → ℕ → Type 0
+IsDueIf true steered reading = (at : ℕ) × IsDue steered reading at
+IsDueIf false steered reading = IsNoneDue steered reading
 
 -- just the next second began, if REALTIME reaches it up to a reading
 abbrev pub IsOneBegun : ℕ → SteeredClock → Option BegunSecond → SteeredClock → Type 0

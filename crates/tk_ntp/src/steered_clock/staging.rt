@@ -1,13 +1,21 @@
 //! Lets single seconds of REALTIME begin, for owners who record each command in a journal.
 ghost use Rattle.std.specs.Prelude.{◌≡◌, ◌+◌, ◌<◌, ◌≤◌, ◌^◌, MatchOption};
 ghost use Rattle.tk_ntp.specs.Advance.{seconds_left};
-ghost use Rattle.tk_ntp.specs.Staged.{leap_between, IsOneBegun};
+ghost use Rattle.tk_ntp.specs.Staged.{leap_between, IsDueIf, IsOneBegun};
 
 use super::SteeredClock;
 use crate::begun_second::BegunSecond;
 use crate::leap::Leap;
 
 impl SteeredClock {
+    /// Returns whether the next second of REALTIME begins at `reading` or before it: whether
+    /// `begin_due` would let it begin.
+    pub fn is_due(&self, reading: u64) -> bool
+        ensures { IsDueIf result self.now reading }
+    {
+        self.due(reading).is_some()
+    }
+
     /// Lets just the next second of REALTIME begin, if it begins at `reading` or before it, and
     /// returns it. `advance` lets all of these begin, one after the other.
     ///
