@@ -48,6 +48,8 @@ class Session:
     def follow(self, word, reading, *numbers):
         if word == "advance":
             return self.steered.advance(reading)
+        if word == "late":
+            return self.steered.advance_late(reading)
         if word == "ask":
             return self.steered.adjtimex(reading, Timex(*numbers))
         return self.steered.apply(reading, word, *numbers)
@@ -74,7 +76,7 @@ class SteeredOrders(Orders):
         self.reading = (self.reading + self.gap()) % 2**self.bits
         reading = (self.reading - self.back()) % 2**self.bits
         if pick < 60:
-            return f"advance,{reading}"
+            return f"{'late' if pick % 3 == 0 else 'advance'},{reading}"
         if pick < 150:
             return ",".join(map(str, ("ask", reading, *self.request())))
         return self.command(reading)

@@ -177,6 +177,18 @@ class Steered:
                 self.next += self.leap(at, leap)
             self.steer(at)
 
+    def advance_late(self, reading):
+        """Lets each second up to a reading begin late: its commands are at that reading."""
+        self.test(reading)
+        while (at := self.due(reading)) is not None:
+            self.account(self.mark if self.clock.counter.is_behind(self.mark, at) else at)
+            leap = self.ntp.overflow(self.next)
+            self.next += 1
+            self.account(reading)
+            if leap:
+                self.next += self.leap(reading, leap)
+            self.steer(reading)
+
     def test(self, reading):
         refusal = self.clock.refusal(reading, "update", ())
         if refusal is None and self.clock.counter.is_behind(self.mark, reading):

@@ -1,4 +1,5 @@
--- No second is due up to a reading at which REALTIME is before the next one.
+-- No second is due: up to a reading at which REALTIME is before the next one, and after late seconds
+-- have begun.
 use Rattle.std.proofs.Common.{◌≡◌, subst, ℕ, ◌*◌, ◌^◌, ◌<◌, ◌≤◌, Option, Some, None, arith}
 use Rattle.std.specs.Prelude.{ℤ, pos, ◌+ℤ◌, ◌*ℤ◌, ◌<ℤ◌, ◌≤ℤ◌, Ok, unsigned_abs}
 use Rattle.std.proofs.lemmas.Int.{ints}
@@ -11,6 +12,7 @@ use Rattle.tk_clock.specs.State.{base_value}
 use Rattle.tk_clock.specs.Time.{nanoseconds}
 use Rattle.tk_clock.proofs.Lines.{value_ahead, value_rises}
 use Rattle.tk_ntp.specs.Advance.{IsNoneDue, second_time}
+use Rattle.tk_ntp.specs.Late.{Arrived, Begins, IsAdvancedLate, second_begun_late}
 use Rattle.tk_ntp.specs.SteeredClock.{SteeredClock}
 
 apart : (a b c : ℤ) → c ≤ℤ a → a ≤ℤ b → b <ℤ c → ⊥
@@ -42,3 +44,10 @@ module _ (steered : SteeredClock) (reading nanos : ℕ)
       (subst (λ v. second ≤ℤ v) (value_ahead base Realtime at ahead.1) reached.1)
       (value_rises base Realtime (distance base at) (distance base reading) order)
       (subst (λ v. v <ℤ second) (value_ahead base Realtime reading near) low)
+
+-- late seconds leave none that is due
+pub none_left : (reading : ℕ) (before after : SteeredClock) →
+    IsAdvancedLate reading before after → IsNoneDue after reading
+none_left reading before after (Arrived steered none) = none
+none_left reading before after (Begins steered end at due rest) =
+    none_left reading (second_begun_late at reading steered) end rest

@@ -10,6 +10,7 @@ use Rattle.tk_ntp.specs.declared.leap_plan.LeapState.{LeapState}
 use Rattle.tk_ntp.specs.declared.leap_plan.LeapState.TheVariants.{Idle, Inserting, Deleting, InProgress, Over}
 use Rattle.tk_ntp.specs.Bits.{has, sta_ins, sta_del}
 use Rattle.tk_ntp.specs.Leap.{LeapPlan, over, is_due, plan_in, leap_in}
+use Rattle.tk_ntp.specs.Late.{second_begun_late, with_late_second}
 use Rattle.tk_ntp.specs.Second.{leap_at}
 use Rattle.tk_ntp.specs.SteeredClock.{SteeredClock}
 use Rattle.tk_ntp.specs.Advance.{leap_of_clock, leapt, leapt_unless, with_next_second, second_begun_at, steps_before, seconds_left}
@@ -104,6 +105,20 @@ fewer reading steered low =
     let ntp = steered.steering.ntp in
     let leap = leap_at ntp steered.next in
     let begun = with_next_second reading steered in
+    rw (leapt-steering reading leap begun)
+    (counted steered.next (leapt reading leap begun).next (back leap)
+    (steps_before begun.steering.ntp.plan.state) (steps_before ntp.plan.state) low
+    (leapt-next reading leap begun)
+    (plan_steps ntp.plan.state ntp.plan (has ntp.status sta_ins) (has ntp.status sta_del)
+    steered.next))
+
+-- so does each second that begins late
+pub fewer_late : (at reading : ℕ) (steered : SteeredClock) → steered.next < clock_end →
+    seconds_left (second_begun_late at reading steered) < seconds_left steered
+fewer_late at reading steered low =
+    let ntp = steered.steering.ntp in
+    let leap = leap_at ntp steered.next in
+    let begun = with_late_second at reading steered in
     rw (leapt-steering reading leap begun)
     (counted steered.next (leapt reading leap begun).next (back leap)
     (steps_before begun.steering.ntp.plan.state) (steps_before ntp.plan.state) low

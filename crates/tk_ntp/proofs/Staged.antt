@@ -6,6 +6,7 @@ use Rattle.tk_clock.specs.Refusal.{state_refusal}
 use Rattle.tk_ntp.specs.declared.leap.Leap.{Leap}
 use Rattle.tk_ntp.specs.declared.leap.Leap.TheVariants.{None as NoLeap, Insert, Delete}
 use Rattle.tk_ntp.specs.Advance.{leap_of_clock, leapt, leapt_unless, second_begun_at, with_next_second}
+use Rattle.tk_ntp.specs.Late.{second_begun_late, with_late_second}
 use Rattle.tk_ntp.specs.Second.{leap_at}
 use Rattle.tk_ntp.specs.Staged.{leap_between, leap_made, unless_refused}
 use Rattle.tk_ntp.specs.SteeredClock.{SteeredClock}
@@ -47,3 +48,10 @@ pub made-between : (at : ℕ) (steered : SteeredClock) →
 made-between at steered =
     leapt-between (leap_at steered.steering.ntp steered.next) at steered.next
     (with_next_second at steered) refl
+
+pub late-between : (at reading : ℕ) (steered : SteeredClock) →
+    leap_between steered.next (second_begun_late at reading steered).next
+    ≡ leap_made reading steered
+late-between at reading steered =
+    leapt-between (leap_at steered.steering.ntp steered.next) reading steered.next
+    (with_late_second at reading steered) refl

@@ -25,4 +25,5 @@ pub mod Steady
 pub mod Asked
 pub mod Applied
 pub mod Staged
+pub mod Late
 pub mod Numbers

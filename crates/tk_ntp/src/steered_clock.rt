@@ -3,6 +3,7 @@ ghost use Rattle.std.specs.Prelude.{◌≡◌, ◌≤ℤ◌, IfOk, MatchResult, 
 mod advancing;
 mod asking;
 mod commanding;
+mod late;
 mod numbers;
 mod staging;
 mod uptime;

@@ -13,6 +13,7 @@
 //! | `adjtimex,SEC,NSEC,MODES,OFFSET,FREQ,MAXERROR,ESTERROR,STATUS,CONSTANT,TICK,STEP_SEC,SUB` | a reply at the time SEC and NSEC, after the line `step,STEP_SEC,NSEC` if the request steps REALTIME; or `no` |
 //! | `open,BITS,MULT,SHIFT,READING,SEC,NSEC,HZ` | opens steered clocks: `open,CLOCKS` or `no,REFUSAL` |
 //! | `advance,READING` | `ok,CLOCKS`, after `no,REFUSAL` if it is refused |
+//! | `late,READING` | the same, by `advance_late` |
 //! | `ask,READING,MODES,..` | a request, whose fields are those of `adjtimex`: a reply without its LENGTH, or `no,REFUSAL`; then `ok,CLOCKS` |
 //! | `update,READING`, `suspend,READING`, `freq,READING,N`, `tick,READING,N`, `tai,READING,N`, `set,READING,SEC,NSEC`, `step,READING,SEC,NSEC`, `leap,READING,BY,TAI`, `resume,READING,SEC,NSEC` | a command to them: as for `advance` |
 //!

@@ -11,6 +11,8 @@ pub enum SteeredOrder {
     Open(CounterDesc, u64, Timespec, u32),
     /// Advances to a reading.
     Advance(u64),
+    /// Advances late to a reading.
+    AdvanceLate(u64),
     /// Asks the discipline at a reading.
     Ask(u64, Timex),
     /// Applies a command at a reading.
@@ -63,6 +65,9 @@ fn reading_order(word: &str, numbers: &[i64]) -> Option<SteeredOrder> {
     let reading = u64::try_from(*reading).ok()?;
     if word == "advance" {
         return Some(SteeredOrder::Advance(reading));
+    }
+    if word == "late" {
+        return Some(SteeredOrder::AdvanceLate(reading));
     }
     Some(SteeredOrder::Apply(reading, command_of(word, rest)?))
 }

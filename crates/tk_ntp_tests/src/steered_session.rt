@@ -39,6 +39,7 @@ impl SteeredSession {
     ) -> io::Result<()> {
         let result = match order {
             SteeredOrder::Advance(reading) => steered.advance(*reading),
+            SteeredOrder::AdvanceLate(reading) => steered.advance_late(*reading),
             SteeredOrder::Apply(reading, cmd) => steered.apply(*reading, *cmd),
             SteeredOrder::Ask(reading, request) => match steered.adjtimex(*reading, request) {
                 Ok(reply) => {

@@ -72,7 +72,7 @@ impl SteeredClock {
     }
 
     /// Returns whether a reading is behind the one up to which the lag is accounted for.
-    fn is_behind(&self, reading: u64) -> bool
+    pub(super) fn is_behind(&self, reading: u64) -> bool
         ensures { let counter = self.now.clock.base.counter in
             result ≡ nat_lt (half counter) (gap counter self.now.mark reading) }
     {
@@ -151,7 +151,7 @@ impl SteeredClock {
 
     /// Lets the discipline's next second begin at a reading, and returns its leap. It gives no
     /// command.
-    fn begin_next(&mut self, reading: u64) -> Leap
+    pub(super) fn begin_next(&mut self, reading: u64) -> Leap
         requires { self.old.next < clock_end }
         ensures state { self.new ≡ with_next_second reading self.old }
         ensures leap { result ≡ leap_at self.old.steering.ntp self.old.next }
@@ -167,7 +167,7 @@ impl SteeredClock {
     }
 
     /// Makes a leap, unless the clocks refuse its command.
-    fn leap(&mut self, reading: u64, leap: Leap)
+    pub(super) fn leap(&mut self, reading: u64, leap: Leap)
         requires some { 0 < self.old.next }
         requires early { self.old.next ≤ clock_end }
         ensures { self.new ≡ leapt reading leap self.old }

@@ -40,7 +40,7 @@ impl SteeredClock {
 }
 
 /// Returns the leap between two seconds that begin next, as the second between them begins.
-fn leap_between(before: u64, after: u64) -> Leap
+pub(super) fn leap_between(before: u64, after: u64) -> Leap
     requires { before < 2 ^ 63 }
     ensures { result ≡ leap_between before after }
 {

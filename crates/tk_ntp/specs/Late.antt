@@ -1,0 +1,45 @@
+-- Seconds of REALTIME that begin late: the clocks get all commands at the reading of the call, for
+-- clocks that others have read meanwhile.
+use Rattle.std.specs.Prelude.{◌≡◌, ℕ, nat_lt, Option, MatchOption, if◌then◌else◌}
+use Rattle.tk_counter.specs.Counter.{half, gap}
+use Rattle.tk_ntp.specs.declared.leap.Leap.{Leap}
+use Rattle.tk_ntp.specs.Advance.{leapt, with_next_second, IsDue, IsNoneDue}
+use Rattle.tk_ntp.specs.Second.{leap_at}
+use Rattle.tk_ntp.specs.Staged.{leap_made}
+use Rattle.tk_ntp.specs.SteeredClock.{SteeredClock, accounted_to, steered_at}
+
+-- the reading at which a late second begins: its own, or the last account if that is later
+abbrev pub late_start : ℕ → SteeredClock → ℕ
+late_start at steered =
+    let counter = steered.clock.base.counter in
+    if nat_lt (half counter) (gap counter steered.mark at) then steered.mark else at
+
+-- the state as the next second begins late, before any command: the lag is accounted for up to the
+-- reading of the commands
+abbrev pub with_late_second : ℕ → ℕ → SteeredClock → SteeredClock
+with_late_second at reading steered =
+    accounted_to reading (with_next_second (late_start at steered) steered)
+
+-- the state after the next second has begun late, with its commands at a reading
+abbrev pub second_begun_late : ℕ → ℕ → SteeredClock → SteeredClock
+second_begun_late at reading steered =
+    steered_at reading
+    (leapt reading (leap_at steered.steering.ntp steered.next)
+    (with_late_second at reading steered))
+
+-- just the next second began late, if REALTIME reaches it up to a reading
+abbrev pub IsOneBegunLate : ℕ → SteeredClock → Option Leap → SteeredClock → Type 0
+IsOneBegunLate reading before result after =
+    MatchOption result
+    (IsNoneDue before reading × (after ≡ before))
+    (λ leap. (at : ℕ) × IsDue before reading at
+    × (leap ≡ leap_made reading before)
+    × (after ≡ second_begun_late at reading before))
+
+-- a state after each second of REALTIME up to a reading has begun late, one after the other
+pub data IsAdvancedLate (reading : ℕ) : SteeredClock → SteeredClock → Type 0 where
+  Arrived : (steered : SteeredClock) → IsNoneDue steered reading →
+      IsAdvancedLate reading steered steered
+  Begins : (steered after : SteeredClock) (at : ℕ) → IsDue steered reading at →
+      IsAdvancedLate reading (second_begun_late at reading steered) after →
+      IsAdvancedLate reading steered after
