@@ -8,7 +8,8 @@ use Rattle.tk_clock.specs.Journal.{Journal, followed_by}
 use Rattle.tk_clock.specs.Refusal.{state_refusal}
 use Rattle.tk_clock.specs.State.{State, effect}
 use Rattle.tk_ntp.specs.declared.change.Change.{Change}
-use Rattle.tk_ntp.specs.Change.{frequency_command, tick_command, unless_same}
+use Rattle.tk_ntp.specs.Change.{difference, frequency_command, tick_command}
+use Rattle.tk_ntp.specs.SteeredClock.{rate_in_force}
 
 -- the commands at one reading, in this order: one that may be missing, and those of a change of the
 -- rate
@@ -54,10 +55,7 @@ pub record Lead (reading : ℕ) (commands : Commands) (before after : State) : T
 
 -- the change of the rate between two states of clocks
 abbrev pub rate_change : State → State → Change
-rate_change before after = record {
-  tick = unless_same before.tick after.tick;
-  frequency = unless_same before.frequency after.frequency;
-}
+rate_change before after = difference (rate_in_force before) (rate_in_force after)
 
 -- the commands between two states, whose first command is known
 abbrev pub commands_between : Option Command → State → State → Commands

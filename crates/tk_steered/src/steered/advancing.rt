@@ -45,6 +45,9 @@ impl<A: Allocator + Copy> Steered<A> {
         ensures fewer { IfOk result (λ begun. IsTrue begun →
             seconds_left self.new.logged.clock < seconds_left self.old.logged.clock) }
     {
+        if !self.clock.is_due(reading) {
+            return Ok(false);
+        }
         let now = self.clock;
         let mut next = now;
         let Some(second) = next.begin_due(reading) else {

@@ -11,6 +11,7 @@ ghost use Rattle.tk_steered.specs.Applied.{IsAppliedBy, IsDirect, IsFollowedBy, 
 ghost use Rattle.tk_steered.specs.Commands.{tai_command};
 ghost use Rattle.tk_steered.specs.Logged.{has_room};
 
+use super::entering::enter_all;
 use super::{REQUEST_ENTRIES, SECOND_ENTRIES, Steered};
 use std::alloc::Allocator;
 use tk_clock::{Command, Refusal};
@@ -143,9 +144,16 @@ impl<A: Allocator + Copy> Steered<A> {
         ensures room { has_room 6 self.old.logged.journal ≡ true →
             has_room 3 self.new.logged.journal ≡ true }
     {
-        let mut next = self.clock;
-        next.command(reading, cmd)?;
-        self.take(who, reading, Some(cmd), next);
+        let before = self.clock.rate();
+        self.clock.command(reading, cmd)?;
+        enter_all(
+            &mut self.keeper,
+            who,
+            reading,
+            Some(cmd),
+            before,
+            &self.clock,
+        );
         Ok(())
     }
 

@@ -1,15 +1,15 @@
 //! Enters the commands that the clocks were given in the journal.
 ghost use Rattle.std.specs.Prelude.{◌≡◌, ◌+◌, ◌<◌, ◌≤◌, MatchResult, true};
 ghost use Rattle.tk_clock.specs.State.{state_of};
-ghost use Rattle.tk_ntp.specs.Change.{unless_same};
-ghost use Rattle.tk_steered.specs.Commands.{Accepts, Lead, commands_between, entered, rate_change};
+ghost use Rattle.tk_ntp.specs.SteeredClock.{rate_in_force};
+ghost use Rattle.tk_steered.specs.Commands.{Accepts, Lead, all_entered, commands_between, entered};
 ghost use Rattle.tk_steered.specs.Logged.{IsShort, has_room, moved};
 
 use super::Steered;
 use std::alloc::Allocator;
 use tk_clock::{COUNTED_LIMIT, Command, Refusal};
 use tk_keeper::{LISTED_LIMIT, Timekeeper};
-use tk_ntp::{Change, SteeredClock};
+use tk_ntp::{Change, Rate, SteeredClock};
 
 impl<A: Allocator + Copy> Steered<A> {
     /// Takes the clocks that commands at a reading left, and enters these commands: the first one,
@@ -28,10 +28,8 @@ impl<A: Allocator + Copy> Steered<A> {
         ensures logged { self.new.logged ≡ moved who reading first next self.old.logged }
         ensures spare { self.old.spare ≤ self.new.spare + 3 }
     {
-        let change = change_between(&self.clock, &next);
-        enter(&mut self.keeper, who, reading, first);
-        enter(&mut self.keeper, who, reading, change.tick_command());
-        enter(&mut self.keeper, who, reading, change.frequency_command());
+        let before = self.clock.rate();
+        enter_all(&mut self.keeper, who, reading, first, before, &next);
         self.clock = next;
     }
 
@@ -68,22 +66,32 @@ impl<A: Allocator + Copy> Steered<A> {
     }
 }
 
-/// Returns the change of the rate between two states of steered clocks.
-fn change_between(before: &SteeredClock, after: &SteeredClock) -> Change
-    ensures { result ≡ rate_change before.now.clock after.now.clock }
+/// Enters the commands at a reading that left the steered clocks `next`: the first one, and those
+/// for the tick and the frequency, if they changed from those of the rate `before`.
+pub(super) fn enter_all<A: Allocator + Copy>(
+    keeper: &mut Timekeeper<A>,
+    who: u32,
+    reading: u64,
+    first: Option<Command>,
+    before: Rate,
+    next: &SteeredClock,
+)
+    requires rate { before ≡ rate_in_force (state_of keeper.old.journal) }
+    requires lead { let before = state_of keeper.old.journal in
+        Lead reading (commands_between first before next.now.clock) before next.now.clock }
+    requires room { has_room 3 keeper.old.journal ≡ true }
+    requires spare { 3 ≤ keeper.old.spare }
+    ensures journal { let before = state_of keeper.old.journal in
+        keeper.new.journal
+        ≡ all_entered who reading (commands_between first before next.now.clock)
+        keeper.old.journal }
+    ensures state { state_of keeper.new.journal ≡ next.now.clock }
+    ensures spare { keeper.old.spare ≤ keeper.new.spare + 3 }
 {
-    let (old, new) = (before.rate(), after.rate());
-    Change {
-        tick: unless_same(old.tick, new.tick),
-        frequency: unless_same(old.frequency, new.frequency),
-    }
-}
-
-/// Returns a number that changed, or `None` if it is the same.
-fn unless_same(before: i64, after: i64) -> Option<i64>
-    ensures { result ≡ unless_same before after }
-{
-    if before == after { None } else { Some(after) }
+    let change = Change::difference(before, next.rate());
+    enter(keeper, who, reading, first);
+    enter(keeper, who, reading, change.tick_command());
+    enter(keeper, who, reading, change.frequency_command());
 }
 
 /// Enters a command that the clocks accept, unless it is missing.
