@@ -17,11 +17,12 @@ use Rattle.tk_ntp.specs.declared.timex.Timex.{Timex}
 use Rattle.tk_ntp.specs.Advance.{leap_of_clock, leapt, leapt_unless, second_begun_at, tai_of_clock, with_next_second}
 use Rattle.tk_ntp.specs.Applied.{request_of}
 use Rattle.tk_ntp.specs.Asked.{IsRequested, accounted_if, acts, after_command, changes_rate, forgotten, given_tai, real_at, real_refusal, steered_if, tai_asked, tai_refusal, with_asked}
+use Rattle.tk_ntp.specs.Late.{second_begun_late, with_late_second}
 use Rattle.tk_ntp.specs.Second.{leap_at}
 use Rattle.tk_ntp.specs.Staged.{leap_made, unless_refused}
 use Rattle.tk_ntp.specs.Steering.{Steered, commands, needed_rate}
 use Rattle.tk_ntp.specs.SteeredClock.{SteeredClock, after_or, given, given_change, rate_in_force}
-use Rattle.tk_steered.specs.Begun.{command_of}
+use Rattle.tk_steered.specs.Begun.{command_of, leap_command_at}
 use Rattle.tk_steered.specs.Commands.{Accepts, Lead, commands_between, obeyed, tai_command}
 use Rattle.tk_steered.proofs.Changes.{lead-change, lead-first, change-tai}
 
@@ -93,6 +94,26 @@ pub second-leads : (reading : ℕ) (steered : SteeredClock) →
 second-leads reading steered =
     let leap = leap_at steered.steering.ntp steered.next in
     let begun = with_next_second reading steered in
+    let led = leapt reading leap begun in
+    lead-steered reading (command_of (leap_made reading steered) steered) steered.clock led.clock
+    led.steering (leap-led reading leap begun)
+
+-- the first command of a second is the one of its leap
+pub first_is : (at tai : ℕ) (clock : SteeredClock) (leap : Leap) (cmd : Option Command) →
+    cmd ≡ leap_command_at leap tai → leap ≡ leap_made at clock → tai ≡ tai_of_clock clock.clock →
+    cmd ≡ command_of (leap_made at clock) clock
+first_is at tai clock leap cmd is made same =
+    is ∙ ap (λ l. leap_command_at l tai) made ∙ ap (leap_command_at (leap_made at clock)) same
+
+-- the commands as the next second begins late
+pub late-leads : (at reading : ℕ) (steered : SteeredClock) →
+    let after = second_begun_late at reading steered in
+    Lead reading
+    (commands_between (command_of (leap_made reading steered) steered) steered.clock after.clock)
+    steered.clock after.clock
+late-leads at reading steered =
+    let leap = leap_at steered.steering.ntp steered.next in
+    let begun = with_late_second at reading steered in
     let led = leapt reading leap begun in
     lead-steered reading (command_of (leap_made reading steered) steered) steered.clock led.clock
     led.steering (leap-led reading leap begun)

@@ -4,6 +4,7 @@ mod advancing;
 mod asking;
 mod entering;
 mod folding;
+mod late;
 
 use std::alloc::{Allocator, Global};
 use std::marker::Model;

@@ -61,7 +61,7 @@ impl<A: Allocator + Copy> Steered<A> {
 }
 
 /// Returns the command of a leap at the TAI offset in force, in seconds.
-fn leap_command(leap: Leap, tai: u32) -> Option<Command>
+pub(super) fn leap_command(leap: Leap, tai: u32) -> Option<Command>
     ensures { result ≡ leap_command_at leap tai }
 {
     if leap == Leap::None {

@@ -64,12 +64,16 @@ fn give<A: Allocator + Copy>(
     reading: u64,
     seed: u64,
 ) {
-    match seed >> 50 & 3 {
+    match seed >> 50 & 7 {
         0 => {
             let found = steered.advance(CALLER, reading);
             assert_same(rt, &found, &plain.advance(reading));
         }
         1 => {
+            let found = steered.advance_late(CALLER, reading);
+            assert_same(rt, &found, &plain.advance_late(reading));
+        }
+        2 | 3 => {
             let asked = request(seed);
             let found = steered.adjtimex(CALLER, reading, &asked);
             assert_same(rt, &found, &plain.adjtimex(reading, &asked));

@@ -3,22 +3,14 @@ use Rattle.std.specs.Prelude.{unsigned_abs}
 use Rattle.std.proofs.lemmas.Result.{err_from_is_err_and}
 use Rattle.tk_clock.specs.declared.command.Command.{Command}
 use Rattle.tk_clock.specs.Snapshot.{Snapshot}
-use Rattle.tk_ntp.specs.declared.leap.Leap.{Leap}
 use Rattle.tk_ntp.specs.Advance.{IsDue, second_begun_at, tai_of_clock}
 use Rattle.tk_ntp.specs.Staged.{leap_made}
 use Rattle.tk_ntp.specs.SteeredClock.{SteeredClock}
-use Rattle.tk_steered.specs.Begun.{command_of, leap_command_at, second_logged}
+use Rattle.tk_steered.specs.Begun.{command_of, second_logged}
 use Rattle.tk_steered.specs.Commands.{Lead, commands_between}
 use Rattle.tk_steered.specs.Logged.{Logged, SteeredKeeper, has_room, moved}
-use Rattle.tk_steered.proofs.Leads.{second-leads}
+use Rattle.tk_steered.proofs.Leads.{first_is, second-leads}
 use Rattle.tk_steered.proofs.steered.Steered.begin_due.Goals as goal
-
--- the first command of a second is the one of its leap
-first_is : (at tai : ℕ) (clock : SteeredClock) (leap : Leap) (cmd : Option Command) →
-    cmd ≡ leap_command_at leap tai → leap ≡ leap_made at clock → tai ≡ tai_of_clock clock.clock →
-    cmd ≡ command_of (leap_made at clock) clock
-first_is at tai clock leap cmd is made same =
-    is ∙ ap (λ l. leap_command_at l tai) made ∙ ap (leap_command_at (leap_made at clock)) same
 
 second-lead : (at : ℕ) (clock next : SteeredClock) (cmd : Option Command) (logged : Logged) →
     cmd ≡ command_of (leap_made at clock) clock → next ≡ second_begun_at at clock →

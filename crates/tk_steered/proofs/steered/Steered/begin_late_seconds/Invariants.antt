@@ -1,0 +1,11 @@
+use Rattle.tk_ntp.specs.Advance.{seconds_left}
+use Rattle.tk_steered.specs.Late.{HasBegunLate}
+use Rattle.tk_steered.specs.Logged.{Logged}
+use Rattle.tk_steered.proofs.steered.Steered.begin_late_seconds.Given as goal
+
+abbrev pub invariant-seconds : goal.invariant-seconds
+invariant-seconds g l = (after : Logged) → HasBegunLate l.who l.reading l.self.logged after →
+    HasBegunLate l.who l.reading l.initial.self.logged after
+
+abbrev pub decreases-seconds : goal.decreases-seconds
+decreases-seconds g l = seconds_left l.self.logged.clock
