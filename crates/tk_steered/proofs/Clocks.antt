@@ -1,6 +1,6 @@
 -- The clocks of requests whose commands are entered are those of the requests.
-use Rattle.std.proofs.Common.{◌≡◌, ◌⊎◌, inl, inr, ap, refl, ℕ, Bool, Option, Some, None, true, false}
-use Rattle.std.specs.Prelude.{⊤, IfOk, MatchOption, MatchResult, Result, Ok, Err}
+use Rattle.std.proofs.Common.{◌≡◌, inl, inr, ap, refl, ℕ, Bool, Option, Some, None, true, false}
+use Rattle.std.specs.Prelude.{⊤, IfOk, MatchOption, Result, Ok, Err}
 use Rattle.tk_clock.specs.declared.command.Command.{Command}
 use Rattle.tk_clock.specs.declared.refusal.Refusal.{Refusal}
 use Rattle.tk_clock.specs.declared.timespec.Timespec.{Timespec}
@@ -13,10 +13,9 @@ use Rattle.tk_ntp.specs.Applied.{IsApplied, IsPlain, request_of, without_reply}
 use Rattle.tk_ntp.specs.Asked.{IsAnswered, IsAsked, IsCommanded, IsRequested, first_fault, step_refusal, stepped}
 use Rattle.tk_ntp.specs.Request.{step_of}
 use Rattle.tk_ntp.specs.SteeredClock.{SteeredClock, reading_refusal}
-use Rattle.tk_steered.specs.Answered.{IsAnsweredBy, IsAskedBy, IsCommandedBy, IsRequestedBy, IsUnmade, stepped_by}
+use Rattle.tk_steered.specs.Answered.{IsAnsweredBy, IsAskedBy, IsCommandedBy, IsFollowing, IsRequestedBy, stepped_by}
 use Rattle.tk_steered.specs.Applied.{IsAppliedBy, IsPlainBy, numbered}
-use Rattle.tk_steered.specs.Begun.{HasArrived}
-use Rattle.tk_steered.specs.Logged.{Logged, SteeredKeeper, has_room, request_most, second_most}
+use Rattle.tk_steered.specs.Logged.{Logged, SteeredKeeper, request_most, second_most}
 use Rattle.tk_steered.proofs.Advances.{advanced}
 
 asked-if : (who reading : ℕ) (request : Timex) (step : Option Timespec) (refusal : Option Refusal)
@@ -39,31 +38,20 @@ asked-clocks who reading request before result after h =
     asked-if who reading request (step_of request)
     (step_refusal reading (step_of request) before.clock) before result after h
 
-abbrev IsAnswer : ℕ → ℕ → Timex → SteeredKeeper → Result Reply Refusal → SteeredKeeper →
-    Option Refusal → Type 0
-IsAnswer who reading request before result after fault =
+-- a call with a result, after the seconds up to its reading
+following : {R : Type 0} (count who reading : ℕ) (value : R) (before after : SteeredKeeper)
+    (Makes : Logged → Type 0) (Leaves : SteeredClock → Type 0) →
+    ((middle : Logged) → Makes middle → Leaves middle.clock) → (fault : Option Refusal) →
+    MatchOption fault (IsFollowing count who reading Makes before (Ok value) after)
+    (λ refusal. (◌≡◌ {A = Result R Refusal} (Ok value) (Err refusal)) × (after ≡ before)) →
     MatchOption fault
-    (MatchResult result (λ _. ⊥) (λ refusal.
-    IsUnmade request_most who reading before refusal after)
-    ⊎ ((middle : Logged) × HasArrived who reading before.logged middle
-    × (has_room request_most middle.journal ≡ true)
-    × IsAskedBy who reading request middle result after.logged))
-    (λ refusal. (result ≡ Err refusal) × (after ≡ before))
-
-answered-if : (who reading : ℕ) (request : Timex) (before after : SteeredKeeper) (reply : Reply)
-    (fault : Option Refusal) → IsAnswer who reading request before (Ok reply) after fault →
-    MatchOption fault
-    ((advanced : SteeredClock) × IsAdvanced reading before.logged.clock advanced
-    × IsAsked reading request advanced (Ok reply) after.logged.clock)
-    (λ refusal. (◌≡◌ {A = Result Reply Refusal} (Ok reply) (Err refusal))
+    ((advanced : SteeredClock) × IsAdvanced reading before.logged.clock advanced × Leaves advanced)
+    (λ refusal. (◌≡◌ {A = Result R Refusal} (Ok value) (Err refusal))
     × (after.logged.clock ≡ before.logged.clock))
-answered-if who reading request before after reply None (inl never) = absurd never
-answered-if who reading request before after reply None (inr h) = (
-  h.0.clock,
-  advanced who reading before.logged h.0 h.1,
-  asked-clocks who reading request h.0 (Ok reply) after.logged h.3,
-)
-answered-if who reading request before after reply (Some refusal) h =
+following count who reading value before after Makes Leaves leaves None (inl never) = absurd never
+following count who reading value before after Makes Leaves leaves None (inr h) =
+    (h.0.clock, advanced who reading before.logged h.0 h.1, leaves h.0 h.3)
+following count who reading value before after Makes Leaves leaves (Some refusal) h =
     (h.0, ap (λ (k : SteeredKeeper). k.logged.clock) h.1)
 
 pub answered-clocks : (who reading : ℕ) (request : Timex) (before after : SteeredKeeper)
@@ -71,27 +59,12 @@ pub answered-clocks : (who reading : ℕ) (request : Timex) (before after : Stee
     IfOk result (λ reply.
     IsAnswered reading request before.logged.clock (Ok reply) after.logged.clock)
 answered-clocks who reading request before after (Ok reply) h =
-    answered-if who reading request before after reply
+    following request_most who reading reply before after
+    (λ middle. IsAskedBy who reading request middle (Ok reply) after.logged)
+    (λ clock. IsAsked reading request clock (Ok reply) after.logged.clock)
+    (λ middle. asked-clocks who reading request middle (Ok reply) after.logged)
     (first_fault reading request before.logged.clock) h
 answered-clocks who reading request before after (Err refusal) h = tt
-
-plain-if : (who reading : ℕ) (cmd : Command) (before after : SteeredKeeper)
-    (refusal : Option Refusal) →
-    MatchOption refusal
-    (⊥ ⊎ ((middle : Logged) × HasArrived who reading before.logged middle
-    × (has_room second_most middle.journal ≡ true)
-    × IsCommandedBy who reading cmd middle (Ok tt) after.logged))
-    (λ r. (◌≡◌ {A = Result ⊤ Refusal} (Ok tt) (Err r)) × (after ≡ before)) →
-    MatchOption refusal
-    ((advanced : SteeredClock) × IsAdvanced reading before.logged.clock advanced
-    × IsCommanded reading cmd advanced (Ok tt) after.logged.clock)
-    (λ r. (◌≡◌ {A = Result ⊤ Refusal} (Ok tt) (Err r))
-    × (after.logged.clock ≡ before.logged.clock))
-plain-if who reading cmd before after None (inl never) = absurd never
-plain-if who reading cmd before after None (inr h) =
-    (h.0.clock, advanced who reading before.logged h.0 h.1, h.3.answer)
-plain-if who reading cmd before after (Some refusal) h =
-    (h.0, ap (λ (k : SteeredKeeper). k.logged.clock) h.1)
 
 plain-clocks : (resumes : Bool) (who reading : ℕ) (cmd : Command) (before after : SteeredKeeper) →
     IsPlainBy resumes who reading cmd before (Ok tt) after →
@@ -99,7 +72,10 @@ plain-clocks : (resumes : Bool) (who reading : ℕ) (cmd : Command) (before afte
 plain-clocks true who reading cmd before after (inl never) = absurd never
 plain-clocks true who reading cmd before after (inr h) = h.1.answer
 plain-clocks false who reading cmd before after h =
-    plain-if who reading cmd before after (reading_refusal reading before.logged.clock) h
+    following second_most who reading tt before after
+    (λ middle. IsCommandedBy who reading cmd middle (Ok tt) after.logged)
+    (λ clock. IsCommanded reading cmd clock (Ok tt) after.logged.clock)
+    (λ middle h. h.answer) (reading_refusal reading before.logged.clock) h
 
 plain-numbered : (resumes : Bool) (who reading : ℕ) (cmd : Command) (before after : SteeredKeeper)
     (answer : Result ⊤ Refusal) (number count : ℕ) →

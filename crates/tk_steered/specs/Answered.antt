@@ -49,14 +49,20 @@ IsUnmade count who reading before refusal after =
     IsStopped who reading before.logged refusal after
     ⊎ (HasArrived who reading before.logged after.logged × IsShort count after refusal)
 
+-- the result of a call before which the seconds up to its reading begin, and the state after it.
+-- `Makes` says what the call does after these seconds, for which `count` entries must fit
+abbrev pub IsFollowing : {R : Type 0} → ℕ → ℕ → ℕ → (Logged → Type 0) → SteeredKeeper →
+    Result R Refusal → SteeredKeeper → Type 0
+IsFollowing count who reading Makes before result after =
+    MatchResult result (λ _. ⊥) (λ refusal. IsUnmade count who reading before refusal after)
+    ⊎ ((middle : Logged) × HasArrived who reading before.logged middle
+    × (has_room count middle.journal ≡ true) × Makes middle)
+
 -- the result of a request, and the state after it: the seconds up to the reading begin first
 abbrev pub IsAnsweredBy : ℕ → ℕ → Timex → SteeredKeeper → Result Reply Refusal → SteeredKeeper →
     Type 0
 IsAnsweredBy who reading request before result after =
     MatchOption (first_fault reading request before.logged.clock)
-    (MatchResult result (λ _. ⊥) (λ refusal.
-    IsUnmade request_most who reading before refusal after)
-    ⊎ ((middle : Logged) × HasArrived who reading before.logged middle
-    × (has_room request_most middle.journal ≡ true)
-    × IsAskedBy who reading request middle result after.logged))
+    (IsFollowing request_most who reading
+    (λ middle. IsAskedBy who reading request middle result after.logged) before result after)
     (λ refusal. (result ≡ Err refusal) × (after ≡ before))

@@ -7,9 +7,8 @@ use Rattle.tk_clock.specs.Journal.{accepted_count}
 use Rattle.tk_ntp.specs.declared.reply.Reply.{Reply}
 use Rattle.tk_ntp.specs.Applied.{request_of}
 use Rattle.tk_ntp.specs.SteeredClock.{reading_refusal}
-use Rattle.tk_steered.specs.Answered.{IsAnsweredBy, IsCommandedBy, IsUnmade}
-use Rattle.tk_steered.specs.Begun.{HasArrived}
-use Rattle.tk_steered.specs.Logged.{Logged, SteeredKeeper, IsShort, has_room, second_most}
+use Rattle.tk_steered.specs.Answered.{IsAnsweredBy, IsCommandedBy, IsFollowing}
+use Rattle.tk_steered.specs.Logged.{SteeredKeeper, IsShort, has_room, second_most}
 
 -- the result of a command for which no second begins, and the state after it
 abbrev pub IsDirect : ℕ → ℕ → Command → SteeredKeeper → Result ⊤ Refusal → SteeredKeeper → Type 0
@@ -24,15 +23,12 @@ abbrev pub IsFollowedBy : ℕ → ℕ → Command → SteeredKeeper → Result �
     Type 0
 IsFollowedBy who reading cmd before result after =
     MatchOption (reading_refusal reading before.logged.clock)
-    (MatchResult result (λ _. ⊥) (λ refusal.
-    IsUnmade second_most who reading before refusal after)
-    ⊎ ((middle : Logged) × HasArrived who reading before.logged middle
-    × (has_room second_most middle.journal ≡ true)
-    × IsCommandedBy who reading cmd middle result after.logged))
+    (IsFollowing second_most who reading
+    (λ middle. IsCommandedBy who reading cmd middle result after.logged) before result after)
     (λ refusal. (result ≡ Err refusal) × (after ≡ before))
 
--- the result of a command that is no request, and the state after it; `resumes` says whether it is a
--- resume, for which no second begins
+-- the result of a command that is no request, and the state after it; `resumes` says whether it is
+-- a resume, for which no second begins
 abbrev pub IsPlainBy : Bool → ℕ → ℕ → Command → SteeredKeeper → Result ⊤ Refusal →
     SteeredKeeper → Type 0
 IsPlainBy true who reading cmd before result after = IsDirect who reading cmd before result after
