@@ -6,7 +6,7 @@ mod orders;
 use std::alloc::Allocator;
 use std::fmt::Debug;
 use std::process::Abort;
-use tk_clock::{Clock, Command, Timespec};
+use tk_clock::{Clock, Timespec};
 use tk_counter::CounterDesc;
 use tk_ntp::{ADJ_OFFSET, ADJ_STATUS, ADJ_TIMECONST, STA_PLL, SteeredClock, Timex};
 use tk_steered::Steered;
