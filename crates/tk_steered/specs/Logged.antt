@@ -27,8 +27,8 @@ logged_opened counter reading real hz = record {
   clock = steered_opened counter reading real hz;
 }
 
--- the state after a caller's commands at a reading, which left the clocks as `after`: the first one,
--- and those for the tick and the frequency, if they changed
+-- the state after a caller's commands at a reading, which left the clocks as `after`: the first
+-- one, and those for the tick and the frequency, if they changed
 abbrev pub moved : ℕ → ℕ → Option Command → SteeredClock → Logged → Logged
 moved who reading first after logged = record {
   journal =

@@ -3,8 +3,8 @@
 //! | Item | Its meaning |
 //! |---|---|
 //! | `Steered` | a `Timekeeper` that a discipline steers |
-//! | `SECOND_ENTRIES` | the most entries that a second or a command makes |
-//! | `REQUEST_ENTRIES` | the most entries that a request makes |
+//! | `SECOND_ENTRIES_LIMIT` | the most entries that a second or a command makes |
+//! | `REQUEST_ENTRIES_LIMIT` | the most entries that a request makes |
 //!
 //! Units: readings in cycles. Entries are numbered from 1. Only `advance`, `adjtimex`, `apply` and
 //! `reserve` allocate, while the memory that was reserved isn't enough. No call waits.
@@ -12,4 +12,4 @@
 
 mod steered;
 
-pub use steered::{REQUEST_ENTRIES, SECOND_ENTRIES, Steered};
+pub use steered::{REQUEST_ENTRIES_LIMIT, SECOND_ENTRIES_LIMIT, Steered};

@@ -13,13 +13,13 @@ use tk_counter::CounterDesc;
 use tk_keeper::Timekeeper;
 use tk_ntp::SteeredClock;
 
-/// The most entries that a second of REALTIME makes as it begins, and that a command makes: one, and
-/// one each for the tick and the frequency.
-pub const SECOND_ENTRIES: usize = 3;
+/// The most entries that a second of REALTIME makes as it begins, and that a command makes: one,
+/// and one each for the tick and the frequency.
+pub const SECOND_ENTRIES_LIMIT: usize = 3;
 
 /// The most entries that a request makes: a step, the TAI offset, and twice the tick and the
 /// frequency.
-pub const REQUEST_ENTRIES: usize = 6;
+pub const REQUEST_ENTRIES_LIMIT: usize = 6;
 
 /// Keeps the clocks of one counter, steered by a discipline, and the journal of all commands that
 /// they are given: those of its callers, and those that the discipline gives.
@@ -86,8 +86,8 @@ impl<A: Allocator + Copy> Steered<A> {
         Ok(Steered { keeper, clock })
     }
 
-    /// Returns the clocks with their journal: `get`, `snapshot`, `snapshot_at`, `trace`, `entry` and
-    /// `len` are its calls.
+    /// Returns the clocks with their journal: `get`, `snapshot`, `snapshot_at`, `trace`, `entry`
+    /// and `len` are its calls.
     pub fn keeper(&self) -> &Timekeeper<A>
         ensures journal { result.now.journal ≡ self.now.logged.journal }
         ensures spare { result.now.spare ≡ self.now.spare }
@@ -113,8 +113,8 @@ impl<A: Allocator + Copy> Steered<A> {
         keeper
     }
 
-    /// Returns the same clocks with their discipline: `rate`, `numbers` and `is_next_further` are its
-    /// calls. A change of the returned copy doesn't change these clocks.
+    /// Returns the same clocks with their discipline: `rate`, `numbers` and `is_next_further` are
+    /// its calls. A change of the returned copy doesn't change these clocks.
     pub fn clock(&self) -> SteeredClock
         ensures value { result ≡ self.now.logged.clock }
         // they are the clocks of the journal
@@ -123,8 +123,8 @@ impl<A: Allocator + Copy> Steered<A> {
         self.clock
     }
 
-    /// Returns the first reading, in cycles, at which the next second of REALTIME has begun: the one
-    /// to set a timer to (`SteeredClock::next_second`).
+    /// Returns the first reading, in cycles, at which the next second of REALTIME has begun: the
+    /// one to set a timer to (`SteeredClock::next_second`).
     pub fn next_second(&self) -> Option<u64>
         ensures { let nanos = nanoseconds (second_time self.now.logged.clock.next) in
             MatchOption result

@@ -3,7 +3,7 @@ ghost use Rattle.std.specs.Prelude.{◌≡◌, ◌<◌, MatchResult, IfOk, IsTru
 ghost use Rattle.tk_ntp.specs.Advance.{IsAdvanced, seconds_left};
 ghost use Rattle.tk_steered.specs.Begun.{HasArrived, IsAdvancedTo, IsBegun, IsStopped, leap_command_at};
 
-use super::{SECOND_ENTRIES, Steered};
+use super::{SECOND_ENTRIES_LIMIT, Steered};
 use std::alloc::Allocator;
 use tk_clock::{Command, Refusal};
 use tk_ntp::Leap;
@@ -15,8 +15,8 @@ impl<A: Allocator + Copy> Steered<A> {
     /// # Errors
     ///
     /// - The errors of `SteeredClock::advance`. Nothing changes then.
-    /// - `Full`: the journal has no room for the `SECOND_ENTRIES` entries that a second may make. The
-    ///   seconds before it have begun, and it hasn't: it can begin after a fold.
+    /// - `Full`: the journal has no room for the `SECOND_ENTRIES_LIMIT` entries that a second may
+    ///   make. The seconds before it have begun, and it hasn't: it can begin after a fold.
     /// - `Memory`: the memory for these entries can't be allocated. The seconds before have begun.
     pub fn advance(&mut self, who: u32, reading: u64) -> Result<(), Refusal>
         ensures answer { IsAdvancedTo who reading self.old result self.new }
@@ -38,8 +38,8 @@ impl<A: Allocator + Copy> Steered<A> {
         Ok(())
     }
 
-    /// Lets just the next second of REALTIME begin, if it begins up to a reading. Returns whether it
-    /// did.
+    /// Lets just the next second of REALTIME begin, if it begins up to a reading. Returns whether
+    /// it did.
     fn begin_due(&mut self, who: u32, reading: u64) -> Result<bool, Refusal>
         ensures begun { IsBegun who reading self.old result self.new }
         ensures fewer { IfOk result (λ begun. IsTrue begun →
@@ -53,7 +53,7 @@ impl<A: Allocator + Copy> Steered<A> {
         let Some(second) = next.begin_due(reading) else {
             return Ok(false);
         };
-        self.make_room(SECOND_ENTRIES)?;
+        self.make_room(SECOND_ENTRIES_LIMIT)?;
         let first = leap_command(second.leap, now.snapshot(0).tai());
         self.take(who, second.reading, first, next);
         Ok(true)

@@ -12,7 +12,7 @@ ghost use Rattle.tk_steered.specs.Commands.{tai_command};
 ghost use Rattle.tk_steered.specs.Logged.{has_room};
 
 use super::entering::enter_all;
-use super::{REQUEST_ENTRIES, SECOND_ENTRIES, Steered};
+use super::{REQUEST_ENTRIES_LIMIT, SECOND_ENTRIES_LIMIT, Steered};
 use std::alloc::Allocator;
 use tk_clock::{Command, Refusal};
 use tk_ntp::{Reply, SteeredClock, Timex, request_of};
@@ -28,12 +28,13 @@ impl<A: Allocator + Copy> Steered<A> {
     ///
     /// - `Invalid`: the request has a fault (`Timex::is_faulty`). Nothing changes.
     /// - The errors of `advance`, which say what has changed.
-    /// - `Full`, `Memory`: the `REQUEST_ENTRIES` entries that a request may make don't fit the
-    ///   journal, or the memory for them can't be allocated. The state is the one that `advance`
+    /// - `Full`, `Memory`: the `REQUEST_ENTRIES_LIMIT` entries that a request may make don't fit
+    ///   the journal, or the memory for them can't be allocated. The state is the one that
+    ///   `advance` leaves.
+    /// - `Invalid`, `Range`: the clocks refuse the step. The state is the one that `advance`
     ///   leaves.
-    /// - `Invalid`, `Range`: the clocks refuse the step. The state is the one that `advance` leaves.
-    /// - `Range`: REALTIME, or TAI with the given offset, would be at its limit. The state is the one
-    ///   that `advance` and the step leave.
+    /// - `Range`: REALTIME, or TAI with the given offset, would be at its limit. The state is the
+    ///   one that `advance` and the step leave.
     pub fn adjtimex(&mut self, who: u32, reading: u64, request: &Timex) -> Result<Reply, Refusal>
         ensures answer { IsAnsweredBy who reading request.now self.old result self.new }
         // the clocks are those that `SteeredClock::adjtimex` leaves
@@ -45,24 +46,25 @@ impl<A: Allocator + Copy> Steered<A> {
             return Err(Refusal::Invalid);
         }
         self.advance(who, reading)?;
-        self.make_room(REQUEST_ENTRIES)?;
+        self.make_room(REQUEST_ENTRIES_LIMIT)?;
         self.ask(who, reading, request)
     }
 
     /// Applies a command at a reading, and returns the number of commands accepted so far
     /// (`SteeredClock::apply`). The seconds of REALTIME up to the reading begin first, as by
-    /// `advance`, unless the command is `Resume`. The commands that it gives are entered as those of
-    /// the caller `who`.
+    /// `advance`, unless the command is `Resume`. The commands that it gives are entered as those
+    /// of the caller `who`.
     ///
-    /// `Freq` and `Tick` are requests, which need not make an entry of their own.
+    /// `Freq` and `Tick` are requests, which may make no entry.
     ///
     /// # Errors
     ///
     /// - `Freq` and `Tick`: the errors of `adjtimex`.
-    /// - `Resume`: `Full` or `Memory`, if its `SECOND_ENTRIES` entries don't fit the journal, or the
-    ///   memory for them can't be allocated; then the errors of `Clock::apply`. Nothing changes.
-    /// - All others: the errors of `advance`, which say what has changed; then `Full` or `Memory`, as
-    ///   for `Resume`, and those of `Clock::apply`. The state is the one that `advance` leaves.
+    /// - `Resume`: `Full` or `Memory`, if its `SECOND_ENTRIES_LIMIT` entries don't fit the journal,
+    ///   or the memory for them can't be allocated; then the errors of `Clock::apply`. Nothing
+    ///   changes.
+    /// - All others: the errors of `advance`, which say what has changed; then `Full` or `Memory`,
+    ///   as for `Resume`, and those of `Clock::apply`. The state is the one that `advance` leaves.
     pub fn apply(&mut self, who: u32, reading: u64, cmd: Command) -> Result<u64, Refusal>
         ensures answer { IsAppliedBy who reading cmd self.old result self.new }
         // the clocks are those that `SteeredClock::apply` leaves
@@ -107,7 +109,7 @@ impl<A: Allocator + Copy> Steered<A> {
         requires plain { request_of cmd ≡ None }
         ensures { IsDirect who reading cmd self.old result self.new }
     {
-        self.make_room(SECOND_ENTRIES)?;
+        self.make_room(SECOND_ENTRIES_LIMIT)?;
         self.command(who, reading, cmd)
     }
 
@@ -117,11 +119,12 @@ impl<A: Allocator + Copy> Steered<A> {
         ensures { IsFollowedBy who reading cmd self.old result self.new }
     {
         self.advance(who, reading)?;
-        self.make_room(SECOND_ENTRIES)?;
+        self.make_room(SECOND_ENTRIES_LIMIT)?;
         self.command(who, reading, cmd)
     }
 
-    /// Does what a request without a fault asks for, after the seconds up to the reading have begun.
+    /// Does what a request without a fault asks for, after the seconds up to the reading have
+    /// begun.
     fn ask(&mut self, who: u32, reading: u64, request: &Timex) -> Result<Reply, Refusal>
         requires sound { is_faulty request.now ≡ false }
         requires room { has_room 6 self.old.logged.journal ≡ true }

@@ -12,8 +12,8 @@ use tk_clock::Refusal;
 
 impl<A: Allocator + Copy> Steered<A> {
     /// Folds the oldest entries into the journal's opening, so that at most `keep` entries stay
-    /// listed, and returns the number of commands folded so far (`Timekeeper::fold`). The clocks and
-    /// their discipline stay.
+    /// listed, and returns the number of commands folded so far (`Timekeeper::fold`). The clocks
+    /// and their discipline stay.
     pub fn fold(&mut self, keep: u64) -> u64
         ensures answer { let before = self.old.logged.journal in
             result ≡ max before.opening.count (accepted_count before - keep) }
@@ -26,14 +26,15 @@ impl<A: Allocator + Copy> Steered<A> {
         self.keeper.fold(keep)
     }
 
-    /// Reserves memory for `extra` more entries, or for the number that the journal may still list if
-    /// that is lower (`Timekeeper::reserve`).
+    /// Reserves memory for `extra` more entries, or for the number that the journal may still list
+    /// if that is lower (`Timekeeper::reserve`).
     ///
     /// # Errors
     ///
     /// `Memory` if that memory can't be allocated.
     pub fn reserve(&mut self, extra: usize) -> Result<(), Refusal>
-        ensures answer { let wanted = min extra (listed_most - length self.old.logged.journal.entries) in
+        ensures answer { let listed = length self.old.logged.journal.entries in
+            let wanted = min extra (listed_most - listed) in
             MatchResult result
             (λ _. wanted ≤ self.new.spare)
             (λ refusal. (refusal ≡ Memory) × (self.new.spare < wanted)) }

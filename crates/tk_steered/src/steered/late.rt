@@ -6,7 +6,7 @@ ghost use Rattle.tk_ntp.specs.Late.{IsAdvancedLate};
 ghost use Rattle.tk_steered.specs.Late.{HasArrivedLate, IsAdvancedLateTo, IsBegunLate, IsStoppedLate};
 
 use super::advancing::leap_command;
-use super::{SECOND_ENTRIES, Steered};
+use super::{SECOND_ENTRIES_LIMIT, Steered};
 use std::alloc::Allocator;
 use tk_clock::Refusal;
 
@@ -53,7 +53,7 @@ impl<A: Allocator + Copy> Steered<A> {
         let Some(leap) = next.begin_late(reading) else {
             return Ok(false);
         };
-        self.make_room(SECOND_ENTRIES)?;
+        self.make_room(SECOND_ENTRIES_LIMIT)?;
         let first = leap_command(leap, now.snapshot(0).tai());
         self.take(who, reading, first, next);
         Ok(true)

@@ -3,7 +3,7 @@ use std::alloc::Allocator;
 use std::process::Abort;
 use tk_clock::{Command, Refusal};
 use tk_ntp::SteeredClock;
-use tk_steered::{SECOND_ENTRIES, Steered};
+use tk_steered::{SECOND_ENTRIES_LIMIT, Steered};
 use tk_test_support::Heap;
 
 /// The reading of the end of the seconds that the tests let begin: 20 minutes.
@@ -67,7 +67,7 @@ fn a_call_without_memory_changes_nothing_of_its_own(rt: HostRuntime) {
 fn seconds_wait_for_a_fold_of_a_full_journal(rt: HostRuntime) {
     let mut steered = opened(&rt, rt.alloc());
     let _reply = steered.adjtimex(CALLER, 0, &offset(400_000));
-    let left = 20 * SECOND_ENTRIES;
+    let left = 20 * SECOND_ENTRIES_LIMIT;
     for _ in steered.keeper().len()..tk_keeper::LISTED_LIMIT - left {
         let updated = steered.apply(CALLER, 0, Command::Update);
         assert_same(&rt, &updated.is_ok(), &true);
