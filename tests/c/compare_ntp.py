@@ -3,6 +3,9 @@
 first answer or snapshot that differs.
 
     tests/c/compare_ntp.py PROGRAM [RECORDS [SEED]]     RECORDS is 100,000 if not given
+
+2,700,000 records make 1,000,000 replies, in five to ten minutes. 100,000 records or more must meet
+all that ntp_bounds.py lists.
 """
 import random
 import subprocess
@@ -13,6 +16,7 @@ sys.path.insert(0, str(Path(__file__).resolve().parents[1] / "model"))
 
 # pylint: disable=wrong-import-position
 import ntp
+import ntp_bounds
 from model import Counter, from_hz, is_settable, limit
 from steered_clock import Refused, Steered
 
@@ -92,19 +96,29 @@ class Records:
 
     def __init__(self, seed, session):
         self.random, self.session = random.Random(seed), session
-        self.requests = ntp.Orders(seed + 1)
+        self.requests, self.following = ntp.Orders(seed + 1), []
 
     def next(self):
+        if self.following:
+            return self.following.pop(0)
         pick = self.random.randrange(100)
         if self.session.steered is None or pick < 2:
             return self.opening()
+        if pick < 8:
+            reading = self.reading()
+            self.following = [self.request(reading, fields)
+                              for fields in ntp_bounds.requests(self.random)]
+            return self.following.pop(0)
         if pick < 55:
-            return ",".join(map(str, ["adjtimex", self.reading(), *self.requests.request()]))
+            return self.request(self.reading(), self.requests.request())
         if pick < 75:
             return f"get,{self.random.choice(list(CLOCKS))},{self.reading()}"
         if pick < 85:
             return f"advance,{self.reading()}"
         return self.command() if pick < 97 else "next"
+
+    def request(self, reading, fields):
+        return ",".join(map(str, ["adjtimex", reading, *fields]))
 
     def opening(self):
         bits = self.random.choice([8, 16, 32, 56, 64, 64, 64])
@@ -133,9 +147,14 @@ class Records:
         if pick < 4:
             following = self.session.steered.next_second()
             return clock.last if following is None else following
+        past = 946_080_000 * second * 6 // 5            # past the limit of MONOTONIC
+        if self.random.randrange(300) == 0 and past < 2**counter.bits // 2:
+            return (clock.last + past) % 2**counter.bits
         most = self.random.choice([1, 1, second, second, 4 * second])
         cycles = 300 * second if self.random.randrange(500) == 0 else self.random.randrange(most + 2)
-        return (clock.last + min(cycles, 2**counter.bits // 2 - 1)) % 2**counter.bits
+        start = self.random.choice([clock.last] + 7 * [self.session.steered.mark])
+        most = 2**counter.bits // 2 - 1 - counter.gap(clock.last, start)
+        return (start + max(0, min(cycles, most))) % 2**counter.bits
 
     def command(self):
         command = self.random.choice(range(len(COMMANDS) + 1))
@@ -154,19 +173,21 @@ class Records:
         return f"apply,{self.reading()},{command},{max(-2**63, min(2**63 - 1, number))},{nsec}"
 
 
-def records_of(seed, count):
-    """Returns random records and their answers."""
+def records_of(seed, count, met=None):
+    """Returns random records and their answers, and counts what they meet."""
     session = Session()
     records = Records(seed, session)
     given = []
     for _ in range(count):
         record = records.next()
         given.append((record, session.answer(record)))
+        if met:
+            met.add(session, *given[-1])
     return given
 
 
-def compare(program, count, seed):
-    given = records_of(seed, count)
+def compare(program, count, seed, met):
+    given = records_of(seed, count, met)
     ran = subprocess.run([program], input="".join(record + "\n" for record, _ in given), capture_output=True,
                          text=True, check=True)
     lines = ran.stdout.splitlines()
@@ -179,9 +200,12 @@ def compare(program, count, seed):
 def main():
     count = int(sys.argv[2]) if len(sys.argv) > 2 else 100_000
     seed = int(sys.argv[3]) if len(sys.argv) > 3 else random.randrange(2**32)
+    met = ntp_bounds.Met()
     for first in range(0, count, 100_000):
-        compare(sys.argv[1], min(100_000, count - first), seed + first)
-    print(f"compare_ntp: {count} answers of seed {seed} are those of the definitions")
+        compare(sys.argv[1], min(100_000, count - first), seed + first, met)
+    print(f"compare_ntp: {count} answers of seed {seed} are those of the definitions: {met.text()}")
+    if count >= 100_000 and met.missing():
+        sys.exit(f"seed {seed}: not met: {', '.join(met.missing())}")
 
 
 if __name__ == "__main__":
