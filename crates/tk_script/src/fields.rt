@@ -12,7 +12,9 @@ use tk_clock::{ClockId, Timespec};
 /// The number of fields of the longest record, `openwords`.
 pub(crate) const MOST_FIELDS: usize = 16;
 
-/// Returns whether the bytes are this keyword. Most keywords differ in length.
+/// Returns whether the bytes are this keyword. Most keywords differ in length. The compiler knows
+/// the keyword at each call, so it compares a few words of the machine.
+#[inline(always)]
 pub(crate) fn has_word(bytes: &[u8], word: &[u8]) -> bool
     ensures { result ≡ is_word bytes.now word.now }
 {
