@@ -75,16 +75,15 @@ EXPORT unsigned int alarm(unsigned int span)
 			      (out.it_value.tv_usec >= 500000));
 }
 
+/* A second or more is EINVAL, as in glibc. */
 EXPORT useconds_t ualarm(useconds_t span, useconds_t period)
 {
-	struct itimerval in = { { period / 1000000, period % 1000000 },
-				{ span / 1000000, span % 1000000 } };
-	struct itimerval out = { 0 };
+	struct itimerval in = { { 0, period }, { 0, span } }, out = { 0 };
 
 	if (!machine())
 		return REAL(ualarm)(span, period);
 	if (setitimer(ITIMER_REAL, &in, &out))
-		return 0;
+		return (useconds_t)-1;
 	return (useconds_t)(out.it_value.tv_sec * 1000000 +
 			    out.it_value.tv_usec);
 }

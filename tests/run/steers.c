@@ -8,6 +8,7 @@
 #define _GNU_SOURCE
 #include "faults.h"
 
+#include <dlfcn.h>
 #include <stdbool.h>
 #include <stdio.h>
 #include <stdlib.h>
@@ -33,6 +34,21 @@ static double seconds(clockid_t clock)
 	return (double)time.tv_sec + (double)time.tv_nsec / 1e9;
 }
 
+/* The C library still has the function that stores no TAI offset, but for a static
+ * program. */
+static void check_old_reply(void)
+{
+	int (*old)(struct ntptimeval *) =
+		(int (*)(struct ntptimeval *))dlsym(RTLD_DEFAULT,
+						    "ntp_gettime");
+	struct ntptimeval all = { .tai = 77 };
+
+	if (!old)
+		return;
+	CHECK(old(&all) == TIME_ERROR && all.time.tv_sec == START);
+	CHECK(all.maxerror == 16000000 && all.tai == 77);
+}
+
 /* A fresh discipline isn't synchronized. */
 static void check_reply(void)
 {
@@ -50,6 +66,7 @@ static void check_reply(void)
 	CHECK(syscall(SYS_clock_adjtime, CLOCK_REALTIME, &tx) == TIME_ERROR);
 	CHECK(ntp_gettime(&all) == TIME_ERROR && all.time.tv_sec == START);
 	CHECK(all.maxerror == 16000000 && !all.tai);
+	check_old_reply();
 }
 
 /* At 500 ppm, MONOTONIC goes 100 s while the counter goes 100 / 1.0005 s. */

@@ -3,10 +3,10 @@ of two seconds moves MONOTONIC on by two seconds."""
 import re
 import unittest
 
-from runs import CAN_FILTER, CAN_TRACE, LINUX, RunTest, program
+from runs import CAN_FILTER, CAN_TRACE, LINUX, STILL, RunTest, program
 
 WAIT = 2_000_000_000
-WAITS, SYSTEM_WAITS = 43, 21  # the waits of waits.c and system.c
+WAITS, SYSTEM_WAITS = 44, 21  # the waits of waits.c and system.c
 
 
 class Calls(RunTest):
@@ -29,6 +29,13 @@ class Calls(RunTest):
         options = ["--counter", "sleeps", "--start", 1000000000]
         self.assertEqual(self.run_on(*options, "--", program("steers")), "")
         self.assertEqual(self.run_on(*options, "--deny-set", "--", program("steers"), "deny"), "")
+
+    def test_stamps_of_packets(self):
+        for options in [[], ["--speed", 10], ["--speed", 0.5], STILL]:
+            with self.subTest(options):
+                self.assertEqual(self.run_on("--start", 1000000000, "--stamps", *options, "--",
+                                             program("stamps")), "")
+        self.assertEqual(self.run_on("--", program("stamps"), "refused"), "")
 
     def test_a_record_ends_before_steering(self):
         run = self.start("--counter", "sleeps", "--start", 1000000000, "--check", "--",

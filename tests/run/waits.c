@@ -365,11 +365,13 @@ static bool by_system_sleep(void)
 
 static bool by_timerfd(void)
 {
-	struct itimerspec spec = { .it_value = SPAN };
+	struct itimerspec spec = { .it_value = SPAN }, left;
 	int file = timerfd_create(CLOCK_MONOTONIC, 0);
 	uint64_t count = 0;
 
 	return !timerfd_settime(file, 0, &spec, NULL) &&
+	       !timerfd_gettime(file, &left) &&
+	       (left.it_value.tv_sec == 1 || left.it_value.tv_sec == 2) &&
 	       read(file, &count, sizeof(count)) == sizeof(count) && count == 1;
 }
 
@@ -452,6 +454,24 @@ static bool by_alarm(void)
 {
 	expect(SIGALRM);
 	return !alarm(2) && wait_signal();
+}
+
+/* The second call returns what is left of the first one's span, in us. Signals
+ * come after 0.4, 1.2 and 2 s. */
+static bool by_ualarm(void)
+{
+	useconds_t left;
+
+	expect(SIGALRM);
+	if (ualarm(1000000, 0) != (useconds_t)-1 || ualarm(900000, 0))
+		return false;
+	left = ualarm(400000, 800000);
+	for (int i = 0; i < 3; i++) {
+		is_signalled = false;
+		if (!wait_signal())
+			return false;
+	}
+	return left > 0 && left <= 900000 && ualarm(0, 0) <= 800000;
 }
 
 static bool by_setitimer(void)
@@ -538,6 +558,7 @@ static const struct timed_wait WAITS[] = {
 	{ "absolute_timerfd", by_absolute_timerfd },
 	{ "timer", by_timer },
 	{ "alarm", by_alarm },
+	{ "ualarm", by_ualarm },
 	{ "setitimer", by_setitimer },
 	{ "interrupted_sleep", by_interrupted_sleep },
 	{ "cancelled_sleep", by_cancelled_sleep },
