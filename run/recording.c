@@ -100,6 +100,15 @@ static int compare_rows(const void *first, const void *second)
 	return a < b ? -1 : a > b;
 }
 
+/* The program's processes can write to the rows, so a row may be any bytes. */
+static bool is_whole(const struct record_row *row)
+{
+	return atomic_load(&row->is_ready) &&
+	       (row->kind <= TKC_CMD_RESUME ||
+		(row->kind >= ROW_READ &&
+		 row->kind <= ROW_READ + TKC_CLOCK_TAI));
+}
+
 /*
  * Lists the rows that are to be replayed. A command that was never published,
  * because its writer died, isn't one: a later command has its front, or none.
@@ -114,7 +123,7 @@ static bool list_rows(struct list *list, const struct record_row *rows,
 	if (!list->rows)
 		return false;
 	for (uint64_t i = 0; i < count; i++) {
-		if (atomic_load(&rows[i].is_ready) && rows[i].front <= front)
+		if (is_whole(&rows[i]) && rows[i].front <= front)
 			list->rows[list->count++] = &rows[i];
 	}
 	qsort(list->rows, list->count, sizeof(*list->rows), compare_rows);

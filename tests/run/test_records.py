@@ -137,7 +137,8 @@ class Records(RunTest):
             self.assertIn(line, run.stderr)
         self.assertNotIn("\nset,", (self.folder / "r").read_text())
 
-    def test_a_command_whose_row_is_missing_ends_the_record(self):
+    def spoil_row(self, at, value):
+        """Runs a program that sets a word of the row of its second set to another value."""
         rows = self.folder / "r.rows"
         code = f"""import mmap, struct, time
 for second in (2000000000, 1500000000, 1700000000):
@@ -148,7 +149,7 @@ with open({str(rows)!r}, "r+b") as file:
     view = mmap.mmap(file.fileno(), 1000 * row.size)
     for at in range(0, len(view), row.size):
         if row.unpack_from(view, at)[6] == 1500000000 and view[at + 4] == {SET_TIME}:
-            struct.pack_into("<I", view, at, 0)"""
+            struct.pack_into("<I", view, at + {at}, {value})"""
         run = self.start("--start", 1000000000, "--record", self.folder / "r", "--check", "--",
                          "/usr/bin/python3", "-c", code)
         self.assertEqual(run.returncode, 4, run.stderr)
@@ -158,6 +159,13 @@ with open({str(rows)!r}, "r+b") as file:
         script = (self.folder / "r").read_text()
         self.assertIn(",2000000000,", script)
         self.assertNotRegex(script, ",1[57]00000000,")
+
+    def test_a_command_whose_row_is_missing_ends_the_record(self):
+        self.spoil_row(0, 0)  # it isn't ready
+
+    def test_a_row_of_no_kind_ends_the_record(self):
+        for kind in (9, 99, 2**32 - 1):
+            self.spoil_row(4, kind)
 
     def test_closed_standard_files(self):
         # what tkrun opens must not get their numbers; the program finds them closed
