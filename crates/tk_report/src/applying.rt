@@ -16,8 +16,8 @@ use tk_keeper::{LISTED_LIMIT, Timekeeper};
 pub(crate) const CALLER: u32 = 0;
 
 /// The number of commands after which a report folds its own journal. It is small, so that the
-/// journal takes little memory. No line shows the fold.
-const FOLDED_AFTER: usize = 1_024;
+/// journal stays in the nearest cache. No line shows the fold.
+const FOLDED_AFTER: usize = 128;
 
 /// Applies a command to the clocks and returns its number, or the first test that it fails.
 ///
@@ -48,7 +48,7 @@ pub(crate) fn apply<A: Allocator + Copy>(
 }
 
 /// Applies a command to clocks when only the count of their journal matters. The journal is folded
-/// every 1,024 commands, so that it takes little memory.
+/// every 128 commands, so that it takes little memory.
 fn apply_counting<A: Allocator + Copy>(
     keeper: &mut Timekeeper<A>,
     since: usize,
@@ -69,7 +69,7 @@ fn apply_counting<A: Allocator + Copy>(
     keeper.apply(CALLER, reading, cmd)
 }
 
-/// Folds the whole journal if the number of accepted commands is a multiple of 1,024.
+/// Folds the whole journal if the number of accepted commands is a multiple of 128.
 fn fold_in_time<A: Allocator + Copy>(keeper: &mut Timekeeper<A>)
     ensures alike { IsAlike keeper.new.journal keeper.old.journal }
     ensures opening { keeper.old.journal.opening.count ≤ keeper.new.journal.opening.count }
