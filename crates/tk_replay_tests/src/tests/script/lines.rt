@@ -37,6 +37,29 @@ fn writes_each_line(rt: HostRuntime) -> Result<(), Fail> {
 }
 
 #[test]
+fn writes_seconds_of_each_length(rt: HostRuntime) -> Result<(), Fail> {
+    let mut out = Vec::new(rt.alloc());
+    for (sec, nsec) in [
+        (9_999, 100_000_000),
+        (10_000, 10_203_040),
+        (999_999_999, 999_999_999),
+        (1_000_000_000, 5),
+        (1_020_304_050, 60_708_090),
+        (9_223_372_035, 999_999_999),
+    ] {
+        line_ok(&mut out, 7, Timespec { sec, nsec })?;
+    }
+    let want = b"ok,7,9999.100000000\n\
+        ok,7,10000.010203040\n\
+        ok,7,999999999.999999999\n\
+        ok,7,1000000000.000000005\n\
+        ok,7,1020304050.060708090\n\
+        ok,7,9223372035.999999999\n";
+    assert_same(&rt, &out.as_slice(), &want.as_slice());
+    Ok(())
+}
+
+#[test]
 fn a_calendar_keeps_no_date_for_another_day(rt: HostRuntime) -> Result<(), Fail> {
     let mut out = Vec::new(rt.alloc());
     let mut calendar = Calendar::new(rt.alloc());

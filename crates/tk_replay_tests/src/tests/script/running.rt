@@ -76,6 +76,9 @@ fn tests_the_fields_of_running_clocks_first(rt: HostRuntime) {
     let few = b"openwords,7,16777216,24,0,0,16777216,0,0,0,0,0,0,0,0";
     let error = RowReader::open(rt.alloc(), few).err();
     assert_same(&rt, &error, &Some(ScriptError::Fields { row: 1 }));
+    let many = b"openwords,7,16777216,24,0,0,16777216,0,0,0,0,0,0,0,0,10000,,0";
+    let error = RowReader::open(rt.alloc(), many).err();
+    assert_same(&rt, &error, &Some(ScriptError::Fields { row: 1 }));
     let signed = b"openwords,7,16777216,24,-1,0,16777216,0,0,0,0,0,0,0,0,10000";
     let error = RowReader::open(rt.alloc(), signed).err();
     assert_same(&rt, &error, &Some(ScriptError::Number { row: 1 }));
