@@ -8,6 +8,7 @@
  *                        which also sets the kernel's REALTIME
  * /proc/tkcore/compare   the module's MONOTONIC_RAW, MONOTONIC, REALTIME,
  *                        BOOTTIME and TAI minus the kernel's, in ns
+ * steered.c adds two more.
  */
 #include "trial.h"
 
@@ -224,7 +225,8 @@ int files_create(void)
 	    proc_create("report", 0400, top, &REPORT_OPS) &&
 	    proc_create("compare", 0400, top, &COMPARE_OPS) &&
 	    proc_create("command", 0200, top, &COMMAND_OPS) &&
-	    proc_create("replay", 0600, top, &REPLAY_OPS))
+	    proc_create("replay", 0600, top, &REPLAY_OPS) &&
+	    steered_create(top))
 		return 0;
 	files_remove();
 	return -ENOMEM;

@@ -8,6 +8,7 @@
 
 #include <linux/ktime.h>
 
+struct proc_dir_entry;
 struct seq_file;
 
 /* The clocks that the kernel and the module both have. */
@@ -90,6 +91,9 @@ bool changes_is_near(const struct tkc_snapshot *snapshot, u64 reading);
 /* suspend.c: SUSPEND and RESUME at the system's suspend. */
 void suspend_register(void);
 void suspend_unregister(void);
+
+/* steered.c: clocks that are steered by requests, as files in /proc/tkcore. */
+bool steered_create(struct proc_dir_entry *top);
 
 /* files.c and print.c: the files in /proc/tkcore. */
 int files_create(void);
