@@ -71,11 +71,12 @@ class Timeline:
         self.drift = self.turns = self.settings = self.worst = self.replies = 0
 
     def apart(self):
-        """Returns what times may be apart by, in ns: a unit of the multiplier for a second, one
-        more for each set, step and sleep, which forget the rest of a unit; and twice the changes of
-        a tick's length, since the kernel notices a change at its next tick and counts only whole
-        ticks. Then the kernel's rounding of a tick, and that of the times themselves."""
-        return (1 + self.settings) * self.unit + 2 * self.turns / ntp.ONE + self.drift + 2
+        """Returns what times may be apart by, in ns: a unit of the multiplier for a second and a
+        nanosecond, once more for each set, step and sleep, since they forget the rest of both; and
+        twice the changes of a tick's length, since the kernel notices a change at its next tick and
+        counts only whole ticks. Then the kernel's rounding of a tick, and that of the times."""
+        units = (1 + self.settings) * (self.unit + 1)
+        return units + 2 * self.turns / ntp.ONE + self.drift + 2
 
     def move(self, reading):
         while self.reading < reading:
@@ -127,7 +128,7 @@ class Timeline:
                           f"more than {self.apart():.0f} ns")
         if not coarse:
             rest = abs(theirs - ours) - 2 * self.turns / ntp.ONE - self.drift - 2
-            self.worst = max(self.worst, rest / self.unit / (1 + self.settings))
+            self.worst = max(self.worst, rest / (self.unit + 1) / (1 + self.settings))
 
     def check_times(self):
         for clock in CLOCKS:

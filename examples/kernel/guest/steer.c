@@ -2,7 +2,7 @@
 /*
  * Gives the kernel's adjtimex(2) and the module's tkc_adjtimex the same
  * requests, and compares the replies, and REALTIME after some seconds. Its
- * status is 1 at the first reply or time that differs.
+ * status is 1 if a reply or a time differs in each of some tries.
  *
  * Requests follow at the middle of a second, since the kernel notices a second
  * at a tick. The program spins in between, because a processor that sleeps has
@@ -23,7 +23,7 @@ enum {
 	MIDDLE = 300000000, /* and up to twice as much */
 	TICK_NS = 4000000,
 	DAY = 86400,
-	TRIES = 10, /* of all requests, if the host pauses the guest between two calls */
+	TRIES = 5, /* of all requests, since the host may pause a processor for long */
 	PAUSE = 200000000, /* the longest pause that leaves both in a second */
 };
 
@@ -71,6 +71,12 @@ static const struct step steps[] = {
 static long long units, unit_ps, phase_ns, paused;
 static int requests;
 static jmp_buf again;
+
+static void try_again(const char *name, const char *what)
+{
+	printf("steer: %s: %s\n", name, what);
+	longjmp(again, 1);
+}
 
 static void fail(const char *what)
 {
@@ -149,8 +155,7 @@ static void print_reply(const char *who, int result, const struct timex *timex)
 
 /*
  * Gives both a request, and returns the state. All bytes of the replies but
- * their times must be the same. Begins again if the two calls were in different
- * seconds.
+ * their times must be the same.
  */
 static int both(const char *name, const struct timex *request)
 {
@@ -162,20 +167,19 @@ static int both(const char *name, const struct timex *request)
 		state = -errno;
 	found = ask(&module);
 	from = now(CLOCK_MONOTONIC_RAW) - from;
-	if (real % SECOND < MIDDLE / 2 || real % SECOND > SECOND - PAUSE || from > PAUSE) {
-		printf("steer: %s: the host paused the guest\n", name);
-		longjmp(again, 1);
-	}
+	if (real % SECOND < MIDDLE / 2 || real % SECOND > SECOND - PAUSE ||
+	    from > PAUSE)
+		try_again(name, "the host paused the guest");
 	if (from > paused)
 		paused = from;
 	module.time = kernel.time;
 	requests++;
 	if (found == state && !memcmp(&kernel, &module, sizeof(kernel)))
 		return found;
-	printf("steer: %s: another reply\n", name);
 	print_reply("kernel", state, &kernel);
 	print_reply("module", found, &module);
-	exit(1);
+	try_again(name, "the replies differ");
+	return -1;
 }
 
 static void compare_times(const char *name)
@@ -186,7 +190,7 @@ static void compare_times(const char *name)
 	printf("steer: %s: REALTIME differs by %lld ns, at most %lld\n", name,
 	       apart, most);
 	if (llabs(apart) > most)
-		fail("REALTIME differs");
+		try_again(name, "that is too much");
 }
 
 /* Opens the module's clocks at the kernel's time, after the kernel's discipline
@@ -273,7 +277,7 @@ int main(void)
 
 	setvbuf(stdout, NULL, _IOLBF, 0);
 	if (setjmp(again) && ++tries == TRIES)
-		fail("the host pauses the guest too often");
+		fail("all tries failed");
 	run();
 	printf("steer: %d replies are the kernel's\n", requests);
 	return 0;
