@@ -128,7 +128,7 @@ class Records:
             counter = Counter(bits, self.random.choice([256, 300, 2**20 + 1, 3_869_339_906]), self.random.randrange(33))
         reading = self.random.choice([0, 2**bits - 1, self.random.randrange(2**bits), min(2**bits, 2**64 - 1)])
         sec = self.random.choice([0, DAY_END - 3, DAY_END - 2, 1_700_000_000, 8_277_292_030, 8_277_292_036])
-        hz = self.random.choice([1, 100, 250, 1000, 1024, self.random.randrange(1026)])
+        hz = self.random.choice(2 * [1, 100, 250, 1000] + [0, 1024, 1025, self.random.randrange(1026)])
         fields = [bits, counter.mult, counter.shift, reading, sec, self.random.choice([0, 999_999_999]), hz]
         if self.random.randrange(2):
             return ",".join(map(str, ["open", *fields]))

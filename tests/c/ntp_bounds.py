@@ -10,6 +10,7 @@ from ntp import (ADJTIME, ESTERROR, FIELDS, FREQUENCY, MAXERROR, MICRO, NANO, OF
                  STA_FLL, STA_PLL, STATUS, TAI, TICK, TIMECONST, Timex)
 
 PARTS, BITS = (1, 100, 250, 1000), (8, 32, 64)
+OPENED = 0, 1, 1024, 1025               # the bounds of hz, and one past each
 REFUSALS = "asleep", "behind", "invalid", "range"
 
 
@@ -62,6 +63,8 @@ class Met:
 
     def add(self, session, record, line):
         word, *numbers = record.split(",")
+        if word == "open":
+            self.counts["opened with", int(numbers[-1])] += 1
         if word != "adjtimex":
             return
         request = Timex(*map(int, numbers[1:]))
@@ -83,6 +86,7 @@ class Met:
         """Returns what a comparison must meet and hasn't met."""
         wanted = [("hz", hz) for hz in PARTS] + [("bits", bits) for bits in BITS] + ALL
         wanted += [("refused", refusal) for refusal in REFUSALS]
+        wanted += [("opened with", hz) for hz in OPENED]
         return [f"{name} {value}" for name, value in wanted if not self.counts[name, value]]
 
     def text(self):
