@@ -34,6 +34,14 @@ impl<L: Named> Model for Actor<L> {
 /// The keeper of a race, with a counter that orders and times read.
 pub(crate) type RaceKeeper<'c, L> = SharedKeeper<L, SharedReader<'c, SharedTicker>>;
 
+/// Contains what the actors of a race share: the keeper, its counter and the gate.
+#[derive(Drop)]
+pub(crate) struct Track<'e, 'c, L: Named, G> {
+    pub(crate) keeper: &'e RaceKeeper<'c, L>,
+    pub(crate) counter: &'e SharedTicker,
+    pub(crate) gate: &'e G,
+}
+
 /// Does an action and returns the reply to it.
 fn answer<L: Named, R: Wait>(
     rt: &R,
@@ -71,9 +79,7 @@ fn answer<L: Named, R: Wait>(
 /// Does all actions of an actor, in order, and calls the gate before and after them.
 pub(crate) fn act<L: Named, G: Gate, R: Wait>(
     rt: &R,
-    keeper: &RaceKeeper<'_, L>,
-    counter: &SharedTicker,
-    gate: &G,
+    track: &Track<'_, '_, L, G>,
     piece: usize,
     actions: &[Action],
     actor: Actor<L>,
@@ -81,7 +87,8 @@ pub(crate) fn act<L: Named, G: Gate, R: Wait>(
     requires ready { IsReady actions.now actor }
     ensures { HasActed actor.caller result.caller actions.now result.replies }
 {
-    gate.before(piece);
+    let (keeper, counter) = (track.keeper, track.counter);
+    track.gate.before(piece);
     let Actor {
         mut caller,
         mut replies,
@@ -89,6 +96,6 @@ pub(crate) fn act<L: Named, G: Gate, R: Wait>(
     for action in actions {
         replies.push_reserved(answer(rt, keeper, counter, &mut caller, *action));
     }
-    gate.after(piece);
+    track.gate.after(piece);
     Actor { caller, replies }
 }

@@ -6,7 +6,7 @@ ghost use Rattle.tk_race.specs.RaceError.{IsRaceError, IsLate, race_error};
 ghost use Rattle.tk_race.specs.Actor.{AreReady, HaveDone};
 
 use crate::action::{Action, RaceReply};
-use crate::actor::{Actor, RaceKeeper};
+use crate::actor::{Actor, RaceKeeper, Track};
 use crate::race_error::RaceError;
 use crate::report::RaceReport;
 use crate::starting::act_at_once;
@@ -116,7 +116,12 @@ fn raced<L: Named + Send + Sync, G: Gate + Sync, R: Threads + Wait + Sync>(
     let Ok((keeper, callers)) = RaceKeeper::<L>::open(alloc, prepared) else {
         return Err(RaceError::Memory);
     };
-    let (back, replies) = act_all(alloc, rt, &keeper, counter, gate, actions, callers)?;
+    let track = Track {
+        keeper: &keeper,
+        counter,
+        gate,
+    };
+    let (back, replies) = act_all(alloc, rt, &track, actions, callers)?;
     let Ok(closed) = keeper.close(rt, back) else {
         unreachable!()
     };
@@ -132,9 +137,7 @@ fn raced<L: Named + Send + Sync, G: Gate + Sync, R: Threads + Wait + Sync>(
 fn act_all<L: Named + Send + Sync, G: Gate + Sync, R: Threads + Wait + Sync>(
     alloc: Global,
     rt: &R,
-    keeper: &RaceKeeper<'_, L>,
-    counter: &SharedTicker,
-    gate: &G,
+    track: &Track<'_, '_, L, G>,
     actions: &[Vec<Action>],
     callers: Vec<Caller<L>>,
 ) -> Result<(Vec<Caller<L>>, Vec<Vec<RaceReply>>), RaceError>
@@ -147,7 +150,7 @@ fn act_all<L: Named + Send + Sync, G: Gate + Sync, R: Threads + Wait + Sync>(
     let mut back = Vec::with_capacity(alloc, actions.len())?;
     let mut replies = Vec::with_capacity(alloc, actions.len())?;
     let actors = ready(alloc, actions, callers)?;
-    let acted = act_at_once(rt, keeper, counter, gate, actions, actors)?;
+    let acted = act_at_once(rt, track, actions, actors)?;
     part(acted, &mut back, &mut replies);
     Ok((back, replies))
 }

@@ -3,13 +3,12 @@ ghost use Rattle.std.specs.Prelude.{◌≡◌, length, map, IfOk, vec_len, vec_c
 ghost use Rattle.tk_race.specs.Actor.{HasActed, IsReady, HaveActed, AreReady};
 
 use crate::action::Action;
-use crate::actor::{Actor, RaceKeeper, act};
+use crate::actor::{Actor, Track, act};
 use crate::race_error::RaceError;
 use std::snapshot::Snapshot;
 use std::sync::Wait;
 use std::thread;
 use std::thread::{Promise, PromisedHandle, Scope, Threads};
-use tk_now::SharedTicker;
 use tk_pieces::Gate;
 use tk_shared::{Caller, Named};
 
@@ -31,9 +30,7 @@ impl<L: Named> Promise<Actor<L>> for Acts<L> {
 fn start<'s, 'c: 'e, 'e, L: Named + Send + Sync + 'e, G: Gate + Sync, R: Threads + Wait + Sync>(
     scope: &'s Scope<'s, &'e ()>,
     rt: &'e R,
-    keeper: &'e RaceKeeper<'c, L>,
-    counter: &'e SharedTicker,
-    gate: &'e G,
+    track: &'e Track<'e, 'c, L, G>,
     piece: usize,
     actions: &'e Vec<Action>,
     actor: Actor<L>,
@@ -51,7 +48,7 @@ fn start<'s, 'c: 'e, 'e, L: Named + Send + Sync + 'e, G: Gate + Sync, R: Threads
     let work = move || -> Actor<L>
         requires { IsReady actions.now.items actor }
         ensures { HasActed actor.caller result.caller actions.entry.now.items result.replies }
-    { act(rt, keeper, counter, gate, piece, actions.as_slice(), actor) };
+    { act(rt, track, piece, actions.as_slice(), actor) };
     match scope.spawn_with(promise, work) {
         Ok(handle) => Ok(handle),
         Err(_) => Err(RaceError::Threads),
@@ -63,9 +60,7 @@ fn start<'s, 'c: 'e, 'e, L: Named + Send + Sync + 'e, G: Gate + Sync, R: Threads
 fn start_all<'s, 'c: 'e, 'e, L: Named + Send + Sync + 'e, G: Gate + Sync, R: Threads + Wait + Sync>(
     scope: &'s Scope<'s, &'e ()>,
     rt: &'e R,
-    keeper: &'e RaceKeeper<'c, L>,
-    counter: &'e SharedTicker,
-    gate: &'e G,
+    track: &'e Track<'e, 'c, L, G>,
     actions: &'e [Vec<Action>],
     mut actors: Vec<Actor<L>>,
 ) -> Result<Vec<Actor<L>>, RaceError>
@@ -79,8 +74,8 @@ fn start_all<'s, 'c: 'e, 'e, L: Named + Send + Sync + 'e, G: Gate + Sync, R: Thr
         return Ok(actors);
     };
     let actor = actors.pop().unwrap();
-    let handle = start(scope, rt, keeper, counter, gate, others.len(), last, actor)?;
-    let mut back = start_all(scope, rt, keeper, counter, gate, others, actors)?;
+    let handle = start(scope, rt, track, others.len(), last, actor)?;
+    let mut back = start_all(scope, rt, track, others, actors)?;
     back.push_reserved(handle.join(rt));
     Ok(back)
 }
@@ -90,9 +85,7 @@ fn start_all<'s, 'c: 'e, 'e, L: Named + Send + Sync + 'e, G: Gate + Sync, R: Thr
 /// Returns `Threads` if a thread couldn't be started. The threads that were started have ended.
 pub(crate) fn act_at_once<L: Named + Send + Sync, G: Gate + Sync, R: Threads + Wait + Sync>(
     rt: &R,
-    keeper: &RaceKeeper<'_, L>,
-    counter: &SharedTicker,
-    gate: &G,
+    track: &Track<'_, '_, L, G>,
     actions: &[Vec<Action>],
     actors: Vec<Actor<L>>,
 ) -> Result<Vec<Actor<L>>, RaceError>
@@ -109,6 +102,6 @@ pub(crate) fn act_at_once<L: Named + Send + Sync, G: Gate + Sync, R: Threads + W
             ensures { MatchResult result
                 (λ back. HaveActed (map (λ a. a.items) actions.entry.now) actors.items back.items)
                 (λ error. error ≡ RaceError.Threads) }
-        { start_all(scope, rt, keeper, counter, gate, actions, actors) },
+        { start_all(scope, rt, track, actions, actors) },
     )
 }
