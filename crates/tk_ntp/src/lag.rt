@@ -231,6 +231,9 @@ fn limited_product(cycles: u64, short: u128) -> u128
     requires { short ≤ 2 ^ 96 }
     ensures { result ≡ min (cycles * short) (2 ^ 126) }
 {
+    if short < WORD {
+        return (u128::from(cycles) * short).min(PRODUCT_LIMIT);
+    }
     let upper = u128::from(cycles) * (short / HALF_WORD);
     if upper >= 1 << 94 {
         return PRODUCT_LIMIT;
