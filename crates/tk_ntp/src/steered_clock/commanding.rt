@@ -3,13 +3,14 @@ ghost use Rattle.std.specs.Prelude.{◌≡◌, ◌≤◌, MatchResult, Some, Non
 ghost use Rattle.tk_counter.specs.Counter.{mask};
 ghost use Rattle.tk_clock.specs.Limits.{clock_end};
 ghost use Rattle.tk_clock.specs.Refusal.{state_refusal};
+ghost use Rattle.tk_clock.specs.State.{State};
 ghost use Rattle.tk_ntp.specs.Asked.{given_tai, tai_refusal, second_after, restarted, after_command, IsCommanded};
 ghost use Rattle.tk_ntp.specs.SteeredClock.{accounted_to, given, given_any, given_change, steered_at};
 
 use super::SteeredClock;
 use crate::change::Change;
 use tk_clock::{Clock, ClockId, Command, Refusal};
-use tk_counter::NANOS_PER_SECOND;
+use tk_counter::{CounterDesc, NANOS_PER_SECOND};
 
 impl SteeredClock {
     /// Accounts for the cycles up to a reading, in cycles.
@@ -90,37 +91,39 @@ impl SteeredClock {
     pub fn command(&mut self, reading: u64, cmd: Command) -> Result<(), Refusal>
         ensures { IsCommanded reading cmd self.old result self.new }
     {
-        let mut clock = self.clock;
-        clock.apply(reading, cmd)?;
-        self.follow(reading, cmd, clock);
+        let (desc, mult) = (self.desc(), self.snapshot(0).mult());
+        self.clock.apply(reading, cmd)?;
+        self.follow(reading, cmd, desc, mult);
         Ok(())
     }
 
-    /// Takes the clocks that an accepted command left.
-    fn follow(&mut self, reading: u64, cmd: Command, clock: Clock)
-        requires { reading ≤ mask clock.base.counter }
-        ensures { self.new ≡ after_command reading cmd clock self.old }
+    /// Follows an accepted command, before which the clocks ran at the multiplier `mult`.
+    fn follow(&mut self, reading: u64, cmd: Command, desc: CounterDesc, mult: u32)
+        requires { reading ≤ mask self.old.clock.base.counter }
+        ensures { (before : State) → before.base.counter ≡ desc → before.base.mult ≡ mult →
+            self.new
+            ≡ after_command reading cmd self.old.clock (record self.old { clock = before }) }
     {
         match cmd {
             Command::SetTime(_) | Command::Step(_) | Command::Leap { .. } => {
                 self.steering.clear();
-                self.restart(reading, clock);
+                self.restart(reading);
             }
-            Command::Resume(_) => self.restart(reading, clock),
+            Command::Resume(_) => self.restart(reading),
             _ => {
-                self.account(reading);
-                self.clock = clock;
+                let cycles = desc.gap(self.mark, reading);
+                self.steering.account(desc, mult, cycles);
+                self.mark = reading;
             }
         }
     }
 
-    /// Takes clocks that were set or woken at a reading, and gives the present second its rate.
-    fn restart(&mut self, reading: u64, clock: Clock)
-        requires { reading ≤ mask clock.base.counter }
-        ensures { self.new ≡ restarted reading clock self.old }
+    /// Gives the present second its rate, after the clocks were set or woken at a reading.
+    fn restart(&mut self, reading: u64)
+        requires { reading ≤ mask self.old.clock.base.counter }
+        ensures { self.new ≡ restarted reading self.old.clock self.old }
     {
-        self.clock = clock;
-        self.next = second_after(clock, reading);
+        self.next = second_after(self.clock, reading);
         self.mark = reading;
         self.steer(reading);
     }
