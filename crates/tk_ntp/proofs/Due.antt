@@ -1,17 +1,24 @@
 -- No second is due: up to a reading at which REALTIME is before the next one, and after late seconds
 -- have begun.
-use Rattle.std.proofs.Common.{◌≡◌, subst, ℕ, ◌*◌, ◌^◌, ◌<◌, ◌≤◌, Option, Some, None, arith}
-use Rattle.std.specs.Prelude.{ℤ, pos, ◌+ℤ◌, ◌*ℤ◌, ◌<ℤ◌, ◌≤ℤ◌, Ok, unsigned_abs}
+use Rattle.std.proofs.Common.{◌≡◌, ◌∙◌, ap, refl, sym, subst, ℕ, ◌*◌, ◌^◌, ◌<◌, ◌≤◌, Option, Some, None, arith}
+use Rattle.std.specs.Prelude.{ℤ, pos, ◌+ℤ◌, ◌*ℤ◌, ◌<ℤ◌, ◌≤ℤ◌, Ok, Err, Result, MatchOption, ⊤, unsigned_abs}
 use Rattle.std.proofs.lemmas.Int.{ints}
 use Rattle.tk_counter.specs.Counter.{half}
 use Rattle.tk_clock.specs.declared.clock_id.ClockId.TheVariants.{Realtime}
+use Rattle.tk_clock.specs.declared.command.Command.TheVariants.{Update}
 use Rattle.tk_clock.specs.declared.refusal.ReadError.{ReadError}
+use Rattle.tk_clock.specs.declared.refusal.Refusal.{Refusal}
+use Rattle.tk_clock.specs.Refusal.{first_of, order_refusal, state_refusal}
 use Rattle.tk_clock.specs.Reach.{distance}
 use Rattle.tk_clock.specs.Read.{read_of, unless_refused}
 use Rattle.tk_clock.specs.State.{base_value}
 use Rattle.tk_clock.specs.Time.{nanoseconds}
 use Rattle.tk_clock.proofs.Lines.{value_ahead, value_rises}
-use Rattle.tk_ntp.specs.Advance.{IsNoneDue, second_time}
+use Rattle.tk_ntp.specs.Advance.{IsAdvanced, IsNoneDue, second_time}
+use Rattle.tk_ntp.specs.Advance.{Arrived as ArrivedThere}
+use Rattle.tk_ntp.specs.Applied.{IsFollowed}
+use Rattle.tk_ntp.specs.Asked.{IsCommanded}
+use Rattle.tk_ntp.specs.Staged.{IsSettled}
 use Rattle.tk_ntp.specs.Late.{Arrived, Begins, IsAdvancedLate, second_begun_late}
 use Rattle.tk_ntp.specs.SteeredClock.{SteeredClock}
 
@@ -44,6 +51,34 @@ module _ (steered : SteeredClock) (reading nanos : ℕ)
       (subst (λ v. second ≤ℤ v) (value_ahead base Realtime at ahead.1) reached.1)
       (value_rises base Realtime (distance base at) (distance base reading) order)
       (subst (λ v. v <ℤ second) (value_ahead base Realtime reading near) low)
+
+followed-by : (state order : Option Refusal) (reading : ℕ) (before after : SteeredClock)
+    (result : Result ⊤ Refusal) → IsNoneDue before reading → order ≡ None →
+    state_refusal before.clock reading Update ≡ state →
+    IsCommanded reading Update before result after →
+    MatchOption (first_of state order)
+    ((advanced : SteeredClock) × IsAdvanced reading before advanced
+    × IsCommanded reading Update advanced result after)
+    (λ refusal. (result ≡ Err refusal) × (after ≡ before))
+followed-by None None reading before after result none is is' h =
+    (before, ArrivedThere before none, h)
+followed-by None (Some refusal) reading before after result none is is' h = absurd (cc is)
+followed-by (Some refusal) order reading before after (Ok done) none is is' h =
+    absurd (cc (sym is' ∙ h.0))
+followed-by (Some refusal) order reading before after (Err given) none is is' h =
+    (ap (λ r. Err r) (same given refusal (sym h.0 ∙ is')), h.1)
+  where
+    same : (a b : Refusal) → Some a ≡ Some b → a ≡ b
+    same a b e = cc e
+
+-- an update of settled clocks, before which no second begins
+pub followed : (reading : ℕ) (before after : SteeredClock) (result : Result ⊤ Refusal) →
+    IsSettled before reading → IsCommanded reading Update before result after →
+    IsFollowed reading Update before result after
+followed reading before after result settled h =
+    followed-by (state_refusal before.clock reading Update)
+    (order_refusal before.clock.base.counter before.mark reading Update) reading before after
+    result settled.none settled.order refl h
 
 -- late seconds leave none that is due
 pub none_left : (reading : ℕ) (before after : SteeredClock) →

@@ -1,7 +1,8 @@
 -- Single seconds and their commands, for owners of a journal.
 use Rattle.std.specs.Prelude.{◌≡◌, ℕ, ◌+◌, nat_eq, Bool, true, false, Option, Some, None, MatchOption, if◌then◌else◌}
 use Rattle.tk_clock.specs.declared.refusal.Refusal.{Refusal}
-use Rattle.tk_clock.specs.Refusal.{state_refusal}
+use Rattle.tk_clock.specs.declared.command.Command.TheVariants.{Update}
+use Rattle.tk_clock.specs.Refusal.{order_refusal, state_refusal}
 use Rattle.tk_ntp.specs.declared.begun_second.BegunSecond.{BegunSecond}
 use Rattle.tk_ntp.specs.declared.leap.Leap.{Leap}
 use Rattle.tk_ntp.specs.declared.leap.Leap.TheVariants.{None as NoLeap, Insert, Delete}
@@ -32,6 +33,11 @@ leap_between before after =
 abbrev pub IsDueIf : Bool → SteeredClock → ℕ → Type 0
 IsDueIf true steered reading = (at : ℕ) × IsDue steered reading at
 IsDueIf false steered reading = IsNoneDue steered reading
+
+-- no second is due up to a reading, which is not behind the last account
+pub record IsSettled (steered : SteeredClock) (reading : ℕ) : Type 0 where
+  pub none : IsNoneDue steered reading
+  pub order : order_refusal steered.clock.base.counter steered.mark reading Update ≡ None
 
 -- just the next second began, if REALTIME reaches it up to a reading
 abbrev pub IsOneBegun : ℕ → SteeredClock → Option BegunSecond → SteeredClock → Type 0

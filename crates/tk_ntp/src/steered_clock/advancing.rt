@@ -106,7 +106,7 @@ impl SteeredClock {
     /// Returns whether a read shows that REALTIME is before the next second at `reading`, so that
     /// no second is due. A read needs no division.
     #[inline(always)]
-    fn is_early(&self, reading: u64) -> bool
+    pub(super) fn is_early(&self, reading: u64) -> bool
         ensures { result ≡ true → IsNoneDue self.now reading }
     {
         let now = self.snapshot(0);

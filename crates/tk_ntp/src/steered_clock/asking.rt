@@ -88,8 +88,20 @@ impl SteeredClock {
     {
         match cmd {
             Command::Resume(_) => self.command(reading, cmd),
+            Command::Update => self.apply_update(reading),
             _ => self.apply_awake(reading, cmd),
         }
+    }
+
+    /// Applies an update after the seconds up to its reading have begun. Mostly none is due, and
+    /// then the update is the test of its reading.
+    fn apply_update(&mut self, reading: u64) -> Result<(), Refusal>
+        ensures { IsFollowed reading Command.Update self.old result self.new }
+    {
+        if self.is_settled(reading) {
+            return self.command(reading, Command::Update);
+        }
+        self.apply_awake(reading, Command::Update)
     }
 
     /// Applies a command after the seconds up to its reading have begun.

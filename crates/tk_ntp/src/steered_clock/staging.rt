@@ -1,7 +1,7 @@
 //! Lets single seconds of REALTIME begin, for owners who record each command in a journal.
-ghost use Rattle.std.specs.Prelude.{◌≡◌, ◌+◌, ◌<◌, ◌≤◌, ◌^◌, MatchOption};
+ghost use Rattle.std.specs.Prelude.{◌≡◌, ◌+◌, ◌<◌, ◌≤◌, ◌^◌, true, MatchOption};
 ghost use Rattle.tk_ntp.specs.Advance.{seconds_left};
-ghost use Rattle.tk_ntp.specs.Staged.{leap_between, IsDueIf, IsOneBegun};
+ghost use Rattle.tk_ntp.specs.Staged.{leap_between, IsDueIf, IsOneBegun, IsSettled};
 
 use super::SteeredClock;
 use crate::begun_second::BegunSecond;
@@ -14,6 +14,14 @@ impl SteeredClock {
         ensures { IsDueIf result self.now reading }
     {
         self.due(reading).is_some()
+    }
+
+    /// Returns whether it is known without a search that `advance` to `reading` changes nothing,
+    /// and refuses the reading only if the clocks refuse an update there.
+    pub fn is_settled(&self, reading: u64) -> bool
+        ensures { result ≡ true → IsSettled self.now reading }
+    {
+        self.is_early(reading) && !self.is_behind(reading)
     }
 
     /// Lets just the next second of REALTIME begin, if it begins at `reading` or before it, and
