@@ -1,6 +1,6 @@
 -- The clocks of requests whose commands are entered are those of the requests.
-use Rattle.std.proofs.Common.{◌≡◌, inl, inr, ap, refl, ℕ, Bool, Option, Some, None, true, false}
-use Rattle.std.specs.Prelude.{⊤, IfOk, MatchOption, Result, Ok, Err}
+use Rattle.std.proofs.Common.{◌≡◌, ◌∙◌, inl, inr, ap, refl, sym, ℕ, Bool, Option, Some, None, true, false}
+use Rattle.std.specs.Prelude.{⊤, IfOk, MatchOption, MatchResult, Result, Ok, Err}
 use Rattle.tk_clock.specs.declared.command.Command.{Command}
 use Rattle.tk_clock.specs.declared.refusal.Refusal.{Refusal}
 use Rattle.tk_clock.specs.declared.timespec.Timespec.{Timespec}
@@ -8,14 +8,18 @@ use Rattle.tk_clock.specs.Command.{is_resume}
 use Rattle.tk_clock.specs.Journal.{accepted_count}
 use Rattle.tk_ntp.specs.declared.reply.Reply.{Reply}
 use Rattle.tk_ntp.specs.declared.timex.Timex.{Timex}
-use Rattle.tk_ntp.specs.Advance.{IsAdvanced}
+use Rattle.tk_ntp.specs.Advance.{IsAdvanced, IsNoneDue}
+use Rattle.tk_ntp.specs.Staged.{IsSettled}
+use Rattle.tk_clock.specs.declared.command.Command.TheVariants.{Update}
+use Rattle.tk_clock.specs.Refusal.{first_of, order_refusal, state_refusal}
 use Rattle.tk_ntp.specs.Applied.{IsApplied, IsPlain, request_of, without_reply}
 use Rattle.tk_ntp.specs.Asked.{IsAnswered, IsAsked, IsCommanded, IsRequested, first_fault, step_refusal, stepped}
 use Rattle.tk_ntp.specs.Request.{step_of}
 use Rattle.tk_ntp.specs.SteeredClock.{SteeredClock, reading_refusal}
 use Rattle.tk_steered.specs.Answered.{IsAnsweredBy, IsAskedBy, IsCommandedBy, IsFollowing, IsRequestedBy, stepped_by}
-use Rattle.tk_steered.specs.Applied.{IsAppliedBy, IsPlainBy, numbered}
-use Rattle.tk_steered.specs.Logged.{Logged, SteeredKeeper, request_most, second_most}
+use Rattle.tk_steered.specs.Begun.{Still}
+use Rattle.tk_steered.specs.Applied.{IsFollowedBy, IsAppliedBy, IsPlainBy, numbered}
+use Rattle.tk_steered.specs.Logged.{Logged, SteeredKeeper, has_room, request_most, second_most}
 use Rattle.tk_steered.proofs.Advances.{advanced}
 
 asked-if : (who reading : ℕ) (request : Timex) (step : Option Timespec) (refusal : Option Refusal)
@@ -65,6 +69,41 @@ answered-clocks who reading request before after (Ok reply) h =
     (λ middle. asked-clocks who reading request middle (Ok reply) after.logged)
     (first_fault reading request before.logged.clock) h
 answered-clocks who reading request before after (Err refusal) h = tt
+
+updated-by : (state order : Option Refusal) (who reading : ℕ) (before after : SteeredKeeper)
+    (result : Result ⊤ Refusal) → IsNoneDue before.logged.clock reading → order ≡ None →
+    state_refusal before.logged.clock.clock reading Update ≡ state →
+    has_room second_most before.logged.journal ≡ true →
+    IsCommandedBy who reading Update before.logged result after.logged →
+    MatchResult result (λ _. ⊤) (λ _. after ≡ before) →
+    MatchOption (first_of state order)
+    (IsFollowing second_most who reading
+    (λ middle. IsCommandedBy who reading Update middle result after.logged) before result after)
+    (λ refusal. (result ≡ Err refusal) × (after ≡ before))
+updated-by None None who reading before after result none is is' room h same =
+    inr (before.logged, record { begun = Still before.logged; none = none }, room, h)
+updated-by None (Some refusal) who reading before after result none is is' room h same =
+    absurd (cc is)
+updated-by (Some refusal) order who reading before after (Ok done) none is is' room h same =
+    absurd (cc (sym is' ∙ h.answer.0))
+updated-by (Some refusal) order who reading before after (Err given) none is is' room h same =
+    (ap (λ r. Err r) (found given refusal (sym h.answer.0 ∙ is')), same)
+  where
+    found : (a b : Refusal) → Some a ≡ Some b → a ≡ b
+    found a b e = cc e
+
+-- an update of settled clocks, before which no second begins
+pub updated : (who reading : ℕ) (before after : SteeredKeeper) (result : Result ⊤ Refusal) →
+    IsSettled before.logged.clock reading →
+    has_room second_most before.logged.journal ≡ true →
+    IsCommandedBy who reading Update before.logged result after.logged →
+    MatchResult result (λ _. ⊤) (λ _. after ≡ before) →
+    IsFollowedBy who reading Update before result after
+updated who reading before after result settled room h same =
+    let steered = before.logged.clock in
+    updated-by (state_refusal steered.clock reading Update)
+    (order_refusal steered.clock.base.counter steered.mark reading Update) who reading before
+    after result settled.none settled.order refl room h same
 
 plain-clocks : (resumes : Bool) (who reading : ℕ) (cmd : Command) (before after : SteeredKeeper) →
     IsPlainBy resumes who reading cmd before (Ok tt) after →

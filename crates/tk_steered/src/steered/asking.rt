@@ -1,5 +1,5 @@
 //! Answers requests, and applies commands.
-ghost use Rattle.std.specs.Prelude.{◌≡◌, ◌+◌, ◌≤◌, IfOk, Ok, None, pos, true, false};
+ghost use Rattle.std.specs.Prelude.{◌≡◌, ◌+◌, ◌≤◌, ⊤, IfOk, MatchResult, Ok, None, pos, true, false};
 ghost use Rattle.tk_ntp.specs.Advance.{tai_of_clock};
 ghost use Rattle.tk_clock.specs.Command.{is_resume};
 ghost use Rattle.tk_clock.specs.Journal.{accepted_count};
@@ -100,6 +100,7 @@ impl<A: Allocator + Copy> Steered<A> {
     {
         match cmd {
             Command::Resume(_) => self.apply_asleep(who, reading, cmd),
+            Command::Update => self.apply_update(who, reading),
             _ => self.apply_awake(who, reading, cmd),
         }
     }
@@ -111,6 +112,17 @@ impl<A: Allocator + Copy> Steered<A> {
     {
         self.make_room(SECOND_ENTRIES_LIMIT)?;
         self.command(who, reading, cmd)
+    }
+
+    /// Applies an update after the seconds up to its reading have begun. Mostly none is due, and
+    /// then the update is the test of its reading.
+    fn apply_update(&mut self, who: u32, reading: u64) -> Result<(), Refusal>
+        ensures { IsFollowedBy who reading Command.Update self.old result self.new }
+    {
+        if self.clock.is_settled(reading) && self.is_ready(SECOND_ENTRIES_LIMIT) {
+            return self.command(who, reading, Command::Update);
+        }
+        self.apply_awake(who, reading, Command::Update)
     }
 
     /// Applies a command after the seconds up to its reading have begun.
@@ -143,6 +155,7 @@ impl<A: Allocator + Copy> Steered<A> {
         requires room { has_room 3 self.old.logged.journal ≡ true }
         requires spare { 3 ≤ self.old.spare }
         ensures answer { IsCommandedBy who reading cmd self.old.logged result self.new.logged }
+        ensures refused { MatchResult result (λ _. ⊤) (λ _. self.new ≡ self.old) }
         ensures spare { self.old.spare ≤ self.new.spare + 3 }
         ensures room { has_room 6 self.old.logged.journal ≡ true →
             has_room 3 self.new.logged.journal ≡ true }

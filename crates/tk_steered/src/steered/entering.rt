@@ -55,6 +55,15 @@ impl<A: Allocator + Copy> Steered<A> {
         Ok(())
     }
 
+    /// Returns whether this many more entries fit the journal and the reserved memory.
+    pub(super) fn is_ready(&self, count: usize) -> bool
+        requires { count ≤ 6 }
+        ensures { result ≡ true → (has_room count self.now.logged.journal ≡ true)
+            × (count ≤ self.now.spare) }
+    {
+        self.has_room(count) && self.keeper.spare() >= count
+    }
+
     /// Returns whether this many more entries fit the journal.
     fn has_room(&self, count: usize) -> bool
         requires { count ≤ 6 }
