@@ -2,8 +2,8 @@
 /*
  * Stands in for each header of the kernel that kernel/time/ntp.c and
  * kernel/time/timekeeping.c of 6.1 include and that isn't taken from its sources
- * (check lists them): a process of one thread, which never sleeps, has no
- * interrupts and no PPS, and may do all.
+ * (kernel.py lists them). This kernel has one thread, no interrupts and no PPS,
+ * and its callers may do all.
  */
 #ifndef KERNEL_NTP_LINUX_H
 #define KERNEL_NTP_LINUX_H
@@ -29,10 +29,6 @@ typedef int clockid_t;
 #define BITS_PER_LONG 64
 #define USER_HZ 100
 #define USER_TICK_USEC (1000000UL / USER_HZ)
-#define KTIME_MAX ((s64)~((u64)1 << 63))
-#define KTIME_MIN (-KTIME_MAX - 1)
-#define KTIME_SEC_MAX (KTIME_MAX / NSEC_PER_SEC)
-#define KTIME_SEC_MIN (KTIME_MIN / NSEC_PER_SEC)
 
 #define __init
 #define __user
@@ -40,7 +36,6 @@ typedef int clockid_t;
 #define __iomem
 #define __read_mostly
 #define __weak __attribute__((weak))
-#define __always_inline inline
 #define ____cacheline_aligned
 #define notrace
 #define noinstr
@@ -50,7 +45,6 @@ typedef int clockid_t;
 #define likely(x) (x)
 #define unlikely(x) (x)
 #define READ_ONCE(x) (x)
-#define WRITE_ONCE(x, value) ((x) = (value))
 #define data_race(x) (x)
 #define EXPORT_SYMBOL(name)
 #define EXPORT_SYMBOL_GPL(name)
@@ -63,9 +57,6 @@ extern int kernel_warnings;
 
 #define WARN_ON(x) ({ bool is_wrong = (x); kernel_warnings += is_wrong; is_wrong; })
 #define WARN_ON_ONCE(x) ((void)WARN_ON(x))
-#define KERN_WARNING
-#define KERN_NOTICE
-#define KERN_ERR
 #define printk(...) ((void)0)
 #define printk_once(...) ((void)0)
 #define printk_deferred(...) ((void)0)
@@ -79,7 +70,6 @@ extern int kernel_warnings;
 #define ilog2(x) (63 - __builtin_clzll(x))
 #define fls64(x) ((x) ? 64 - __builtin_clzll(x) : 0)
 #define do_div(n, by) ({ u32 rest_ = (u32)((n) % (by)); (n) /= (by); rest_; })
-#define div64_long div64_s64
 
 /* No thread interrupts another. */
 typedef struct { int none; } raw_spinlock_t, seqcount_raw_spinlock_t;
@@ -132,7 +122,6 @@ struct audit_ntp_data {
 #define add_device_randomness(from, size) ((void)(from))
 #define capable(capability) true
 #define CLOCK_SET_WALL 1
-#define CLOCK_SET_BOOT 2
 #define clock_was_set(bases) ((void)(bases))
 #define clock_was_set_delayed() ((void)0)
 #define timerfd_resume() ((void)0)
