@@ -152,6 +152,8 @@ class Records:
             return (clock.last + past) % 2**counter.bits
         most = self.random.choice([1, 1, second, second, 4 * second])
         cycles = 300 * second if self.random.randrange(500) == 0 else self.random.randrange(most + 2)
+        if self.random.randrange(20_000) == 0:          # a day that no call saw
+            cycles = 86_400 * second
         start = self.random.choice([clock.last] + 7 * [self.session.steered.mark])
         most = 2**counter.bits // 2 - 1 - counter.gap(clock.last, start)
         return (start + max(0, min(cycles, most))) % 2**counter.bits
