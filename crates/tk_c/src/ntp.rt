@@ -146,13 +146,11 @@ pub extern "C" fn tkc_ntp_apply(
 ) -> u32
     ensures { IsNtpApplied ntp.old reading (command_named command number nsec) result ntp.new }
 {
-    let Some(cmd) = command_named(command, number, nsec) else {
-        return Code::BadCommand.number();
-    };
-    if ntp.front >= COUNTED_LIMIT {
-        return Code::Full.number();
+    match command_named(command, number, nsec) {
+        Some(cmd) if ntp.front < COUNTED_LIMIT => apply_counted(ntp, reading, cmd),
+        Some(_) => Code::Full.number(),
+        None => Code::BadCommand.number(),
     }
-    apply_counted(ntp, reading, cmd)
 }
 
 /// Applies a command, and counts it if it is accepted.
