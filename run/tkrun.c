@@ -10,7 +10,6 @@
 #include "tkrun.h"
 
 #include <errno.h>
-#include <fcntl.h>
 #include <inttypes.h>
 #include <stdio.h>
 #include <stdlib.h>
@@ -216,30 +215,6 @@ static void run_first_orders(struct run *run)
 	machine_unlock(&run->machine, &saved);
 }
 
-/* A tkrun that runs in another one with a filter must not get its clocks. */
-static void find_host_clock(struct run *run)
-{
-	bool makes_calls = vdso_makes_calls();
-
-	if (makes_calls)
-		host_gettime = host_gettime_by_call;
-	/* tests make programs read by calls where the vDSO can read */
-	run->calls_host = makes_calls || getenv("TKRUN_HOST_CALLS");
-}
-
-/* No file of tkrun may get the number of a standard one that was closed: its
- * messages would be written to it. The program doesn't inherit these. */
-static void hold_standard_files(void)
-{
-	int file;
-
-	do {
-		file = open("/dev/null", O_RDWR | O_CLOEXEC);
-	} while (file >= 0 && file <= STDERR_FILENO);
-	if (file >= 0)
-		close(file);
-}
-
 static struct run run;
 
 static void remove_all(void)
@@ -263,17 +238,14 @@ int main(int count, char **words)
 		start_log(&run.options);
 	/* a record at the limit of a file's size ends, and the program goes on */
 	run.on_limit = signal(SIGXFSZ, SIG_IGN);
+	block_signals(&signals, &before);
 	atexit(remove_all);
 	open_machine(&run);
 	if (is_recorded)
 		start_record(&run);
 	run_first_orders(&run);
 	prctl(PR_SET_CHILD_SUBREAPER, 1, 0, 0, 0);
-	sigemptyset(&signals);
-	sigaddset(&signals, SIGCHLD);
-	sigaddset(&signals, SIGTERM);
-	sigaddset(&signals, SIGHUP);
-	sigprocmask(SIG_BLOCK, &signals, &before);
+	end_by_signal();
 	run.started = host_nanos(CLOCK_MONOTONIC);
 	start_program(&run, &before);
 	signal(SIGINT, SIG_IGN);

@@ -30,6 +30,21 @@ struct run {
  * can't read the host's clocksource, or there is no vDSO. */
 bool vdso_makes_calls(void);
 
+/* Finds out how the host's clocks are read. A tkrun inside another one with a
+ * filter must not read the clocks outside. */
+void find_host_clock(struct run *run);
+
+/* Lets no file of tkrun get the number of a standard one that was closed: messages
+ * would be written to it. The program doesn't inherit these files. */
+void hold_standard_files(void);
+
+/* Blocks the signals that would end tkrun before it has removed its files. Stores
+ * those that it waits for later. */
+void block_signals(sigset_t *signals, sigset_t *before);
+
+/* Ends tkrun if a signal came before there was a program to pass it on to. */
+void end_by_signal(void);
+
 /* Makes the clocks of the options. Ends tkrun if it can't. */
 void open_machine(struct run *run);
 

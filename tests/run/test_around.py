@@ -5,7 +5,7 @@ import shutil
 import subprocess
 import time
 
-from runs import IS_ROOT, OTHER, STILL, TKRUN, RunTest, call, needs_root, program
+from runs import (IS_ROOT, OTHER, STILL, TKRUN, RunTest, call, needs_mounts, needs_root, program)
 
 
 class Around(RunTest):
@@ -56,6 +56,16 @@ class Around(RunTest):
         run.terminate()
         self.assertEqual(run.wait(20), 7)
         run.stdout.close()
+
+    @needs_mounts("empties /dev/shm")
+    def test_a_signal_that_comes_before_the_program_leaves_no_file(self):
+        # at most 9.9 ms later; the shell says nothing of the end of a job
+        command = ("mount -t tmpfs tmpfs /dev/shm; exec 2>/dev/null; for i in {1..60}; do "
+                   "$1 --quiet --record /dev/shm/r -- sleep 0.1 & "
+                   "read -t 0.00$((RANDOM % 10))$((RANDOM % 10)) none </dev/zero; "
+                   "kill -$((i % 2 ? 15 : 1)) $!; wait $!; done; ls /dev/shm")
+        run = call(["unshare", "-m", "bash", "-c", command, "bash", TKRUN])
+        self.assertIn(run.stdout, ["", "r\n"])
 
     def test_warnings_of_programs_without_the_library(self):
         run = self.start("--", "bash", "-c", f"{program('static_waits')} nanosleep; true")
