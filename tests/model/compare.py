@@ -16,6 +16,7 @@ import sys
 import tempfile
 
 import model
+from steered import SteeredOrders
 
 COUNTERS = [(32, 16_777_216, 24), (8, 256, 0), (16, 16_777_216, 24), (64, 4_194_304, 0), (48, 699_050_667, 24),
             (64, 3_869_339_906, 0), (33, 259, 32), (64, 3_869_339_906, 32), (20, 1_000, 10)]
@@ -98,17 +99,28 @@ def expected(rng, journal, at, clock):
     return max(0, own + rng.choice([-1, 1])) if pick < 0.9 else rng.choice([0, rng.randrange(2**64)] + EDGES[:-1])
 
 
+def parsed_lines(lines):
+    """The journal at the opening and the rows of these records, or None where they have a fault."""
+    try:
+        return model.parsed("\n".join(",".join(map(str, line)) for line in lines).encode())
+    except model.Fault:
+        return None
+
+
 def add_values(rng, lines):
     """Adds the expected value to half of the reads."""
-    try:
-        journal, rows = model.parsed("\n".join(",".join(map(str, line)) for line in lines).encode())
-    except model.Fault:
+    parsed = parsed_lines(lines)
+    if parsed is None:
         return
+    journal, rows = parsed
+    session = model.session_of(journal)
     for line, (word, (at, *fields)) in zip(lines[1:], rows):
         if word != "get":
-            journal, _ = model.done(journal, word, at, fields, False)
-        elif rng.random() < 0.5:
-            line.append(expected(rng, journal, at, fields[0]))
+            session.line(word, at, fields)
+            continue
+        session.look(at)
+        if rng.random() < 0.5:
+            line.append(expected(rng, session.journal, at, fields[0]))
 
 
 def records(rng, has_changes, has_values=True, may_run=False):
@@ -123,6 +135,9 @@ def records(rng, has_changes, has_values=True, may_run=False):
         at = reading(rng, bits, last)
         if rng.random() < 0.4:
             lines.append(["get", at, rng.choice(model.CLOCKS)])
+            continue
+        if rng.random() < 0.01:
+            lines.append(["adjtimex", at, *SteeredOrders(rng.random()).request()])
             continue
         if has_changes and rng.random() < 0.15:
             lines.append(change(rng, at))
@@ -141,7 +156,42 @@ def records(rng, has_changes, has_values=True, may_run=False):
     return lines
 
 
+class ScriptOrders(SteeredOrders):
+    """Orders that stay within minutes, because the definitions sum over the whole journal for each read."""
+
+    def gap(self):
+        return min(super().gap(), 100 * self.second)
+
+
+def steered_records(rng):
+    """The records of a script whose clocks are steered, some of them with a fault."""
+    orders = ScriptOrders(rng.random())
+    lines = [orders.opening().split(",")]
+    for _ in range(rng.randrange(40)):
+        word, *fields = orders.later().split(",")
+        if word == "advance":
+            lines.append(["get", *fields, rng.choice(model.CLOCKS)])
+        else:
+            lines.append(["adjtimex" if word == "ask" else word, *fields])
+        if rng.random() < 0.02:
+            lines.append(change(rng, fields[0]))
+    if rng.random() < 0.5:
+        add_values(rng, lines)
+    if rng.random() < 0.05:
+        lines[0][-1] = rng.choice([0, 1024, 1025, 2**32, "x", ""])
+    return with_fault(rng, lines) if rng.random() < 0.05 else lines
+
+
+def with_fault(rng, lines):
+    """The records with a fault. Another reading would be no fault, but could be many years later."""
+    spoiled = [list(line) for line in lines]
+    spoil(rng, spoiled)
+    return lines if parsed_lines(spoiled) else spoiled
+
+
 def script(rng, has_changes=True):
+    if rng.random() < 0.2:
+        return bytes_of(rng, steered_records(rng))
     return bytes_of(rng, records(rng, has_changes))
 
 
@@ -176,13 +226,9 @@ def spoil(rng, lines):
 def journal_of(text):
     """The journal that a script leaves, or None where it has a fault."""
     try:
-        journal, rows = model.parsed(text)
+        return model.journal_after(*model.parsed(text))
     except model.Fault:
         return None
-    for word, (at, *fields) in rows:
-        if word != "get":
-            journal, _ = model.done(journal, word, at, fields, False)
-    return journal
 
 
 def sound(rng):

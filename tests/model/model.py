@@ -103,6 +103,8 @@ class Opening:
     tick: int = 10_000
     is_asleep: bool = False
     count: int = 0
+    # the parts of a second that phases are divided into, if a discipline steers the clocks
+    hz: int | None = None
 
 
 @dataclass
@@ -302,15 +304,16 @@ def value_of(word, fields):
 # the fields of the records of a script, which has none for a leap second
 U32, U64, I64 = range(2**32), range(2**64), range(-2**63, 2**63)
 FIELDS = {
-    "open": [U32, U32, U32, U64, I64, U32], "openhz": [U32, U32, U32, U64, I64, U32],
+    "open": [U32, U32, U32, U64, I64, U32, U32], "openhz": [U32, U32, U32, U64, I64, U32, U32],
     "openwords": [U32, U32, U32] + 10 * [U64] + [I64, I64],
     "update": [U64], "suspend": [U64], "freq": [U64, I64], "tick": [U64, I64], "tai": [U64, I64],
     "set": [U64, I64, U32], "step": [U64, I64, U32], "resume": [U64, I64, U32], "get": [U64, None, U64],
     "counter": [U64, U32, U32, U32, U64],
+    "adjtimex": [U64, U32, I64, I64, I64, I64, U32, I64, I64, I64, I64],
 }
 
 # the fields at the end that a record may leave out
-OPTIONAL = {"get": 1}
+OPTIONAL = {"get": 1, "open": 1, "openhz": 1}
 
 
 def number(text, within):
@@ -355,11 +358,11 @@ def opened(word, fields):
     return Journal(opening)
 
 
-def started(counter, reading, sec, nsec):
-    """Returns the clocks that are opened at a reading, or None if they can't be."""
-    if reading >= 2**counter.bits or not is_settable(sec, nsec):
+def started(counter, reading, sec, nsec, hz=None):
+    """Returns the clocks that are opened at a reading, or None if they can't be. With `hz`, a discipline steers them."""
+    if reading >= 2**counter.bits or not is_settable(sec, nsec) or hz is not None and not 1 <= hz <= 1024:
         return None
-    return Opening(counter, reading, sec * NANOS + nsec)
+    return Opening(counter, reading, sec * NANOS + nsec, hz=hz)
 
 
 def running(counter, *numbers):
@@ -443,7 +446,10 @@ def parsed(text):
 
 
 def done(journal, word, reading, fields, is_bounded):
-    """Returns the journal after a command or a change of counter, and its line."""
+    """Returns the journal after a command or a change of counter, and its line. Clocks without a
+    discipline refuse requests."""
+    if word == "adjtimex":
+        return journal, "no,invalid"
     if word == "counter":
         return changed_by(journal, reading, Counter(*fields[:3]), fields[3])
     refusal = first_refusal(journal, word, reading, fields, is_bounded)
@@ -465,19 +471,53 @@ def ok_line(journal, reading):
     return f"ok,{journal.accepted_count()},{time_text(journal.monotonic(reading))}"
 
 
+@dataclass
+class Session:
+    """The clocks of a script, as its records change them."""
+    journal: Journal
+    is_bounded: bool
+
+    def look(self, reading):
+        """Does what a read does before it reads: nothing."""
+
+    def line(self, word, reading, fields):
+        """Carries out a record that is no read, and returns its line."""
+        self.journal, line = done(self.journal, word, reading, fields, self.is_bounded)
+        return line
+
+
+def session_of(journal, is_bounded=False):
+    """Returns the session of a journal at its opening."""
+    if journal.opening.hz is None:
+        return Session(journal, is_bounded)
+    from steered_session import SteeredSession
+    return SteeredSession(journal)
+
+
 def report(text, is_bounded=False):
     """Returns the lines of a script's report. If `is_bounded`, the journal is never full."""
     journal, rows = parsed(text)
-    counter = journal.counter
+    counter, session = journal.counter, session_of(journal, is_bounded)
     lines = [f"open,{counter.bits},{counter.mult},{counter.shift}"]
     for row, (word, (reading, *fields)) in enumerate(rows, 2):
         if word == "get":
-            lines.append(look(journal, reading, fields[0]))
-            lines += differences(row, journal, reading, *fields)
-            continue
-        journal, line = done(journal, word, reading, fields, is_bounded)
-        lines.append(line)
+            session.look(reading)
+            lines.append(look(session.journal, reading, fields[0]))
+            lines += differences(row, session.journal, reading, *fields)
+        else:
+            lines.append(session.line(word, reading, fields))
     return lines
+
+
+def journal_after(journal, rows):
+    """Returns the journal after the rows of a script. Reads let the seconds of steered clocks begin."""
+    session = session_of(journal)
+    for word, (reading, *fields) in rows:
+        if word == "get":
+            session.look(reading)
+        else:
+            session.line(word, reading, fields)
+    return session.journal
 
 
 def has_difference(lines):
@@ -521,9 +561,7 @@ def trace(clock, script, stamps):
     """Returns the lines of a trace: the value of each item in nanoseconds."""
     journal, rows = named("script", parsed, script)
     items = named("stamps", items_of, stamps)
-    for word, (reading, *fields) in rows:
-        if word != "get":
-            journal, _ = done(journal, word, reading, fields, False)
+    journal = journal_after(journal, rows)
     return [str(converted(journal, clock, index, *item)) for index, item in enumerate(items)]
 
 
@@ -555,8 +593,12 @@ def race(step, script):
     journal, rows = named("file 0", parsed, script)
     if opens_running(script):
         raise Fault("file 0: a race cannot begin from running clocks")
+    if journal.opening.hz is not None:
+        raise Fault("file 0: the clocks of a race cannot be steered")
     if any(word == "counter" for word, _ in rows):
         raise Fault("file 0: the counter of a race cannot change")
+    if any(word == "adjtimex" for word, _ in rows):
+        raise Fault("file 0: the clocks of a race cannot be steered")
     start, reads, answers = journal.opening.reading, 0, []
     for word, (_, *fields) in rows:
         if word != "get":

@@ -70,9 +70,13 @@ class SteeredOrders(Orders):
                 (8, 2000000000, 0)]
 
     def next(self):
-        pick = self.random.randrange(200)
-        if pick == 0 or self.sec == 0:
+        if self.random.randrange(200) == 0 or self.sec == 0:
             return self.opening()
+        return self.later()
+
+    def later(self):
+        """An order to clocks that are open."""
+        pick = self.random.randrange(1, 200)
         self.reading = (self.reading + self.gap()) % 2**self.bits
         reading = (self.reading - self.back()) % 2**self.bits
         if pick < 60:

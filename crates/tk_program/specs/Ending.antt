@@ -26,6 +26,7 @@ status_of (endings.Many error) = 1
 status_of (endings.File index error) = 1
 status_of (endings.Running index) = 1
 status_of (endings.Counter index) = 1
+status_of (endings.Steered index) = 1
 status_of endings.Openings = 1
 status_of (endings.Race error) = 1
 
@@ -51,6 +52,9 @@ IsErrorLine contents old new (endings.Running index) =
 IsErrorLine contents old new (endings.Counter index) =
     Appends (contents old) (contents new)
     (codes "tkcore: file " ++ (decimal index ++ codes ": the counter of a race cannot change\n"))
+IsErrorLine contents old new (endings.Steered index) =
+    Appends (contents old) (contents new)
+    (codes "tkcore: file " ++ (decimal index ++ codes ": the clocks of a race cannot be steered\n"))
 IsErrorLine contents old new endings.Openings =
     Appends (contents old) (contents new) (codes "tkcore: " ++ codes "openings differ" ++ codes "\n")
 IsErrorLine contents old new (endings.Race error) =

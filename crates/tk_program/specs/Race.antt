@@ -7,7 +7,8 @@ use Rattle.tk_clock.specs.Refusal.{opening_refusal}
 use Rattle.tk_clock.specs.State.{State}
 use Rattle.tk_script.specs.declared.row.Row.{Row}
 use Rattle.tk_script.specs.declared.row.Row.TheVariants as rows
-use Rattle.tk_script.specs.declared.opening.Start.TheVariants.{Opened, Running}
+use Rattle.tk_script.specs.declared.opening.Opening.{Opening}
+use Rattle.tk_script.specs.declared.opening.Start.TheVariants.{Opened, Steered, Running}
 use Rattle.tk_script.specs.declared.script_error.ScriptError.{ScriptError}
 use Rattle.tk_script.specs.Grammar.{Fails, Parse, parse_of}
 use Rattle.tk_report.specs.declared.fault.Fault.{Fault}
@@ -37,12 +38,23 @@ is_change _ = false
 abbrev pub changes_counter : Racer → Bool
 changes_counter script = list_any is_change script.rows.items
 
+-- whether a row contains a request
+abbrev pub is_request : Row → Bool
+is_request (rows.Ask reading request) = true
+is_request _ = false
+
+-- whether a script contains a request
+abbrev pub asks : Racer → Bool
+asks script = list_any is_request script.rows.items
+
 -- the action of an actor for a row: it gives the command, or it reads; the row's reading and
--- the value that it expects are not used. No script that races changes its counter, so the last line never applies
+-- the value that it expects are not used. No script that races changes its counter or contains a
+-- request, so the last two lines never apply
 abbrev pub action_of : Row → Action
 action_of (rows.Act reading cmd) = actions.Order cmd
 action_of (rows.Look reading clock expected) = actions.Look
 action_of (rows.Change reading counter first) = actions.Look
+action_of (rows.Ask reading request) = actions.Look
 
 -- the actions of an actor
 abbrev pub part_of : Racer → List Action
@@ -57,12 +69,16 @@ IsOpenable script =
 abbrev pub OpensAs : Racer → Racer → Type 0
 OpensAs first other = AreSameOpenings first.opening other.opening
 
--- the content of a script that opens its clocks, and of one that begins from running clocks
+-- the content of a script that opens its clocks, of one that begins from running clocks, and of one
+-- that opens steered clocks
 abbrev pub parse : Racer → Parse
 parse script = record { start = Opened script.opening; rows = script.rows.items }
 
 abbrev pub running_parse : State → ℕ → List Row → Parse
 running_parse clock front rows = record { start = Running clock front; rows = rows }
+
+abbrev pub steered_parse : Opening → ℕ → List Row → Parse
+steered_parse opening hz rows = record { start = Steered opening hz; rows = rows }
 
 -- of a folder and its files: the result of opening each name, the bytes of a file that are known,
 -- and the results of its reads
@@ -74,17 +90,19 @@ module _ {D F : Type 0} (open_gives : D → List ℕ → Option F → Type 0)
       (text : List ℕ) × IsReadFrom open_gives remaining read_gives folder name text
       × (parse_of text ≡ Ok content)
 
-  -- it is a script that can race: clocks can be opened by it, and it keeps its counter
+  -- it is a script that can race: clocks can be opened by it, it keeps its counter, and it contains
+  -- no request
   abbrev pub IsScriptFrom : List ℕ → Racer → Type 0
   IsScriptFrom name script =
       IsParsedFrom name (parse script) × IsOpenable script × (changes_counter script ≡ false)
+      × (asks script ≡ false)
 
   abbrev pub AreScriptsFrom : List (Bor (List ℕ)) → List Racer → Type 0
   AreScriptsFrom names scripts = AllZip (λ name script. IsScriptFrom name.now script) names scripts
 
   -- why the file at this place gives no script that can race: it couldn't be read, its bytes have
-  -- this fault, an allocation failed, or its script begins from running clocks or changes its
-  -- counter
+  -- this fault, an allocation failed, or its script begins from running clocks, changes its
+  -- counter, opens steered clocks or contains a request
   abbrev pub StopsScript : ℕ → List ℕ → Ending → Type 0
   StopsScript place name ending =
       ((fault : Fault) × (ending ≡ endings.Fault fault)
@@ -95,6 +113,10 @@ module _ {D F : Type 0} (open_gives : D → List ℕ → Option F → Type 0)
       × IsParsedFrom name (running_parse clock front rows))
       ⊎ ((script : Racer) × (ending ≡ endings.Counter place) × IsParsedFrom name (parse script)
       × (changes_counter script ≡ true))
+      ⊎ ((opening : Opening) × (hz : ℕ) × (rows : List Row) × (ending ≡ endings.Steered place)
+      × IsParsedFrom name (steered_parse opening hz rows))
+      ⊎ ((script : Racer) × (ending ≡ endings.Steered place) × IsParsedFrom name (parse script)
+      × (changes_counter script ≡ false) × (asks script ≡ true))
 
   -- why files don't all give scripts: one of them doesn't, and those before it do; or an allocation
   -- failed

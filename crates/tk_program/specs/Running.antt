@@ -9,7 +9,7 @@ use Rattle.tk_report.specs.declared.fault.Fault.TheVariants as faults
 use Rattle.tk_report.specs.Folding.{rule_of}
 use Rattle.tk_report.specs.Reading.{ReadFailed}
 use Rattle.tk_report.specs.Replay.{IsReplayed}
-use Rattle.tk_report.specs.Report.{IsReportBy, differences_in}
+use Rattle.tk_report.specs.Reports.{IsReportBy}
 use Rattle.tk_report.specs.Trace.{EitherFailed, IsTraceDone}
 use Rattle.tk_program.specs.declared.ending.Ending.{Ending}
 use Rattle.tk_program.specs.declared.ending.Ending.TheVariants as endings
@@ -22,7 +22,7 @@ use Rattle.tk_program.specs.Race.{EndsRace}
 
 -- the report of a script with these bytes: a full journal refuses commands, or is folded to its
 -- last `keep` entries
-abbrev pub IsReportKeeping : Option ℕ → List ℕ → List ℕ → Type 0
+abbrev pub IsReportKeeping : Option ℕ → List ℕ → List ℕ → ℕ → Type 0
 IsReportKeeping keep = IsReportBy (rule_of keep)
 
 -- the bytes of a writer, if they are known, and the results of its calls, both before and after
@@ -34,7 +34,7 @@ module _ {W : Type 0} (contents : W → Option (List ℕ))
       R → R → Option ℕ → Ending → Type 0
   EndsReplay remaining read_gives reader reader' keep ending =
       (result : Result ℕ Fault) × (ending ≡ ending_of_replay result)
-      × IsReplayed (IsReportKeeping keep) (differences_in (rule_of keep)) (remaining reader) (remaining reader')
+      × IsReplayed (IsReportKeeping keep) (remaining reader) (remaining reader')
       (ReadFailed read_gives reader') contents write_gives flush_gives writer writer' result
 
   -- a trace of two open files ended in this way and left them in their final state

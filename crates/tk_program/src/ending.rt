@@ -44,6 +44,12 @@ pub enum Ending {
         /// The file's index, from 0.
         index: usize,
     },
+    /// The script of a race's file opens steered clocks, or contains a request to steer them:
+    /// status 1.
+    Steered {
+        /// The file's index, from 0.
+        index: usize,
+    },
     /// The scripts of a race open their clocks differently: status 1.
     Openings,
     /// The race was not run: status 1.
@@ -61,7 +67,7 @@ impl Ending {
             Ending::Differs => 3,
             Ending::Faulty | Ending::Fault(_) | Ending::Many(_) => 1,
             Ending::File { .. } | Ending::Openings | Ending::Race(_) => 1,
-            Ending::Running { .. } | Ending::Counter { .. } => 1,
+            Ending::Running { .. } | Ending::Counter { .. } | Ending::Steered { .. } => 1,
         }
     }
 
@@ -90,6 +96,12 @@ impl Ending {
                 writeln!(
                     out,
                     "tkcore: file {index}: the counter of a race cannot change"
+                )
+            }
+            Ending::Steered { index } => {
+                writeln!(
+                    out,
+                    "tkcore: file {index}: the clocks of a race cannot be steered"
                 )
             }
             Ending::Openings => writeln!(out, "tkcore: openings differ"),

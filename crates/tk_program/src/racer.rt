@@ -1,6 +1,7 @@
 use tk_script::{Opening, Row};
 
-/// Contains a script that can race: it opens its clocks, and keeps their counter.
+/// Contains a script that can race: it opens its clocks, keeps their counter, and contains no
+/// request.
 #[derive(Drop)]
 pub(crate) struct Racer {
     /// The values with which the clocks are opened.

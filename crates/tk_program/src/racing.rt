@@ -150,12 +150,12 @@ fn part_in(alloc: Global, rows: &[Row]) -> Result<Vec<Action>, AllocError>
     rows.iter().map(|row| action_in(row)).collect(alloc)
 }
 
-/// Returns the action for a row. No script of a race has a change of counter.
+/// Returns the action for a row. No script of a race contains a change of counter or a request.
 fn action_in(row: &Row) -> Action
     ensures { result ≡ action_of row.now }
 {
     match row {
         Row::Act { cmd, .. } => Action::Order(*cmd),
-        Row::Look { .. } | Row::Change { .. } => Action::Look,
+        Row::Look { .. } | Row::Change { .. } | Row::Ask { .. } => Action::Look,
     }
 }

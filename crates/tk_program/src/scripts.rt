@@ -1,6 +1,6 @@
 //! Reads scripts by the names of their files.
 ghost use Rattle.std.specs.Prelude.{◌≡◌, IfErr, IfOk};
-ghost use Rattle.tk_program.specs.Race.{AreScriptsFrom, IsScriptFrom, StopsScript, StopsScripts, changes_counter, is_change};
+ghost use Rattle.tk_program.specs.Race.{AreScriptsFrom, IsScriptFrom, StopsScript, StopsScripts, asks, changes_counter, is_change, is_request};
 
 use crate::ending::Ending;
 use crate::files::read_file;
@@ -18,7 +18,9 @@ use tk_script::{Row, Script, Start};
 /// - `Ending::Fault` with `Fault::Read`: a file can't be opened or read
 /// - `Ending::File`: its script has a fault
 /// - `Ending::Running`: its script begins from running clocks
+/// - `Ending::Steered`: its script opens steered clocks
 /// - `Ending::Counter`: its script changes its counter
+/// - `Ending::Steered`: its script contains a request
 /// - `Ending::Fault` with `Fault::Memory`: an allocation failed
 pub(crate) fn read_scripts<D: Folder>(
     alloc: Global,
@@ -62,10 +64,14 @@ fn read_script<D: Folder>(
     let opening = match start {
         Start::Opened(opening) => opening,
         Start::Running { .. } => return Err(Ending::Running { index: place }),
+        Start::Steered { .. } => return Err(Ending::Steered { index: place }),
     };
     let racer = Racer { opening, rows };
     if has_change(&racer) {
         return Err(Ending::Counter { index: place });
+    }
+    if has_request(&racer) {
+        return Err(Ending::Steered { index: place });
     }
     Ok(racer)
 }
@@ -82,4 +88,18 @@ fn is_change_row(row: &Row) -> bool
     ensures { result ≡ is_change row.now }
 {
     matches!(row, Row::Change { .. })
+}
+
+/// Returns whether a script contains a request.
+fn has_request(racer: &Racer) -> bool
+    ensures { result ≡ asks racer.now }
+{
+    racer.rows.iter().any(|row| is_request_row(row))
+}
+
+/// Returns whether a row contains a request.
+fn is_request_row(row: &Row) -> bool
+    ensures { result ≡ is_request row.now }
+{
+    matches!(row, Row::Ask { .. })
 }

@@ -22,7 +22,7 @@ use Rattle.tk_clock.proofs.Alike.{IsAlike-followed_by, IsAlike-self, IsAlike-tra
 use Rattle.tk_keeper.specs.ChangeCounter.{changed_by, counter_refusal}
 use Rattle.tk_keeper.specs.Read.{read_fault}
 use Rattle.tk_script.specs.declared.row.Row.{Row}
-use Rattle.tk_script.specs.declared.row.Row.TheVariants.{Act, Look, Change}
+use Rattle.tk_script.specs.declared.row.Row.TheVariants.{Act, Look, Change, Ask}
 use Rattle.tk_script.specs.Lines.{ok_line}
 use Rattle.tk_clock.specs.Folding.{IsAlike, journal_from}
 use Rattle.tk_report.specs.Folding.{counting_rule_of, since_after, since_answer}
@@ -168,6 +168,7 @@ IsLine-alike keep since journal whole alike (Change reading counter first) line 
     (counter_refusal journal reading counter first)
     ∙ ap (λ r. reply_line first (change_if whole reading counter first r))
     (counter_refusal-alike journal whole alike reading counter first)
+IsLine-alike keep since journal whole alike (Ask reading request) line test = test
 IsLine-alike keep since journal whole alike (Look reading clock expected) line test =
     subst (λ (r : Option ReadError). IsLookLine whole clock reading r line)
     (read_fault-alike journal whole alike clock reading)
@@ -185,6 +186,7 @@ missed-alike journal whole alike (Look reading clock expected) =
     ∙ ap (λ (nanos : ℤ). missed_if (read_fault whole clock reading) nanos expected)
     (clock_value-alike journal whole alike.state clock reading)
 missed-alike journal whole alike (Change reading counter first) = refl
+missed-alike journal whole alike (Ask reading request) = refl
 
 after-alike : (keep : Option ℕ) (since : ℕ) (journal whole : Journal) → IsAlike journal whole →
     (row : Row) →
@@ -198,6 +200,7 @@ after-alike keep since journal whole alike (Act reading cmd) =
     (reply-alike journal whole alike entry (counting_rule_of keep since journal entry)
     (passes_clock keep since journal entry))
 after-alike keep since journal whole alike (Look reading clock expected) = alike
+after-alike keep since journal whole alike (Ask reading request) = alike
 after-alike keep since journal whole alike (Change reading counter first) =
     let next = (change_reply journal reading counter first).journal in
     subst (λ (r : Option Refusal). IsAlike next (change_if whole reading counter first r).journal)
@@ -220,6 +223,7 @@ pub since-alike : (since : ℕ) (journal whole : Journal) → IsAlike journal wh
     since_after since journal row ≡ since_after since whole row
 since-alike since journal whole alike (Act reading cmd) = refl
 since-alike since journal whole alike (Look reading clock expected) = refl
+since-alike since journal whole alike (Ask reading request) = refl
 since-alike since journal whole alike (Change reading counter first) =
     ap (since_answer since) (change_answer-alike journal whole alike reading counter first
     (counter_refusal journal reading counter first)

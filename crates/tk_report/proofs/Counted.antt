@@ -13,7 +13,7 @@ use Rattle.tk_clock.specs.Refusal.{clock_refusal, is_full}
 use Rattle.tk_clock.specs.Run.{reply_if}
 use Rattle.tk_keeper.specs.ChangeCounter.{counter_refusal}
 use Rattle.tk_script.specs.declared.row.Row.{Row}
-use Rattle.tk_script.specs.declared.row.Row.TheVariants.{Act, Look, Change}
+use Rattle.tk_script.specs.declared.row.Row.TheVariants.{Act, Look, Change, Ask}
 use Rattle.tk_report.specs.Folding.{counting_rule_of, rule_of, since_after, since_answer}
 use Rattle.tk_report.specs.Report.{Rule, IsLine, after, change_if, event, reply_line}
 
@@ -49,6 +49,7 @@ line-counted keep since journal (Act reading cmd) line opens few known =
     (rule-counted keep since journal (event reading cmd) opens few)
 line-counted keep since journal (Look reading clock expected) line opens few known = known
 line-counted keep since journal (Change reading counter first) line opens few known = known
+line-counted keep since journal (Ask reading request) line opens few known = known
 
 pub after-counted : (keep : Option ℕ) (since : ℕ) (journal : Journal) (row : Row) →
     journal.opening.count ≡ since → accepted_count journal < counted_most →
@@ -58,6 +59,7 @@ after-counted keep since journal (Act reading cmd) opens few =
     (rule-counted keep since journal (event reading cmd) opens few)
 after-counted keep since journal (Look reading clock expected) opens few = refl
 after-counted keep since journal (Change reading counter first) opens few = refl
+after-counted keep since journal (Ask reading request) opens few = refl
 
 -- a record leaves a journal that still lists every command over its counter
 opening_if : (since : ℕ) (journal : Journal) (entry : Entry) (known : Option Refusal) →
@@ -78,6 +80,7 @@ pub opening_after : (rule : Rule) (since : ℕ) (journal : Journal) (row : Row) 
 opening_after rule since journal (Act reading cmd) opens =
     opening_if since journal (event reading cmd) (rule journal (event reading cmd)) opens
 opening_after rule since journal (Look reading clock expected) opens = opens
+opening_after rule since journal (Ask reading request) opens = opens
 opening_after rule since journal (Change reading counter first) opens =
     opening_changed since journal reading counter first
     (counter_refusal journal reading counter first) opens

@@ -3,15 +3,13 @@ use Rattle.std.proofs.Common.{◌≡◌, List, refl, ap}
 use Rattle.std.specs.Prelude.{Result, Ok, Err}
 use Rattle.tk_clock.specs.Journal.{Journal}
 use Rattle.tk_clock.specs.Refusal.{first_refusal}
-use Rattle.tk_script.specs.declared.opening.Start.{Start}
 use Rattle.tk_script.specs.declared.row.Row.{Row}
 use Rattle.tk_script.specs.declared.script_error.ScriptError.{ScriptError}
 use Rattle.tk_script.specs.declared.script_error.ScriptError.TheVariants as errors
-use Rattle.tk_script.specs.Coming.{opened_with, row_and}
-use Rattle.tk_script.specs.Grammar.{Fails, Parse}
-use Rattle.tk_script.specs.Start.{journal_at}
+use Rattle.tk_script.specs.Coming.{row_and}
+use Rattle.tk_script.specs.Grammar.{Fails}
 use Rattle.tk_report.specs.Report.{after}
-use Rattle.tk_report.specs.Trace.{journal_after, journal_of}
+use Rattle.tk_report.specs.Trace.{journal_after}
 
 -- one row is applied, and the rows after it remain
 pub journal_after-row : (journal : Journal) (row : Row) (later : Result (List Row) ScriptError) →
@@ -20,14 +18,7 @@ pub journal_after-row : (journal : Journal) (row : Row) (later : Result (List Ro
 journal_after-row journal row (Ok rows) = refl
 journal_after-row journal row (Err fault) = refl
 
--- the journal of an opened script is the journal of its rows
-pub journal_of-opened : (start : Start) (rows : Result (List Row) ScriptError) →
-    journal_of (opened_with start rows)
-    ≡ journal_after (journal_at start) rows
-journal_of-opened start (Ok rows) = refl
-journal_of-opened start (Err fault) = refl
-
--- a fault of the rows, or of the script, is the fault of the journal
+-- a fault of the rows is the fault of the journal
 pub Fails-journal_after : (journal : Journal) (rows : Result (List Row) ScriptError)
     (fault : ScriptError) → Fails fault rows → Fails fault (journal_after journal rows)
 Fails-journal_after journal rows errors.Memory fails = tt
@@ -38,14 +29,3 @@ Fails-journal_after journal rows (errors.Word row) fails = ap (journal_after jou
 Fails-journal_after journal rows (errors.Fields row) fails = ap (journal_after journal) fails
 Fails-journal_after journal rows (errors.Number row) fails = ap (journal_after journal) fails
 Fails-journal_after journal rows (errors.Counter row fault) fails = ap (journal_after journal) fails
-
-pub Fails-journal_of : (read : Result Parse ScriptError) (fault : ScriptError) →
-    Fails fault read → Fails fault (journal_of read)
-Fails-journal_of read errors.Memory fails = tt
-Fails-journal_of read errors.TooLarge fails = ap journal_of fails
-Fails-journal_of read errors.Empty fails = ap journal_of fails
-Fails-journal_of read (errors.Opening row) fails = ap journal_of fails
-Fails-journal_of read (errors.Word row) fails = ap journal_of fails
-Fails-journal_of read (errors.Fields row) fails = ap journal_of fails
-Fails-journal_of read (errors.Number row) fails = ap journal_of fails
-Fails-journal_of read (errors.Counter row fault) fails = ap journal_of fails

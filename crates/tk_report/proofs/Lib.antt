@@ -12,3 +12,6 @@ pub mod Traces
 mod Worked
 pub mod Outcomes
 pub mod Beginnings
+pub mod SteeredLines
+pub mod Starts
+pub mod Replies

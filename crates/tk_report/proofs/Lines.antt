@@ -14,7 +14,7 @@ use Rattle.tk_clock.specs.Run.{Reply, reply_if}
 use Rattle.tk_clock.specs.Time.{timespec_of}
 use Rattle.tk_keeper.specs.ChangeCounter.{counter_refusal}
 use Rattle.tk_script.specs.declared.row.Row.{Row}
-use Rattle.tk_script.specs.declared.row.Row.TheVariants.{Act, Look, Change}
+use Rattle.tk_script.specs.declared.row.Row.TheVariants.{Act, Look, Change, Ask}
 use Rattle.tk_script.specs.Coming.{opened_with, row_and}
 use Rattle.tk_script.specs.Grammar.{Fails, parse_of}
 use Rattle.tk_script.specs.Lines.{ok_line, open_line}
@@ -23,7 +23,8 @@ use Rattle.tk_script.specs.declared.opening.Start.{Start}
 use Rattle.tk_script.specs.declared.script_error.ScriptError.{ScriptError}
 use Rattle.tk_script.specs.declared.script_error.ScriptError.TheVariants as errors
 use Rattle.tk_report.specs.Folding.{IsReplied, counting_rule_of, rule_of, since_after}
-use Rattle.tk_report.specs.Report.{Rule, IsLine, IsLines, IsReportBy, IsReportOfRows, IsTimeAt, after, answer_line, change_if, difference, differences, differences_in, differences_of, differs_text, event, missed, reply_line}
+use Rattle.tk_report.specs.Report.{Rule, IsLine, IsLines, IsPlainReportOfRows, IsTimeAt, after, answer_line, change_if, difference, differences, differences_of, differs_text, event, missed, reply_line}
+use Rattle.tk_report.specs.Reports.{IsReportBy, IsReportOfRows}
 use Rattle.tk_clock.specs.Folding.{IsAlike}
 use Rattle.tk_clock.proofs.Alike.{IsAlike-self, clock_value-alike}
 use Rattle.tk_report.proofs.Alike.{IsAlike-after, IsLine-alike, missed-alike, since-alike}
@@ -54,7 +55,7 @@ pub record IsBegun (rule : Rule) (start : Start) (all : Rows) (number found : �
     (to_come : Rows) (text : List ℕ) : Type 0 where
   pub gives : (rows : List Row) (rest : List ℕ) → to_come ≡ Ok rows →
       IsLines rule number journal rows rest →
-      IsReportOfRows rule start all (text ++ rest)
+      IsPlainReportOfRows rule start all (text ++ rest)
   pub counts : (rows : List Row) → to_come ≡ Ok rows →
       found + differences rule journal rows ≡ differences_of rule (opened_with start all)
   pub fails : (fault : ScriptError) → to_come ≡ Err fault → all ≡ Err fault
@@ -71,7 +72,7 @@ IsBegun-next rule start all number found journal row to_come later text line beg
     let more = differs_text number (missed journal row) in
     record {
       gives = λ rows rest e lines.
-          let R : List ℕ → Type 0 = λ whole. IsReportOfRows rule start all whole in
+          let R : List ℕ → Type 0 = λ whole. IsPlainReportOfRows rule start all whole in
           let joined : (text ++ (line ++ more)) ++ rest ≡ text ++ (line ++ (more ++ rest)) =
           append_assoc text (line ++ more) rest
           ∙ ap (λ (l : List ℕ). text ++ l) (append_assoc line more rest) in
@@ -92,10 +93,10 @@ IsBegun-next rule start all number found journal row to_come later text line beg
 IsBegun-end : (rule : Rule) (start : Start) (all : Rows) (number found : ℕ) (journal : Journal)
     (to_come : Rows) (text : List ℕ) →
     IsBegun rule start all number found journal to_come text → to_come ≡ Ok [] →
-    IsReportOfRows rule start all text
+    IsPlainReportOfRows rule start all text
     × (found ≡ differences_of rule (opened_with start all))
 IsBegun-end rule start all number found journal to_come text begun none =
-    let R : List ℕ → Type 0 = λ whole. IsReportOfRows rule start all whole in
+    let R : List ℕ → Type 0 = λ whole. IsPlainReportOfRows rule start all whole in
     let counted = begun.counts [] none in
     (subst R (append-nil text) (begun.gives [] [] none refl), omega (arith, counted))
 
@@ -160,7 +161,7 @@ IsBegunBy-next keep start all number found kept kept' since row to_come later te
 pub IsBegunBy-end : (keep : Option ℕ) (start : Start) (all : Rows) (number found : ℕ)
     (kept : Journal) (since : ℕ) (to_come : Rows) (text : List ℕ) →
     IsBegunBy keep start all number found kept since to_come text → to_come ≡ Ok [] →
-    IsReportOfRows (rule_of keep) start all text
+    IsPlainReportOfRows (rule_of keep) start all text
     × (found ≡ differences_of (rule_of keep) (opened_with start all))
 IsBegunBy-end keep start all number found kept since to_come text begun none =
     IsBegun-end (rule_of keep) start all number found begun.whole to_come text begun.begun none
@@ -187,7 +188,8 @@ pub IsBegunBy-fault : (keep : Option ℕ) (start : Start) (all : Rows) (number f
 IsBegunBy-fault keep start all number found kept since to_come text fault begun fails =
     Fails-from to_come all fault begun.begun.fails fails
 
-fails-opened : (bytes : List ℕ) (start : Start) (all : Rows) (fault : ScriptError) →
+-- a fault of the rows is the fault of the bytes that contain the opening and the rows
+pub fails-opened : (bytes : List ℕ) (start : Start) (all : Rows) (fault : ScriptError) →
     parse_of bytes ≡ opened_with start all → Fails fault all → Fails fault (parse_of bytes)
 fails-opened bytes start all errors.Memory opens fails = tt
 fails-opened bytes start all errors.TooLarge opens fails = opens ∙ ap (opened_with start) fails
@@ -205,17 +207,13 @@ pub report-opened : {A : Type 0} (keep : Option ℕ) (bytes : List ℕ) (start :
     (text_of : A → List ℕ) (count_of : A → ℕ)
     (result : Result A ScriptError) → parse_of bytes ≡ opened_with start all →
     MatchResult result
-    (λ report. IsReportOfRows (rule_of keep) start all (text_of report)
-    × (count_of report ≡ differences_of (rule_of keep) (opened_with start all)))
+    (λ report. IsReportOfRows (rule_of keep) start all (text_of report) (count_of report))
     (λ fault. Fails fault all) →
     MatchResult result
-    (λ report. IsReportBy (rule_of keep) bytes (text_of report)
-    × (count_of report ≡ differences_in (rule_of keep) bytes))
+    (λ report. IsReportBy (rule_of keep) bytes (text_of report) (count_of report))
     (λ fault. Fails fault (parse_of bytes))
-report-opened keep bytes start all text_of count_of (Ok made) opens ((parse, known, report), count) = (
-  (parse, opens ∙ known, report),
-  count ∙ sym (ap (differences_of (rule_of keep)) opens),
-)
+report-opened keep bytes start all text_of count_of (Ok made) opens (parse, known, report) =
+    (parse, opens ∙ known, report)
 report-opened keep bytes start all text_of count_of (Err fault) opens fails =
     fails-opened bytes start all fault opens fails
 
@@ -242,6 +240,7 @@ pub counted_after : (rule : Rule) (journal : Journal) (row : Row) →
 counted_after rule journal (Act reading cmd) =
     counted journal (event reading cmd) (rule journal (event reading cmd))
 counted_after rule journal (Look reading clock expected) = omega arith
+counted_after rule journal (Ask reading request) = omega arith
 counted_after rule journal (Change reading counter first) =
     counted_changed journal reading counter first (counter_refusal journal reading counter first)
 

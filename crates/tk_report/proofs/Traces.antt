@@ -13,13 +13,13 @@ use Rattle.tk_report.specs.declared.fault.Fault.TheVariants as faults
 use Rattle.tk_report.specs.Fault.{fault_of_stamps}
 use Rattle.tk_report.specs.Reading.{IsReadToEnd}
 use Rattle.tk_report.specs.Replay.{IsStopped}
-use Rattle.tk_report.specs.Trace.{AreReadToEnd, IsItemsFault, IsItemsText, IsTrace, IsTraceFault, journal_of}
+use Rattle.tk_report.specs.Trace.{AreReadToEnd, IsItemsFault, IsItemsText, IsJournalOf, IsTrace, IsTraceFault}
 
 -- a script with a journal has no fault
-parsed : (read : Result Parse ScriptError) (journal : Journal) → journal_of read ≡ Ok journal →
+parsed : (read : Result Parse ScriptError) (journal : Journal) → IsJournalOf read journal →
     IsOk read
 parsed (Ok parse) journal known = refl
-parsed (Err error) journal known = cc
+parsed (Err error) journal known = absurd known
 
 -- an allocation failed, or the bytes have this fault
 abbrev pub MayFault : ClockId → List ℕ → List ℕ → Fault → Type 0
@@ -28,7 +28,7 @@ MayFault clock script stamps fault =
 
 -- a fault of the stamp file, after a script without a fault
 pub MayFault-stamps : (clock : ClockId) (script stamps : List ℕ) (journal : Journal)
-    (error : ScriptError) → journal_of (parse_of script) ≡ Ok journal →
+    (error : ScriptError) → IsJournalOf (parse_of script) journal →
     Fails error (stamps_of stamps) → MayFault clock script stamps (fault_of_stamps error)
 MayFault-stamps clock script stamps journal errors.Memory known fails = inl refl
 MayFault-stamps clock script stamps journal errors.TooLarge known fails =
@@ -49,7 +49,7 @@ MayFault-stamps clock script stamps journal (errors.Counter row fault) known fai
 -- the result for the items is the result for the bytes that contain them
 pub trace-converted : {A : Type 0} (clock : ClockId) (script stamps : List ℕ) (journal : Journal)
     (items : Items) (text_of : A → List ℕ) (result : Result A Fault) →
-    journal_of (parse_of script) ≡ Ok journal → stamps_of stamps ≡ Ok items →
+    IsJournalOf (parse_of script) journal → stamps_of stamps ≡ Ok items →
     MatchResult result (λ text. IsItemsText clock journal items (text_of text))
     (λ fault. (fault ≡ faults.Memory) ⊎ ((error : TraceError) × (fault ≡ faults.Trace error)
     × IsItemsFault clock journal items error)) →

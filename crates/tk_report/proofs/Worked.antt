@@ -17,7 +17,7 @@ use Rattle.tk_script.specs.declared.row.Row.TheVariants.{Act, Look}
 use Rattle.tk_script.specs.Grammar.{Parse}
 use Rattle.tk_script.specs.Stamps.{Items, items_of}
 use Rattle.tk_report.specs.Report.{event}
-use Rattle.tk_report.specs.Trace.{IsItemsFault, IsItemsText, journal_of}
+use Rattle.tk_report.specs.Trace.{IsItemsFault, IsItemsText, IsJournalOf}
 
 -- one nanosecond per cycle, 32-bit readings
 abbrev nanosecond_counter : Counter
@@ -41,7 +41,7 @@ steered = record (opened nanosecond_counter 0 since) {
       ∷ event 1000000000 (Freq (neg_ℤ (pos 32768000))) ∷ [];
 }
 
-left : journal_of (Ok script) ≡ Ok steered
+left : IsJournalOf (Ok script) steered
 unfolding is_well_formed is_past_limit is_bad_setting
 left = refl
 

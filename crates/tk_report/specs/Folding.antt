@@ -8,7 +8,7 @@ use Rattle.tk_clock.specs.Limits.{listed_most}
 use Rattle.tk_clock.specs.Refusal.{clock_refusal, first_refusal, is_full}
 use Rattle.tk_clock.specs.Run.{Reply}
 use Rattle.tk_script.specs.declared.row.Row.{Row}
-use Rattle.tk_script.specs.declared.row.Row.TheVariants.{Act, Look, Change}
+use Rattle.tk_script.specs.declared.row.Row.TheVariants.{Act, Look, Change, Ask}
 use Rattle.tk_report.specs.Report.{Rule, change_reply}
 
 -- the rule by which a command is refused: `None` means that a full journal refuses it too; `Some
@@ -42,6 +42,7 @@ since_after since journal (Act reading cmd) = since
 since_after since journal (Look reading clock expected) = since
 since_after since journal (Change reading counter first) =
     since_answer since (change_reply journal reading counter first).answer
+since_after since journal (Ask reading request) = since
 
 -- an event got the answer of the reply and left a journal that agrees with the reply's, or an
 -- allocation failed

@@ -2,6 +2,8 @@ pub mod Fault
 pub mod Reading
 pub mod Writing
 pub mod Report
+pub mod SteeredReport
+pub mod Reports
 pub mod Folding
 pub mod Replay
 pub mod Trace

@@ -6,7 +6,7 @@ use Rattle.tk_pieces.specs.Workers.{most_workers}
 use Rattle.tk_script.specs.declared.script_error.ScriptError.{ScriptError}
 use Rattle.tk_clock.specs.Refusal.{first_refusal}
 use Rattle.tk_script.specs.Grammar.{Fails, parse_of}
-use Rattle.tk_report.specs.Report.{IsReport, differences_in}
+use Rattle.tk_report.specs.Reports.{IsReportBy}
 use Rattle.tk_report.specs.declared.checked_report.CheckedReport.{CheckedReport}
 
 -- this number of workers is out of range
@@ -21,8 +21,7 @@ Outcome = Result (CheckedReport Global) ScriptError
 -- they expect, or its first fault; an allocation failure may replace either
 abbrev pub IsOutcome : Vec ℕ → Outcome → Type 0
 IsOutcome script (Ok report) =
-    IsReport script.items report.text.items
-    × (report.differences ≡ differences_in first_refusal script.items)
+    IsReportBy first_refusal script.items report.text.items report.differences
 IsOutcome script (Err error) = Fails error (parse_of script.items)
 
 -- there is one outcome for each script, in the order of the scripts

@@ -69,20 +69,19 @@ IsScriptFault unread left (faults.Write written) = ⊥
 -- the text that belongs to all bytes of a script, and the number of reads that do not give the value
 -- that they expect, if the call returned one
 abbrev pub IsCountedText :
-    (List ℕ → List ℕ → Type 0) → (List ℕ → ℕ) → Result ℕ Fault → List ℕ → List ℕ → Type 0
-IsCountedText IsTextOf count_of result bytes text =
-    IsTextOf bytes text × IfOk result (λ count. count ≡ count_of bytes)
+    (List ℕ → List ℕ → ℕ → Type 0) → Result ℕ Fault → List ℕ → List ℕ → Type 0
+IsCountedText IsTextOf result bytes text =
+    (found : ℕ) × IsTextOf bytes text found × IfOk result (λ count. count ≡ found)
 
--- the result of a replay, by the relation `IsTextOf` between the bytes of a script and their
--- report, and the number `count_of` of its reads that do not give the value that they expect:
--- `unread` and `left` are the remaining bytes of the reader before and after, and `read` states
--- that its last read failed
+-- the result of a replay, by the relation `IsTextOf` between the bytes of a script, their report,
+-- and the number of its reads that do not give the value that they expect: `unread` and `left` are
+-- the remaining bytes of the reader before and after, and `read` states that its last read failed
 pub record IsReplayed
-    {W : Type 0} (IsTextOf : List ℕ → List ℕ → Type 0) (count_of : List ℕ → ℕ)
+    {W : Type 0} (IsTextOf : List ℕ → List ℕ → ℕ → Type 0)
     (unread left : Option (List ℕ)) (read : Type 0)
     (contents : W → Option (List ℕ)) (write_gives : W → List ℕ → Option ℕ → W → Type 0)
     (flush_gives : W → Bool → W → Type 0) (old new : W) (result : Result ℕ Fault) : Type 0 where
   pub within : IsReadWithin unread left
-  pub came_to : CameTo (IsTextOfAll (IsCountedText IsTextOf count_of result) unread left)
+  pub came_to : CameTo (IsTextOfAll (IsCountedText IsTextOf result) unread left)
       (IsScriptFault unread left) read
       contents write_gives flush_gives old new result

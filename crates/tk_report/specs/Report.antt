@@ -7,22 +7,23 @@ use Rattle.tk_clock.specs.declared.clock_id.ClockId.{ClockId}
 use Rattle.tk_clock.specs.declared.command.Command.{Command}
 use Rattle.tk_clock.specs.declared.command.Entry.{Entry}
 use Rattle.tk_clock.specs.declared.refusal.Refusal.{Refusal}
+use Rattle.tk_clock.specs.declared.refusal.Refusal.TheVariants.{Invalid}
 use Rattle.tk_clock.specs.declared.refusal.ReadError.{ReadError}
 use Rattle.tk_clock.specs.declared.timespec.Timespec.{Timespec}
 use Rattle.tk_clock.specs.Clocks.{clock_value}
 use Rattle.tk_clock.specs.Journal.{Journal, accepted_count}
 use Rattle.tk_clock.specs.Monotonic.{monotonic}
-use Rattle.tk_clock.specs.Refusal.{clock_refusal, first_refusal, refusal_of}
+use Rattle.tk_clock.specs.Refusal.{refusal_of}
 use Rattle.tk_clock.specs.Run.{Reply, reply_if}
 use Rattle.tk_clock.specs.Time.{timespec_of}
 use Rattle.tk_keeper.specs.ChangeCounter.{changed_by, counter_refusal}
 use Rattle.tk_keeper.specs.Read.{read_fault}
 use Rattle.tk_script.specs.declared.opening.Start.{Start}
 use Rattle.tk_script.specs.declared.row.Row.{Row}
-use Rattle.tk_script.specs.declared.row.Row.TheVariants.{Act, Look, Change}
+use Rattle.tk_script.specs.declared.row.Row.TheVariants.{Act, Look, Change, Ask}
 use Rattle.tk_script.specs.declared.script_error.ScriptError.{ScriptError}
 use Rattle.tk_script.specs.Coming.{opened_with}
-use Rattle.tk_script.specs.Grammar.{Parse, parse_of}
+use Rattle.tk_script.specs.Grammar.{Parse}
 use Rattle.tk_script.specs.Lines.{differs_line, open_line, ok_line, no_line, IsAtLine}
 use Rattle.tk_script.specs.Start.{journal_at}
 
@@ -95,6 +96,7 @@ abbrev pub missed : Journal → Row → Option ℕ
 missed journal (Act reading cmd) = None
 missed journal (Look reading clock expected) = missed_at journal clock reading expected
 missed journal (Change reading counter first) = None
+missed journal (Ask reading request) = None
 
 -- the line after the line of the record `row`, if it does not give an expected value
 abbrev pub differs_text : ℕ → Option ℕ → List ℕ
@@ -106,7 +108,7 @@ abbrev pub difference : Option ℕ → ℕ
 difference None = 0
 difference (Some value) = 1
 
--- the line of a record after a journal
+-- the line of a record after a journal: a request is refused, because nothing steers the clocks
 abbrev pub IsLine : Rule → Journal → Row → List ℕ → Type 0
 IsLine rule journal (Act reading cmd) line =
     line ≡ reply_line reading (reply_by rule journal (event reading cmd))
@@ -114,14 +116,16 @@ IsLine rule journal (Look reading clock expected) line =
     IsLookLine journal clock reading (read_fault journal clock reading) line
 IsLine rule journal (Change reading counter first) line =
     line ≡ reply_line first (change_reply journal reading counter first)
+IsLine rule journal (Ask reading request) line = line ≡ no_line Invalid
 
--- the journal after a record: an accepted command becomes its next entry, a read changes nothing,
--- and an accepted change of counter begins the journal over the next counter
+-- the journal after a record: an accepted command becomes its next entry, a read and a request
+-- change nothing, and an accepted change of counter begins the journal over the next counter
 abbrev pub after : Rule → Journal → Row → Journal
 after rule journal (Act reading cmd) = (reply_by rule journal (event reading cmd)).journal
 after rule journal (Look reading clock expected) = journal
 after rule journal (Change reading counter first) =
     (change_reply journal reading counter first).journal
+after rule journal (Ask reading request) = journal
 
 -- the lines of records, of which the first is the record `row`, each one from the journal after the
 -- records before it
@@ -138,39 +142,21 @@ differences rule journal [] = 0
 differences rule journal (first ∷ rows) =
     difference (missed journal first) + differences rule (after rule journal first) rows
 
--- the number of such records of a script, and none if the script has a fault
+-- the number of such records of a script whose clocks nothing steers, and none if the script has a
+-- fault
 abbrev pub differences_of : Rule → Result Parse ScriptError → ℕ
 differences_of rule (Ok parse) =
     differences rule (journal_at parse.start) parse.rows
 differences_of rule (Err fault) = 0
 
--- the number of such records of a script with these bytes
-abbrev pub differences_in : Rule → List ℕ → ℕ
-differences_in rule bytes = differences_of rule (parse_of bytes)
-
--- the report of a parsed script: the opening is the record 1
-abbrev pub IsReportOf : Rule → Parse → List ℕ → Type 0
-IsReportOf rule parse text =
+-- the report of a parsed script whose clocks nothing steers: the opening is the record 1
+abbrev pub IsPlainReport : Rule → Parse → List ℕ → Type 0
+IsPlainReport rule parse text =
     let journal = journal_at parse.start in
     (lines : List ℕ) × IsLines rule 2 journal parse.rows lines
     × (text ≡ open_line journal.opening.counter ++ lines)
 
 -- the report of an opening and of rows that were parsed without a fault
-abbrev pub IsReportOfRows : Rule → Start → Result (List Row) ScriptError → List ℕ → Type 0
-IsReportOfRows rule start read text =
-    (parse : Parse) × (opened_with start read ≡ Ok parse) × IsReportOf rule parse text
-
--- the report of a script with these bytes, by a rule
-abbrev pub IsReportBy : Rule → List ℕ → List ℕ → Type 0
-IsReportBy rule bytes text = (parse : Parse) × (parse_of bytes ≡ Ok parse)
-    × IsReportOf rule parse text
-
--- the report of a script with these bytes, if a full journal refuses every command except a change
--- of counter
-abbrev pub IsReport : List ℕ → List ℕ → Type 0
-IsReport = IsReportBy first_refusal
-
--- the report of a script with these bytes, if the journal lists every command over its counter and is
--- never full
-abbrev pub IsReportUnlimited : List ℕ → List ℕ → Type 0
-IsReportUnlimited = IsReportBy clock_refusal
+abbrev pub IsPlainReportOfRows : Rule → Start → Result (List Row) ScriptError → List ℕ → Type 0
+IsPlainReportOfRows rule start read text =
+    (parse : Parse) × (opened_with start read ≡ Ok parse) × IsPlainReport rule parse text

@@ -6,6 +6,8 @@ use Rattle.tk_clock.specs.Journal.{Journal}
 use Rattle.tk_clock.specs.Refusal.{first_refusal}
 use Rattle.tk_keeper.specs.declared.trace_error.TraceError.{TraceError}
 use Rattle.tk_keeper.specs.Trace.{IsConverted, IsFirstFault}
+use Rattle.tk_script.specs.declared.opening.Start.{Start}
+use Rattle.tk_script.specs.declared.opening.Start.TheVariants.{Opened, Steered, Running}
 use Rattle.tk_script.specs.declared.row.Row.{Row}
 use Rattle.tk_script.specs.declared.script_error.ScriptError.{ScriptError}
 use Rattle.tk_script.specs.declared.script_error.ScriptError.TheVariants as errors
@@ -17,6 +19,7 @@ use Rattle.tk_report.specs.declared.fault.Fault.TheVariants as faults
 use Rattle.tk_report.specs.Reading.{IsReadToEnd, IsReadWithin}
 use Rattle.tk_report.specs.Replay.{CameTo}
 use Rattle.tk_report.specs.Report.{after}
+use Rattle.tk_report.specs.SteeredReport.{IsSteeredJournal}
 
 -- the journal after all rows, each one applied to the journal after the rows before it
 abbrev pub after_all : Journal → List Row → Journal
@@ -28,13 +31,21 @@ abbrev pub journal_after : Journal → Result (List Row) ScriptError → Result 
 journal_after journal (Ok rows) = Ok (after_all journal rows)
 journal_after journal (Err error) = Err error
 
--- the journal after a script, or the script's fault: every accepted command becomes an entry, a full
--- journal refuses every command except a change of counter, and after a change the journal lists
--- only the commands over the new counter
-abbrev pub journal_of : Result Parse ScriptError → Result Journal ScriptError
-journal_of (Ok parse) =
-    Ok (after_all (journal_at parse.start) parse.rows)
-journal_of (Err error) = Err error
+-- the journal after a script that begins in this way: every accepted command becomes an entry, a
+-- full journal refuses every command except a change of counter, and after a change the journal
+-- lists only the commands over the new counter; the journal of steered clocks lists the commands of
+-- their discipline too
+abbrev pub IsJournalFrom : Start → List Row → Journal → Type 0
+IsJournalFrom (Opened opening) rows journal =
+    journal ≡ after_all (journal_at (Opened opening)) rows
+IsJournalFrom (Running clock front) rows journal =
+    journal ≡ after_all (journal_at (Running clock front)) rows
+IsJournalFrom (Steered opening hz) rows journal = IsSteeredJournal opening hz rows journal
+
+-- the journal after a script without a fault
+abbrev pub IsJournalOf : Result Parse ScriptError → Journal → Type 0
+IsJournalOf (Ok parse) journal = IsJournalFrom parse.start parse.rows journal
+IsJournalOf (Err error) journal = ⊥
 
 -- the line of a value, in nanoseconds
 abbrev pub value_line : ℕ → List ℕ
@@ -55,7 +66,7 @@ IsItemsFault clock journal items error =
 abbrev pub AreRead : List ℕ → List ℕ → (Journal → Items → Type 0) → Type 0
 AreRead script stamps Holds =
     (journal : Journal) × (items : Items)
-    × (journal_of (parse_of script) ≡ Ok journal) × (stamps_of stamps ≡ Ok items)
+    × IsJournalOf (parse_of script) journal × (stamps_of stamps ≡ Ok items)
     × Holds journal items
 
 -- the trace of a script with these bytes and of a stamp file with these bytes

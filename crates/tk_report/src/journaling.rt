@@ -1,16 +1,17 @@
 //! Makes the clocks after the commands of a script.
-ghost use Rattle.std.specs.Prelude.{◌≡◌, ◌<◌, IfErr, OnOk};
+ghost use Rattle.std.specs.Prelude.{◌≡◌, ◌<◌, IfErr, MatchResult, OnOk};
 ghost use Rattle.tk_clock.specs.Journal.{accepted_count};
 ghost use Rattle.tk_clock.specs.Limits.{counted_most};
 ghost use Rattle.tk_clock.specs.Refusal.{first_refusal};
-ghost use Rattle.tk_script.specs.Coming.{IsReady, coming};
-ghost use Rattle.tk_script.specs.Grammar.{Gives, parse_of};
+ghost use Rattle.tk_script.specs.Coming.{IsReady, coming, opened_with};
+ghost use Rattle.tk_script.specs.Grammar.{Fails, Gives, parse_of};
 ghost use Rattle.tk_script.specs.Start.{IsOpenable, journal_at};
 ghost use Rattle.tk_report.specs.Report.{after};
-ghost use Rattle.tk_report.specs.Trace.{journal_after, journal_of};
+ghost use Rattle.tk_report.specs.Trace.{IsJournalOf, journal_after};
 
 use crate::applying::CALLER;
 use crate::beginning::keeper_at;
+use crate::steered_journaling::steered_after;
 use std::alloc::{Allocator, Global};
 use tk_clock::Refusal;
 use tk_keeper::Timekeeper;
@@ -19,14 +20,17 @@ use tk_script::{Row, RowReader, ScriptError, Start};
 /// Begins the clocks of a script, applies its commands, and returns them with their journal.
 ///
 /// It skips refused commands and reads of clocks. It folds the journal only at a change of counter,
-/// so every command after 1,048,576 accepted ones over one counter is refused as `Full`.
+/// so every command after 1,048,576 accepted ones over one counter is refused as `Full`. Reads let
+/// the seconds of steered clocks begin, and their journal also lists the commands of the discipline.
 ///
 /// # Errors
 ///
 /// Returns the script's first fault, in the order of `ScriptError`. `Memory` may replace any other
 /// result.
 pub fn keeper_of(alloc: Global, script: &[u8]) -> Result<Timekeeper, ScriptError>
-    ensures { Gives (λ keeper. keeper.journal) result (journal_of (parse_of script.now)) }
+    ensures { MatchResult result
+        (λ keeper. IsJournalOf (parse_of script.now) keeper.journal)
+        (λ error. Fails error (parse_of script.now)) }
 {
     let (start, mut rows) = RowReader::open(alloc, script)?;
     keeper_after(alloc, start, &mut rows)
@@ -48,6 +52,24 @@ pub fn keeper_after<A: Allocator + Copy>(
 ) -> Result<Timekeeper<A>, ScriptError>
     requires opens { IsOpenable start }
     requires ready { IsReady rows.old }
+    ensures { MatchResult result
+        (λ keeper. IsJournalOf (opened_with start (coming rows.old)) keeper.journal)
+        (λ error. Fails error (coming rows.old)) }
+{
+    match start {
+        Start::Steered { opening, hz } => steered_after(alloc, opening, hz, rows),
+        Start::Opened(_) | Start::Running { .. } => plain_after(alloc, start, rows),
+    }
+}
+
+/// Returns the clocks of `keeper_after` if no discipline steers them.
+fn plain_after<A: Allocator + Copy>(
+    alloc: A,
+    start: Start,
+    rows: &mut RowReader<'_>,
+) -> Result<Timekeeper<A>, ScriptError>
+    requires opens { IsOpenable start }
+    requires ready { IsReady rows.old }
     ensures { Gives (λ keeper. keeper.journal) result
         (journal_after (journal_at start) (coming rows.old)) }
 {
@@ -58,7 +80,8 @@ pub fn keeper_after<A: Allocator + Copy>(
     Ok(keeper)
 }
 
-/// Applies a record's command, or changes the counter. A refused command and a read change nothing.
+/// Applies a record's command, or changes the counter. A refused command, a read and a request
+/// change nothing.
 fn obey<A: Allocator + Copy>(keeper: &mut Timekeeper<A>, row: Row) -> Result<(), ScriptError>
     requires { accepted_count keeper.old.journal < counted_most }
     ensures after { OnOk result
@@ -70,7 +93,7 @@ fn obey<A: Allocator + Copy>(keeper: &mut Timekeeper<A>, row: Row) -> Result<(),
             Err(Refusal::Memory) => Err(ScriptError::Memory),
             _ => Ok(()),
         },
-        Row::Look { .. } => Ok(()),
+        Row::Look { .. } | Row::Ask { .. } => Ok(()),
         Row::Change {
             reading,
             desc,

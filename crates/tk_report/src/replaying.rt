@@ -4,7 +4,7 @@ ghost use Rattle.tk_clock.specs.Limits.{most_kept};
 ghost use Rattle.tk_clock.specs.Refusal.{clock_refusal, first_refusal};
 ghost use Rattle.tk_report.specs.Folding.{rule_of};
 ghost use Rattle.tk_report.specs.Reading.{ReadFailed};
-ghost use Rattle.tk_report.specs.Report.{IsReport, IsReportBy, IsReportUnlimited, differences_in};
+ghost use Rattle.tk_report.specs.Reports.{IsReportBy};
 ghost use Rattle.tk_report.specs.Replay.{IsReplayed};
 
 use crate::fault::Fault;
@@ -31,7 +31,7 @@ pub fn replay<R: Source, W: Sink>(
     reader: &mut R,
     writer: &mut W,
 ) -> Result<u64, Fault>
-    ensures { IsReplayed IsReport (differences_in first_refusal)
+    ensures { IsReplayed (IsReportBy first_refusal)
         (R.Read.remaining reader.old) (R.Read.remaining reader.new)
         (ReadFailed R.Source.read_gives reader.new)
         W.Write.contents W.Sink.write_gives W.Sink.flush_gives writer.old writer.new result }
@@ -54,7 +54,7 @@ pub fn replay_bounded<R: Source, W: Sink>(
     keep: u64,
 ) -> Result<u64, Fault>
     requires { (1 ≤ keep) × (keep ≤ most_kept) }
-    ensures { IsReplayed IsReportUnlimited (differences_in clock_refusal)
+    ensures { IsReplayed (IsReportBy clock_refusal)
         (R.Read.remaining reader.old) (R.Read.remaining reader.new)
         (ReadFailed R.Source.read_gives reader.new)
         W.Write.contents W.Sink.write_gives W.Sink.flush_gives writer.old writer.new result }
@@ -77,7 +77,7 @@ pub fn replay_with<R: Source, W: Sink>(
     keep: Option<u64>,
 ) -> Result<u64, Fault>
     requires { ForSome keep (λ n. n ≤ most_kept) }
-    ensures { IsReplayed (IsReportBy (rule_of keep)) (differences_in (rule_of keep))
+    ensures { IsReplayed (IsReportBy (rule_of keep))
         (R.Read.remaining reader.old) (R.Read.remaining reader.new)
         (ReadFailed R.Source.read_gives reader.new)
         W.Write.contents W.Sink.write_gives W.Sink.flush_gives writer.old writer.new result }

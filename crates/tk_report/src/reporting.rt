@@ -10,11 +10,13 @@ ghost use Rattle.tk_script.specs.Grammar.{Fails, parse_of};
 ghost use Rattle.tk_script.specs.Start.{IsOpenable};
 ghost use Rattle.tk_clock.specs.Folding.{IsAlike};
 ghost use Rattle.tk_report.specs.Folding.{counting_rule_of, rule_of, since_after, since_answer};
-ghost use Rattle.tk_report.specs.Report.{IsLine, IsLookLine, IsReport, IsReportBy, IsReportOfRows, IsReportUnlimited, after, change_reply, difference, differences_in, differences_of, differs_text, event, missed, missed_at, missed_if, reply_by, reply_line};
+ghost use Rattle.tk_report.specs.Report.{IsLine, IsLookLine, IsPlainReportOfRows, after, change_reply, difference, differences_of, differs_text, event, missed, missed_at, missed_if, reply_by, reply_line};
+ghost use Rattle.tk_report.specs.Reports.{IsReport, IsReportBy, IsReportUnlimited};
 
 use crate::applying::apply;
 use crate::beginning::keeper_at;
 use crate::checked_report::CheckedReport;
+use crate::row_reporting::report_rows;
 use std::alloc::{Allocator, Global};
 use tk_clock::{ClockId, Command, Refusal, Timespec};
 use tk_counter::{CounterDesc, NANOS_PER_SECOND};
@@ -78,26 +80,15 @@ pub(crate) fn report_by(
 ) -> Result<CheckedReport, ScriptError>
     requires { ForSome keep (λ n. n ≤ most_kept) }
     ensures { MatchResult result
-        (λ report. IsReportBy (rule_of keep) script.now report.text.items
-        × (report.differences ≡ differences_in (rule_of keep) script.now))
+        (λ report. IsReportBy (rule_of keep) script.now report.text.items report.differences)
         (λ error. Fails error (parse_of script.now)) }
 {
     let (start, mut rows) = RowReader::open(alloc, script)?;
     report_rows(alloc, start, &mut rows, keep)
 }
 
-/// Makes the report of an opening and of the remaining rows of `rows`, and counts the reads that do
-/// not give the value that their record states.
-///
-/// One call of `RowReader::open` must have returned `start` and `rows`. With `keep`, at most
-/// 524,288, a full journal is folded to its last `keep` entries, and no command is refused as
-/// `Full`. Report and journal are allocated from `alloc`; the reader of the rows allocates from its
-/// own allocator.
-///
-/// # Errors
-///
-/// Returns the first fault of the rows. `Memory` may replace any other result.
-pub fn report_rows<A: Allocator + Copy>(
+/// Makes the report of `report_rows` for clocks that no discipline steers.
+pub(crate) fn report_plain<A: Allocator + Copy>(
     alloc: A,
     start: Start,
     rows: &mut RowReader<'_>,
@@ -107,7 +98,7 @@ pub fn report_rows<A: Allocator + Copy>(
     requires ready { IsReady rows.old }
     requires keep { ForSome keep (λ n. n ≤ most_kept) }
     ensures { MatchResult result
-        (λ report. IsReportOfRows (rule_of keep) start (coming rows.old) report.text.items
+        (λ report. IsPlainReportOfRows (rule_of keep) start (coming rows.old) report.text.items
         × (report.differences ≡ differences_of (rule_of keep) (opened_with start (coming rows.old))))
         (λ error. Fails error (coming rows.old)) }
 {
@@ -127,7 +118,8 @@ pub fn report_rows<A: Allocator + Copy>(
     Ok(CheckedReport { text, differences })
 }
 
-/// Applies a record's command, reads its clock, or changes the counter, and appends the line.
+/// Applies a record's command, reads its clock, changes the counter, or refuses its request, and
+/// appends the line.
 /// Returns the expected value that the read does not give, in ns, if there is one.
 fn add_line<A: Allocator + Copy>(
     text: &mut Vec<u8, A>,
@@ -169,12 +161,17 @@ fn add_line<A: Allocator + Copy>(
             add_change(text, clocks, reading, desc, first)?;
             Ok(None)
         }
+        // no discipline steers the clocks
+        Row::Ask { .. } => {
+            line_no(text, Refusal::Invalid)?;
+            Ok(None)
+        }
     }
 }
 
 /// Appends the line of an expected value that the record `row` does not give, if there is one.
 /// Returns the number of lines.
-fn add_difference<A: Allocator>(
+pub(crate) fn add_difference<A: Allocator>(
     text: &mut Vec<u8, A>,
     row: u64,
     missed: Option<u64>,
@@ -222,7 +219,7 @@ fn add_reply<A: Allocator + Copy>(
 }
 
 /// Reads a clock and appends its line. Returns the expected value that the read does not give.
-fn add_look<A: Allocator + Copy>(
+pub(crate) fn add_look<A: Allocator + Copy>(
     text: &mut Vec<u8, A>,
     calendar: &mut Calendar<A>,
     keeper: &Timekeeper<A>,

@@ -1,19 +1,18 @@
 -- Running clocks by their words: the grammar's test decides whether running clocks can be in a state.
-use Rattle.std.proofs.Common.{◌≡◌, ◌≤◌, ◌^◌, ◌*◌, ℕ, List, Bool, true, false, ◌&&◌, if◌then◌else◌, Option, Some, None, Ok, Err, ℤ, pos, neg_ℤ, ◌≤ℤ◌, ◌<ℤ◌, int_le, nat_le, ◌==◌, length, refl, ap, subst, arith}
+use Rattle.std.proofs.Common.{◌≡◌, ◌≤◌, ◌^◌, ◌*◌, ℕ, List, Bool, true, false, ◌&&◌, if◌then◌else◌, Option, Some, None, Ok, Err, ℤ, pos, neg_ℤ, ◌≤ℤ◌, ◌<ℤ◌, int_le, nat_le, length, refl, ap, subst, arith}
 use Rattle.std.specs.Prelude.{unwrap_or}
 use Rattle.std.proofs.lemmas.Grind.{common_steps}
 use Rattle.std.proofs.lemmas.Bool.{le-leb, eq-eqb, eqb-true, leb-true}
 use Rattle.tk_counter.specs.Counter.{Counter, multiplier, least_tick, greatest_tick}
 use Rattle.tk_clock.specs.Running.{IsRunning, IsWithin, slowest}
 use Rattle.tk_clock.specs.Snapshot.{Snapshot}
-use Rattle.tk_clock.specs.State.{ReadBase, State}
+use Rattle.tk_clock.specs.State.{ReadBase}
 use Rattle.tk_clock.specs.Words.{are_in_range, is_within, restored, snapshot_of_words}
 use Rattle.tk_clock.proofs.Words.{is_within-stated}
 use Rattle.tk_script.specs.Counters.{counter_of}
 use Rattle.tk_script.specs.Field.{number32_at, signed_at}
 use Rattle.tk_script.specs.RunningClocks.{continued, is_running, running_of, words_of_fields}
 use Rattle.tk_script.specs.Start.{most_front}
-use Rattle.tk_script.specs.declared.opening.Start.{Start}
 use Rattle.tk_script.specs.declared.opening.Start.TheVariants.{Running}
 use Rattle.tk_script.specs.declared.opening.Telling.TheVariants as tellings
 use Rattle.tk_script.specs.declared.script_error.ScriptError.TheVariants as errors

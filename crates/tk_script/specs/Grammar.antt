@@ -13,7 +13,7 @@ use Rattle.tk_script.specs.declared.script_error.ScriptError.TheVariants as erro
 pub record Parse : Type 0 where
   -- how the clocks begin
   pub start : Start
-  -- the commands, the reads and the changes of counter, in order
+  -- the commands, the reads, the changes of counter and the requests, in order
   pub rows : List Row
 
 -- the first record is the opening, and the others are rows

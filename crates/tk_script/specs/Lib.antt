@@ -5,6 +5,7 @@ pub mod Start
 pub mod Counters
 pub mod RunningClocks
 pub mod Opening
+pub mod Requests
 pub mod Rows
 pub mod Records
 pub mod ScriptError
@@ -18,3 +19,4 @@ pub mod Coming
 pub mod Utc
 pub mod Lines
 pub mod Line
+pub mod AdjLine

@@ -9,6 +9,7 @@ use Rattle.tk_clock.specs.declared.timespec.Timespec.{Timespec}
 use Rattle.tk_script.specs.Word.{is_word}
 use Rattle.tk_script.specs.Field.{◌>>=◌, field, number_at, number32_at, signed_at, time_at, clock_at}
 use Rattle.tk_script.specs.Records.{each}
+use Rattle.tk_script.specs.Requests.{ask_of}
 use Rattle.tk_script.specs.declared.row.Row.{Row}
 use Rattle.tk_script.specs.declared.row.Row.TheVariants.{Act, Look, Change}
 use Rattle.tk_script.specs.declared.script_error.ScriptError.{ScriptError}
@@ -83,7 +84,7 @@ abbrev pub with_operand : {A : Type 0} → (A → Command) → Result (ℕ × A)
     Result Row ScriptError
 with_operand command read = read >>= λ p. Ok (Act p.0 (command p.1))
 
--- the command, the read or the change of counter in the record `row`, or its fault
+-- the command, the read, the change of counter or the request in the record `row`, or its fault
 unfoldable pub row_of : ℕ → List (List ℕ) → Result Row ScriptError
 row_of row fields =
     if is_word (field fields 0) (codes "update") then plain Update (plain_of row fields)
@@ -96,6 +97,7 @@ row_of row fields =
     else if is_word (field fields 0) (codes "suspend") then plain Suspend (plain_of row fields)
     else if is_word (field fields 0) (codes "resume") then with_operand Resume (timed_of row fields)
     else if is_word (field fields 0) (codes "counter") then change_of row fields
+    else if is_word (field fields 0) (codes "adjtimex") then ask_of row fields
     else Err (errors.Word row)
 
 -- the rows of these records, of which the first is the record `row`, or their first fault

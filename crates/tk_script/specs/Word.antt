@@ -5,6 +5,8 @@ use Rattle.tk_clock.specs.declared.clock_id.ClockId.{ClockId}
 use Rattle.tk_clock.specs.declared.clock_id.ClockId.TheVariants.{Realtime, Monotonic, Boottime, Tai, RealtimeCoarse, MonotonicCoarse, MonotonicRaw}
 use Rattle.tk_clock.specs.declared.refusal.Refusal.{Refusal}
 use Rattle.tk_clock.specs.declared.refusal.Refusal.TheVariants.{Full, Asleep, Awake, Invalid, Behind, Range, Memory}
+use Rattle.tk_ntp.specs.declared.reply.TimeState.{TimeState}
+use Rattle.tk_ntp.specs.declared.reply.TimeState.TheVariants.{Ok, Ins, Del, Oop, Wait, Error}
 
 -- whether these bytes are the keyword
 abbrev pub is_word : List ℕ → List ℕ → Bool
@@ -41,3 +43,12 @@ refusal_name Invalid = codes "invalid"
 refusal_name Behind = codes "behind"
 refusal_name Range = codes "range"
 refusal_name Memory = codes "memory"
+
+-- the name of the state in a reply
+abbrev pub state_name : TimeState → List ℕ
+state_name Ok = codes "ok"
+state_name Ins = codes "ins"
+state_name Del = codes "del"
+state_name Oop = codes "oop"
+state_name Wait = codes "wait"
+state_name Error = codes "error"

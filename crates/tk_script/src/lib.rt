@@ -2,14 +2,15 @@
 //!
 //! | Item | Its meaning |
 //! |---|---|
-//! | `Script`, `Row` | hold a parsed script: how the clocks begin, then commands, reads and changes of counter |
+//! | `Script`, `Row` | hold a parsed script: how the clocks begin, and its later records |
 //! | `RowReader` | reads a script one row at a time |
-//! | `Start`, `Opening` | say how clocks begin: opened with these values, or already running |
+//! | `Start`, `Opening` | say how clocks begin: opened with values, steered, or already running |
 //! | `Stamps` | holds a parsed stamp file: readings of the counter, each with its front |
 //! | `SIZE_LIMIT` | is the greatest size of a script or of a stamp file, in bytes |
 //! | `ScriptError` | names the first fault of a script or of a stamp file |
 //! | `number`, `clock_word` | parse one field |
-//! | `line_open`, `line_ok`, `line_no`, `line_at`, `line_differs` | append one line of a report |
+//! | `line_open`, `line_ok`, `line_no`, `line_adj` | append one line of a report |
+//! | `line_at`, `line_differs` | append the line of a read, and the line after a read that differs |
 //! | `Calendar` | appends lines of clocks, and computes the date once for lines of one day |
 //! | `utc` | returns a time as UTC text |
 //!
@@ -17,6 +18,7 @@
 //! from 0. No call waits.
 #![tactic(auto)]
 
+mod adj_line;
 mod at_lines;
 mod calendar;
 mod digits;
@@ -29,6 +31,7 @@ mod numbers;
 mod opening;
 mod plain;
 mod records;
+mod requests;
 mod row;
 mod row_reader;
 mod running_clocks;
@@ -36,6 +39,7 @@ mod script;
 mod script_error;
 mod stamps;
 
+pub use adj_line::line_adj;
 pub use at_lines::line_at;
 pub use calendar::{Calendar, utc};
 pub use lines::{line_differs, line_no, line_ok, line_open};

@@ -1,8 +1,9 @@
 ghost use Rattle.std.specs.Prelude.{◌≡◌, ◌≤◌, length};
-ghost use Rattle.tk_script.specs.Word.{clock_of, clock_name, refusal_name};
+ghost use Rattle.tk_script.specs.Word.{clock_of, clock_name, refusal_name, state_name};
 
 use crate::fields::has_word;
 use tk_clock::{ClockId, Refusal};
+use tk_ntp::TimeState;
 
 /// Returns the clock with this name in a script. `None` means that there is none.
 #[inline(always)]
@@ -57,5 +58,19 @@ pub(crate) fn word_of_refusal(refusal: Refusal) -> &'static [u8]
         Refusal::Behind => b"behind",
         Refusal::Range => b"range",
         Refusal::Memory => b"memory",
+    }
+}
+
+/// Returns the name of the state in a reply.
+pub(crate) fn word_of_state(state: TimeState) -> &'static [u8]
+    ensures { result.now ≡ state_name state }
+{
+    match state {
+        TimeState::Ok => b"ok",
+        TimeState::Ins => b"ins",
+        TimeState::Del => b"del",
+        TimeState::Oop => b"oop",
+        TimeState::Wait => b"wait",
+        TimeState::Error => b"error",
     }
 }

@@ -10,8 +10,9 @@ use crate::running_clocks::read_running;
 use crate::script_error::ScriptError;
 use tk_clock::{Clock, Timespec};
 use tk_counter::CounterDesc;
+use tk_ntp::SteeredClock;
 
-/// The number of fields of the records `open` and `openhz`.
+/// The number of fields of the records `open` and `openhz` without `hz`.
 const OPENING_FIELDS: usize = 7;
 
 /// Contains the values with which clocks are opened.
@@ -30,6 +31,9 @@ pub struct Opening {
 pub enum Start {
     /// Opens clocks (`open`, `openhz`).
     Opened(Opening),
+    /// Opens clocks that a discipline steers (`open`, `openhz` with the field `hz`). It divides
+    /// phases into `hz` parts of a second.
+    Steered { opening: Opening, hz: u32 },
     /// Continues running clocks, which have accepted `front` commands, at most 2^62 (`openwords`).
     Running { clock: Clock, front: u64 },
 }
@@ -61,13 +65,14 @@ pub(crate) fn read_start(fields: &Records<'_>) -> Result<Start, ScriptError>
     }
 }
 
-/// Parses bits, the two numbers that describe the counter, reading, sec and nsec.
+/// Parses bits, the two numbers that describe the counter, reading, sec and nsec, and hz if there
+/// is one more field.
 #[tactic(auto, unfolding(crate::specs::Opening::opening_of))]
 fn read_opening(telling: Telling, fields: &Records<'_>) -> Result<Start, ScriptError>
     ensures value { result ≡ spec.opening_of telling (fields_of fields.now) }
     ensures opens { IfOk result IsOpenable }
 {
-    if fields.len() != OPENING_FIELDS {
+    if fields.len() != OPENING_FIELDS && fields.len() != OPENING_FIELDS + 1 {
         return Err(ScriptError::Fields { row: 1 });
     }
     let bits = number32_at(1, fields, 1)?;
@@ -75,8 +80,28 @@ fn read_opening(telling: Telling, fields: &Records<'_>) -> Result<Start, ScriptE
     let second = number32_at(1, fields, 3)?;
     let reading = number_at(1, fields, 4)?;
     let real = time_at(1, fields, 5)?;
+    let hz = read_hz(fields)?;
     let desc = counter_of(telling, bits, first, second)?;
-    started(desc, reading, real)
+    let opening = Opening {
+        desc,
+        reading,
+        real,
+    };
+    match hz {
+        None => started(opening),
+        Some(hz) => started_steered(opening, hz),
+    }
+}
+
+/// Parses hz. `None` means that the record has no field for it.
+fn read_hz(fields: &Records<'_>) -> Result<Option<u32>, ScriptError>
+    ensures { result ≡ spec.hz_of (fields_of fields.now) }
+{
+    if fields.len() == OPENING_FIELDS {
+        return Ok(None);
+    }
+    let hz = number32_at(1, fields, 7)?;
+    Ok(Some(hz))
 }
 
 /// Makes the counter of `bits` bits from two numbers, if they describe one.
@@ -95,17 +120,24 @@ pub(crate) fn counter_of(
     .map_err(|_| ScriptError::Opening { row: 1 })
 }
 
-/// Makes the opening with these values, if clocks can be opened with them.
-fn started(desc: CounterDesc, reading: u64, real: Timespec) -> Result<Start, ScriptError>
-    ensures value { result ≡ spec.started desc reading real }
+/// Begins with the opening, if clocks can be opened with it.
+fn started(opening: Opening) -> Result<Start, ScriptError>
+    ensures value { result ≡ spec.started opening }
     ensures opens { IfOk result IsOpenable }
 {
-    if Clock::open(desc, reading, real).is_err() {
+    if Clock::open(opening.desc, opening.reading, opening.real).is_err() {
         return Err(ScriptError::Opening { row: 1 });
     }
-    Ok(Start::Opened(Opening {
-        desc,
-        reading,
-        real,
-    }))
+    Ok(Start::Opened(opening))
+}
+
+/// Begins with the opening and `hz`, if steered clocks can be opened with them.
+fn started_steered(opening: Opening, hz: u32) -> Result<Start, ScriptError>
+    ensures value { result ≡ spec.started_steered opening hz }
+    ensures opens { IfOk result IsOpenable }
+{
+    if SteeredClock::open(opening.desc, opening.reading, opening.real, hz).is_err() {
+        return Err(ScriptError::Opening { row: 1 });
+    }
+    Ok(Start::Steered { opening, hz })
 }

@@ -5,11 +5,14 @@ ghost use Rattle.tk_script.specs.declared.row.Row.TheVariants.{Act};
 
 use crate::fields::{clock_at, field, has_word, number_at, number32_at, signed_at, time_at};
 use crate::records::Records;
+use crate::requests::read_ask;
 use crate::script_error::ScriptError;
 use tk_clock::{ClockId, Command, Timespec};
 use tk_counter::CounterDesc;
+use tk_ntp::Timex;
 
-/// Contains a record of a script after the first one: a command, a read or a change of counter.
+/// Contains a record of a script after the first one: a command, a read, a change of counter or a
+/// request.
 /// `reading` is the counter's, in cycles. It may be above the mask; the clocks refuse such a reading.
 #[derive(Clone, Copy, Debug, PartialEq, Eq)]
 pub enum Row {
@@ -30,6 +33,11 @@ pub enum Row {
         reading: u64,
         desc: CounterDesc,
         first: u64,
+    },
+    /// Does what a request asks for at a reading (adjtimex(2)). The request may have any numbers.
+    Ask {
+        reading: u64,
+        request: Timex,
     },
 }
 
@@ -59,6 +67,8 @@ pub(crate) fn read_row(row: u64, fields: &Records<'_>) -> Result<Row, ScriptErro
         read_timed(row, fields).map(|(reading, time)| act(reading, Command::Resume(time)))
     } else if has_word(word, b"counter") {
         read_change(row, fields)
+    } else if has_word(word, b"adjtimex") {
+        read_ask(row, fields)
     } else {
         Err(ScriptError::Word { row })
     }

@@ -8,13 +8,13 @@ use crate::row_reader::RowReader;
 use crate::script_error::ScriptError;
 use std::alloc::Global;
 
-/// Contains a parsed script: how the clocks begin, and then the commands, the reads and the changes
-/// of counter.
+/// Contains a parsed script: how the clocks begin, and then the commands, the reads, the changes of
+/// counter and the requests.
 #[derive(Drop)]
 pub struct Script {
-    /// Opens the clocks, or continues running ones.
+    /// Opens the clocks, perhaps steered ones, or continues running ones.
     pub start: Start,
-    /// Commands and reads, in the order of their records.
+    /// The later records, in their order.
     pub rows: Vec<Row>,
 }
 

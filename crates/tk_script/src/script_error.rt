@@ -18,8 +18,8 @@ pub enum ScriptError {
     TooLarge,
     /// The script has no record. A stamp file may have none.
     Empty,
-    /// The first record doesn't begin with `open` or `openhz`, or no clocks can be opened with its
-    /// values.
+    /// The first record doesn't begin with `open`, `openhz` or `openwords`, or no clocks can begin
+    /// with its values.
     Opening { row: u64 },
     /// The keyword of a later record or the name of a clock is unknown. The keyword of a second
     /// opening counts as unknown.

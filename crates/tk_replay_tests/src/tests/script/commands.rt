@@ -2,6 +2,7 @@ use super::{OPENING, act, assert_rows, assert_same, joined, look, time};
 use std::process::Abort;
 use tk_clock::{ClockId, Command};
 use tk_counter::CounterDesc;
+use tk_ntp::Timex;
 use tk_script::{Row, Script, ScriptError};
 
 /// Stops the test if one record after an opening gives another row.
@@ -136,5 +137,49 @@ fn reads_a_change_of_counter(rt: HostRuntime) {
             first: u64::MAX,
         };
         assert_row(&rt, b"counter,9,64,4194304,22,18446744073709551615", row);
+    }
+}
+
+#[test]
+fn reads_a_request(rt: HostRuntime) {
+    let row = Row::Ask {
+        reading: 9,
+        request: Timex {
+            modes: 0x2035,
+            offset: -100_000_000,
+            freq: i64::MIN,
+            maxerror: 3,
+            esterror: 4,
+            status: u32::MAX,
+            constant: 6,
+            tick: 10_000,
+            sec: -8,
+            sub: i64::MAX,
+        },
+    };
+    let plain = b"adjtimex,9,8245,-100000000,-9223372036854775808,3,4,4294967295,6,10000,-8,\
+        9223372036854775807";
+    assert_row(&rt, plain, row);
+    let quoted = b"\"adjtimex\",9,8245,-100000000,-9223372036854775808,3,4,4294967295,6,10000,\
+        -8,\"9223372036854775807\"";
+    assert_row(&rt, quoted, row);
+}
+
+#[test]
+fn refuses_a_faulty_request(rt: HostRuntime) {
+    let (fields, number) = (
+        ScriptError::Fields { row: 2 },
+        ScriptError::Number { row: 2 },
+    );
+    for (record, fault) in [
+        (b"adjtimex,9,0,0,0,0,0,0,0,0,0".as_slice(), fields),
+        (b"adjtimex,9,0,0,0,0,0,0,0,0,0,0,0", fields),
+        (b"adjtimex,-1,0,0,0,0,0,0,0,0,0,0", number),
+        (b"adjtimex,9,4294967296,0,0,0,0,0,0,0,0,0", number),
+        (b"adjtimex,9,0,0,0,0,0,-1,0,0,0,0", number),
+        (b"adjtimex,9,0,9223372036854775808,0,0,0,0,0,0,0,0", number),
+        (b"adjtimex,9,0,0,0,0,0,0,0,0,0,", number),
+    ] {
+        assert_fault(&rt, record, fault);
     }
 }

@@ -2,7 +2,8 @@ use super::assert_same;
 use std::test::Fail;
 use tk_clock::{ClockId, Refusal, Timespec};
 use tk_counter::CounterDesc;
-use tk_script::{Calendar, line_at, line_differs, line_no, line_ok, line_open};
+use tk_ntp::{Reply, STA_NANO, STA_PLL, TimeState, Timex};
+use tk_script::{Calendar, line_adj, line_at, line_differs, line_no, line_ok, line_open};
 
 #[test]
 fn writes_each_line(rt: HostRuntime) -> Result<(), Fail> {
@@ -55,6 +56,60 @@ fn writes_seconds_of_each_length(rt: HostRuntime) -> Result<(), Fail> {
         ok,7,1000000000.000000005\n\
         ok,7,1020304050.060708090\n\
         ok,7,9223372035.999999999\n";
+    assert_same(&rt, &out.as_slice(), &want.as_slice());
+    Ok(())
+}
+
+#[test]
+fn writes_replies_in_nanoseconds_and_in_microseconds(rt: HostRuntime) -> Result<(), Fail> {
+    let mut out = Vec::new(rt.alloc());
+    let timex = Timex {
+        offset: 99_609_375,
+        freq: -223_090,
+        maxerror: 500,
+        esterror: 16_000_000,
+        status: STA_PLL | STA_NANO,
+        constant: 6,
+        tick: 10_000,
+        sec: 1_700_000_001,
+        sub: 500_195_264,
+        ..Timex::default()
+    };
+    let reply = Reply {
+        state: TimeState::Ok,
+        tai: 37,
+        timex,
+    };
+    line_adj(&mut out, &reply, u64::MAX)?;
+    let coarse = Timex {
+        status: STA_PLL,
+        offset: -1,
+        sub: 999,
+        ..timex
+    };
+    for state in [
+        TimeState::Ok,
+        TimeState::Ins,
+        TimeState::Del,
+        TimeState::Oop,
+        TimeState::Wait,
+        TimeState::Error,
+    ] {
+        let reply = Reply {
+            state,
+            tai: 0,
+            timex: coarse,
+        };
+        line_adj(&mut out, &reply, 0)?;
+    }
+    let want = b"adj,ok,1700000001.500195264,99609375,-223090,500,16000000,8193,6,10000,37,\
+        18446744073709551615\n\
+        adj,ok,1700000001.000999,-1,-223090,500,16000000,1,6,10000,0,0\n\
+        adj,ins,1700000001.000999,-1,-223090,500,16000000,1,6,10000,0,0\n\
+        adj,del,1700000001.000999,-1,-223090,500,16000000,1,6,10000,0,0\n\
+        adj,oop,1700000001.000999,-1,-223090,500,16000000,1,6,10000,0,0\n\
+        adj,wait,1700000001.000999,-1,-223090,500,16000000,1,6,10000,0,0\n\
+        adj,error,1700000001.000999,-1,-223090,500,16000000,1,6,10000,0,0\n";
     assert_same(&rt, &out.as_slice(), &want.as_slice());
     Ok(())
 }

@@ -7,12 +7,32 @@ use std::process::Abort;
 use std::test::Fail;
 use tk_clock::{ClockId, Refusal, Timespec};
 use tk_counter::CounterDesc;
-use tk_script::{Calendar, ScriptError, line_at, line_differs, line_no, line_ok, line_open, utc};
+use tk_ntp::{Reply, TimeState, Timex};
+use tk_script::{
+    Calendar, ScriptError, line_adj, line_at, line_differs, line_no, line_ok, line_open, utc,
+};
 use tk_test_support::Heap;
 
 const TIME: Timespec = Timespec {
     sec: 9_223_372_035,
     nsec: 999_999_999,
+};
+
+const REPLY: Reply = Reply {
+    state: TimeState::Error,
+    tai: u32::MAX,
+    timex: Timex {
+        modes: 0,
+        offset: i64::MIN,
+        freq: i64::MIN,
+        maxerror: i64::MIN,
+        esterror: i64::MIN,
+        status: u32::MAX,
+        constant: i64::MIN,
+        tick: i64::MIN,
+        sec: i64::MIN,
+        sub: 999_999_999,
+    },
 };
 
 /// Makes a date while this request is refused. Returns whether one was refused.
@@ -47,6 +67,7 @@ enum Line {
     Plain,
     Dated,
     Differing,
+    Answered,
 }
 
 impl Line {
@@ -59,6 +80,7 @@ impl Line {
             Line::Plain => line_at(out, ClockId::MonotonicCoarse, TIME),
             Line::Dated => line_at(out, ClockId::RealtimeCoarse, TIME),
             Line::Differing => line_differs(out, u64::MAX, u64::MAX),
+            Line::Answered => line_adj(out, &REPLY, u64::MAX),
         }
     }
 }
@@ -99,7 +121,7 @@ fn assert_line_or_nothing(rt: &(impl Abort + AllocGlobal), line: &Line, whole: &
 #[test]
 fn writes_a_line_or_nothing(rt: HostRuntime) -> Result<(), Fail> {
     let desc = CounterDesc::new(32, 3_869_339_906, 32)?;
-    let lines: [(Line, &[u8]); 6] = [
+    let lines: [(Line, &[u8]); 7] = [
         (Line::Open(desc), b"-open,32,3869339906,32\n"),
         (
             Line::Accepted,
@@ -114,6 +136,12 @@ fn writes_a_line_or_nothing(rt: HostRuntime) -> Result<(), Fail> {
         (
             Line::Differing,
             b"-differs,18446744073709551615,18446744073709551615\n",
+        ),
+        (
+            Line::Answered,
+            b"-adj,error,-9223372036854775808.999999999,-9223372036854775808,-9223372036854775808,\
+            -9223372036854775808,-9223372036854775808,4294967295,-9223372036854775808,\
+            -9223372036854775808,4294967295,18446744073709551615\n",
         ),
     ];
     for (line, whole) in &lines {

@@ -10,7 +10,7 @@ use Rattle.tk_report.specs.Folding.{since_after}
 use Rattle.tk_report.specs.Report.{difference, differs_text, missed}
 use Rattle.tk_report.proofs.Beginnings.{count-at, few-at}
 use Rattle.tk_report.proofs.Lines.{count_after, difference_most, IsBegunBy, IsBegunBy-start, IsBegunBy-next, IsBegunBy-end, IsBegunBy-fault}
-use Rattle.tk_report.proofs.reporting.report_rows.Goals as goal
+use Rattle.tk_report.proofs.reporting.report_plain.Goals as goal
 
 pub rows-init : goal.rows-init
 rows-init g c =

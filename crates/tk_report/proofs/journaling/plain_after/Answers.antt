@@ -8,7 +8,7 @@ use Rattle.tk_report.specs.Trace.{journal_after}
 use Rattle.tk_report.proofs.Journals.{Fails-journal_after, journal_after-row}
 use Rattle.tk_report.proofs.Beginnings.{few-at}
 use Rattle.tk_report.proofs.Lines.{counted_after}
-use Rattle.tk_report.proofs.journaling.keeper_after.Goals as goal
+use Rattle.tk_report.proofs.journaling.plain_after.Goals as goal
 
 pub rows-init : goal.rows-init
 rows-init g c =

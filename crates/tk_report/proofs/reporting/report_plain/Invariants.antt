@@ -3,7 +3,7 @@ use Rattle.tk_clock.specs.Journal.{accepted_count}
 use Rattle.tk_script.specs.Coming.{IsReady, coming, records_left}
 use Rattle.tk_script.specs.Start.{most_front}
 use Rattle.tk_report.proofs.Lines.{IsBegunBy}
-use Rattle.tk_report.proofs.reporting.report_rows.Given as goal
+use Rattle.tk_report.proofs.reporting.report_plain.Given as goal
 
 -- the lines so far, followed by the lines of the remaining rows, are the report; a record is at
 -- most one command and one difference

@@ -3,7 +3,7 @@ use Rattle.tk_clock.specs.Journal.{accepted_count}
 use Rattle.tk_script.specs.Coming.{IsReady, coming, records_left}
 use Rattle.tk_script.specs.Start.{journal_at, most_front}
 use Rattle.tk_report.specs.Trace.{journal_after}
-use Rattle.tk_report.proofs.journaling.keeper_after.Given as goal
+use Rattle.tk_report.proofs.journaling.plain_after.Given as goal
 
 -- the remaining rows, applied to the journal so far, give the same journal as all rows, applied to
 -- the opening; a record is at most one command

@@ -1,0 +1,159 @@
+//! Makes the report of a script whose clocks a discipline steers.
+ghost use Rattle.std.specs.Prelude.{◌≡◌, ◌++◌, List, ℕ, OnOk, IfOk, IfErr, MatchResult, None};
+ghost use Rattle.tk_clock.specs.declared.clock_id.ClockId.TheVariants.{Monotonic};
+ghost use Rattle.tk_keeper.specs.Read.{read_fault};
+ghost use Rattle.tk_ntp.specs.SteeredClock.{steered_refusal};
+ghost use Rattle.tk_report.specs.SteeredReport.{IsAcceptedLine, IsAnswerLine, IsLookAt, IsReplyLine, IsSteeredLine, IsSteeredReportOfRows, missed_after};
+ghost use Rattle.tk_script.specs.Coming.{IsReady, coming};
+ghost use Rattle.tk_script.specs.Grammar.{Fails};
+
+use crate::applying::CALLER;
+use crate::checked_report::CheckedReport;
+use crate::reporting::{add_difference, add_look};
+use std::alloc::Allocator;
+use tk_clock::{ClockId, Command, Refusal};
+use tk_keeper::Timekeeper;
+use tk_ntp::Timex;
+use tk_script::{
+    Calendar, Opening, Row, RowReader, ScriptError, line_adj, line_no, line_ok, line_open,
+};
+use tk_steered::Steered;
+
+/// Makes the report of the opening of steered clocks and of the remaining rows of `rows`, and
+/// counts the reads that do not give the value that their record states.
+pub(crate) fn report_steered<A: Allocator + Copy>(
+    alloc: A,
+    opening: Opening,
+    hz: u32,
+    rows: &mut RowReader<'_>,
+) -> Result<CheckedReport<A>, ScriptError>
+    requires opens { steered_refusal opening.desc opening.reading opening.real hz ≡ None }
+    requires ready { IsReady rows.old }
+    ensures { MatchResult result
+        (λ report. IsSteeredReportOfRows opening hz (coming rows.old) report.text.items
+        report.differences)
+        (λ error. Fails error (coming rows.old)) }
+{
+    let mut clocks = Steered::open(alloc, opening.desc, opening.reading, opening.real, hz).unwrap();
+    let mut calendar = Calendar::new(alloc);
+    let mut text = Vec::new(alloc);
+    let (mut number, mut differences) = (1u64, 0u64);
+    line_open(&mut text, &opening.desc)?;
+    'rows: while let Some(row) = rows.next_row()? {
+        number += 1;
+        let missed = add_steered_line(&mut text, &mut calendar, &mut clocks, row)?;
+        let more = add_difference(&mut text, number, missed)?;
+        differences += more;
+    }
+    Ok(CheckedReport { text, differences })
+}
+
+/// Carries out a record, and appends its line. Returns the expected value that a read does not
+/// give, in ns, if there is one.
+fn add_steered_line<A: Allocator + Copy>(
+    text: &mut Vec<u8, A>,
+    calendar: &mut Calendar<A>,
+    clocks: &mut Steered<A>,
+    row: Row,
+) -> Result<Option<u64>, ScriptError>
+    ensures line { OnOk result ((line : List ℕ)
+        × IsSteeredLine clocks.old row line clocks.new
+        × (text.new.items ≡ text.old.items ++ line)) }
+    ensures missed { IfOk result (λ value. value ≡ missed_after clocks.new.logged.journal row) }
+    ensures err { IfErr result (λ error. error ≡ ScriptError.Memory) }
+{
+    match row {
+        Row::Act { reading, cmd } => {
+            add_applied(text, clocks, reading, cmd)?;
+            Ok(None)
+        }
+        Row::Ask { reading, request } => {
+            add_answer(text, clocks, reading, &request)?;
+            Ok(None)
+        }
+        Row::Look {
+            reading,
+            clock,
+            expected,
+        } => {
+            begin_seconds(clocks, reading)?;
+            add_look(text, calendar, clocks.keeper(), reading, clock, expected)
+        }
+        // the lag is in units of the counter, so its discipline can't continue over another one
+        Row::Change { .. } => {
+            line_no(text, Refusal::Invalid)?;
+            Ok(None)
+        }
+    }
+}
+
+/// Applies a command, and appends its line.
+fn add_applied<A: Allocator + Copy>(
+    text: &mut Vec<u8, A>,
+    clocks: &mut Steered<A>,
+    reading: u64,
+    cmd: Command,
+) -> Result<(), ScriptError>
+    ensures line { OnOk result ((line : List ℕ) × IsReplyLine clocks.old reading cmd line clocks.new
+        × (text.new.items ≡ text.old.items ++ line)) }
+    ensures err { IfErr result (λ error. error ≡ ScriptError.Memory) }
+{
+    match clocks.apply(CALLER, reading, cmd) {
+        Ok(number) => add_accepted(text, clocks.keeper(), reading, number),
+        Err(Refusal::Memory) => Err(ScriptError::Memory),
+        Err(refusal) => line_no(text, refusal),
+    }
+}
+
+/// Appends the line of an accepted command, with MONOTONIC at its reading. A request for a
+/// frequency or a tick may give no command, so the reading may be after the last command's.
+fn add_accepted<A: Allocator + Copy>(
+    text: &mut Vec<u8, A>,
+    keeper: &Timekeeper<A>,
+    reading: u64,
+    number: u64,
+) -> Result<(), ScriptError>
+    ensures line { OnOk result ((line : List ℕ)
+        × IsAcceptedLine keeper.now.journal reading number
+        (read_fault keeper.now.journal Monotonic reading) line
+        × (text.new.items ≡ text.old.items ++ line)) }
+    ensures err { IfErr result (λ error. error ≡ ScriptError.Memory) }
+{
+    match keeper.get(ClockId::Monotonic, reading) {
+        Ok(time) => line_ok(text, number, time),
+        Err(error) => line_no(text, error.into()),
+    }
+}
+
+/// Does what a request asks for, and appends the line of its reply.
+fn add_answer<A: Allocator + Copy>(
+    text: &mut Vec<u8, A>,
+    clocks: &mut Steered<A>,
+    reading: u64,
+    request: &Timex,
+) -> Result<(), ScriptError>
+    ensures line { OnOk result ((line : List ℕ)
+        × IsAnswerLine clocks.old reading request.now line clocks.new
+        × (text.new.items ≡ text.old.items ++ line)) }
+    ensures err { IfErr result (λ error. error ≡ ScriptError.Memory) }
+{
+    match clocks.adjtimex(CALLER, reading, request) {
+        Ok(reply) => line_adj(text, &reply, clocks.keeper().len() as u64),
+        Err(Refusal::Memory) => Err(ScriptError::Memory),
+        Err(refusal) => line_no(text, refusal),
+    }
+}
+
+/// Lets the seconds up to a reading begin, if it isn't refused and as far as the journal has room.
+pub(crate) fn begin_seconds<A: Allocator + Copy>(
+    clocks: &mut Steered<A>,
+    reading: u64,
+) -> Result<(), ScriptError>
+    ensures begun { OnOk result (IsLookAt clocks.old reading clocks.new) }
+    ensures err { IfErr result (λ error. error ≡ ScriptError.Memory) }
+{
+    match clocks.advance(CALLER, reading) {
+        Err(Refusal::Memory) => Err(ScriptError::Memory),
+        _ => Ok(()),
+    }
+}

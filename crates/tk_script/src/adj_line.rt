@@ -1,0 +1,99 @@
+//! Makes the line of the reply to a request.
+ghost use Rattle.std.specs.Prelude.{◌≡◌, ◌++◌, ◌<◌, List, ℕ, OnOk, OnErr, IfErr, codes, decimal, drop, flat_map, length, pos, unsigned_abs};
+ghost use Rattle.std.specs.Fmt.{signed_decimal};
+ghost use Rattle.tk_ntp.specs.Bits.{has, sta_nano};
+ghost use Rattle.tk_script.specs.AdjLine.{IsAdjWritable, adj_line, number_field, reply_time, sub_digits};
+ghost use Rattle.tk_script.specs.Word.{state_name};
+
+use crate::digits::nine_digits_of;
+use crate::names::word_of_state;
+use crate::script_error::ScriptError;
+use itoa::Buffer;
+use std::alloc::Allocator;
+use tk_ntp::{Reply, STA_NANO, Timex};
+
+/// Appends the line of the reply to a request:
+/// `adj,STATE,TIME,OFFSET,FREQ,MAXERROR,ESTERROR,STATUS,CONSTANT,TICK,TAI,NUMBER`. `number` is the
+/// number of the commands that were accepted so far.
+///
+/// TIME has nine digits after its dot if the status has `STA_NANO`, otherwise six.
+///
+/// # Errors
+///
+/// - `Memory`: an allocation failed; `out` is as it was
+pub fn line_adj<A: Allocator + Copy>(
+    out: &mut Vec<u8, A>,
+    reply: &Reply,
+    number: u64,
+) -> Result<(), ScriptError>
+    requires { IsAdjWritable reply.now }
+    ensures ok { OnOk result (out.new.items ≡ out.old.items ++ adj_line reply.now number) }
+    ensures err { OnErr result (out.new.items ≡ out.old.items) }
+    ensures memory { IfErr result (λ e. e ≡ ScriptError.Memory) }
+{
+    let timex = &reply.timex;
+    let mut line = Vec::new(*out.allocator());
+    add(&mut line, b"adj,")?;
+    add(&mut line, word_of_state(reply.state))?;
+    add(&mut line, b",")?;
+    add_time(&mut line, timex)?;
+    add_numbers(
+        &mut line,
+        &[
+            timex.offset,
+            timex.freq,
+            timex.maxerror,
+            timex.esterror,
+            i64::from(timex.status),
+            timex.constant,
+            timex.tick,
+            i64::from(reply.tai),
+        ],
+    )?;
+    add(&mut line, b",")?;
+    add(&mut line, Buffer::new().format(number).as_bytes())?;
+    add(&mut line, b"\n")?;
+    add(out, line.as_slice())
+}
+
+/// Appends the time of a reply.
+fn add_time<A: Allocator>(line: &mut Vec<u8, A>, timex: &Timex) -> Result<(), ScriptError>
+    requires whole { timex.now.sub ≡ pos (unsigned_abs timex.now.sub) }
+    requires below { unsigned_abs timex.now.sub < 1000000000 }
+    ensures ok { OnOk result (line.new.items ≡ line.old.items ++ (signed_decimal timex.now.sec
+        ++ codes "."
+        ++ sub_digits (has timex.now.status sta_nano) (unsigned_abs timex.now.sub))) }
+    ensures memory { IfErr result (λ e. e ≡ ScriptError.Memory) }
+{
+    add(line, Buffer::new().format(timex.sec).as_bytes())?;
+    add(line, b".")?;
+    let digits = nine_digits_of(timex.sub.unsigned_abs() as u32);
+    if timex.status & STA_NANO != 0 {
+        add(line, &digits)
+    } else {
+        add(line, &digits[3..])
+    }
+}
+
+/// Appends a comma and a number for each of some numbers.
+fn add_numbers<A: Allocator>(line: &mut Vec<u8, A>, numbers: &[i64]) -> Result<(), ScriptError>
+    ensures ok { OnOk result (line.new.items
+        ≡ line.old.items ++ flat_map number_field numbers.now) }
+    ensures memory { IfErr result (λ e. e ≡ ScriptError.Memory) }
+{
+    for number in numbers {
+        add(line, b",")?;
+        add(line, Buffer::new().format(*number).as_bytes())?;
+    }
+    Ok(())
+}
+
+/// Appends bytes. An allocation failure leaves the line unchanged.
+fn add<A: Allocator>(line: &mut Vec<u8, A>, bytes: &[u8]) -> Result<(), ScriptError>
+    ensures ok { OnOk result (line.new.items ≡ line.old.items ++ bytes.now) }
+    ensures err { OnErr result (line.new.items ≡ line.old.items) }
+    ensures memory { IfErr result (λ e. e ≡ ScriptError.Memory) }
+{
+    line.extend_from_slice(bytes)
+        .map_err(|_| ScriptError::Memory)
+}

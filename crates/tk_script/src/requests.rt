@@ -1,0 +1,42 @@
+//! Parses the record of a request to steered clocks (adjtimex(2)).
+ghost use Rattle.std.specs.Prelude.{◌≡◌};
+ghost use Rattle.tk_script.specs.Cursor.{fields_of};
+ghost use Rattle.tk_script.specs.Requests as spec;
+
+use crate::fields::{number_at, number32_at, signed_at};
+use crate::records::Records;
+use crate::row::Row;
+use crate::script_error::ScriptError;
+use tk_ntp::Timex;
+
+/// Parses a reading and a request.
+#[tactic(auto, unfolding(crate::specs::Requests::ask_of))]
+pub(crate) fn read_ask(row: u64, fields: &Records<'_>) -> Result<Row, ScriptError>
+    ensures { result ≡ spec.ask_of row (fields_of fields.now) }
+{
+    if fields.len() != 12 {
+        return Err(ScriptError::Fields { row });
+    }
+    let reading = number_at(row, fields, 1)?;
+    let request = read_request(row, fields)?;
+    Ok(Row::Ask { reading, request })
+}
+
+/// Parses the fields of a request, which may have any numbers.
+#[tactic(auto, unfolding(crate::specs::Requests::request_of))]
+fn read_request(row: u64, fields: &Records<'_>) -> Result<Timex, ScriptError>
+    ensures { result ≡ spec.request_of row (fields_of fields.now) }
+{
+    Ok(Timex {
+        modes: number32_at(row, fields, 2)?,
+        offset: signed_at(row, fields, 3)?,
+        freq: signed_at(row, fields, 4)?,
+        maxerror: signed_at(row, fields, 5)?,
+        esterror: signed_at(row, fields, 6)?,
+        status: number32_at(row, fields, 7)?,
+        constant: signed_at(row, fields, 8)?,
+        tick: signed_at(row, fields, 9)?,
+        sec: signed_at(row, fields, 10)?,
+        sub: signed_at(row, fields, 11)?,
+    })
+}
