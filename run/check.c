@@ -171,7 +171,7 @@ static void count_value(struct report *report)
 	count_difference(report, value);
 }
 
-/* Compares a report with the rows of its part. */
+/* Compares the lines of a report with the rows of its part. */
 static void compare(struct report *report, FILE *lines)
 {
 	char line[LINE_MOST];
@@ -183,8 +183,28 @@ static void compare(struct report *report, FILE *lines)
 		else
 			count_value(report);
 	}
+}
+
+/* Returns whether tkcore could be run: env(1) has these statuses, too. */
+static bool has_run(int status)
+{
+	return WIFEXITED(status) && WEXITSTATUS(status) < STATUS_FAILED;
+}
+
+/* Compares the end of a report. Returns the differences of the part, or NOT_RUN. */
+static uint64_t end_part(struct report *report, int status)
+{
+	if (!has_run(status)) {
+		fprintf(stderr, "tkrun: --check: tkcore can't be run on %s\n",
+			report->name);
+		return NOT_RUN;
+	}
 	if (report->record < record_count(report->part))
 		compare_line(report, "nothing");
+	if (WEXITSTATUS(status) && WEXITSTATUS(status) != STATUS_DIFFERS)
+		fprintf(stderr, "tkrun: --check: tkcore refuses %s\n",
+			report->name);
+	return report->differ;
 }
 
 static uint64_t check_part(const struct recording *recording, unsigned int part,
@@ -195,7 +215,7 @@ static uint64_t check_part(const struct recording *recording, unsigned int part,
 				 .part = &recording->parts[part - 1],
 				 .name = script,
 				 .shown = shown };
-	int status = 0;
+	int status = W_EXITCODE(STATUS_NOT_FOUND, 0);
 	pid_t child = -1;
 	FILE *lines;
 
@@ -207,17 +227,18 @@ static uint64_t check_part(const struct recording *recording, unsigned int part,
 	}
 	if (child > 0)
 		waitpid(child, &status, 0);
-	if (!lines || !WIFEXITED(status) ||
-	    (WEXITSTATUS(status) && WEXITSTATUS(status) != STATUS_DIFFERS))
-		fprintf(stderr, "tkrun: --check: tkcore refuses %s\n", script);
-	return lines ? report.differ : 1;
+	return end_part(&report, status);
 }
 
 uint64_t recording_check(const struct recording *recording)
 {
-	uint64_t differ = 0, shown = 0;
+	uint64_t differ = 0, shown = 0, more;
 
-	for (unsigned int part = 1; part <= recording->part_count; part++)
-		differ += check_part(recording, part, &shown);
+	for (unsigned int part = 1; part <= recording->part_count; part++) {
+		more = check_part(recording, part, &shown);
+		if (more == NOT_RUN)
+			return differ ? differ : NOT_RUN;
+		differ += more;
+	}
 	return differ;
 }

@@ -49,7 +49,8 @@ bool recording_write(struct recording *recording, struct machine *machine,
 void find_tkcore(void);
 
 /* Replays all parts by tkcore. Returns the number of results that differ, and
- * prints the first of them. */
+ * prints the first of them. NOT_RUN means that tkcore can't be run. */
+#define NOT_RUN UINT64_MAX
 uint64_t recording_check(const struct recording *recording);
 
 /* Stores the name of a part, which counts from 1. */

@@ -119,7 +119,9 @@ static void check_record(struct run *run, bool is_written)
 	uint64_t differ = is_written ? recording_check(recording) : 0;
 	uint64_t all = recording->reads + recording->commands;
 
-	if (differ) {
+	if (differ == NOT_RUN) {
+		run->status = STATUS_UNCHECKED;
+	} else if (differ) {
 		fprintf(stderr,
 			"tkrun: check: %" PRIu64
 			" lines differ from tkcore's\n",

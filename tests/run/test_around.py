@@ -130,6 +130,17 @@ class Around(RunTest):
         run = call(["bash", "-c", f"ulimit -v 8000; exec {TKRUN} --check -- date"])
         self.assertEqual((run.returncode, run.stdout, len(run.stderr.splitlines())), (125, "", 1))
 
+    def test_too_few_files(self):
+        # with the fewest files nothing is started, and with some more tkcore can't be run
+        for most in range(4, 12):
+            for options in ["", "--static"]:
+                run = call(["bash", "-c", f"ulimit -n {most}; exec {TKRUN} --quiet {options} "
+                                          "--check -- /bin/echo made"])
+                with self.subTest(most=most, options=options):
+                    self.assertIn((run.returncode, run.stdout, len(run.stderr.splitlines())),
+                                  [(125, "", 1), (4, "made\n", 1), (4, "made\n", 2),
+                                   (0, "made\n", 0)], run.stderr)
+
     @needs_root("becomes another user")
     def test_another_user_reads_and_does_not_set(self):
         shared = self.share()

@@ -67,6 +67,14 @@ class Records(RunTest):
             words = ["openwords", 64, 2147483648, 31, *model.numbers_of(journal)]
             self.assertEqual(part[0], ",".join(map(str, words)))
 
+    def test_a_tkcore_that_cannot_be_run(self):
+        copy = self.share() / "bin"
+        for end in ["exit 127", "kill -9 $$"]:
+            (copy / "tkcore").write_text(f"#!/bin/sh\n{end}\n")
+            run = call([copy / "tkrun", "--check", "--", "date"])
+            self.assertEqual(run.returncode, 4, run.stderr)
+            self.assertIn("--check: tkcore can't be run on ", run.stderr)
+
     def test_an_opening_that_differs(self):
         tkcore = self.tkcore("sed '/^openwords/s/,10000$/,9999/'")
         run = call([tkcore.parent / "tkrun", *STILL, "--check", "--", "/usr/bin/perl", "-e",
