@@ -12,6 +12,7 @@
 //! same names. `bench/run` runs it and this program alternately and compares the checks.
 #![tactic(auto)]
 
+mod applied;
 mod batches;
 mod bench;
 mod clocks;
@@ -23,6 +24,7 @@ mod texts;
 mod traces;
 
 use anyhow::Result;
+use applied::run_applied;
 use batches::run_batches;
 use bench::Bench;
 use clocks::run_clocks;
@@ -50,6 +52,9 @@ fn main(rt: HostRuntime) -> Result<()> {
     }
     if bench.wants_any("ntp_") {
         run_steered(&rt, &bench)?;
+    }
+    if bench.wants_any("ntp_keeper_") || bench.wants_any("keeper_apply_") {
+        run_applied(&rt, &bench)?;
     }
     Ok(())
 }

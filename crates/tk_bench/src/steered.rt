@@ -101,8 +101,8 @@ impl Job for Calls {
     }
 }
 
-/// Times requests of a daemon and requests that only read, seconds one by one and a day at once, and
-/// updates.
+/// Times requests of a daemon and requests that only read, seconds one by one and a day at once,
+/// and updates.
 pub(crate) fn run_steered(rt: &(impl Threads + Hours + Sync), bench: &Bench<'_>) -> Result<()> {
     let opened = opened(bench.unknown()).context("no steered clocks")?;
     for (name, request) in [
@@ -142,7 +142,8 @@ pub(crate) fn run_steered(rt: &(impl Threads + Hours + Sync), bench: &Bench<'_>)
 }
 
 /// Opens steered clocks of a counter whose numbers the compiler can't know. They have an offset of
-/// 100 ms left to give, and a frequency of 33.3 ppm, for which the rate changes from second to second.
+/// 100 ms left to give, and a frequency of 33.3 ppm, for which the rate changes from second to
+/// second.
 fn opened(unknown: u32) -> Option<SteeredClock> {
     let desc = CounterDesc::new(64, unknown.wrapping_add(16_777_216), 24).ok()?;
     let mut steered = SteeredClock::open(desc, 0, OPENED_TIME, HZ).ok()?;
