@@ -78,8 +78,8 @@ tai_after_leap NoLeap tai = tai
 tai_after_leap Insert tai = if nat_lt tai greatest_tai then tai + 1 else tai
 tai_after_leap Delete tai = tai - 1
 
--- the command that makes a leap, at the TAI offset in force: REALTIME and the TAI offset change
--- together, but an offset at the end of its range stays, and REALTIME is stepped alone
+-- the command that makes a leap, at the TAI offset in force: it changes REALTIME and the TAI offset
+-- together. An offset at the end of its range stays, and then the command only steps REALTIME
 abbrev pub leap_command : Leap → ℕ → Command
 leap_command leap tai =
     if nat_eq (tai_after_leap leap tai) tai

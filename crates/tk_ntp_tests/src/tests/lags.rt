@@ -21,7 +21,7 @@ struct Case {
     greatest: u64,
 }
 
-/// 1 GHz, 24 MHz, 19.2 MHz, and 1.024 GHz whose multiplier has only three digits.
+/// Lists counters of 1 GHz, 24 MHz, 19.2 MHz, and of 1.024 GHz with a multiplier of three digits.
 const CASES: [Case; 4] = [
     Case {
         mult: 8_388_608,
