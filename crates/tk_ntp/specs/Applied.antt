@@ -34,8 +34,8 @@ IsFollowed reading cmd before result after =
     × IsCommanded reading cmd advanced result after)
     (λ refusal. (result ≡ Err refusal) × (after ≡ before))
 
--- the result of a command that is no request, and the state after it; `resumes` says whether it is a
--- resume, for which no second begins
+-- the result of a command that is no request, and the state after it; `resumes` says whether it is
+-- a resume, for which no second begins
 abbrev pub IsPlain : Bool → ℕ → Command → SteeredClock → Result ⊤ Refusal → SteeredClock → Type 0
 IsPlain true reading cmd before result after = IsCommanded reading cmd before result after
 IsPlain false reading cmd before result after = IsFollowed reading cmd before result after

@@ -57,8 +57,8 @@ abbrev pub IsInRange : ℤ → Type 0
 IsInRange length =
     (pos (least_rate * frequency_unit) ≤ℤ length) × (length ≤ℤ pos (greatest_rate * frequency_unit))
 
--- a multiplier gives a second of this length, rounded down: less than one unit of the multiplier and
--- one of the rate is missing
+-- a multiplier gives a second of this length, rounded down: less than one unit of the multiplier
+-- and one of the rate is missing
 pub record IsGiven (counter : Counter) (length : ℤ) (mult : ℕ) : Type 0 where
   pub at_most : mult * nominal ≤ counter.mult * unsigned_abs length
   pub at_least :

@@ -1,5 +1,5 @@
--- The numbers of a request, clamped to their ranges (process_adjtimex_modes, kernel/time/ntp.c), and
--- the step that it asks for.
+-- The numbers of a request, clamped to their ranges (process_adjtimex_modes, kernel/time/ntp.c),
+-- and the step that it asks for.
 use Rattle.std.specs.Prelude.{ℕ, ◌+◌, min, Bool, ◌&&◌, ℤ, pos, ◌*ℤ◌, int_le, unsigned_abs, Option, Some, None, if◌then◌else◌}
 use Rattle.std.specs.Int.{int_min, int_max}
 use Rattle.tk_counter.specs.Counter.{clamped}

@@ -141,9 +141,9 @@ impl Discipline {
 
     /// Clears the discipline after REALTIME was set or stepped (`ntp_clear`).
     ///
-    /// The offset, the phase and the rest of `adjtime` become 0, and no leap is due. Both errors are
-    /// at their limit, and the clock counts as not synchronized. The frequency, the tick, the time
-    /// constant and the state of the leap second stay.
+    /// The offset, the phase and the rest of `adjtime` become 0, and no leap is due. Both errors
+    /// are at their limit, and the clock counts as not synchronized. The frequency, the tick, the
+    /// time constant and the state of the leap second stay.
     pub fn clear(&mut self)
         ensures { self.new ≡ cleared self.old }
     {

@@ -14,8 +14,8 @@ use tk_counter::{CounterDesc, NANOS_PER_SECOND};
 /// asked to have, in units of `2^-shift` ns times `2^-32` ns.
 ///
 /// A multiplier is a whole number, so a clock never gets exactly what was asked for. The lag makes
-/// sure that the difference doesn't add up (the kernel's `ntp_error`). It is kept in two words, plus
-/// 2^124, so that a program in C can keep it.
+/// sure that the difference doesn't add up (the kernel's `ntp_error`). It is kept in two words,
+/// plus 2^124, so that a program in C can keep it.
 #[repr(C)]
 #[derive(Clone, Copy, Debug)]
 pub struct Lag {

@@ -32,8 +32,8 @@ const LEAST_RATE: i64 = 58_949_632_000;
 const GREATEST_RATE: i64 = 72_122_368_000;
 
 impl Rate {
-    /// Returns the rate that makes a second so long, in `2^-32` ns, by a tick that was asked for, in
-    /// microseconds, 9,000 to 11,000.
+    /// Returns the rate that makes a second so long, in `2^-32` ns, by a tick that was asked for,
+    /// in microseconds, 9,000 to 11,000.
     ///
     /// The rate is rounded down to `2^-16` ppm, and clamped to 10.05 percent of the usual one. The
     /// tick is the one that was asked for if a frequency brings it there, otherwise the nearest.

@@ -16,8 +16,8 @@ use std::marker::Model;
 use tk_clock::{Clock, ClockId, Refusal, Snapshot, Timespec};
 use tk_counter::CounterDesc;
 
-/// Keeps the clocks of a counter, steered by a discipline: the kernel's `struct timekeeper` with the
-/// variables of kernel/time/ntp.c.
+/// Keeps the clocks of a counter, steered by a discipline: the kernel's `struct timekeeper` with
+/// the variables of kernel/time/ntp.c.
 ///
 /// It has no source of time: the caller passes the counter's reading with each call. No call
 /// allocates.
@@ -75,17 +75,17 @@ impl SteeredClock {
     ghost use Rattle.tk_ntp.specs.SteeredClock.{steered_refusal, steered_opened, rate_in_force};
     ghost use Rattle.tk_ntp.specs.Advance.{second_time};
 
-    /// Opens the clocks of the counter `desc` at `reading`, in cycles, with a fresh discipline. They
-    /// are awake and at their usual rate, MONOTONIC is 0 and REALTIME is `real`.
+    /// Opens the clocks of the counter `desc` at `reading`, in cycles, with a fresh discipline.
+    /// They are awake and at their usual rate, MONOTONIC is 0 and REALTIME is `real`.
     ///
     /// `hz` is the number of parts of a second that phases are divided into, as in
     /// `Discipline::new`.
     ///
     /// # Errors
     ///
-    /// - `Invalid`: `reading` is above the mask, REALTIME may not be set to `real`, or `hz` is not 1
-    ///   to 1024. REALTIME may be set to times from 0 s to below 8,277,292,036 s, with `nsec` below
-    ///   10^9.
+    /// - `Invalid`: `reading` is above the mask, REALTIME may not be set to `real`, or `hz` is not
+    ///   1 to 1024. REALTIME may be set to times from 0 s to below 8,277,292,036 s, with `nsec`
+    ///   below 10^9.
     pub fn open(
         desc: CounterDesc,
         reading: u64,
@@ -111,11 +111,11 @@ impl SteeredClock {
         })
     }
 
-    /// Returns the first reading, in cycles, at which the next second of REALTIME has begun: the one
-    /// to set a timer to. It is not before the last command's reading.
+    /// Returns the first reading, in cycles, at which the next second of REALTIME has begun: the
+    /// one to set a timer to. It is not before the last command's reading.
     ///
-    /// `None` means that REALTIME doesn't reach that second up to half the counter's range after the
-    /// last command, or that the clocks are asleep (`Snapshot::reading_at`).
+    /// `None` means that REALTIME doesn't reach that second up to half the counter's range after
+    /// the last command, or that the clocks are asleep (`Snapshot::reading_at`).
     pub fn next_second(&self) -> Option<u64>
         ensures { let nanos = nanoseconds (second_time self.now.next) in
             MatchOption result
@@ -130,8 +130,8 @@ impl SteeredClock {
     }
 
     /// Returns whether the next second of REALTIME is further away than `next_second` searches
-    /// (`Snapshot::is_further`). So if `next_second` returns `None`, this says whether to look again
-    /// after a later command.
+    /// (`Snapshot::is_further`). So if `next_second` returns `None`, this says whether to look
+    /// again after a later command.
     pub fn is_next_further(&self) -> bool
         ensures { let nanos = nanoseconds (second_time self.now.next) in
             IsTrue result ↔ IsFurther self.now.clock.base Realtime nanos }

@@ -65,8 +65,8 @@ impl Steering {
         self.ntp.adjtimex(request, real, tai)
     }
 
-    /// Clears the discipline, as `Discipline::clear`, and sets the lag to 0, after REALTIME was set or
-    /// stepped.
+    /// Clears the discipline, as `Discipline::clear`, and sets the lag to 0, after REALTIME was set
+    /// or stepped.
     pub fn clear(&mut self)
         ensures { self.new ≡ record { ntp = cleared self.old.ntp; lag = pos 0 } }
     {
@@ -94,7 +94,8 @@ impl Steering {
         self.ntp.overflow(sec)
     }
 
-    /// Returns the rate that the present second needs: for its length, and for what it makes up for.
+    /// Returns the rate that the present second needs: for its length, and for what it makes up
+    /// for.
     pub fn rate(&self, desc: CounterDesc) -> Rate
         ensures value { result ≡ needed_rate desc self.now }
         ensures slowest { least_tick ≤ℤ result.tick }

@@ -34,8 +34,8 @@ impl Discipline {
         self.reply(request.modes, offset, real, tai)
     }
 
-    /// Does what a request asks for at the second `now` of REALTIME. Returns the reply's offset, and
-    /// the TAI offset.
+    /// Does what a request asks for at the second `now` of REALTIME. Returns the reply's offset,
+    /// and the TAI offset.
     fn ask(&mut self, request: &Timex, now: u64, tai: u32) -> (i64, u32)
         requires sound { is_faulty request.now ≡ false }
         requires now { now < 2 ^ 63 }

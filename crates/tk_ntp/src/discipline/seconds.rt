@@ -22,8 +22,8 @@ impl Discipline {
     /// Lets the second `sec` of REALTIME begin, in seconds since 1970, below 2^63. Returns what
     /// REALTIME leaps by then (`second_overflow`).
     ///
-    /// The leap second moves on, the greatest error grows by 500 us, and the second gets its phase: a
-    /// part of the offset, and up to 500 us of what `adjtime` has still to give. If the greatest
+    /// The leap second moves on, the greatest error grows by 500 us, and the second gets its phase:
+    /// a part of the offset, and up to 500 us of what `adjtime` has still to give. If the greatest
     /// error would be above 16 s, the clock counts as not synchronized.
     #[tactic(auto, using(crate::proofs::Kept::kept))]
     pub fn overflow(&mut self, sec: u64) -> Leap

@@ -19,8 +19,8 @@ use tk_clock::{ClockId, Command, Refusal, Timespec};
 use tk_counter::FREQUENCY_LIMIT;
 
 impl SteeredClock {
-    /// Does what a request asks for at a reading, and returns the reply (adjtimex(2)). The seconds of
-    /// REALTIME up to the reading begin first, as by `advance`.
+    /// Does what a request asks for at a reading, and returns the reply (adjtimex(2)). The seconds
+    /// of REALTIME up to the reading begin first, as by `advance`.
     ///
     /// `ADJ_SETOFFSET` steps REALTIME, which clears the discipline. Then the modes act as in
     /// `Discipline::adjtimex`. After `ADJ_OFFSET`, `ADJ_FREQUENCY` or `ADJ_TICK` the clocks get
@@ -32,9 +32,10 @@ impl SteeredClock {
     ///
     /// - `Invalid`: the request has a fault (`Timex::is_faulty`). Nothing changes.
     /// - `Asleep`, `Invalid`, `Behind`, `Range`: `advance` refuses the reading. Nothing changes.
-    /// - `Invalid`, `Range`: the clocks refuse the step. The state is the one that `advance` leaves.
-    /// - `Range`: REALTIME, or TAI with the given offset, would be at its limit. The state is the one
-    ///   that `advance` and the step leave.
+    /// - `Invalid`, `Range`: the clocks refuse the step. The state is the one that `advance`
+    ///   leaves.
+    /// - `Range`: REALTIME, or TAI with the given offset, would be at its limit. The state is the
+    ///   one that `advance` and the step leave.
     pub fn adjtimex(&mut self, reading: u64, request: &Timex) -> Result<Reply, Refusal>
         ensures answer { IsAnswered reading request.now self.old result self.new }
         // the accounts add up to what the clocks were asked for
@@ -63,8 +64,8 @@ impl SteeredClock {
     ///
     /// - `Freq` and `Tick`: the errors of `adjtimex`.
     /// - `Resume`: the errors of `Clock::apply`. Nothing changes.
-    /// - All others: the errors of `advance`, and nothing changes; then those of `Clock::apply`, and
-    ///   the state is the one that `advance` leaves.
+    /// - All others: the errors of `advance`, and nothing changes; then those of `Clock::apply`,
+    ///   and the state is the one that `advance` leaves.
     pub fn apply(&mut self, reading: u64, cmd: Command) -> Result<(), Refusal>
         ensures answer { IsApplied reading cmd self.old result self.new }
         // the accounts add up to what the clocks were asked for: to nothing at a resume
@@ -112,7 +113,8 @@ impl SteeredClock {
         self.command(reading, cmd)
     }
 
-    /// Does what a request without a fault asks for, after the seconds up to its reading have begun.
+    /// Does what a request without a fault asks for, after the seconds up to its reading have
+    /// begun.
     fn ask(&mut self, reading: u64, request: &Timex) -> Result<Reply, Refusal>
         requires sound { is_faulty request.now ≡ false }
         ensures { IsAsked reading request.now self.old result self.new }
@@ -123,9 +125,9 @@ impl SteeredClock {
         self.request(reading, request)
     }
 
-    /// Does what a request without a fault asks for beyond its step (`Timex::step`), after the seconds
-    /// up to the reading have begun (`begin_due`). It is the last part of `adjtimex`, and public for
-    /// owners of a journal, such as tk_steered. Otherwise call `adjtimex`.
+    /// Does what a request without a fault asks for beyond its step (`Timex::step`), after the
+    /// seconds up to the reading have begun (`begin_due`). It is the last part of `adjtimex`, and
+    /// public for owners of a journal, such as tk_steered. Otherwise call `adjtimex`.
     ///
     /// The clocks get the TAI offset, the tick and the frequency, each if it changed.
     ///
@@ -144,8 +146,8 @@ impl SteeredClock {
         Ok(self.act(reading, request, real, tai))
     }
 
-    /// Returns REALTIME at a reading. The error is `Invalid` above the mask, and `Range` if REALTIME
-    /// is past its limit.
+    /// Returns REALTIME at a reading. The error is `Invalid` above the mask, and `Range` if
+    /// REALTIME is past its limit.
     #[tactic(auto, using(crate::proofs::Real::timespec_of_value))]
     fn real(&self, reading: u64) -> Result<Timespec, Refusal>
         ensures { MatchResult result
@@ -166,8 +168,8 @@ impl SteeredClock {
         self.snapshot(0).tai()
     }
 
-    /// Lets the modes of a request act at a time of REALTIME, and returns the reply. `tai` is the TAI
-    /// offset before the request, in seconds.
+    /// Lets the modes of a request act at a time of REALTIME, and returns the reply. `tai` is the
+    /// TAI offset before the request, in seconds.
     fn act(&mut self, reading: u64, request: &Timex, real: Timespec, tai: u32) -> Reply
         requires sound { is_faulty request.now ≡ false }
         requires since { pos 0 ≤ℤ real.sec }

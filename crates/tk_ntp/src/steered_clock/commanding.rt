@@ -61,8 +61,8 @@ impl SteeredClock {
         self.clock.apply(reading, cmd)
     }
 
-    /// Sets the TAI offset, in seconds, unless it is in force. The error is the clocks' refusal, and
-    /// then nothing changes.
+    /// Sets the TAI offset, in seconds, unless it is in force. The error is the clocks' refusal,
+    /// and then nothing changes.
     pub(super) fn set_tai(&mut self, reading: u64, tai: u32) -> Result<(), Refusal>
         ensures answer { MatchResult result
             (λ _. tai_refusal reading tai self.old.clock ≡ None)
@@ -78,12 +78,12 @@ impl SteeredClock {
         self.give(reading, Command::Tai(i64::from(tai)))
     }
 
-    /// Applies a command that is neither `Freq` nor `Tick`, after the seconds up to its reading have
-    /// begun (`begin_due`). It is the part of `apply` that lets no second begin, and public for owners
-    /// of a journal, such as tk_steered. Otherwise call `apply`.
+    /// Applies a command that is neither `Freq` nor `Tick`, after the seconds up to its reading
+    /// have begun (`begin_due`). It is the part of `apply` that lets no second begin, and public for
+    /// owners of a journal, such as tk_steered. Otherwise call `apply`.
     ///
-    /// The clocks get the command, and then the tick and the frequency at the same reading, if `rate`
-    /// changed.
+    /// The clocks get the command, and then the tick and the frequency at the same reading, if
+    /// `rate` changed.
     ///
     /// # Errors
     ///

@@ -28,8 +28,8 @@ impl SteeredClock {
     /// returns it. `advance` lets all of these begin, one after the other.
     ///
     /// The clocks get their commands at the second's reading: the leap that it made, and then the
-    /// tick and the frequency, if `rate` changed. `None` means that no second begins up to `reading`,
-    /// and then nothing changes. Test the reading by `test` first.
+    /// tick and the frequency, if `rate` changed. `None` means that no second begins up to
+    /// `reading`, and then nothing changes. Test the reading by `test` first.
     pub fn begin_due(&mut self, reading: u64) -> Option<BegunSecond>
         ensures begun { IsOneBegun reading self.old result self.new }
         ensures fewer { MatchOption result (Unit {0})
