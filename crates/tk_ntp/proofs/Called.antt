@@ -25,7 +25,7 @@ use Rattle.tk_ntp.specs.Steady.{is_kept_by, keeps_rate, IsSinceAfter, IsSmall, I
 use Rattle.tk_ntp.specs.SteeredClock.{SteeredClock, reading_refusal}
 use Rattle.tk_ntp.proofs.Account.{never}
 use Rattle.tk_ntp.proofs.Left.{asked-left, commanded-left, requested-left, tai-same, IsSameRate}
-use Rattle.tk_ntp.proofs.Steady.{left-since}
+use Rattle.tk_ntp.proofs.Steady.{left-since, stays_small}
 use Rattle.tk_ntp.proofs.Unchanged.{length-kept}
 
 none_small : (counter : Counter) → IsSmall counter (pos 0)
@@ -137,7 +137,7 @@ asked_small reading request s advanced after result chain h =
     let by = step_of request in
     record {
       advanced = advanced;
-      begun = chain;
+      stays = stays_small reading s advanced chain;
       small =
           left-small (sets_by_step reading by advanced) advanced after
           (asked-left reading request by advanced after result h);
@@ -198,7 +198,7 @@ commanded-small reading cmd s advanced after result awake chain h =
     let left = commanded-left reading cmd advanced after result awake h in
     record {
       advanced = advanced;
-      begun = chain;
+      stays = stays_small reading s advanced chain;
       small = left-small (sets_by reading cmd advanced) advanced after left;
       since = λ keeps.
           command-since reading cmd advanced after result keeps h
@@ -232,7 +232,7 @@ less_kept keeps reading s after h = elim h as (λ _. IsSmallOrSame false reading
   | inl e ↦ inl e
   | inr e ↦ inr (record {
     advanced = e.advanced;
-    begun = e.begun;
+    stays = e.stays;
     small = e.small;
     since = λ keeps. absurd (never (sym keeps));
   })

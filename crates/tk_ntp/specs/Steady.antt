@@ -95,11 +95,11 @@ IsSinceAfter before after = (chosen : ℤ) (cycles : ℕ) → IsSince chosen cyc
     IsSecondLong before.clock.base.counter (cycles + cycles_to after.mark before) →
     IsSince chosen (cycles + cycles_to after.mark before) after
 
--- the lag is small at the account of a call, after the seconds up to its reading have begun.
--- `keeps` says whether the call leaves the rate as it is
+-- the lag stays small in a call: as the seconds up to its reading begin, and at the account of the
+-- call itself. `keeps` says whether the call leaves the rate as it is
 pub record IsSmallIn (keeps : Bool) (reading : ℕ) (before after : SteeredClock) : Type 0 where
   pub advanced : SteeredClock
-  pub begun : IsAdvanced reading before advanced
+  pub stays : StaysSmall reading before advanced
   pub small : IsSmallAfter advanced after
   pub since : keeps ≡ true → IsSinceAfter advanced after
 
