@@ -1,9 +1,9 @@
-ghost use Rattle.std.specs.Prelude.{◌≡◌, length};
+ghost use Rattle.std.specs.Prelude.{◌≡◌, length, All};
 ghost use Rattle.std.specs.Thread.{IsSync};
 
 use super::changes::{PUBLICATIONS, opening, publishes, words_at};
 use std::test::Fail;
-use std::thread::{Threads, join};
+use std::thread::{Threads, join, map_vec};
 use tk_counter::CounterDesc;
 use tk_latch::{Latch, LatchReader, LatchWriter, Moved};
 
@@ -46,65 +46,32 @@ fn reads_all(latch: &Latch, mut reader: LatchReader) -> bool
     false
 }
 
-/// Reads on two threads.
-fn read_beside<R: Threads + Sync>(
-    rt: &R,
-    latch: &Latch,
-    readers: (LatchReader, LatchReader),
-) -> bool
-    requires { (readers.0.latch ≡ latch.now) × (readers.1.latch ≡ latch.now) }
+/// Reads on a thread for each reader.
+fn read_on_each<R: Threads + Sync>(rt: &R, latch: &Latch, readers: Vec<LatchReader>) -> bool
+    requires { All (λ r. r.latch ≡ latch.now) readers.items }
 {
-    let (one, other) = readers;
-    let (this, that) = join(
-        rt,
-        move || -> bool
-            requires { one.latch ≡ latch.now }
-        { reads_all(latch, one) },
-        move || -> bool
-            requires { other.latch ≡ latch.now }
-        { reads_all(latch, other) },
-    );
-    this && that
+    let reads = |reader: LatchReader| -> bool
+        requires { reader.latch ≡ latch.now }
+    { reads_all(latch, reader) };
+    match map_vec(rt, readers, &reads) {
+        Ok(read) => read.iter().all(|is_good| *is_good),
+        Err(_) => false,
+    }
 }
 
-/// Reads on three threads.
-fn read_on_three<R: Threads + Sync>(
-    rt: &R,
-    latch: &Latch,
-    one: LatchReader,
-    others: (LatchReader, LatchReader),
-) -> bool
-    requires one { one.latch ≡ latch.now }
-    requires others { (others.0.latch ≡ latch.now) × (others.1.latch ≡ latch.now) }
-{
-    let (those, this) = join(
-        rt,
-        move || -> bool
-            requires { IsSync R.row × (others.0.latch ≡ latch.now)
-                × (others.1.latch ≡ latch.now) }
-        { read_beside(rt, latch, others) },
-        move || -> bool
-            requires { one.latch ≡ latch.now }
-        { reads_all(latch, one) },
-    );
-    those && this
-}
-
-/// Publishes on one thread, and reads on three.
+/// Publishes on one thread, and reads on the others.
 fn race<R: Threads + Sync>(
     rt: &R,
     latch: &Latch,
     writer: LatchWriter,
     desc: CounterDesc,
-    readers: (LatchReader, LatchReader, LatchReader),
+    readers: Vec<LatchReader>,
 ) -> bool
     requires writer { writer.latch ≡ latch.now }
     requires counter { desc ≡ latch.now.counter }
     requires opened { length writer.publications ≡ 1 }
-    requires readers { (readers.0.latch ≡ latch.now) × (readers.1.latch ≡ latch.now)
-        × (readers.2.latch ≡ latch.now) }
+    requires readers { All (λ r. r.latch ≡ latch.now) readers.items }
 {
-    let (one, two, three) = readers;
     let (published, read) = join(
         rt,
         move || -> bool
@@ -112,9 +79,8 @@ fn race<R: Threads + Sync>(
                 × (length writer.publications ≡ 1) }
         { publishes_all(latch, writer, desc) },
         move || -> bool
-            requires { IsSync R.row × (one.latch ≡ latch.now) × (two.latch ≡ latch.now)
-                × (three.latch ≡ latch.now) }
-        { read_on_three(rt, latch, one, (two, three)) },
+            requires { IsSync R.row × All (λ r. r.latch ≡ latch.now) readers.items }
+        { read_on_each(rt, latch, readers) },
     );
     published && read
 }
@@ -122,10 +88,7 @@ fn race<R: Threads + Sync>(
 #[test]
 fn three_readers_beside_a_writer_read_whole_publications(rt: HostRuntime) -> Result<(), Fail> {
     let (desc, opening) = opening()?;
-    let (latch, writer, mut readers) = Latch::open(rt.alloc(), opening, 3)?;
-    let one = readers.pop().ok_or("a reader")?;
-    let two = readers.pop().ok_or("a reader")?;
-    let three = readers.pop().ok_or("a reader")?;
-    assert!(rt; race(&rt, &latch, writer, desc, (one, two, three)));
+    let (latch, writer, readers) = Latch::open(rt.alloc(), opening, 3)?;
+    assert!(rt; race(&rt, &latch, writer, desc, readers));
     Ok(())
 }
