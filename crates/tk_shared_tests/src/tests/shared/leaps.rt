@@ -10,7 +10,7 @@ use std::process::Abort;
 use std::sync::Wait;
 use std::test::Fail;
 use std::thread::{Threads, join};
-use tk_clock::{Command, Snapshot};
+use tk_clock::{Command, Refusal, Snapshot};
 use tk_shared::{Caller, Named, Prepared, SharedKeeper, Ticker};
 
 /// The number of leaps.
@@ -40,19 +40,16 @@ fn tai_offset(snapshot: Snapshot) -> u64 {
         .wrapping_add(seconds.wrapping_mul(1_000_000_000))
 }
 
-/// Makes all leaps, and returns the number of refused ones.
+/// Makes all leaps, up to the first that is refused.
 fn leaps<L: Named, R: Wait>(
     rt: &R,
     keeper: &SharedKeeper<L, Ticker>,
     mut caller: Caller<L>,
-) -> u64 {
-    let mut refused = 0u64;
+) -> Result<(), Refusal> {
     for turn in 0..LEAPS {
-        if commanded(rt, keeper, &mut caller, leap_of(turn)).is_err() {
-            refused = refused.wrapping_add(1);
-        }
+        commanded(rt, keeper, &mut caller, leap_of(turn))?;
     }
-    refused
+    Ok(())
 }
 
 /// Reads, and returns the number of snapshots in which TAI has leapt.
@@ -89,11 +86,11 @@ fn both_act<L: Named + Send + Sync, R: Threads + Wait + Abort + Sync>(
     let (keeper, mut one, two) = open_two::<L, Ticker>(alloc, prepared)?;
     commanded(rt, &keeper, &mut one, Command::Tai(37))?;
     let keeper = &keeper;
-    let (refused, leapt) = join(
+    let (made, leapt) = join(
         rt,
         move || leaps(rt, keeper, one),
         move || reads(rt, keeper, two),
     );
-    assert_same(rt, &(refused, leapt), &(0, 0));
+    assert_same(rt, &(made, leapt), &(Ok(()), 0));
     Ok(())
 }
