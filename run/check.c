@@ -122,6 +122,28 @@ static const struct record_row *row_of(const struct report *report)
 		.rows[report->part->first + report->record - 2];
 }
 
+/* Stores the line of a request's reply, without the number at its end. */
+static void expect_reply(const struct record_row *row, char *text, size_t size)
+{
+	static const char *const STATES[] = { "ok",  "ins",  "del",
+					      "oop", "wait", "error" };
+	struct asked_words asked;
+
+	rows_asked(row, &asked);
+	snprintf(text, size,
+		 "adj,%s,%" PRId64 ".%0*" PRId64 ",%" PRId64 ",%" PRId64
+		 ",%" PRId64 ",%" PRId64 ",%" PRId64 ",%" PRId64 ",%" PRId64
+		 ",%" PRId64 ",",
+		 asked.reply.state <= TIME_ERROR && asked.reply.state >= 0
+			 ? STATES[asked.reply.state]
+			 : "?",
+		 asked.reply.sec, asked.reply.status & STA_NANO ? 9 : 6,
+		 asked.reply.sub, asked.reply.offset, asked.reply.freq,
+		 asked.reply.maxerror, asked.reply.esterror,
+		 asked.reply.status, asked.reply.constant, asked.reply.tick,
+		 asked.reply.tai);
+}
+
 /* Stores how the record's line begins if tkcore did the same. */
 static void expect(const struct report *report, char *text, size_t size)
 {
@@ -129,6 +151,8 @@ static void expect(const struct report *report, char *text, size_t size)
 
 	if (row && row->code)
 		snprintf(text, size, "no,%s\n", refusal_word(row->code));
+	else if (row && is_request(row))
+		expect_reply(row, text, size);
 	else if (row && !is_command(row))
 		snprintf(text, size, "at,");
 	else

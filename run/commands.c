@@ -193,7 +193,7 @@ enum tkc_code machine_apply(struct machine *machine, const struct order *orders,
 	if (code)
 		changed = *present_clocks(machine->control);
 	else if (is_steered)
-		atomic_store(&machine->control->rows.is_over, true);
+		atomic_store(&machine->control->rows.is_steered, true);
 	record_orders(machine, orders, count, code, front_of(&changed),
 		      reading);
 	if (!code)
@@ -207,27 +207,62 @@ enum tkc_code machine_apply(struct machine *machine, const struct order *orders,
 	return code;
 }
 
-/* A record ends before the first request that changes something: tkcore has no
- * record for one. */
+/* Records a request, and its reply if it was accepted. One that only reads leaves
+ * no front of its own. */
+static void record_request(struct machine *machine, const struct timex *in,
+			   const struct timex *out, struct record_row row,
+			   uint32_t state)
+{
+	struct asked_words asked = {
+		.modes = in->modes, .offset = in->offset, .freq = in->freq,
+		.maxerror = in->maxerror, .esterror = in->esterror,
+		.status = in->status, .constant = in->constant,
+		.tick = in->tick, .sec = in->time.tv_sec,
+		.sub = in->time.tv_usec,
+	};
+
+	if (!machine->control->rows.every)
+		return;
+	if (!row.code) {
+		asked.reply.state = state;
+		asked.reply.sec = out->time.tv_sec;
+		asked.reply.sub = out->time.tv_usec;
+		asked.reply.offset = out->offset;
+		asked.reply.freq = out->freq;
+		asked.reply.maxerror = out->maxerror;
+		asked.reply.esterror = out->esterror;
+		asked.reply.status = out->status;
+		asked.reply.constant = out->constant;
+		asked.reply.tick = out->tick;
+		asked.reply.tai = out->tai;
+	}
+	atomic_store(&machine->control->rows.is_steered, true);
+	rows_add_asked(machine, &row, &asked);
+}
+
 static enum tkc_code adjust(struct machine *machine, struct timex *timex,
 			    bool only_reads, uint32_t *state)
 {
 	struct control *control = machine->control;
 	struct tkc_ntp changed = *present_clocks(control);
-	enum tkc_code code;
+	struct record_row row = { .kind = only_reads ? ROW_ASK : ROW_REQUEST };
+	struct timex in = *timex;
 
 	tkc_page_begin(&machine->shared->page);
-	code = tkc_adjtimex((struct tkc_timex *)timex, state, &changed,
-			    machine_reading(machine->shared));
-	if (!code && !only_reads) {
-		atomic_store(&control->rows.is_over, true);
+	row.reading = machine_reading(machine->shared);
+	row.code = tkc_adjtimex((struct tkc_timex *)timex, state, &changed,
+				row.reading);
+	row.front = front_of(row.code || only_reads ? present_clocks(control)
+						    : &changed);
+	record_request(machine, &in, timex, row, *state);
+	if (!row.code && !only_reads)
 		switch_clocks(machine, &changed);
-	}
 	publish(machine);
 	if (!only_reads)
-		atomic_fetch_add(code ? &control->refused : &control->accepted,
+		atomic_fetch_add(row.code ? &control->refused
+					  : &control->accepted,
 				 1);
-	return code;
+	return row.code;
 }
 
 _Static_assert(sizeof(struct timex) == sizeof(struct tkc_timex), "layout");

@@ -87,7 +87,7 @@ struct rows {
 	_Atomic uint32_t wanted;
 	atomic_bool is_full; /* no room will be made */
 	uint64_t every;	     /* 0: no record */
-	atomic_bool is_over; /* a call or a script steered the clocks */
+	atomic_bool is_steered; /* a call or a script has asked the discipline */
 	char path[4096];
 };
 

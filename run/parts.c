@@ -10,7 +10,7 @@
 #include <stdio.h>
 #include <stdlib.h>
 
-enum { LINE_MOST = 128 }; /* more bytes than a record has */
+enum { LINE_MOST = 256 }; /* more bytes than a record has */
 
 void recording_part(const struct recording *recording, unsigned int part,
 		    char *name, size_t size)
@@ -58,6 +58,22 @@ static void put_read(struct script_file *script, const struct record_row *row)
 			row->reading, word, value);
 }
 
+static void put_request(struct script_file *script,
+			const struct record_row *row)
+{
+	struct asked_words asked;
+
+	rows_asked(row, &asked);
+	script->bytes += (size_t)fprintf(
+		script->file,
+		"adjtimex,%" PRIu64 ",%" PRIu32 ",%" PRId64 ",%" PRId64
+		",%" PRId64 ",%" PRId64 ",%" PRIu32 ",%" PRId64 ",%" PRId64
+		",%" PRId64 ",%" PRId64 "\n",
+		row->reading, (uint32_t)asked.modes, asked.offset, asked.freq,
+		asked.maxerror, asked.esterror, (uint32_t)asked.status,
+		asked.constant, asked.tick, asked.sec, asked.sub);
+}
+
 static void put_command(struct script_file *script,
 			const struct record_row *row)
 {
@@ -92,7 +108,7 @@ static void put_opening(struct script_file *script, const struct plan *plan)
 	script->bytes += (size_t)fprintf(
 		script->file,
 		"open,%" PRIu32 ",%" PRIu32 ",%" PRIu32 ",%" PRIu64 ",%" PRId64
-		",%" PRIu32 "\n",
+		",%" PRIu32,
 		bits, mult, shift, plan->first, plan->open_sec,
 		plan->open_nsec);
 }
@@ -110,7 +126,7 @@ static void put_words(struct script_file *script)
 		script->bytes += (size_t)fprintf(script->file, ",%" PRIu64,
 						 words[i]);
 	script->bytes +=
-		(size_t)fprintf(script->file, ",%" PRId64 ",%" PRId64 "\n",
+		(size_t)fprintf(script->file, ",%" PRId64 ",%" PRId64,
 				(int64_t)words[TKC_WORDS + 3],
 				(int64_t)words[TKC_WORDS + 4]);
 }
@@ -150,6 +166,9 @@ static struct part *begin_part(struct recording *recording,
 		put_words(script);
 	else
 		put_opening(script, plan);
+	if (recording->is_steered)
+		script->bytes += (size_t)fprintf(script->file, ",%d", TICKS_HZ);
+	script->bytes += (size_t)fprintf(script->file, "\n");
 	return part;
 }
 
@@ -167,7 +186,10 @@ static void follow_command(struct tkc_clock *clock,
 static void put_row(struct recording *recording, struct script_file *script,
 		    const struct record_row *row)
 {
-	if (is_command(row)) {
+	if (is_request(row)) {
+		put_request(script, row);
+		recording->commands++;
+	} else if (is_command(row)) {
 		put_command(script, row);
 		if (is_accepted(row))
 			follow_command(&script->clock, row);
@@ -198,6 +220,12 @@ int parts_write(struct recording *recording, const struct plan *plan)
 	part = begin_part(recording, plan, 0, &script);
 
 	for (uint64_t i = 0; i < list->count && part; i++) {
+		if (script.bytes > part_most - LINE_MOST &&
+		    recording->is_steered) {
+			recording->missing = i;
+			recording->error = EFBIG;
+			break;
+		}
 		if (script.bytes > part_most - LINE_MOST) {
 			close_script(&script, &error);
 			part = begin_part(recording, plan, i, &script);

@@ -9,10 +9,6 @@
 #include <stdlib.h>
 #include <string.h>
 
-/* The parts of a second into which the discipline divides phases: those of
- * Debian's kernels. */
-enum { TICKS_HZ = 250 };
-
 /* Reads a script's bytes, and ends tkrun if it can't. */
 static char *read_file(const char *path, size_t *length)
 {

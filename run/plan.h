@@ -5,6 +5,10 @@
 
 #include "options.h"
 
+/* The parts of a second into which the discipline divides phases: those of
+ * Debian's kernels. */
+enum { TICKS_HZ = 250 };
+
 /* The opening of the clocks, and the orders that are still to come. */
 struct plan {
 	struct tkc_counter counter;

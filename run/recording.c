@@ -86,8 +86,32 @@ void recording_start(struct recording *recording, struct control *control,
 		fail(STATUS_FAILED, "cannot start a thread");
 }
 
-/* Orders rows by their fronts. A command comes before the reads that saw it;
- * else the order of the file stays. */
+/* The mask of readings if the clocks were steered, or 0. */
+static uint64_t steered_mask;
+
+static bool is_coarse(const struct record_row *row)
+{
+	return row->kind == ROW_READ + TKC_CLOCK_REALTIME_COARSE ||
+	       row->kind == ROW_READ + TKC_CLOCK_MONOTONIC_COARSE;
+}
+
+/* Compares the readings of two rows after the same command. A coarse clock has its
+ * time since the command. */
+static int compare_readings(const struct record_row *a,
+			    const struct record_row *b)
+{
+	uint64_t later = (b->reading - a->reading) & steered_mask;
+
+	if (is_coarse(a) != is_coarse(b))
+		return is_coarse(a) ? -1 : 1;
+	if (is_coarse(a) || !later)
+		return 0;
+	return later <= steered_mask / 2 ? -1 : 1;
+}
+
+/* Orders rows by their fronts. A command comes before the reads that saw it, and
+ * these are in the order of their readings: a request that only reads lets the
+ * seconds up to its reading begin. Else the order of the file stays. */
 static int compare_rows(const void *first, const void *second)
 {
 	const struct record_row *a = *(const struct record_row *const *)first;
@@ -97,6 +121,8 @@ static int compare_rows(const void *first, const void *second)
 		return a->front < b->front ? -1 : 1;
 	if (is_accepted(a) != is_accepted(b))
 		return is_accepted(a) ? -1 : 1;
+	if (!is_accepted(a) && compare_readings(a, b))
+		return compare_readings(a, b);
 	return a < b ? -1 : a > b;
 }
 
@@ -104,7 +130,7 @@ static int compare_rows(const void *first, const void *second)
 static bool is_whole(const struct record_row *row)
 {
 	return atomic_load(&row->is_ready) &&
-	       (row->kind <= TKC_CMD_RESUME ||
+	       (row->kind <= TKC_CMD_RESUME || is_request(row) ||
 		(row->kind >= ROW_READ &&
 		 row->kind <= ROW_READ + TKC_CLOCK_TAI));
 }
@@ -123,7 +149,8 @@ static bool list_rows(struct list *list, const struct record_row *rows,
 	if (!list->rows)
 		return false;
 	for (uint64_t i = 0; i < count; i++) {
-		if (is_whole(&rows[i]) && rows[i].front <= front)
+		if (is_whole(&rows[i]) && rows[i].front <= front &&
+		    (!is_request(&rows[i]) || i + WORDS_ROWS < count))
 			list->rows[list->count++] = &rows[i];
 	}
 	qsort(list->rows, list->count, sizeof(*list->rows), compare_rows);
@@ -172,6 +199,8 @@ bool recording_write(struct recording *recording, struct machine *machine,
 	struct list *list = &recording->list;
 	int error = 0;
 
+	if (atomic_load(&rows->is_steered))
+		steered_mask = machine->shared->mask;
 	__atomic_store_n(&recording->is_over, true, __ATOMIC_RELEASE);
 	pthread_join(recording->thread, NULL);
 	if (count > atomic_load(&rows->room))
@@ -184,6 +213,7 @@ bool recording_write(struct recording *recording, struct machine *machine,
 		error = ENOMEM;
 	if (!error) {
 		recording->gap = end_at_gap(list);
+		recording->is_steered = steered_mask;
 		error = parts_write(recording, plan);
 	}
 	if (error)

@@ -28,6 +28,7 @@ struct recording {
 	uint64_t missing; /* the first row that is missing then */
 	uint64_t gap;	  /* the first command that is missing, or 0 */
 	uint64_t reads, commands;
+	bool is_steered; /* tkcore needs a discipline */
 	struct list list;
 	struct part *parts;
 	unsigned int part_count;
@@ -57,9 +58,15 @@ uint64_t recording_check(const struct recording *recording);
 void recording_part(const struct recording *recording, unsigned int part,
 		    char *name, size_t size);
 
+/* A request that only reads isn't one. */
 static inline bool is_command(const struct record_row *row)
 {
-	return row->kind < ROW_READ;
+	return row->kind < ROW_ASK;
+}
+
+static inline bool is_request(const struct record_row *row)
+{
+	return row->kind == ROW_REQUEST || row->kind == ROW_ASK;
 }
 
 static inline bool is_accepted(const struct record_row *row)

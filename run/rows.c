@@ -3,6 +3,7 @@
 #include "rows.h"
 
 #include <fcntl.h>
+#include <string.h>
 #include <sys/mman.h>
 #include <unistd.h>
 
@@ -48,16 +49,21 @@ static bool wait_room(struct rows *rows, uint64_t index)
 	return true;
 }
 
-static struct record_row *find_row(struct rows *rows)
+/* Takes rows of one chunk that follow each other. Returns the first, or NULL. */
+static struct record_row *find_rows(struct rows *rows, uint64_t count)
 {
-	uint64_t index = atomic_fetch_add_explicit(&rows->count, 1,
-						   memory_order_relaxed);
-	uint64_t number = index / ROWS_IN_CHUNK;
+	uint64_t index, number;
 	struct record_row *chunk;
 
+	do {
+		index = atomic_fetch_add_explicit(&rows->count, count,
+						  memory_order_relaxed);
+	} while (index % ROWS_IN_CHUNK + count > ROWS_IN_CHUNK);
+	number = index / ROWS_IN_CHUNK;
 	if (number >= CHUNKS_MOST ||
-	    (index >= atomic_load_explicit(&rows->room, memory_order_acquire) &&
-	     !wait_room(rows, index)))
+	    (index + count > atomic_load_explicit(&rows->room,
+						  memory_order_acquire) &&
+	     !wait_room(rows, index + count - 1)))
 		return NULL;
 	chunk = atomic_load_explicit(&chunks[number], memory_order_acquire);
 	if (!chunk)
@@ -65,19 +71,20 @@ static struct record_row *find_row(struct rows *rows)
 	return chunk ? &chunk[index % ROWS_IN_CHUNK] : NULL;
 }
 
-void rows_add(struct machine *machine, const struct record_row *row)
+/* Takes rows, or counts a lost one. */
+static struct record_row *take_rows(struct rows *rows, uint64_t count)
 {
-	struct rows *rows = &machine->control->rows;
 	struct record_row *slot = NULL;
 
-	if (atomic_load_explicit(&rows->is_over, memory_order_relaxed))
-		return;
 	if (!atomic_load_explicit(&rows->lost, memory_order_relaxed))
-		slot = find_row(rows);
-	if (!slot) {
+		slot = find_rows(rows, count);
+	if (!slot)
 		atomic_fetch_add(&rows->lost, 1);
-		return;
-	}
+	return slot;
+}
+
+static void put_row(struct record_row *slot, const struct record_row *row)
+{
 	slot->kind = row->kind;
 	slot->code = row->code;
 	slot->nsec = row->nsec;
@@ -85,4 +92,43 @@ void rows_add(struct machine *machine, const struct record_row *row)
 	slot->reading = row->reading;
 	slot->number = row->number;
 	atomic_store_explicit(&slot->is_ready, 1, memory_order_release);
+}
+
+void rows_add(struct machine *machine, const struct record_row *row)
+{
+	struct record_row *slot = take_rows(&machine->control->rows, 1);
+
+	if (slot)
+		put_row(slot, row);
+}
+
+_Static_assert(sizeof(struct words_row) == sizeof(struct record_row), "layout");
+_Static_assert(sizeof(struct asked_words) <=
+		       WORDS_ROWS * sizeof(((struct words_row *)0)->words),
+	       "a request has its words");
+
+void rows_add_asked(struct machine *machine, const struct record_row *row,
+		    const struct asked_words *asked)
+{
+	struct record_row *slot =
+		take_rows(&machine->control->rows, 1 + WORDS_ROWS);
+	int64_t words[WORDS_ROWS][4] = { 0 };
+
+	if (!slot)
+		return;
+	memcpy(words, asked, sizeof(*asked));
+	for (int i = 0; i < WORDS_ROWS; i++)
+		memcpy(((struct words_row *)slot)[1 + i].words, words[i],
+		       sizeof(words[i]));
+	put_row(slot, row);
+}
+
+void rows_asked(const struct record_row *row, struct asked_words *asked)
+{
+	const struct words_row *next = (const struct words_row *)row + 1;
+	int64_t words[WORDS_ROWS][4];
+
+	for (int i = 0; i < WORDS_ROWS; i++)
+		memcpy(words[i], next[i].words, sizeof(words[i]));
+	memcpy(asked, words, sizeof(*asked));
 }

@@ -7,7 +7,9 @@
 #include "machine.h"
 
 enum {
-	ROW_READ = 100, /* plus the clock: the kind of a read */
+	ROW_REQUEST = 50, /* of adjtimex */
+	ROW_ASK = 60,	  /* of adjtimex, which only reads */
+	ROW_READ = 100,	  /* plus the clock: the kind of a read */
 	ROWS_IN_CHUNK = 1 << 16,
 	CHUNKS_MOST = 1 << 14,
 };
@@ -25,7 +27,34 @@ struct record_row {
 	int64_t number;
 };
 
+/* What follows a request: the words of struct asked_words, in rows that aren't
+ * ready by themselves. */
+struct words_row {
+	_Atomic uint32_t is_ready; /* never */
+	uint32_t unused;
+	int64_t words[4];
+};
+
+enum { WORDS_ROWS = 6 };
+
+/* A request of adjtimex, and its reply. */
+struct asked_words {
+	int64_t modes, offset, freq, maxerror, esterror, status, constant, tick,
+		sec, sub;
+	struct {
+		int64_t state, sec, sub, offset, freq, maxerror, esterror,
+			status, constant, tick, tai;
+	} reply;
+};
+
 /* Adds a row to the record. If it can't be written, it is counted as lost. */
 void rows_add(struct machine *machine, const struct record_row *row);
+
+/* The same for a request. */
+void rows_add_asked(struct machine *machine, const struct record_row *row,
+		    const struct asked_words *asked);
+
+/* Copies the words that follow a request's row. */
+void rows_asked(const struct record_row *row, struct asked_words *asked);
 
 #endif

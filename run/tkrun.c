@@ -107,8 +107,7 @@ static void drive(struct run *run, const sigset_t *signals)
 static bool is_complete(const struct run *run)
 {
 	return !run->recording.error && !run->recording.gap &&
-	       !run->machine.control->rows.lost &&
-	       !run->machine.control->rows.is_over;
+	       !run->machine.control->rows.lost;
 }
 
 /* Compares the record, if it was written. The status says if a value differs,

@@ -37,12 +37,20 @@ class Calls(RunTest):
                                              program("stamps")), "")
         self.assertEqual(self.run_on("--", program("stamps"), "refused"), "")
 
-    def test_a_record_ends_before_steering(self):
-        run = self.start("--counter", "sleeps", "--start", 1000000000, "--check", "--",
-                         program("steers"))
+    def test_a_record_of_steering(self):
+        record = self.folder / "r"
+        run = self.start("--counter", "sleeps", "--start", 1000000000, "--record", record, "--check",
+                         "--", program("steers"))
+        self.assertEqual(run.returncode, 0, run.stderr)
+        self.assertRegex(run.stderr, "check: tkcore gives each of the [0-9]+ values")
+        self.assertGreater(record.read_text().count("\nadjtimex,"), 20)
+
+    def test_a_long_record_of_steering(self):
+        run = self.start("--counter", "sleeps", "--start", 1000000000, "--record",
+                         self.folder / "r", "--check", "--", program("steers"),
+                         env={"TKRUN_PART_BYTES": "1000"})
         self.assertEqual(run.returncode, 4, run.stderr)
-        self.assertIn("the record ends before the first call that steered the clocks", run.stderr)
-        self.assertIn("check: tkcore gives each of the first", run.stderr)
+        self.assertIn("File too large", run.stderr)
 
     def waits(self, *arguments, count):
         """Runs a program that prints its waits, and returns how long each was."""

@@ -64,10 +64,9 @@ class Chrony(RunTest):
         time.sleep(SPAN)
         offset, frequency = self.tracking(places["command_port"])
         run.terminate()
-        # the record ends before the first call that steers
-        self.assertEqual(run.wait(20), 4)
-        report, calls = run.stdout.read(), log.read_text()
-        self.assertIn("check: tkcore gives each of the first", report)
+        report, calls = run.communicate(timeout=60)[0], log.read_text()
+        self.assertEqual(run.returncode, 0, report)
+        self.assertRegex(report, "check: tkcore gives each of the [0-9]+ values")
         self.assertRegex(report, "commands: [0-9]+ accepted, 0 refused")
         self.assertFalse(re.search(" = E[A-Z]+$", calls, re.MULTILINE), calls)
         is_busy = os.getloadavg()[0] > os.cpu_count()

@@ -53,9 +53,8 @@ class Counters(RunTest):
         options = ["--script", script, "--counter", "sleeps"]
         command = ["--", "/usr/bin/perl", "-e", CODE, 100]
         self.assertEqual(float(self.run_on(*options, *command)), 100)
-        run = self.start(*options, "--check", *command)  # no record of what the discipline makes up
-        self.assertEqual((run.returncode, float(run.stdout)), (4, 100))
-        self.assertIn("the record ends before the first call that steered the clocks", run.stderr)
+        run = self.start(*options, "--check", *command)
+        self.assertEqual((run.returncode, float(run.stdout)), (0, 100), run.stderr)
 
     def test_the_rest_of_adjtime_is_only_a_read(self):
         code = "syscall(159, my $t = pack('L x4 q25', 0xa001)); print 1"
