@@ -193,7 +193,7 @@ enum tkc_code machine_apply(struct machine *machine, const struct order *orders,
 	if (code)
 		changed = *present_clocks(machine->control);
 	else if (is_steered)
-		atomic_store(&machine->control->rows.is_steered, true);
+		rows_steer(&machine->control->rows);
 	record_orders(machine, orders, count, code, front_of(&changed),
 		      reading);
 	if (!code)
@@ -223,6 +223,8 @@ static void record_request(struct machine *machine, const struct timex *in,
 
 	if (!machine->control->rows.every)
 		return;
+	if (row.kind == ROW_REQUEST && !row.code)
+		rows_steer(&machine->control->rows);
 	if (!row.code) {
 		asked.reply.state = state;
 		asked.reply.sec = out->time.tv_sec;
@@ -236,7 +238,6 @@ static void record_request(struct machine *machine, const struct timex *in,
 		asked.reply.tick = out->tick;
 		asked.reply.tai = out->tai;
 	}
-	atomic_store(&machine->control->rows.is_steered, true);
 	rows_add_asked(machine, &row, &asked);
 }
 

@@ -87,7 +87,9 @@ struct rows {
 	_Atomic uint32_t wanted;
 	atomic_bool is_full; /* no room will be made */
 	uint64_t every;	     /* 0: no record */
+	bool has_uptime;     /* the script opens by `openwords`, and can't be steered */
 	atomic_bool is_steered; /* a call or a script has asked the discipline */
+	atomic_bool is_over;	/* and the script can't be steered */
 	char path[4096];
 };
 

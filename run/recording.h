@@ -28,7 +28,7 @@ struct recording {
 	uint64_t missing; /* the first row that is missing then */
 	uint64_t gap;	  /* the first command that is missing, or 0 */
 	uint64_t reads, commands;
-	bool is_steered; /* tkcore needs a discipline */
+	bool is_steered; /* the script opens with a discipline */
 	struct list list;
 	struct part *parts;
 	unsigned int part_count;

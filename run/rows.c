@@ -71,11 +71,19 @@ static struct record_row *find_rows(struct rows *rows, uint64_t count)
 	return chunk ? &chunk[index % ROWS_IN_CHUNK] : NULL;
 }
 
-/* Takes rows, or counts a lost one. */
+void rows_steer(struct rows *rows)
+{
+	atomic_store(rows->has_uptime ? &rows->is_over : &rows->is_steered,
+		     true);
+}
+
+/* Takes rows, or counts a lost one. After the end of the record there are none. */
 static struct record_row *take_rows(struct rows *rows, uint64_t count)
 {
 	struct record_row *slot = NULL;
 
+	if (atomic_load_explicit(&rows->is_over, memory_order_relaxed))
+		return NULL;
 	if (!atomic_load_explicit(&rows->lost, memory_order_relaxed))
 		slot = find_rows(rows, count);
 	if (!slot)
@@ -110,12 +118,14 @@ _Static_assert(sizeof(struct asked_words) <=
 void rows_add_asked(struct machine *machine, const struct record_row *row,
 		    const struct asked_words *asked)
 {
+	struct rows *rows = &machine->control->rows;
 	struct record_row *slot =
-		take_rows(&machine->control->rows, 1 + WORDS_ROWS);
+		rows->has_uptime ? NULL : take_rows(rows, 1 + WORDS_ROWS);
 	int64_t words[WORDS_ROWS][4] = { 0 };
 
 	if (!slot)
 		return;
+	atomic_store(&rows->is_steered, true);
 	memcpy(words, asked, sizeof(*asked));
 	for (int i = 0; i < WORDS_ROWS; i++)
 		memcpy(((struct words_row *)slot)[1 + i].words, words[i],

@@ -50,7 +50,11 @@ struct asked_words {
 /* Adds a row to the record. If it can't be written, it is counted as lost. */
 void rows_add(struct machine *machine, const struct record_row *row);
 
-/* The same for a request. */
+/* Says that the clocks are steered from now on. A script that opens with an uptime
+ * ends before that: tkcore can't steer its clocks. */
+void rows_steer(struct rows *rows);
+
+/* Adds a request, if the script can be steered. */
 void rows_add_asked(struct machine *machine, const struct record_row *row,
 		    const struct asked_words *asked);
 

@@ -71,6 +71,9 @@ void print_record(const struct run *run, bool is_written)
 			"tkrun: the record ends before command %" PRIu64
 			", which couldn't be recorded\n",
 			recording->gap);
+	if (rows->is_over)
+		fprintf(stderr,
+			"tkrun: the record ends before the first call that steered the clocks: a script can't steer clocks with an uptime\n");
 	if (rows->lost)
 		fprintf(stderr,
 			"tkrun: %" PRIu64

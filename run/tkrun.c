@@ -107,7 +107,8 @@ static void drive(struct run *run, const sigset_t *signals)
 static bool is_complete(const struct run *run)
 {
 	return !run->recording.error && !run->recording.gap &&
-	       !run->machine.control->rows.lost;
+	       !run->machine.control->rows.lost &&
+	       !run->machine.control->rows.is_over;
 }
 
 /* Compares the record, if it was written. The status says if a value differs,
@@ -172,6 +173,8 @@ static void start_record(struct run *run)
 		snprintf(path, sizeof(path), "%s/record", run->scratch);
 		run->recording.path = path;
 	}
+	run->machine.control->rows.has_uptime =
+		run->plan.uptime_sec || run->plan.uptime_nsec;
 	recording_start(&run->recording, run->machine.control, &run->options);
 }
 

@@ -39,11 +39,18 @@ class Calls(RunTest):
 
     def test_a_record_of_steering(self):
         record = self.folder / "r"
-        run = self.start("--counter", "sleeps", "--start", 1000000000, "--record", record, "--check",
-                         "--", program("steers"))
+        run = self.start("--counter", "sleeps", "--start", 1000000000, "--record", record,
+                         "--check", "--", program("steers"))
         self.assertEqual(run.returncode, 0, run.stderr)
         self.assertRegex(run.stderr, "check: tkcore gives each of the [0-9]+ values")
         self.assertGreater(record.read_text().count("\nadjtimex,"), 20)
+
+    def test_a_record_of_steering_with_an_uptime(self):
+        run = self.start("--counter", "sleeps", "--start", 1000000000, "--uptime", 60, "--check",
+                         "--", program("steers"))
+        self.assertEqual(run.returncode, 4, run.stderr)
+        self.assertIn("the record ends before the first call that steered the clocks", run.stderr)
+        self.assertIn("check: tkcore gives each of the first", run.stderr)
 
     def test_a_long_record_of_steering(self):
         run = self.start("--counter", "sleeps", "--start", 1000000000, "--record",
