@@ -195,6 +195,16 @@ static inline const struct coarse *coarse_of(const struct kept *kept,
 						  : &kept->monotonic;
 }
 
+/* Returns the reading since which a coarse clock has its time. In a script it lets no
+ * second begin. */
+SELDOM static uint64_t reading_of(const struct kept *kept)
+{
+	uint64_t words[TKC_WORDS];
+
+	tkc_snapshot_words(words, &kept->snapshot);
+	return words[1];
+}
+
 /* Reads a coarse clock, which needs no reading of the counter. */
 static enum tkc_code read_coarse(struct machine *machine, struct kept *kept,
 				 uint32_t clock, struct tkc_time *out)
@@ -210,7 +220,8 @@ static enum tkc_code read_coarse(struct machine *machine, struct kept *kept,
 	}
 	*out = coarse->time;
 	if (count_read(machine))
-		record_read(machine, clock, coarse->code, kept, 0, out);
+		record_read(machine, clock, coarse->code, kept,
+			    reading_of(kept), out);
 	return coarse->code;
 }
 

@@ -56,6 +56,16 @@ class Counters(RunTest):
         run = self.start(*options, "--check", *command)
         self.assertEqual((run.returncode, float(run.stdout)), (0, 100), run.stderr)
 
+    def test_coarse_clocks_of_a_counter_that_wraps(self):
+        # once the counter has passed half of its range, 0 is a later reading
+        options = ["--bits", 32, "--hz", 10**9, "--maxsec", 1, "--start", "1000000000.5"]
+        code = """use Time::HiRes qw(clock_gettime sleep);
+            syscall(159, my $t = pack('L x4 q25', 0));
+            for (1..20) { sleep 0.3; clock_gettime(5) }"""
+        run = self.start("--counter", "sleeps", *options, "--check", "--", "/usr/bin/perl", "-e",
+                         code)
+        self.assertEqual(run.returncode, 0, run.stderr)
+
     def test_the_rest_of_adjtime_is_only_a_read(self):
         code = "syscall(159, my $t = pack('L x4 q25', 0xa001)); print 1"
         self.assertEqual(self.run_on("--check", "--", "/usr/bin/perl", "-e", code), "1")
