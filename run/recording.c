@@ -89,6 +89,9 @@ void recording_start(struct recording *recording, struct control *control,
 /* The mask of readings if the clocks were steered, or 0. */
 static uint64_t steered_mask;
 
+/* The first reading in the order of readings, which wrap. */
+static uint64_t earliest;
+
 static bool is_coarse(const struct record_row *row)
 {
 	return row->kind == ROW_READ + TKC_CLOCK_REALTIME_COARSE ||
@@ -100,13 +103,14 @@ static bool is_coarse(const struct record_row *row)
 static int compare_readings(const struct record_row *a,
 			    const struct record_row *b)
 {
-	uint64_t later = (b->reading - a->reading) & steered_mask;
+	uint64_t first = (a->reading - earliest) & steered_mask;
+	uint64_t second = (b->reading - earliest) & steered_mask;
 
 	if (is_coarse(a) != is_coarse(b))
 		return is_coarse(a) ? -1 : 1;
-	if (is_coarse(a) || !later)
+	if (is_coarse(a) || first == second)
 		return 0;
-	return later <= steered_mask / 2 ? -1 : 1;
+	return first < second ? -1 : 1;
 }
 
 /* Orders rows by their fronts. A command comes before the reads that saw it, and
@@ -124,6 +128,23 @@ static int compare_rows(const void *first, const void *second)
 	if (!is_accepted(a) && compare_readings(a, b))
 		return compare_readings(a, b);
 	return a < b ? -1 : a > b;
+}
+
+/* Orders the rows after each command, or after the opening at a reading, by their
+ * readings: those up to half of the counter's range before it come first. */
+static void sort_readings(struct list *list, uint64_t reading)
+{
+	uint64_t first = 0;
+
+	for (uint64_t i = 0; i <= list->count; i++) {
+		if (i < list->count && !is_accepted(list->rows[i]))
+			continue;
+		earliest = reading - steered_mask / 2;
+		qsort(list->rows + first, i - first, sizeof(*list->rows),
+		      compare_rows);
+		reading = i < list->count ? list->rows[i]->reading : 0;
+		first = i + 1;
+	}
 }
 
 /* The program's processes can write to the rows, so a row may be any bytes. */
@@ -212,6 +233,8 @@ bool recording_write(struct recording *recording, struct machine *machine,
 	    !list_rows(list, memory, count, front_of(machine)))
 		error = ENOMEM;
 	if (!error) {
+		if (steered_mask)
+			sort_readings(list, plan->first);
 		recording->gap = end_at_gap(list);
 		recording->is_steered = steered_mask;
 		error = parts_write(recording, plan);

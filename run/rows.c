@@ -119,13 +119,16 @@ void rows_add_asked(struct machine *machine, const struct record_row *row,
 		    const struct asked_words *asked)
 {
 	struct rows *rows = &machine->control->rows;
-	struct record_row *slot =
-		rows->has_uptime ? NULL : take_rows(rows, 1 + WORDS_ROWS);
 	int64_t words[WORDS_ROWS][4] = { 0 };
+	struct record_row *slot;
 
+	if (rows->has_uptime)
+		return;
+	/* tkrun may read it as soon as it has counted the rows */
+	atomic_store(&rows->is_steered, true);
+	slot = take_rows(rows, 1 + WORDS_ROWS);
 	if (!slot)
 		return;
-	atomic_store(&rows->is_steered, true);
 	memcpy(words, asked, sizeof(*asked));
 	for (int i = 0; i < WORDS_ROWS; i++)
 		memcpy(((struct words_row *)slot)[1 + i].words, words[i],

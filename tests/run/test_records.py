@@ -1,6 +1,7 @@
 """Records, --check, and the files of the clocks, also where there is no room for them."""
 import itertools
 import os
+import re
 import sys
 
 from runs import ROOT, STILL, TKRUN, RunTest, call, needs_mounts, program
@@ -11,6 +12,7 @@ sys.path.insert(0, str(ROOT / "tests/model"))
 import model
 
 SET_TIME = 1  # TKC_CMD_SET_TIME of include/tkcore.h
+ASK = 60  # ROW_ASK of run/rows.h
 
 # commands of each kind that a record may contain, and one that is refused
 PARTS = """openhz,64,1000000000,1,5,1000000000,250000000
@@ -174,6 +176,24 @@ with open({str(rows)!r}, "r+b") as file:
     def test_a_row_of_no_kind_ends_the_record(self):
         for kind in (9, 99, 2**32 - 1):
             self.spoil_row(4, kind)
+
+    def test_readings_of_more_than_a_range(self):
+        # 200 is half of the range before the opening or less, so it isn't between 100 and 30
+        rows = self.folder / "r.rows"
+        for readings in itertools.permutations((100, 200, 30)):
+            code = f"""import ctypes, mmap
+for _ in range(3):
+    ctypes.CDLL(None).adjtimex(bytes(208))
+with open({str(rows)!r}, "r+b") as file:
+    view = mmap.mmap(file.fileno(), 40000)
+    asked = [at for at in range(0, len(view), 40) if view[at] and view[at + 4] == {ASK}]
+    for at, reading in zip(asked, {readings}):
+        view[at + 24] = reading"""
+            run = self.start(*STILL, "--bits", 8, "--hz", 1000, "--record", self.folder / "r", "--",
+                             "/usr/bin/python3", "-c", code)
+            self.assertEqual(run.returncode, 0, run.stderr)
+            asked = re.findall("^adjtimex,([0-9]+)", (self.folder / "r").read_text(), re.MULTILINE)
+            self.assertEqual(asked, ["200", "30", "100"])
 
     def test_closed_standard_files(self):
         # what tkrun opens must not get their numbers; the program finds them closed
