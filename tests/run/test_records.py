@@ -160,8 +160,9 @@ with open({str(rows)!r}, "r+b") as file:
     for at in range(0, len(view), row.size):
         if row.unpack_from(view, at)[6] == 1500000000 and view[at + 4] == {SET_TIME}:
             struct.pack_into("<I", view, at + {at}, {value})"""
-        run = self.start("--start", 1000000000, "--record", self.folder / "r", "--check", "--",
-                         "/usr/bin/python3", "-c", code)
+        # with no updates, the row is one of the first 1,000
+        run = self.start(*STILL, "--start", 1000000000, "--record", self.folder / "r", "--check",
+                         "--", "/usr/bin/python3", "-c", code)
         self.assertEqual(run.returncode, 4, run.stderr)
         self.assertRegex(run.stderr,
                          "the record ends before command [0-9]+, which couldn't be recorded")
