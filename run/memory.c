@@ -54,7 +54,8 @@ static void close_file(int file)
  * itself couldn't write to. */
 static bool is_listed_read_only(int maps, uint64_t address)
 {
-	FILE *list = fdopen(dup(maps), "r");
+	int copy = fcntl(maps, F_DUPFD_CLOEXEC, 0);
+	FILE *list = fdopen(copy, "r");
 	unsigned long start, end = 0;
 	char write = 0, *line = NULL;
 	size_t size = 0;
@@ -69,6 +70,8 @@ static bool is_listed_read_only(int maps, uint64_t address)
 	free(line);
 	if (list)
 		fclose(list);
+	else
+		close_file(copy);
 	return !list || (is_in && write != 'w');
 }
 
