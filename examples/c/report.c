@@ -1,8 +1,8 @@
 /* SPDX-License-Identifier: MIT OR Apache-2.0 */
 /*
  * Prints the report of the tkcore script on standard input. Each command and
- * each read of the script is one call of the library. A record that changes
- * the counter is a fault here.
+ * each read of the script is one call of the library. A script that changes the
+ * counter, or whose clocks are steered, has a fault here.
  *
  * The library keeps no journal, so no command is refused because a journal is
  * full. So the report equals the report of `tkcore replay --keep N`.

@@ -2,7 +2,8 @@
 /*
  * Parses the scripts of tkcore. A script begins with an opening; each row after
  * it is a command or a read of a clock. crates/tk_script/README.md describes the
- * format. The record `counter` is a fault here.
+ * format. The records `counter` and `adjtimex` are faults here, and so is an
+ * opening with HZ.
  */
 #ifndef SCRIPT_H
 #define SCRIPT_H
