@@ -2,16 +2,19 @@
 /*
  * Asks for the stamps of packets.
  *
- *     stamps [refused]
+ *     stamps MS | refused
  *
- * A stamp must be between the times of REALTIME before the packet was sent and
- * after it was received. With `refused`, no socket may have stamps.
+ * It receives each packet this many ms after it has sent it. The stamp must be between
+ * the times of REALTIME before the packet was sent and after it was received. The clocks
+ * of a counter that moves only with sleeps need more ms than the host takes. With
+ * `refused`, no socket may have stamps.
  */
 #define _GNU_SOURCE
 #include "faults.h"
 
 #include <netinet/in.h>
 #include <stdbool.h>
+#include <stdlib.h>
 #include <sys/socket.h>
 #include <sys/syscall.h>
 #include <sys/time.h>
@@ -86,7 +89,7 @@ static bool receive(int file, int call, struct mmsghdr *message)
 	}
 }
 
-static void check_stamp(int file, int call)
+static void check_stamp(int file, int call, int millis)
 {
 	union {
 		struct cmsghdr head;
@@ -103,7 +106,7 @@ static void check_stamp(int file, int call)
 	int64_t before = real_nanos(), stamp;
 
 	CHECK(send(file, "x", 1, 0) == 1);
-	usleep(50000);
+	usleep((useconds_t)millis * 1000);
 	CHECK(receive(file, call, &message));
 	stamp = stamp_of(&message.msg_hdr);
 	CHECK(stamp >= before - SLACK_NANOS);
@@ -114,6 +117,7 @@ int main(int count, char **words)
 {
 	static const int NAMES[] = { SO_TIMESTAMP, SO_TIMESTAMPNS };
 	bool is_refused = count > 1 && !strcmp(words[1], "refused");
+	int millis = count > 1 ? atoi(words[1]) : 0;
 
 	for (int i = 0; i < 2; i++) {
 		int file = make_socket();
@@ -123,7 +127,7 @@ int main(int count, char **words)
 		else
 			CHECK(!ask(file, NAMES[i]));
 		for (int call = 0; call < 4 && !is_refused; call++)
-			check_stamp(file, call);
+			check_stamp(file, call, millis);
 		CHECK(ask(file, SO_TIMESTAMPING) && errno == ENOPROTOOPT);
 		close(file);
 	}

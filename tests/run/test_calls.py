@@ -31,10 +31,10 @@ class Calls(RunTest):
         self.assertEqual(self.run_on(*options, "--deny-set", "--", program("steers"), "deny"), "")
 
     def test_stamps_of_packets(self):
-        for options in [[], ["--speed", 10], ["--speed", 0.5], STILL]:
+        for millis, *options in [(50,), (50, "--speed", 10), (50, "--speed", 0.5), (50000, *STILL)]:
             with self.subTest(options):
                 self.assertEqual(self.run_on("--start", 1000000000, "--stamps", *options, "--",
-                                             program("stamps")), "")
+                                             program("stamps"), millis), "")
         self.assertEqual(self.run_on("--", program("stamps"), "refused"), "")
 
     def test_a_record_of_steering(self):
