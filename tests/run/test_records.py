@@ -40,7 +40,7 @@ class Records(RunTest):
         return call([self.tkcore(change).parent / "tkrun", "--check", *map(str, arguments)])
 
     def rows(self, size, *command):
-        """Runs tkrun --check with parts of so many bytes. Returns the records of each part."""
+        """Runs tkrun --check with parts of at most `size` bytes. Returns the records of each."""
         run = self.start(*STILL, "--record", self.folder / "r", "--check", *command,
                          env={"TKRUN_PART_BYTES": str(size)})
         self.assertEqual(run.returncode, 0, run.stderr)
