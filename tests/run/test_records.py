@@ -184,7 +184,7 @@ with open({str(rows)!r}, "r+b") as file:
         for readings in itertools.permutations((100, 200, 30)):
             code = f"""import ctypes, mmap
 for _ in range(3):
-    ctypes.CDLL(None).adjtimex(bytes(208))
+    ctypes.CDLL(None).adjtimex(ctypes.create_string_buffer(208))
 with open({str(rows)!r}, "r+b") as file:
     view = mmap.mmap(file.fileno(), 40000)
     asked = [at for at in range(0, len(view), 40) if view[at] and view[at + 4] == {ASK}]
