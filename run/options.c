@@ -21,7 +21,7 @@ static const char USAGE[] =
 	"  --start TIME              REALTIME at the start: SEC[.NSEC] or\n"
 	"                            YYYY-MM-DDThh:mm:ss[.NSEC]Z (the host's)\n"
 	"  --ahead SEC               or its lead over the host's REALTIME\n"
-	"  --uptime SEC              MONOTONIC and BOOTTIME at the start (0)\n"
+	"  --uptime SEC[.NSEC]       MONOTONIC and BOOTTIME at the start (0)\n"
 	"  --script FILE             opens and commands the clocks by a tkcore script\n"
 	"  --record FILE             records all commands, and reads\n"
 	"  --every N                 records each Nth read of a thread (1)\n"

@@ -46,6 +46,7 @@ class Static(RunTest):
                 self.assertEqual(self.run_on("--start", 1000000000, "--counter", counter, "--check",
                                              "--", program("static_reads")), "")
 
+    @unittest.skipUnless(CAN_TRACE, "no process may be traced")
     def test_reads_without_calls(self):
         for counter in ["raw", "tsc"]:
             with self.subTest(counter):
@@ -74,6 +75,7 @@ class Static(RunTest):
         second = int(self.run_on("--static", "--speed", "0.001", "--", *inside))
         self.assertIn(second, range(2000000001, 2000000060))
 
+    @unittest.skipUnless(CAN_TRACE, "no process may be traced")
     def test_an_image_whose_vdso_reads_no_clock(self):
         run = self.start("--start", 1000000000, "--", program("static_killed"), 5,
                          env={"TKRUN_HOST_CALLS": "1"})
