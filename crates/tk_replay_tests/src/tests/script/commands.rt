@@ -140,9 +140,9 @@ fn reads_a_change_of_counter(rt: HostRuntime) {
     }
 }
 
-#[test]
-fn reads_a_request(rt: HostRuntime) {
-    let row = Row::Ask {
+/// A request whose fields all differ.
+fn request() -> Row {
+    Row::Ask {
         reading: 9,
         request: Timex {
             modes: 0x2035,
@@ -156,13 +156,17 @@ fn reads_a_request(rt: HostRuntime) {
             sec: -8,
             sub: i64::MAX,
         },
-    };
+    }
+}
+
+#[test]
+fn reads_a_request(rt: HostRuntime) {
     let plain = b"adjtimex,9,8245,-100000000,-9223372036854775808,3,4,4294967295,6,10000,-8,\
         9223372036854775807";
-    assert_row(&rt, plain, row);
+    assert_row(&rt, plain, request());
     let quoted = b"\"adjtimex\",9,8245,-100000000,-9223372036854775808,3,4,4294967295,6,10000,\
         -8,\"9223372036854775807\"";
-    assert_row(&rt, quoted, row);
+    assert_row(&rt, quoted, request());
 }
 
 #[test]
