@@ -195,11 +195,20 @@ def script(rng, has_changes=True):
     return bytes_of(rng, records(rng, has_changes))
 
 
+def is_steered(lines):
+    """Whether these records ask for a discipline: by a request, or by one more field of the opening."""
+    has_hz = lines[0][0] in ("open", "openhz") and len(lines[0]) == 8
+    return has_hz or any(line[0] == "adjtimex" for line in lines)
+
+
 def unquoted_script(rng, may_run=False):
-    """A script without quotes, byte order marks, changes of counter and expected values, for a program that knows no more
-    of csv than lines and commas. With `may_run`, some begin from running clocks."""
+    """A script without quotes, byte order marks, changes of counter, expected values and a discipline, for a program that
+    knows no more of csv than lines and commas. With `may_run`, some begin from running clocks."""
     ending = rng.choice(["\n", "\n", "\r\n", "\r"])
-    return ending.join(",".join(map(str, line)) for line in records(rng, False, False, may_run)).encode()
+    lines = records(rng, False, False, may_run)
+    while is_steered(lines):
+        lines = records(rng, False, False, may_run)
+    return ending.join(",".join(map(str, line)) for line in lines).encode()
 
 
 def bytes_of(rng, lines):
