@@ -141,7 +141,8 @@ at,realtime,0.000002304,1970-01-01T00:00:00.000002304Z
         first = b"open,8,256,0,0,0,0"
         for text, fault in [
                 (b"", "no record"), (b"\n\n\n", "no record"), (b"open,8,256,0,0,0,\n", number(1)),
-                (b"open,8,256,0,0,0,0,\n", fields(1)), (b"\xefopen,8,256,0,0,0,0\n", INVALID),
+                (first + b",\n", number(1)), (first + b",1,\n", fields(1)),
+                (b"\xefopen,8,256,0,0,0,0\n", INVALID),
                 (b"\xef", INVALID), (first + b"\nupdate,5,", fields(2)),
                 (first + b"\nupdate", fields(2)), (first + b"\nupdate,", number(2)),
                 (first + b"\nupdate,5 \n", number(2)), (first + b"\n,update,5\n", word(2)),
