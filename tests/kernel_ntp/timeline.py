@@ -94,7 +94,8 @@ class Timeline:
         speeds = [length * self.hz / (NANOS * ntp.ONE) for length in lengths]
         if min(speeds) < SPEEDS[0] or max(speeds) > SPEEDS[1]:
             raise Known("the rate stays within 10.05 percent")
-        return NANOS % self.hz + self.rounding * NANOS * max(abs(speed - 1) for speed in speeds)
+        ticks = NANOS % self.hz / self.hz * self.rate / self.kernel.step
+        return ticks + self.rounding * NANOS * max(abs(speed - 1) for speed in speeds)
 
     def apply(self, *command):
         code = self.clocks.apply(self.reading, *command)
