@@ -208,7 +208,7 @@ enum tkc_code machine_apply(struct machine *machine, const struct order *orders,
 }
 
 /* Records a request, and its reply if it was accepted. One that only reads leaves
- * no front of its own. */
+ * no separate front. */
 static void record_request(struct machine *machine, const struct timex *in,
 			   const struct timex *out, struct record_row row,
 			   uint32_t state)

@@ -56,7 +56,7 @@ static bool open_clock(const struct plan *plan, struct tkc_clock *clock)
 				  plan->uptime_sec, plan->uptime_nsec);
 }
 
-/* The discipline adds no refusals of its own. */
+/* The discipline adds no refusals. */
 void plan_open_clock(const struct plan *plan, struct tkc_clock *clock)
 {
 	if (!open_clock(plan, clock))

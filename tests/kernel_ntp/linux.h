@@ -1,6 +1,6 @@
 /* SPDX-License-Identifier: GPL-2.0 */
 /*
- * Stands in for each header of the kernel that kernel/time/ntp.c and
+ * Replaces each header of the kernel that kernel/time/ntp.c and
  * kernel/time/timekeeping.c of 6.1 include and that isn't taken from its sources
  * (kernel.py lists them). This kernel has one thread, no interrupts and no PPS,
  * and its callers may do all.

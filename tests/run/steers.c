@@ -34,7 +34,7 @@ static double seconds(clockid_t clock)
 	return (double)time.tv_sec + (double)time.tv_nsec / 1e9;
 }
 
-/* The C library still has the function that stores no TAI offset, but for a static
+/* The C library still has the function that stores no TAI offset, except in a static
  * program. */
 static void check_old_reply(void)
 {
