@@ -14,7 +14,8 @@ use Rattle.tk_clock.specs.Refusal.{first_of, sleep_refusal, number_refusal, orde
 use Rattle.tk_clock.specs.State.{State}
 use Rattle.tk_ntp.specs.SteeredClock.{SteeredClock, reading_refusal}
 
-first : (a b : Option Refusal) → first_of a b ≡ None → a ≡ None
+-- if neither of two refusals holds, the first one doesn't
+pub first : (a b : Option Refusal) → first_of a b ≡ None → a ≡ None
 first None b h = refl
 first (Some refusal) b h = absurd (cc)
 

@@ -9,13 +9,13 @@ use Rattle.tk_clock.specs.declared.command.Command.TheVariants.{Update, SetTime,
 use Rattle.tk_clock.specs.declared.refusal.Refusal.{Refusal}
 use Rattle.tk_clock.specs.declared.timespec.Timespec.{Timespec}
 use Rattle.tk_clock.specs.Command.{is_resume}
-use Rattle.tk_clock.specs.State.{State}
+use Rattle.tk_clock.specs.State.{State, effect}
 use Rattle.tk_ntp.specs.declared.reply.Reply.{Reply}
 use Rattle.tk_ntp.specs.declared.timex.Timex.{Timex}
 use Rattle.tk_ntp.specs.Account.{cycles_to, sets_by, sets_by_step, IsLeft}
 use Rattle.tk_ntp.specs.Advance.{IsAdvanced}
-use Rattle.tk_ntp.specs.Applied.{request_of, IsPlain}
-use Rattle.tk_ntp.specs.Asked.{accounted_if, acts, changes_rate, given_tai, IsAsked, IsCommanded, IsRequested, real_at, steered_if, step_refusal, stepped, tai_asked, with_asked}
+use Rattle.tk_ntp.specs.Applied.{IsPlain}
+use Rattle.tk_ntp.specs.Asked.{accounted_if, acts, after_command, changes_rate, given_tai, IsAsked, IsCommanded, IsRequested, real_at, steered_if, step_refusal, stepped, tai_asked, with_asked}
 use Rattle.tk_ntp.specs.Lag.{made_up, short_of}
 use Rattle.tk_ntp.specs.Modes.{asked}
 use Rattle.tk_ntp.specs.Ntp.{second_length}
@@ -24,6 +24,7 @@ use Rattle.tk_ntp.specs.Request.{step_of}
 use Rattle.tk_ntp.specs.Steady.{is_kept_by, keeps_rate, IsSinceAfter, IsSmall, IsSmallAfter, IsSmallIn, IsSmallOrSame}
 use Rattle.tk_ntp.specs.SteeredClock.{SteeredClock, reading_refusal}
 use Rattle.tk_ntp.proofs.Account.{never}
+use Rattle.tk_ntp.proofs.Acting.{ActsAs, OfFrequency, OfTick}
 use Rattle.tk_ntp.proofs.Left.{asked-left, commanded-left, requested-left, tai-same, IsSameRate}
 use Rattle.tk_ntp.proofs.Steady.{left-since, stays_small}
 use Rattle.tk_ntp.proofs.Unchanged.{length-kept}
@@ -74,6 +75,15 @@ kept-since s after rate length left = λ chosen cycles since long.
       lag = there.4;
     }
 
+-- a call that leaves the state `there`, which has the rate and the length of the second
+same-since : (s after there : SteeredClock) → after ≡ there → IsSameRate s.clock there.clock →
+    second_length there.steering.ntp ≡ second_length s.steering.ntp →
+    IsLeft false after.mark after.steering.lag s → IsSinceAfter s after
+same-since s after there is rate length left =
+    kept-since s after
+    (subst (IsSameRate s.clock) (sym (ap (λ (t : SteeredClock). t.clock) is)) rate)
+    (ap (λ (t : SteeredClock). second_length t.steering.ntp) is ∙ length) left
+
 -- the clocks and the discipline after a request that keeps the rate
 requested-rate : (reading : ℕ) (request : Timex) (s : SteeredClock) (clock : State)
     (does changes : Bool) → changes ≡ false →
@@ -95,7 +105,8 @@ requested-since reading request s after (Ok reply) h keeps =
     let clock = given_tai reading tai s.clock in
     let real = real_at reading s.clock in
     let found =
-    requested-rate reading request s clock (acts request.modes) (changes_rate request.modes) keeps in
+    requested-rate reading request s clock (acts request.modes) (changes_rate request.modes)
+    keeps in
     let same : after.clock ≡ clock = ap (λ (t : SteeredClock). t.clock) h.2 ∙ found.0 in
     let ntp : after.steering.ntp ≡ asked request (unsigned_abs real.sec) s.steering.ntp =
     ap (λ (t : SteeredClock). t.steering.ntp) h.2 ∙ found.1 in
@@ -103,10 +114,7 @@ requested-since reading request s after (Ok reply) h keeps =
     (ap second_length ntp ∙ length-kept request (unsigned_abs real.sec) s.steering.ntp keeps)
     (requested-left reading request s after (Ok reply) h)
 requested-since reading request s after (Err refusal) h keeps =
-    kept-since s after
-    (subst (IsSameRate s.clock) (sym (ap (λ (t : SteeredClock). t.clock) h.1))
-    (record { counter = refl; mult = refl }))
-    (ap (λ (t : SteeredClock). second_length t.steering.ntp) h.1)
+    same-since s after s h.1 (record { counter = refl; mult = refl }) refl
     (requested-left reading request s after (Err refusal) h)
 
 first_holds : (a b : Bool) → (a && b) ≡ true → a ≡ true
@@ -147,48 +155,37 @@ asked_small reading request s advanced after result chain h =
           (second_fails (is_none by) (changes_rate request.modes) keeps);
     }
 
-command-since : (reading : ℕ) (cmd : Command) (s after : SteeredClock)
-    (result : Result ⊤ Refusal) → is_kept_by cmd ≡ true → IsCommanded reading cmd s result after →
-    IsLeft false after.mark after.steering.lag s → IsSinceAfter s after
-command-since reading cmd s after (Err refusal) keeps h left =
-    kept-since s after
-    (subst (IsSameRate s.clock) (sym (ap (λ (t : SteeredClock). t.clock) h.1))
-    (record { counter = refl; mult = refl }))
-    (ap (λ (t : SteeredClock). second_length t.steering.ntp) h.1) left
-command-since reading Update s after (Ok done) keeps h left =
-    kept-since s after
-    (subst (IsSameRate s.clock) (sym (ap (λ (t : SteeredClock). t.clock) h.1))
-    (record { counter = refl; mult = refl }))
-    (ap (λ (t : SteeredClock). second_length t.steering.ntp) h.1) left
-command-since reading (Tai seconds) s after (Ok done) keeps h left =
-    kept-since s after
-    (subst (IsSameRate s.clock) (sym (ap (λ (t : SteeredClock). t.clock) h.1))
-    (record { counter = refl; mult = refl }))
-    (ap (λ (t : SteeredClock). second_length t.steering.ntp) h.1) left
-command-since reading Suspend s after (Ok done) keeps h left =
-    kept-since s after
-    (subst (IsSameRate s.clock) (sym (ap (λ (t : SteeredClock). t.clock) h.1))
-    (record { counter = refl; mult = refl }))
-    (ap (λ (t : SteeredClock). second_length t.steering.ntp) h.1) left
-command-since reading (SetTime time) s after (Ok done) keeps h left = absurd (never (sym keeps))
-command-since reading (Step by) s after (Ok done) keeps h left = absurd (never (sym keeps))
-command-since reading (Freq frequency) s after (Ok done) keeps h left =
-    absurd (never (sym keeps))
-command-since reading (Tick tick) s after (Ok done) keeps h left = absurd (never (sym keeps))
-command-since reading (Leap by tai) s after (Ok done) keeps h left = absurd (never (sym keeps))
-command-since reading (Resume away) s after (Ok done) keeps h left = absurd (never (sym keeps))
+-- a command that keeps the rate: it sets no time
+record KeepsRate (reading : ℕ) (cmd : Command) (s : SteeredClock) : Type 0 where
+  unset : sets_by reading cmd s ≡ false
+  rate : IsSameRate s.clock (after_command reading cmd (effect s.clock reading cmd) s).clock
+  length :
+      second_length (after_command reading cmd (effect s.clock reading cmd) s).steering.ntp
+      ≡ second_length s.steering.ntp
 
-kept-unset : (reading : ℕ) (cmd : Command) (s : SteeredClock) → is_kept_by cmd ≡ true →
-    sets_by reading cmd s ≡ false
-kept-unset reading Update s keeps = refl
-kept-unset reading (Tai seconds) s keeps = refl
-kept-unset reading Suspend s keeps = refl
-kept-unset reading (SetTime time) s keeps = absurd (never (sym keeps))
-kept-unset reading (Step by) s keeps = absurd (never (sym keeps))
-kept-unset reading (Freq frequency) s keeps = absurd (never (sym keeps))
-kept-unset reading (Tick tick) s keeps = absurd (never (sym keeps))
-kept-unset reading (Leap by tai) s keeps = absurd (never (sym keeps))
-kept-unset reading (Resume away) s keeps = absurd (never (sym keeps))
+keeping : (reading : ℕ) (cmd : Command) (s : SteeredClock) → is_kept_by cmd ≡ true →
+    KeepsRate reading cmd s
+keeping reading Update s keeps =
+    record { unset = refl; rate = record { counter = refl; mult = refl }; length = refl }
+keeping reading (Tai seconds) s keeps =
+    record { unset = refl; rate = record { counter = refl; mult = refl }; length = refl }
+keeping reading Suspend s keeps =
+    record { unset = refl; rate = record { counter = refl; mult = refl }; length = refl }
+keeping reading (SetTime time) s keeps = absurd (never (sym keeps))
+keeping reading (Step by) s keeps = absurd (never (sym keeps))
+keeping reading (Freq frequency) s keeps = absurd (never (sym keeps))
+keeping reading (Tick tick) s keeps = absurd (never (sym keeps))
+keeping reading (Leap by tai) s keeps = absurd (never (sym keeps))
+keeping reading (Resume away) s keeps = absurd (never (sym keeps))
+
+command-since : (reading : ℕ) (cmd : Command) (s after : SteeredClock)
+    (result : Result ⊤ Refusal) → KeepsRate reading cmd s → IsCommanded reading cmd s result after →
+    IsLeft false after.mark after.steering.lag s → IsSinceAfter s after
+command-since reading cmd s after (Err refusal) is h left =
+    same-since s after s h.1 (record { counter = refl; mult = refl }) refl left
+command-since reading cmd s after (Ok done) is h left =
+    same-since s after (after_command reading cmd (effect s.clock reading cmd) s) h.1 is.rate
+    is.length left
 
 commanded-small : (reading : ℕ) (cmd : Command) (s advanced after : SteeredClock)
     (result : Result ⊤ Refusal) → is_resume cmd ≡ false → IsAdvanced reading s advanced →
@@ -201,9 +198,10 @@ commanded-small reading cmd s advanced after result awake chain h =
       stays = stays_small reading s advanced chain;
       small = left-small (sets_by reading cmd advanced) advanced after left;
       since = λ keeps.
-          command-since reading cmd advanced after result keeps h
-          (subst (λ (sets : Bool). IsLeft sets after.mark after.steering.lag advanced)
-          (kept-unset reading cmd advanced keeps) left);
+          let is = keeping reading cmd advanced keeps in
+          command-since reading cmd advanced after result is h
+          (subst (λ (sets : Bool). IsLeft sets after.mark after.steering.lag advanced) is.unset
+          left);
     }
 
 followed-small : (reading : ℕ) (cmd : Command) (s after : SteeredClock)
@@ -240,16 +238,9 @@ less_kept keeps reading s after h = elim h as (λ _. IsSmallOrSame false reading
 
 -- after a command that acts as a request
 pub request_small : (reading : ℕ) (cmd : Command) (request : Timex) (s after : SteeredClock) →
-    Some request ≡ request_of cmd → IsSmallOrSame (keeps_rate request) reading s after →
+    ActsAs cmd request → IsSmallOrSame (keeps_rate request) reading s after →
     IsSmallOrSame (is_kept_by cmd) reading s after
-request_small reading (Freq frequency) request s after is h =
+request_small reading cmd request s after (OfFrequency frequency) h =
     less_kept (keeps_rate request) reading s after h
-request_small reading (Tick tick) request s after is h =
+request_small reading cmd request s after (OfTick tick) h =
     less_kept (keeps_rate request) reading s after h
-request_small reading Update request s after is h = absurd (cc)
-request_small reading (SetTime time) request s after is h = absurd (cc)
-request_small reading (Step by) request s after is h = absurd (cc)
-request_small reading (Leap by tai) request s after is h = absurd (cc)
-request_small reading (Tai seconds) request s after is h = absurd (cc)
-request_small reading Suspend request s after is h = absurd (cc)
-request_small reading (Resume away) request s after is h = absurd (cc)

@@ -1,9 +1,7 @@
--- No second is due: up to a reading at which REALTIME is before the next one, and after late seconds
--- have begun.
-use Rattle.std.proofs.Common.{◌≡◌, ◌∙◌, ap, refl, sym, subst, ℕ, ◌*◌, ◌^◌, ◌<◌, ◌≤◌, Option, Some, None, arith}
+-- No second is due up to a reading at which REALTIME is before the next one.
+use Rattle.std.proofs.Common.{◌≡◌, ◌∙◌, ap, refl, sym, subst, ℕ, ◌*◌, ◌^◌, ◌<◌, Option, Some, None, arith}
 use Rattle.std.specs.Prelude.{ℤ, pos, ◌+ℤ◌, ◌*ℤ◌, ◌<ℤ◌, ◌≤ℤ◌, Ok, Err, Result, MatchOption, ⊤, unsigned_abs}
 use Rattle.std.proofs.lemmas.Int.{ints}
-use Rattle.tk_counter.specs.Counter.{half}
 use Rattle.tk_clock.specs.declared.clock_id.ClockId.TheVariants.{Realtime}
 use Rattle.tk_clock.specs.declared.command.Command.TheVariants.{Update}
 use Rattle.tk_clock.specs.declared.refusal.ReadError.{ReadError}
@@ -14,12 +12,10 @@ use Rattle.tk_clock.specs.Read.{read_of, unless_refused}
 use Rattle.tk_clock.specs.State.{base_value}
 use Rattle.tk_clock.specs.Time.{nanoseconds}
 use Rattle.tk_clock.proofs.Lines.{value_ahead, value_rises}
-use Rattle.tk_ntp.specs.Advance.{IsAdvanced, IsNoneDue, second_time}
-use Rattle.tk_ntp.specs.Advance.{Arrived as ArrivedThere}
+use Rattle.tk_ntp.specs.Advance.{Arrived, IsAdvanced, IsNoneDue, second_time}
 use Rattle.tk_ntp.specs.Applied.{IsFollowed}
 use Rattle.tk_ntp.specs.Asked.{IsCommanded}
-use Rattle.tk_ntp.specs.Staged.{IsSettled}
-use Rattle.tk_ntp.specs.Late.{Arrived, Begins, IsAdvancedLate, second_begun_late}
+use Rattle.tk_ntp.specs.Staged.{IsEarly, IsSettled}
 use Rattle.tk_ntp.specs.SteeredClock.{SteeredClock}
 
 apart : (a b c : ℤ) → c ≤ℤ a → a ≤ℤ b → b <ℤ c → ⊥
@@ -34,23 +30,21 @@ below_second : (value : ℤ) (nanos next : ℕ) → unsigned_abs value ≡ nanos
     nanos < next * 10 ^ 9 → value <ℤ (pos next *ℤ pos (10 ^ 9) +ℤ pos 0)
 below_second value nanos next is low = omega (arith, ints, is, low)
 
-module _ (steered : SteeredClock) (reading nanos : ℕ)
-    (near : distance steered.clock.base reading ≤ half steered.clock.base.counter)
-    (read : read_of steered.clock.base Realtime reading ≡ Ok nanos)
-    (early : nanos < steered.next * 10 ^ 9) where
-  value : unsigned_abs (base_value steered.clock.base Realtime reading) ≡ nanos
+module _ (steered : SteeredClock) (reading : ℕ) (early : IsEarly steered reading) where
+  value : unsigned_abs (base_value steered.clock.base Realtime reading) ≡ early.read.0
   unfolding read_of
-  value = value_read _ (base_value steered.clock.base Realtime reading) nanos read
+  value = value_read _ (base_value steered.clock.base Realtime reading) early.read.0 early.read.1
 
   pub none_due : IsNoneDue steered reading
   none_due at ahead order reached =
       let base = steered.clock.base in
-      let low = below_second (base_value base Realtime reading) nanos steered.next value early in
+      let low =
+      below_second (base_value base Realtime reading) early.read.0 steered.next value early.read.2 in
       let second = nanoseconds (second_time steered.next) in
       apart _ _ second
       (subst (λ v. second ≤ℤ v) (value_ahead base Realtime at ahead.1) reached.1)
       (value_rises base Realtime (distance base at) (distance base reading) order)
-      (subst (λ v. v <ℤ second) (value_ahead base Realtime reading near) low)
+      (subst (λ v. v <ℤ second) (value_ahead base Realtime reading early.ahead) low)
 
 followed-by : (state order : Option Refusal) (reading : ℕ) (before after : SteeredClock)
     (result : Result ⊤ Refusal) → IsNoneDue before reading → order ≡ None →
@@ -61,7 +55,7 @@ followed-by : (state order : Option Refusal) (reading : ℕ) (before after : Ste
     × IsCommanded reading Update advanced result after)
     (λ refusal. (result ≡ Err refusal) × (after ≡ before))
 followed-by None None reading before after result none is is' h =
-    (before, ArrivedThere before none, h)
+    (before, Arrived before none, h)
 followed-by None (Some refusal) reading before after result none is is' h = absurd (cc is)
 followed-by (Some refusal) order reading before after (Ok done) none is is' h =
     absurd (cc (sym is' ∙ h.0))
@@ -79,10 +73,3 @@ followed reading before after result settled h =
     followed-by (state_refusal before.clock reading Update)
     (order_refusal before.clock.base.counter before.mark reading Update) reading before after
     result settled.none settled.order refl h
-
--- late seconds leave none that is due
-pub none_left : (reading : ℕ) (before after : SteeredClock) →
-    IsAdvancedLate reading before after → IsNoneDue after reading
-none_left reading before after (Arrived steered none) = none
-none_left reading before after (Begins steered end at due rest) =
-    none_left reading (second_begun_late at reading steered) end rest

@@ -50,7 +50,7 @@ order_kept counter last at earlier later h k =
     omega arith
 
 -- a gap that starts where another one ends
-sum_gap : (counter : Counter) (last mark x : ℕ) →
+pub sum_gap : (counter : Counter) (last mark x : ℕ) →
     gap counter last mark + gap counter mark x < 2 ^ counter.bits →
     gap counter last x ≡ gap counter last mark + gap counter mark x
 sum_gap counter last mark x few =

@@ -1,3 +1,4 @@
+pub mod Followed
 pub mod Gains
 pub mod Gaps
 pub mod Lengths
@@ -6,6 +7,7 @@ pub mod Often
 pub mod Passed
 pub mod History
 pub mod Accepted
+pub mod Acting
 pub mod Account
 pub mod Called
 pub mod Contracted
@@ -21,6 +23,7 @@ pub mod Reading
 pub mod Real
 pub mod Restart
 pub mod ReadBack
+pub mod Restored
 pub mod Seconds
 pub mod Scaled
 pub mod Settled

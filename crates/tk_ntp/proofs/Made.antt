@@ -4,22 +4,22 @@ use Rattle.std.specs.Prelude.{ℤ, pos, option_map, if◌then◌else◌}
 use Rattle.std.proofs.lemmas.Nat.{pow_pos}
 use Rattle.tk_counter.specs.Counter.{Counter, gap}
 use Rattle.tk_counter.proofs.Gaps.{gap-self}
+use Rattle.tk_clock.specs.declared.command.Command.{Command}
 use Rattle.tk_clock.specs.declared.command.Command.TheVariants.{Freq, Step, Tick, Tai, Leap as LeapSecond}
 use Rattle.tk_clock.specs.declared.refusal.Refusal.{Refusal}
 use Rattle.tk_clock.specs.Refusal.{state_refusal}
 use Rattle.tk_clock.specs.State.{State, effect}
 use Rattle.tk_ntp.specs.declared.leap.Leap.{Leap}
-use Rattle.tk_ntp.specs.declared.leap.Leap.TheVariants.{None as NoLeap, Insert, Delete}
 use Rattle.tk_ntp.specs.declared.change.Change.{Change}
 use Rattle.tk_ntp.specs.Account.{units_at}
-use Rattle.tk_ntp.specs.Advance.{leap_of_clock, leapt, leapt_unless, second_begun_at, tai_of_clock, with_next_second}
+use Rattle.tk_ntp.specs.Advance.{leapt, leapt_unless, second_begun_at, tai_of_clock, with_next_second}
 use Rattle.tk_ntp.specs.Asked.{given_tai}
 use Rattle.tk_ntp.specs.Change.{tick_command, frequency_command}
 use Rattle.tk_ntp.specs.Leap.{leap_seconds, tai_after_leap}
 use Rattle.tk_ntp.specs.Second.{leap_at}
 use Rattle.tk_ntp.specs.Steering.{Steered, commands}
 use Rattle.tk_ntp.specs.SteeredClock.{SteeredClock, after_or, given, given_any, given_change, rate_in_force}
-use Rattle.tk_ntp.proofs.Seconds.{leapt-steering}
+use Rattle.tk_ntp.proofs.Seconds.{leapt-by, leapt-steering}
 
 pub none_here : (counter : Counter) (at : ℕ) → gap counter at at ≡ 0
 none_here counter at = gap-self (2 ^ counter.bits) at (pow_pos counter.bits)
@@ -55,32 +55,35 @@ after_or-made : (at : ℕ) (refusal : Option Refusal) (after before : State) →
 after_or-made at None after before h = h
 after_or-made at (Some refusal) after before h = unmade at before
 
+-- a command at a reading, up to which the clocks count at the multiplier before it
+effect-made : (at : ℕ) (cmd : Command) (clock : State) →
+    let after = effect clock at cmd in
+    after.base.counter ≡ clock.base.counter → after.base.last ≡ at →
+    after.base.amount ≡ units_at at clock → after.base.asleep ≡ clock.base.asleep →
+    IsMade at clock after
+effect-made at cmd clock counter last amount asleep = record {
+  units = rw (counter, last, amount)
+      (kept_units clock.base.counter at (units_at at clock) (effect clock at cmd).base.mult);
+  same = inr last;
+  asleep = asleep;
+}
+
+given-made : (at : ℕ) (cmd : Command) (clock : State) → IsMade at clock (effect clock at cmd) →
+    IsMade at clock (given at cmd clock)
+given-made at cmd clock h =
+    after_or-made at (state_refusal clock at cmd) (effect clock at cmd) clock h
+
 tick-made : (at : ℕ) (clock : State) (tick : Option ℤ) →
     IsMade at clock (given_any at (option_map Tick tick) clock)
 tick-made at clock None = unmade at clock
 tick-made at clock (Some tick) =
-    after_or-made at (state_refusal clock at (Tick tick)) (effect clock at (Tick tick)) clock
-    (record {
-      units =
-          kept_units clock.base.counter at (units_at at clock)
-          (effect clock at (Tick tick)).base.mult;
-      same = inr refl;
-      asleep = refl;
-    })
+    given-made at (Tick tick) clock (effect-made at (Tick tick) clock refl refl refl refl)
 
 frequency-made : (at : ℕ) (clock : State) (frequency : Option ℤ) →
     IsMade at clock (given_any at (option_map Freq frequency) clock)
 frequency-made at clock None = unmade at clock
 frequency-made at clock (Some frequency) =
-    after_or-made at (state_refusal clock at (Freq frequency)) (effect clock at (Freq frequency))
-    clock
-    (record {
-      units =
-          kept_units clock.base.counter at (units_at at clock)
-          (effect clock at (Freq frequency)).base.mult;
-      same = inr refl;
-      asleep = refl;
-    })
+    given-made at (Freq frequency) clock (effect-made at (Freq frequency) clock refl refl refl refl)
 
 pub change-made : (at : ℕ) (change : Change) (clock : State) →
     IsMade at clock (given_change at change clock)
@@ -97,13 +100,7 @@ if-made at false before after h = h
 pub tai-made : (at tai : ℕ) (clock : State) → IsMade at clock (given_tai at tai clock)
 tai-made at tai clock =
     if-made at (nat_eq tai (tai_of_clock clock)) clock (given at (Tai (pos tai)) clock)
-    (after_or-made at (state_refusal clock at (Tai (pos tai))) (effect clock at (Tai (pos tai)))
-    clock
-    (record {
-      units = kept_units clock.base.counter at (units_at at clock) clock.base.mult;
-      same = inr refl;
-      asleep = refl;
-    }))
+    (given-made at (Tai (pos tai)) clock (effect-made at (Tai (pos tai)) clock refl refl refl refl))
 
 -- a leap keeps MONOTONIC; without one, nothing changes
 record IsLeapt (at : ℕ) (before after : SteeredClock) : Type 0 where
@@ -112,24 +109,25 @@ record IsLeapt (at : ℕ) (before after : SteeredClock) : Type 0 where
   asleep : after.clock.base.asleep ≡ before.clock.base.asleep
 
 -- an accepted leap
+leap-by : (at : ℕ) (cmd : Command) (before after : SteeredClock) →
+    after.clock ≡ effect before.clock at cmd → (effect before.clock at cmd).base.last ≡ at →
+    IsMade at before.clock (effect before.clock at cmd) → IsLeapt at before after
+leap-by at cmd before after is last made = record {
+  units = ap (units_at at) is ∙ made.units;
+  same = inr (ap (λ (s : State). s.base.last) is ∙ last);
+  asleep = ap (λ (s : State). s.base.asleep) is ∙ made.asleep;
+}
+
 leap-made : (at : ℕ) (alone : Bool) (seconds tai : ℤ) (before after : SteeredClock) →
     after.clock ≡ effect before.clock at
     (if alone then Step (record { sec = seconds; nsec = 0 }) else LeapSecond seconds tai) →
     IsLeapt at before after
-leap-made at true seconds tai before after is = record {
-  units =
-      ap (units_at at) is
-      ∙ kept_units before.clock.base.counter at (units_at at before.clock) before.clock.base.mult;
-  same = inr (ap (λ (s : State). s.base.last) is);
-  asleep = ap (λ (s : State). s.base.asleep) is;
-}
-leap-made at false seconds tai before after is = record {
-  units =
-      ap (units_at at) is
-      ∙ kept_units before.clock.base.counter at (units_at at before.clock) before.clock.base.mult;
-  same = inr (ap (λ (s : State). s.base.last) is);
-  asleep = ap (λ (s : State). s.base.asleep) is;
-}
+leap-made at true seconds tai before after is =
+    let cmd : Command = Step (record { sec = seconds; nsec = 0 }) in
+    leap-by at cmd before after is refl (effect-made at cmd before.clock refl refl refl refl)
+leap-made at false seconds tai before after is =
+    let cmd : Command = LeapSecond seconds tai in
+    leap-by at cmd before after is refl (effect-made at cmd before.clock refl refl refl refl)
 
 pub at_reading : (at : ℕ) (stepped after : State) → stepped.base.last ≡ at → IsMade at stepped after →
     after.base.last ≡ at
@@ -149,11 +147,10 @@ leapt_unless-made None at leap steered =
 
 leapt-made : (at : ℕ) (leap : Leap) (steered : SteeredClock) →
     IsLeapt at steered (leapt at leap steered)
-leapt-made at NoLeap steered = record { units = refl; same = inl refl; asleep = refl }
-leapt-made at Insert steered =
-    leapt_unless-made (state_refusal steered.clock at (leap_of_clock Insert steered.clock)) at Insert steered
-leapt-made at Delete steered =
-    leapt_unless-made (state_refusal steered.clock at (leap_of_clock Delete steered.clock)) at Delete steered
+leapt-made at leap steered =
+    leapt-by (IsLeapt at steered) at leap steered
+    (record { units = refl; same = inl refl; asleep = refl })
+    (λ refusal. leapt_unless-made refusal at leap steered)
 
 leapt_unless-mark : (refusal : Option Refusal) (at : ℕ) (leap : Leap) (steered : SteeredClock) →
     (leapt_unless refusal at leap steered).mark ≡ steered.mark
@@ -162,11 +159,9 @@ leapt_unless-mark None at leap steered = refl
 
 leapt-mark : (at : ℕ) (leap : Leap) (steered : SteeredClock) →
     (leapt at leap steered).mark ≡ steered.mark
-leapt-mark at NoLeap steered = refl
-leapt-mark at Insert steered =
-    leapt_unless-mark (state_refusal steered.clock at (leap_of_clock Insert steered.clock)) at Insert steered
-leapt-mark at Delete steered =
-    leapt_unless-mark (state_refusal steered.clock at (leap_of_clock Delete steered.clock)) at Delete steered
+leapt-mark at leap steered =
+    leapt-by (λ (s : SteeredClock). s.mark ≡ steered.mark) at leap steered refl
+    (λ refusal. leapt_unless-mark refusal at leap steered)
 
 -- a second that begins keeps MONOTONIC; it needs no command, or its commands are at its reading
 pub record IsSecond (at : ℕ) (before after : SteeredClock) : Type 0 where

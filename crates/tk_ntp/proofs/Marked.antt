@@ -12,7 +12,7 @@ use Rattle.tk_clock.specs.State.{State, effect}
 use Rattle.tk_ntp.specs.declared.reply.Reply.{Reply}
 use Rattle.tk_ntp.specs.declared.timex.Timex.{Timex}
 use Rattle.tk_ntp.specs.Account.{IsMarked}
-use Rattle.tk_ntp.specs.Advance.{IsAdvanced, IsNoneDue, tai_of_clock}
+use Rattle.tk_ntp.specs.Advance.{IsAdvanced, IsNoneDue, second_begun_at, tai_of_clock}
 use Rattle.tk_ntp.specs.Applied.{IsPlain}
 use Rattle.tk_ntp.specs.Asked.{accounted_if, acts, after_command, changes_rate, forgotten, given_tai, IsAsked, IsCommanded, IsRequested, real_at, restarted, second_after, steered_if, step_refusal, stepped, tai_asked, with_asked}
 use Rattle.tk_ntp.specs.Bits.{has, adj_adjtime}
@@ -22,7 +22,7 @@ use Rattle.tk_ntp.specs.SteeredClock.{SteeredClock, rate_in_force, reading_refus
 use Rattle.tk_ntp.proofs.Accepted.{ahead_at, awake_at}
 use Rattle.tk_ntp.proofs.Account.{awake-after, IsNearer, marked-after, never, order}
 use Rattle.tk_ntp.proofs.Made.{IsMade, at_reading, change-made, joined, none_here, tai-made}
-use Rattle.tk_ntp.proofs.Often.{none_due}
+use Rattle.tk_ntp.proofs.Often.{none_left}
 use Rattle.tk_ntp.proofs.Passed.{still_ahead}
 
 -- the last account is at the last command
@@ -232,7 +232,7 @@ asked_after reading request s advanced after result accepted chain h marked =
     let awake = awake_at reading s accepted in
     let there = marked-after reading s advanced chain marked awake in
     let before =
-    none_before reading advanced (none_due reading s advanced chain)
+    none_before reading advanced (none_left second_begun_at reading s advanced chain)
     (still_ahead reading s advanced chain (ahead_at reading s accepted))
     (awake-after reading s advanced chain awake) in
     let steps = step-marked reading (step_of request) advanced there before in

@@ -9,13 +9,13 @@ use Rattle.tk_clock.specs.Refusal.{state_refusal}
 use Rattle.tk_clock.specs.State.{State, effect}
 use Rattle.tk_ntp.specs.declared.change.Change.{Change}
 use Rattle.tk_ntp.specs.declared.leap.Leap.{Leap}
-use Rattle.tk_ntp.specs.declared.leap.Leap.TheVariants.{None as NoLeap, Insert, Delete}
-use Rattle.tk_ntp.specs.Advance.{IsAdvanced, Arrived, Begins, IsNoneDue, leap_of_clock, leapt, leapt_unless, second_begun_at, with_next_second}
+use Rattle.tk_ntp.specs.Advance.{IsAdvanced, IsAdvancedBy, Arrived, Begins, IsNoneDue, leap_of_clock, leapt, leapt_unless, second_begun_at, with_next_second}
 use Rattle.tk_ntp.specs.Change.{tick_command, frequency_command}
 use Rattle.tk_ntp.specs.Second.{leap_at}
 use Rattle.tk_ntp.specs.Steering.{commands}
 use Rattle.tk_ntp.specs.SteeredClock.{SteeredClock, after_or, given, given_any, given_change, rate_in_force}
 use Rattle.tk_ntp.proofs.Gaps.{order_kept}
+use Rattle.tk_ntp.proofs.Seconds.{leapt-by}
 
 -- commands at a reading keep the counter, and leave its reading as it was or at that reading
 pub record IsNear (at : ℕ) (before after : State) : Type 0 where
@@ -79,11 +79,9 @@ leapt_unless-near None at leap steered =
 
 leapt-near : (at : ℕ) (leap : Leap) (steered : SteeredClock) →
     IsNear at steered.clock (leapt at leap steered).clock
-leapt-near at NoLeap steered = still at steered.clock
-leapt-near at Insert steered =
-    leapt_unless-near (state_refusal steered.clock at (leap_of_clock Insert steered.clock)) at Insert steered
-leapt-near at Delete steered =
-    leapt_unless-near (state_refusal steered.clock at (leap_of_clock Delete steered.clock)) at Delete steered
+leapt-near at leap steered =
+    leapt-by (λ (s : SteeredClock). IsNear at steered.clock s.clock) at leap steered
+    (still at steered.clock) (λ refusal. leapt_unless-near refusal at leap steered)
 
 pub second-near : (at : ℕ) (steered : SteeredClock) →
     IsNear at steered.clock (second_begun_at at steered).clock
@@ -123,8 +121,9 @@ at_once earlier reading before middle after (Begins steered end at due rest) lat
     (second-near at steered) due.until order))
 
 -- no second up to the reading is left
-pub none_due : (reading : ℕ) (before after : SteeredClock) → IsAdvanced reading before after →
+pub none_left : (begun : ℕ → SteeredClock → SteeredClock) (reading : ℕ)
+    (before after : SteeredClock) → IsAdvancedBy begun reading before after →
     IsNoneDue after reading
-none_due reading before after (Arrived steered none) = none
-none_due reading before after (Begins steered end at due rest) =
-    none_due reading (second_begun_at at steered) end rest
+none_left begun reading before after (Arrived steered none) = none
+none_left begun reading before after (Begins steered end at due rest) =
+    none_left begun reading (begun at steered) end rest

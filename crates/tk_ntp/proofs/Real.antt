@@ -7,7 +7,7 @@ use Rattle.tk_clock.specs.declared.timespec.Timespec.{Timespec}
 use Rattle.tk_clock.specs.Time.{nanoseconds, timespec_of}
 
 -- splitting nanoseconds returns the seconds and nanoseconds from which they were made
-timespec_of-parts : (sec nsec : ℕ) → nsec < 10 ^ 9 →
+pub timespec_of-parts : (sec nsec : ℕ) → nsec < 10 ^ 9 →
     timespec_of (sec * 10 ^ 9 + nsec) ≡ record { sec = pos sec; nsec = nsec }
 timespec_of-parts sec nsec low =
     let from_parts : ℕ → ℕ → Timespec = λ s n. record { sec = pos s; nsec = n } in

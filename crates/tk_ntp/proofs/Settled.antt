@@ -11,14 +11,15 @@ use Rattle.tk_clock.specs.Reach.{distance}
 use Rattle.tk_clock.specs.State.{State, effect}
 use Rattle.tk_ntp.specs.declared.reply.Reply.{Reply}
 use Rattle.tk_ntp.specs.declared.timex.Timex.{Timex}
-use Rattle.tk_ntp.specs.Account.{units_at, owed, asked_to, asked_of, dropped_to, dropped_of, sets_by, sets_by_step, IsBalanced, IsLeft, IsMarked, IsSettled}
+use Rattle.tk_ntp.specs.Account.{units_at, owed, asked_to, asked_of, dropped_to, dropped_of, sets_by, sets_by_step, IsBalanced, IsLeft, IsMarked, IsBalancedIn}
 use Rattle.tk_ntp.specs.Advance.{IsAdvanced}
-use Rattle.tk_ntp.specs.Applied.{request_of, IsPlain}
+use Rattle.tk_ntp.specs.Applied.{IsPlain}
 use Rattle.tk_ntp.specs.Asked.{accounted_if, acts, after_command, changes_rate, forgotten, given_tai, IsAsked, IsCommanded, IsRequested, real_at, restarted, second_after, steered_if, step_refusal, stepped, tai_asked, with_asked}
 use Rattle.tk_ntp.specs.Rate.{nominal}
-use Rattle.tk_ntp.specs.Request.{no_request, step_of}
+use Rattle.tk_ntp.specs.Request.{step_of}
 use Rattle.tk_ntp.specs.SteeredClock.{SteeredClock, reading_refusal}
 use Rattle.tk_ntp.proofs.Accepted.{after_mark, asleep_before, awake_at}
+use Rattle.tk_ntp.proofs.Acting.{ActsAs, OfFrequency, OfTick}
 use Rattle.tk_ntp.proofs.Account.{account-sum, chained, kept-of, never, owed_is, sum-of}
 use Rattle.tk_ntp.proofs.Gaps.{further}
 use Rattle.tk_ntp.proofs.Left.{asked-left, commanded-left}
@@ -78,7 +79,7 @@ settled : (sets : SteeredClock → Bool) (reading : ℕ) (before advanced after 
     reading_refusal reading before ≡ None → IsAdvanced reading before advanced → IsMarked before →
     IsMoved reading advanced after →
     IsLeft (sets advanced) after.mark after.steering.lag advanced →
-    IsSettled sets reading before after
+    IsBalancedIn sets reading before after
 settled sets reading before advanced after accepted chain marked moved left =
     let base = before.clock.base in
     let order =
@@ -199,7 +200,7 @@ asked-moved reading request s s' after (Some r) result h moved = not_moved readi
 pub asked_settled : (reading : ℕ) (request : Timex) (s advanced after : SteeredClock)
     (result : Result Reply Refusal) → reading_refusal reading s ≡ None →
     IsAdvanced reading s advanced → IsAsked reading request advanced result after → IsMarked s →
-    IsSettled (sets_by_step reading (step_of request)) reading s after
+    IsBalancedIn (sets_by_step reading (step_of request)) reading s after
 asked_settled reading request s advanced after result accepted chain h marked =
     settled (sets_by_step reading (step_of request)) reading s advanced after accepted chain marked
     (asked-moved reading request advanced (stepped reading (step_of request) advanced) after
@@ -231,29 +232,12 @@ plain_balanced reading cmd s after result awake h marked =
     followed-balanced reading cmd s after (reading_refusal reading s) result awake refl
     (subst (λ (resumes : Bool). IsPlain resumes reading cmd s result after) awake h) marked
 
-given_request : Option Timex → Timex
-given_request (Some request) = request
-given_request None = no_request
-
 -- after a command that acts as a request: it asks for no step, and sets no time
 pub request_balanced : (reading : ℕ) (cmd : Command) (request : Timex) (s after : SteeredClock) →
-    Some request ≡ request_of cmd →
-    IsBalanced (sets_by_step reading (step_of request)) reading s after →
+    ActsAs cmd request → IsBalanced (sets_by_step reading (step_of request)) reading s after →
     IsBalanced (sets_by reading cmd) reading s after
-unfolding given_request
-request_balanced reading (Freq frequency) request s after is h =
-    subst (λ (r : Timex). IsBalanced (sets_by_step reading (step_of r)) reading s after)
-    (ap given_request is) h
-request_balanced reading (Tick tick) request s after is h =
-    subst (λ (r : Timex). IsBalanced (sets_by_step reading (step_of r)) reading s after)
-    (ap given_request is) h
-request_balanced reading Update request s after is h = absurd (cc)
-request_balanced reading (SetTime time) request s after is h = absurd (cc)
-request_balanced reading (Step by) request s after is h = absurd (cc)
-request_balanced reading (Leap by tai) request s after is h = absurd (cc)
-request_balanced reading (Tai seconds) request s after is h = absurd (cc)
-request_balanced reading Suspend request s after is h = absurd (cc)
-request_balanced reading (Resume away) request s after is h = absurd (cc)
+request_balanced reading cmd request s after (OfFrequency frequency) h = h
+request_balanced reading cmd request s after (OfTick tick) h = h
 
 -- a resume at a reading, of clocks whose last account is at their last command
 resume-owed : (reading : ℕ) (away : Timespec) (s : SteeredClock) → s.mark ≡ s.clock.base.last →
@@ -294,18 +278,10 @@ woken_owed reading (Tai seconds) s after result is h marked = absurd (never (sym
 woken_owed reading Suspend s after result is h marked = absurd (never (sym is))
 
 -- of clocks that were just opened
-pub owed-opened : (s : SteeredClock) → s.mark ≡ s.clock.base.last → s.clock.base.amount ≡ 0 →
-    s.steering.lag ≡ pos 0 → owed s ≡ pos 0
-owed-opened s mark none lag =
+pub owed-opened : (s : SteeredClock) → s.mark ≡ s.clock.base.last → s.steering.lag ≡ pos 0 →
+    owed s ≡ pos s.clock.base.amount *ℤ pos nominal
+owed-opened s mark lag =
     let base = s.clock.base in
-    owed_is s base.last 0 (pos 0) mark
-    (kept_units base.counter base.last base.amount base.mult ∙ none) lag
-
--- of clocks that were just opened with an uptime
-pub owed-running : (s : SteeredClock) (units : ℕ) → s.mark ≡ s.clock.base.last →
-    s.clock.base.amount ≡ units → s.steering.lag ≡ pos 0 → owed s ≡ pos units *ℤ pos nominal
-owed-running s units mark counted lag =
-    let base = s.clock.base in
-    owed_is s base.last units (pos 0) mark
-    (kept_units base.counter base.last base.amount base.mult ∙ counted) lag
-    ∙ +ℤ_idr (pos units *ℤ pos nominal)
+    owed_is s base.last base.amount (pos 0) mark
+    (kept_units base.counter base.last base.amount base.mult) lag
+    ∙ +ℤ_idr (pos base.amount *ℤ pos nominal)

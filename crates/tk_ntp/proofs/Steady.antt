@@ -10,7 +10,7 @@ use Rattle.tk_ntp.specs.Lag.{greatest_lag, made_up, short_of}
 use Rattle.tk_ntp.specs.Ntp.{second_length}
 use Rattle.tk_ntp.specs.Rate.{nominal, IsInRange, IsGiven}
 use Rattle.tk_ntp.specs.Request.{frequency_unit}
-use Rattle.tk_ntp.specs.Steady.{AreCalm, AreSmall, HasRate, IsSecondLong, IsSince, IsSmall, StaysSmall, WasSmall}
+use Rattle.tk_ntp.specs.Steady.{AreSmall, HasRate, IsSecondLong, IsSince, IsSmall, StaysSmall}
 use Rattle.tk_ntp.specs.SteeredClock.{SteeredClock}
 use Rattle.tk_ntp.proofs.Account.{kept_whole}
 use Rattle.tk_ntp.proofs.Contracted.{contracted}
@@ -20,8 +20,8 @@ use Rattle.tk_ntp.proofs.Often.{second-near}
 use Rattle.tk_ntp.proofs.Scaled.{scaled_added, scaled_sum}
 use borrow.Author.Differences.{abs_is}
 
--- what a cycle adds to the lag at a multiplier that gives a second its length and d: z less the part
--- that makes up for d
+-- what a cycle adds to the lag at a multiplier that gives a second its length and d: z minus the
+-- part that makes up for d
 record IsAdded (k w : ℕ) (short d z : ℤ) : Type 0 where
   since : pos 0 ≤ℤ z
   most : z ≤ℤ pos w
@@ -147,29 +147,18 @@ next-since at s chosen cycles since long rate =
 
 small-of : (reading : ℕ) (before after : SteeredClock) (h : IsAdvanced reading before after)
     (chosen : ℤ) (cycles : ℕ) → IsSince chosen cycles before →
-    AreCalm reading cycles before after h → AreSmall reading before after h
-small-of reading before after (Arrived steered none) chosen cycles since calm = tt
-small-of reading before after (Begins steered end at due rest) chosen cycles since calm =
+    AreSmall reading chosen cycles before after h
+small-of reading before after (Arrived steered none) chosen cycles since = since
+small-of reading before after (Begins steered end at due rest) chosen cycles since = λ long.
     let next = second_begun_at at steered in (
-      second-small at steered chosen cycles since calm.0,
-      small-of reading next end rest next.steering.lag 0
-          (next-since at steered chosen cycles since calm.0 calm.1) calm.2,
+      second-small at steered chosen cycles since long,
+      λ rate. small-of reading next end rest next.steering.lag 0
+          (next-since at steered chosen cycles since long rate),
     )
-
-was-of : (reading : ℕ) (before after : SteeredClock) (h : IsAdvanced reading before after)
-    (chosen : ℤ) (cycles : ℕ) → IsSince chosen cycles before →
-    AreCalm reading cycles before after h → WasSmall after
-was-of reading before after (Arrived steered none) chosen cycles since calm =
-    (chosen, cycles, since)
-was-of reading before after (Begins steered end at due rest) chosen cycles since calm =
-    let next = second_begun_at at steered in
-    was-of reading next end rest next.steering.lag 0
-    (next-since at steered chosen cycles since calm.0 calm.1) calm.2
 
 pub stays_small : (reading : ℕ) (before after : SteeredClock) →
     IsAdvanced reading before after → StaysSmall reading before after
 stays_small reading before after h = record {
   begun = h;
   small = small-of reading before after h;
-  was = was-of reading before after h;
 }

@@ -110,7 +110,7 @@ IsLeft false at lag steered = IsWithin at steered → dropped_to at lag steered 
 -- what was asked for is what was given, up to the lag and to what was dropped, in a call at a
 -- reading: as seconds begin, and then up to the account of the call itself, which drops what a
 -- setting of REALTIME clears. `sets` says whether the call sets REALTIME after these seconds
-pub record IsSettled (sets : SteeredClock → Bool) (reading : ℕ)
+pub record IsBalancedIn (sets : SteeredClock → Bool) (reading : ℕ)
     (before after : SteeredClock) : Type 0 where
   pub advanced : SteeredClock
   pub begun : IsAdvanced reading before advanced
@@ -125,7 +125,7 @@ pub record IsSettled (sets : SteeredClock → Bool) (reading : ℕ)
 
 -- a call changes nothing, or its accounts add up
 abbrev pub IsBalanced : (SteeredClock → Bool) → ℕ → SteeredClock → SteeredClock → Type 0
-IsBalanced sets reading before after = (after ≡ before) ⊎ IsSettled sets reading before after
+IsBalanced sets reading before after = (after ≡ before) ⊎ IsBalancedIn sets reading before after
 
 -- whether a command sets REALTIME: it is a setting, a step or a leap that the clocks accept
 abbrev pub sets_by : ℕ → Command → SteeredClock → Bool

@@ -1,6 +1,6 @@
 -- The seconds of REALTIME begin, each at its own reading (timekeeping_advance,
 -- accumulate_nsecs_to_secs, kernel/time/timekeeping.c).
-use Rattle.std.specs.Prelude.{ℕ, ◌+◌, ◌-◌, ◌*◌, ◌≤◌, pos, unsigned_abs, Option, Some, None, if◌then◌else◌}
+use Rattle.std.specs.Prelude.{ℕ, ◌+◌, ◌-◌, ◌*◌, ◌≤◌, nat_eq, pos, unsigned_abs, Option, Some, None, if◌then◌else◌}
 use Rattle.tk_counter.specs.Counter.{gap}
 use Rattle.tk_clock.specs.declared.command.Command.{Command}
 use Rattle.tk_clock.specs.declared.refusal.Refusal.{Refusal}
@@ -13,8 +13,8 @@ use Rattle.tk_clock.specs.State.{State, effect}
 use Rattle.tk_clock.specs.Time.{nanoseconds}
 use Rattle.tk_ntp.specs.declared.leap.Leap.{Leap}
 use Rattle.tk_ntp.specs.declared.leap_plan.LeapState.{LeapState}
-use Rattle.tk_ntp.specs.declared.leap_plan.LeapState.TheVariants.{Idle, Inserting, Deleting, InProgress, Over}
-use Rattle.tk_ntp.specs.Leap.{is_leap, leap_command, second_after_leap}
+use Rattle.tk_ntp.specs.declared.leap_plan.LeapState.TheVariants.{InProgress}
+use Rattle.tk_ntp.specs.Leap.{is_leap, leap_command, number_of, second_after_leap}
 use Rattle.tk_ntp.specs.Second.{leap_at}
 use Rattle.tk_ntp.specs.Steering.{second_begun}
 use Rattle.tk_ntp.specs.SteeredClock.{SteeredClock, steered_at}
@@ -79,21 +79,23 @@ IsNoneDue steered reading = (at : ℕ) → IsAhead steered.clock.base at →
     distance steered.clock.base at ≤ distance steered.clock.base reading →
     ¬ HasReached steered.clock.base Realtime (nanoseconds (second_time steered.next)) at
 
--- a state after each second of REALTIME up to a reading has begun, one after the other, each at the
--- first reading at which REALTIME reaches it
-pub data IsAdvanced (reading : ℕ) : SteeredClock → SteeredClock → Type 0 where
+-- a state after each second of REALTIME up to a reading has begun, one after the other, each due at
+-- the first reading at which REALTIME reaches it: `begun` gives the state after one
+pub data IsAdvancedBy (begun : ℕ → SteeredClock → SteeredClock) (reading : ℕ) :
+    SteeredClock → SteeredClock → Type 0 where
   Arrived : (steered : SteeredClock) → IsNoneDue steered reading →
-      IsAdvanced reading steered steered
+      IsAdvancedBy begun reading steered steered
   Begins : (steered after : SteeredClock) (at : ℕ) → IsDue steered reading at →
-      IsAdvanced reading (second_begun_at at steered) after → IsAdvanced reading steered after
+      IsAdvancedBy begun reading (begun at steered) after →
+      IsAdvancedBy begun reading steered after
+
+-- the same if each second begins at its own reading
+abbrev pub IsAdvanced : ℕ → SteeredClock → SteeredClock → Type 0
+IsAdvanced reading before after = IsAdvancedBy second_begun_at reading before after
 
 -- 0 while an inserted second is in progress, otherwise 1
 abbrev pub steps_before : LeapState → ℕ
-steps_before Idle = 1
-steps_before Inserting = 1
-steps_before Deleting = 1
-steps_before InProgress = 0
-steps_before Over = 1
+steps_before state = if nat_eq (number_of state) (number_of InProgress) then 0 else 1
 
 -- more than the number of seconds that can still begin: an inserted second is the same second again
 abbrev pub seconds_left : SteeredClock → ℕ

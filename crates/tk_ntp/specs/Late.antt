@@ -3,7 +3,7 @@
 use Rattle.std.specs.Prelude.{◌≡◌, ℕ, nat_lt, Option, MatchOption, if◌then◌else◌}
 use Rattle.tk_counter.specs.Counter.{half, gap}
 use Rattle.tk_ntp.specs.declared.leap.Leap.{Leap}
-use Rattle.tk_ntp.specs.Advance.{leapt, with_next_second, IsDue, IsNoneDue}
+use Rattle.tk_ntp.specs.Advance.{leapt, with_next_second, IsAdvancedBy, IsDue, IsNoneDue}
 use Rattle.tk_ntp.specs.Second.{leap_at}
 use Rattle.tk_ntp.specs.Staged.{leap_made}
 use Rattle.tk_ntp.specs.SteeredClock.{SteeredClock, accounted_to, steered_at}
@@ -37,9 +37,6 @@ IsOneBegunLate reading before result after =
     × (after ≡ second_begun_late at reading before))
 
 -- a state after each second of REALTIME up to a reading has begun late, one after the other
-pub data IsAdvancedLate (reading : ℕ) : SteeredClock → SteeredClock → Type 0 where
-  Arrived : (steered : SteeredClock) → IsNoneDue steered reading →
-      IsAdvancedLate reading steered steered
-  Begins : (steered after : SteeredClock) (at : ℕ) → IsDue steered reading at →
-      IsAdvancedLate reading (second_begun_late at reading steered) after →
-      IsAdvancedLate reading steered after
+abbrev pub IsAdvancedLate : ℕ → SteeredClock → SteeredClock → Type 0
+IsAdvancedLate reading before after =
+    IsAdvancedBy (λ at. second_begun_late at reading) reading before after

@@ -26,4 +26,6 @@ pub mod Asked
 pub mod Applied
 pub mod Staged
 pub mod Late
+pub mod Followed
 pub mod Numbers
+pub mod Restored

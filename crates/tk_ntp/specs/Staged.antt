@@ -1,7 +1,11 @@
 -- Single seconds and their commands, for owners of a journal.
-use Rattle.std.specs.Prelude.{◌≡◌, ℕ, ◌+◌, nat_eq, Bool, true, false, Option, Some, None, MatchOption, if◌then◌else◌}
+use Rattle.std.specs.Prelude.{◌≡◌, ℕ, ◌+◌, ◌*◌, ◌^◌, ◌<◌, ◌≤◌, nat_eq, Bool, true, false, Option, Some, None, Ok, MatchOption, if◌then◌else◌}
+use Rattle.tk_counter.specs.Counter.{half}
+use Rattle.tk_clock.specs.declared.clock_id.ClockId.TheVariants.{Realtime}
 use Rattle.tk_clock.specs.declared.refusal.Refusal.{Refusal}
 use Rattle.tk_clock.specs.declared.command.Command.TheVariants.{Update}
+use Rattle.tk_clock.specs.Reach.{distance}
+use Rattle.tk_clock.specs.Read.{read_of}
 use Rattle.tk_clock.specs.Refusal.{order_refusal, state_refusal}
 use Rattle.tk_ntp.specs.declared.begun_second.BegunSecond.{BegunSecond}
 use Rattle.tk_ntp.specs.declared.leap.Leap.{Leap}
@@ -34,10 +38,24 @@ abbrev pub IsDueIf : Bool → SteeredClock → ℕ → Type 0
 IsDueIf true steered reading = (at : ℕ) × IsDue steered reading at
 IsDueIf false steered reading = IsNoneDue steered reading
 
+-- the clocks are awake, and a read of REALTIME at a reading, which is not behind the last command,
+-- returns a time before the next second
+pub record IsEarly (steered : SteeredClock) (reading : ℕ) : Type 0 where
+  pub awake : steered.clock.base.asleep ≡ false
+  pub ahead : distance steered.clock.base reading ≤ half steered.clock.base.counter
+  pub read :
+      (nanos : ℕ) × (read_of steered.clock.base Realtime reading ≡ Ok nanos)
+      × (nanos < steered.next * 10 ^ 9)
+
+-- a reading is not behind the last account
+abbrev pub IsInOrder : SteeredClock → ℕ → Type 0
+IsInOrder steered reading =
+    order_refusal steered.clock.base.counter steered.mark reading Update ≡ None
+
 -- no second is due up to a reading, which is not behind the last account
 pub record IsSettled (steered : SteeredClock) (reading : ℕ) : Type 0 where
   pub none : IsNoneDue steered reading
-  pub order : order_refusal steered.clock.base.counter steered.mark reading Update ≡ None
+  pub order : IsInOrder steered reading
 
 -- just the next second began, if REALTIME reaches it up to a reading
 abbrev pub IsOneBegun : ℕ → SteeredClock → Option BegunSecond → SteeredClock → Type 0

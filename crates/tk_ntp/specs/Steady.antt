@@ -1,5 +1,5 @@
 -- The lag stays small as seconds begin, while the clocks get the rates that these seconds need.
-use Rattle.std.specs.Prelude.{◌≡◌, ℕ, ◌+◌, ◌*◌, ◌/◌, ◌≤◌, ◌⊎◌, ⊤, Bool, true, false, not, ◌&&◌, is_none, ℤ, pos, neg_ℤ, ◌+ℤ◌, ◌*ℤ◌, ◌≤ℤ◌}
+use Rattle.std.specs.Prelude.{◌≡◌, ℕ, ◌+◌, ◌*◌, ◌/◌, ◌≤◌, ◌⊎◌, Bool, true, false, not, ◌&&◌, is_none, ℤ, pos, neg_ℤ, ◌+ℤ◌, ◌*ℤ◌, ◌≤ℤ◌}
 use Rattle.tk_clock.specs.declared.command.Command.{Command}
 use Rattle.tk_clock.specs.declared.command.Command.TheVariants.{Update, SetTime, Step, Freq, Tick, Tai, Leap, Suspend, Resume}
 use Rattle.tk_counter.specs.Counter.{Counter, IsCounter, second}
@@ -52,36 +52,24 @@ pub record IsSince (chosen : ℤ) (cycles : ℕ) (steered : SteeredClock) : Type
 abbrev pub IsSecondLong : Counter → ℕ → Type 0
 IsSecondLong counter cycles = 8 * (counter.mult * cycles) ≤ 9 * second counter
 
--- as these seconds begin, none was longer than 9/8 nominal ones since its rate was chosen, the first
--- one `cycles` cycles before the last account; and the clocks get the rate that each of them needs
-abbrev pub AreCalm : (reading cycles : ℕ) (before after : SteeredClock) →
+-- of these seconds, the rate of the present one was chosen for the lag `chosen`, `cycles` cycles
+-- before the last account. If it was at most 9/8 of a nominal second since then, the lag is small
+-- as the next one begins; and if the clocks get the rate that this one needs, the same holds of the
+-- later ones. If none is left, the clocks got their rate as `IsSince` states
+abbrev pub AreSmall : (reading : ℕ) (chosen : ℤ) (cycles : ℕ) (before after : SteeredClock) →
     IsAdvanced reading before after → Type 0
-AreCalm reading cycles before after (Arrived steered none) = ⊤
-AreCalm reading cycles before after (Begins steered end at due rest) =
+AreSmall reading chosen cycles before after (Arrived steered none) = IsSince chosen cycles steered
+AreSmall reading chosen cycles before after (Begins steered end at due rest) =
     let next = second_begun_at at steered in
-    IsSecondLong steered.clock.base.counter (cycles + cycles_to at steered)
-    × HasRate next.steering.lag next
-    × AreCalm reading 0 next end rest
-
--- the lag is small as each of these seconds begins
-abbrev pub AreSmall : (reading : ℕ) (before after : SteeredClock) →
-    IsAdvanced reading before after → Type 0
-AreSmall reading before after (Arrived steered none) = ⊤
-AreSmall reading before after (Begins steered end at due rest) =
-    let next = second_begun_at at steered in
-    IsSmall steered.clock.base.counter next.steering.lag × AreSmall reading next end rest
-
--- the lag was small when the clocks got the rate that they have
-abbrev pub WasSmall : SteeredClock → Type 0
-WasSmall steered = (chosen : ℤ) × (cycles : ℕ) × IsSince chosen cycles steered
+    IsSecondLong steered.clock.base.counter (cycles + cycles_to at steered) →
+    IsSmall steered.clock.base.counter next.steering.lag
+    × (HasRate next.steering.lag next → AreSmall reading next.steering.lag 0 next end rest)
 
 -- the lag stays small as seconds begin, if it was small when the clocks got their rate
 pub record StaysSmall (reading : ℕ) (before after : SteeredClock) : Type 0 where
   pub begun : IsAdvanced reading before after
   pub small : (chosen : ℤ) (cycles : ℕ) → IsSince chosen cycles before →
-      AreCalm reading cycles before after begun → AreSmall reading before after begun
-  pub was : (chosen : ℤ) (cycles : ℕ) → IsSince chosen cycles before →
-      AreCalm reading cycles before after begun → WasSmall after
+      AreSmall reading chosen cycles before after begun
 
 -- a call of clocks that got their rate while the lag was small: the lag is small at its account
 abbrev pub IsSmallAfter : SteeredClock → SteeredClock → Type 0
@@ -107,7 +95,8 @@ pub record IsSmallIn (keeps : Bool) (reading : ℕ) (before after : SteeredClock
 abbrev pub IsSmallOrSame : Bool → ℕ → SteeredClock → SteeredClock → Type 0
 IsSmallOrSame keeps reading before after = (after ≡ before) ⊎ IsSmallIn keeps reading before after
 
--- whether a request leaves the rate as it is: it has no step, offset, frequency and tick
+-- whether a request leaves the rate as it is: it has no step, no offset, no frequency and no
+-- tick
 abbrev pub keeps_rate : Timex → Bool
 keeps_rate request = is_none (step_of request) && not (changes_rate request.modes)
 

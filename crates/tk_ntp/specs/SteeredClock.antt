@@ -13,7 +13,7 @@ use Rattle.tk_clock.specs.State.{State, state_of, effect}
 use Rattle.tk_ntp.specs.declared.rate.Rate.{Rate}
 use Rattle.tk_ntp.specs.declared.change.Change.{Change}
 use Rattle.tk_ntp.specs.Change.{tick_command, frequency_command}
-use Rattle.tk_ntp.specs.Ntp.{fresh}
+use Rattle.tk_ntp.specs.Ntp.{Ntp, fresh}
 use Rattle.tk_ntp.specs.Steering.{Steered, accounted, commands}
 
 pub record SteeredClock : Type 0 where
@@ -26,20 +26,28 @@ pub record SteeredClock : Type 0 where
   -- the reading up to which the lag is accounted for
   pub mark : ℕ
 
+-- why no discipline can be made: `hz` is not 1 to 1024
+abbrev pub hz_refusal : ℕ → Option Refusal
+hz_refusal hz = if nat_lt 0 hz && nat_le hz 1024 then None else Some Invalid
+
 -- why steered clocks can't be opened: the clocks can't, or `hz` is not 1 to 1024
 abbrev pub steered_refusal : Counter → ℕ → Timespec → ℕ → Option Refusal
 steered_refusal counter reading real hz =
-    first_of (opening_refusal counter reading real)
-    (if nat_lt 0 hz && nat_le hz 1024 then None else Some Invalid)
+    first_of (opening_refusal counter reading real) (hz_refusal hz)
 
--- newly opened clocks with a fresh discipline
-abbrev pub steered_opened : Counter → ℕ → Timespec → ℕ → SteeredClock
-steered_opened counter reading real hz = record {
-  clock = state_of (opened counter reading real);
-  steering = record { ntp = fresh hz; lag = pos 0 };
+-- clocks that were opened at a reading with a time of REALTIME, steered by a discipline
+abbrev pub steered_by : Ntp → ℕ → Timespec → State → SteeredClock
+steered_by ntp reading real clock = record {
+  clock = clock;
+  steering = record { ntp = ntp; lag = pos 0 };
   next = unsigned_abs real.sec + 1;
   mark = reading;
 }
+
+-- newly opened clocks with a fresh discipline
+abbrev pub steered_opened : Counter → ℕ → Timespec → ℕ → SteeredClock
+steered_opened counter reading real hz =
+    steered_by (fresh hz) reading real (state_of (opened counter reading real))
 
 -- why a call at a reading is refused: the clocks refuse an update there, or the reading is behind
 -- the one up to which the lag is accounted for
@@ -57,6 +65,10 @@ accounted_to reading steered =
           accounted base.counter base.mult (gap base.counter steered.mark reading) steered.steering;
       mark = reading;
     }
+
+-- the clocks are taken over from an owner who has updated them
+abbrev pub caught_up : State → SteeredClock → SteeredClock
+caught_up clock steered = record (accounted_to clock.base.last steered) { clock = clock }
 
 -- the state after a command, or the one before it if the command is refused
 abbrev pub after_or : Option Refusal → State → State → State

@@ -17,7 +17,7 @@ use std::marker::Model;
 const USUAL_TICK: u32 = 10_000;
 
 /// The greatest number of parts that a second is divided into for its phase.
-const HZ_LIMIT: u32 = 1024;
+pub(crate) const HZ_LIMIT: u32 = 1024;
 
 /// Keeps the state of a discipline, as the variables of kernel/time/ntp.c.
 ///

@@ -1,9 +1,10 @@
 //! Keeps what a clock lags behind the lengths of its seconds.
-ghost use Rattle.std.specs.Prelude.{◌≡◌, ◌+◌, ◌*◌, ◌/◌, ◌≤◌, ◌<◌, ◌^◌, min, pos, negsuc, neg_ℤ, ◌+ℤ◌, ◌*ℤ◌, ◌≤ℤ◌, unsigned_abs};
+ghost use Rattle.std.specs.Prelude.{◌≡◌, ◌+◌, ◌*◌, ◌/◌, ◌≤◌, ◌<◌, ◌^◌, min, pos, negsuc, neg_ℤ, ◌+ℤ◌, ◌*ℤ◌, ◌≤ℤ◌, unsigned_abs, true};
 ghost use Rattle.std.specs.Int.{int_max};
 ghost use Rattle.tk_ntp.specs.Loops.{clamped_by};
-ghost use Rattle.tk_ntp.specs.Lag.{short_of, greatest_lag, lag_after, most_made_up, made_up};
+ghost use Rattle.tk_ntp.specs.Lag.{lag_in, short_of, greatest_lag, lag_after, most_made_up, made_up};
 ghost use Rattle.tk_ntp.specs.Numbers.{lag_numbers};
+ghost use Rattle.tk_ntp.specs.Restored.{is_lag, lag_of};
 
 use crate::length::MAX_FREQUENCY;
 use crate::numbers::LagNumbers;
@@ -57,7 +58,7 @@ const NOMINAL: i64 = 1_000_000_000 << 32;
 const BIAS: i128 = 1 << 124;
 
 /// Counts the values of 64 bits.
-const WORD: u128 = 1 << 64;
+pub(crate) const WORD: u128 = 1 << 64;
 
 /// Counts the values of 32 bits.
 const HALF_WORD: u128 = 1 << 32;
@@ -98,7 +99,9 @@ impl Lag {
 
     /// Returns the numbers that the lag is kept in.
     pub fn numbers(&self) -> LagNumbers
-        ensures { result ≡ lag_numbers self.now }
+        ensures value { result ≡ lag_numbers self.now }
+        ensures range { is_lag (lag_numbers self.now) ≡ true }
+        ensures back { lag_of (lag_numbers self.now) ≡ self.now }
     {
         LagNumbers {
             high: self.high,
@@ -106,8 +109,18 @@ impl Lag {
         }
     }
 
+    /// Returns the lag in two words.
+    pub(crate) fn of_words(high: u64, low: u64) -> Lag
+        requires { is_lag (record { high = high; low = low }) ≡ true }
+        ensures value { result ≡ lag_in high low }
+        ensures again { lag_numbers result ≡ record { high = high; low = low } }
+    {
+        Lag { high, low }
+    }
+
     /// Accounts for some cycles of a counter at the multiplier `mult`, while a second was asked to
     /// have a `length`, in `2^-32` ns. The lag stays within half a second.
+    #[inline(always)]
     pub fn account(&mut self, desc: CounterDesc, length: i64, mult: u32, cycles: u64)
         ensures { self.new ≡ lag_after desc length mult cycles self.old }
     {
@@ -204,6 +217,7 @@ fn greatest_lag(desc: CounterDesc) -> i128
 }
 
 /// Returns the lag after some cycles, each of which adds `short` to it.
+#[inline(always)]
 fn lag_after(lag: i128, most: i128, cycles: u64, short: i128) -> i128
     requires lag { unsigned_abs lag ≤ 2 ^ 123 }
     requires since { pos 0 ≤ℤ most }
@@ -217,6 +231,7 @@ fn lag_after(lag: i128, most: i128, cycles: u64, short: i128) -> i128
 }
 
 /// Returns what some cycles add to the lag, at most 2^126 in either direction.
+#[inline(always)]
 fn limited_growth(cycles: u64, short: i128) -> i128
     requires { unsigned_abs short ≤ 2 ^ 96 }
     ensures value { result ≡ clamped_by (2 ^ 126) (pos cycles *ℤ short) }

@@ -1,7 +1,8 @@
 //! Keeps the leap second: a state that moves on as each second begins.
-ghost use Rattle.std.specs.Prelude.{◌≡◌, ◌<◌, ◌^◌, Some, None};
+ghost use Rattle.std.specs.Prelude.{◌≡◌, ◌<◌, ◌^◌, Some, None, true};
 ghost use Rattle.tk_ntp.specs.Leap.{plan_in, leap_in, announced, no_plan, over, is_due, number_of, state_numbered};
 ghost use Rattle.tk_ntp.specs.Numbers.{leap_numbers};
+ghost use Rattle.tk_ntp.specs.Restored.{is_plan, plan_of};
 
 use crate::leap::Leap;
 use crate::numbers::LeapNumbers;
@@ -146,6 +147,19 @@ impl LeapPlan {
             state: self.state,
             is_due: u8::from(self.is_due),
             due: self.due,
+        }
+    }
+
+    /// Returns the plan that is kept in these numbers.
+    pub(crate) fn of_numbers(numbers: LeapNumbers) -> LeapPlan
+        requires { is_plan numbers ≡ true }
+        ensures value { result ≡ plan_of numbers }
+        ensures again { leap_numbers result ≡ numbers }
+    {
+        LeapPlan {
+            state: numbers.state,
+            is_due: numbers.is_due == 1,
+            due: numbers.due,
         }
     }
 

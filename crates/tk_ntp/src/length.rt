@@ -9,6 +9,9 @@ pub(crate) const ONE: i64 = 1 << 32;
 /// (`MAXFREQ_SCALED`).
 pub(crate) const MAX_FREQUENCY: i64 = 500_000 << 32;
 
+/// The longest phase: half a second (`MAXPHASE`).
+pub(crate) const MAX_PHASE: u64 = 500_000_000 << 32;
+
 /// Divides, and rounds toward zero (`div_s64`).
 pub(crate) fn toward_zero(number: i64, divisor: u64) -> i64
     requires some { 0 < divisor }

@@ -11,6 +11,7 @@
 //! | `Steering`, `Lag` | a discipline with what its clock lags behind; the commands of a second |
 //! | `Rate`, `Change` | the frequency and the tick for a length, and the commands that set them |
 //! | `SteeredNumbers` .. | a discipline in plain numbers, as C code holds it |
+//! | `NumbersError` | which part of such numbers is out of its range |
 //! | `ADJ_OFFSET` .., `STA_PLL` .. | the bits of a request's `modes`, and of a status |
 #![tactic(auto)]
 
@@ -24,6 +25,7 @@ mod leap_plan;
 mod length;
 mod loops;
 mod numbers;
+mod numbers_error;
 mod phase;
 mod rate;
 mod reply;
@@ -43,6 +45,7 @@ pub use discipline::Discipline;
 pub use lag::Lag;
 pub use leap::Leap;
 pub use numbers::{DisciplineNumbers, LagNumbers, LeapNumbers, SteeredNumbers, SteeringNumbers};
+pub use numbers_error::NumbersError;
 pub use rate::Rate;
 pub use reply::{Reply, TimeState};
 pub use steered_clock::{SteeredClock, request_of};

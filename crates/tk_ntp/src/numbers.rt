@@ -2,6 +2,21 @@
 //!
 //! Each struct has the fields of its value in the value's order, so the numbers written to memory
 //! are that value.
+ghost use Rattle.std.specs.Prelude.{◌≡◌, ◌<◌};
+ghost use Rattle.tk_ntp.specs.Restored.{are_in_range, are_low, are_short, is_plan, is_lag};
+
+use crate::discipline::HZ_LIMIT;
+use crate::lag::WORD;
+use crate::length::{MAX_FREQUENCY, MAX_PHASE};
+use crate::request::{CONSTANT_LIMIT, ERROR_LIMIT};
+
+/// The least and the greatest number that two words contain for a lag.
+const LEAST_LAG: u128 = 1 << 123;
+
+const GREATEST_LAG: u128 = 3 << 123;
+
+/// The most that a frequency makes a second gain or lose, in `2^-32` ns.
+const MOST_GAINED: u64 = MAX_FREQUENCY as u64;
 
 /// Describes a lag: the number `high * 2^64 + low` minus `2^124`.
 #[repr(C)]
@@ -75,4 +90,67 @@ pub struct SteeredNumbers {
     pub next: u64,
     /// The reading up to which the lag is accounted for.
     pub mark: u64,
+}
+
+impl LagNumbers {
+    /// Returns whether they are the words of a lag.
+    #[tactic(auto, unfolding(crate::specs::Restored::is_lag))]
+    pub(crate) fn is_lag(self) -> bool
+        ensures { result ≡ is_lag self }
+    {
+        let words = u128::from(self.high) * WORD + u128::from(self.low);
+        LEAST_LAG <= words && words <= GREATEST_LAG
+    }
+}
+
+impl LeapNumbers {
+    /// Returns whether they are the numbers of a plan.
+    #[tactic(auto, unfolding(crate::specs::Restored::is_plan))]
+    pub(crate) fn is_plan(self) -> bool
+        ensures { result ≡ is_plan self }
+    {
+        self.state <= 4 && self.is_due <= 1 && (self.is_due == 1 || self.due == 0)
+    }
+}
+
+impl DisciplineNumbers {
+    /// Returns whether the numbers other than those of the leap second are in their ranges.
+    #[tactic(auto, unfolding(crate::specs::Restored::are_in_range))]
+    pub(crate) fn are_in_range(self) -> bool
+        ensures { result ≡ are_in_range self }
+    {
+        0 < self.hz
+            && self.hz <= HZ_LIMIT
+            && self.are_low()
+            && are_short(self.hz, self.offset, self.frequency, self.phase)
+    }
+
+    /// Returns whether the numbers without a sign, other than `hz`, are in their ranges.
+    #[tactic(auto, unfolding(crate::specs::Restored::are_low))]
+    fn are_low(self) -> bool
+        ensures { result ≡ are_low self }
+    {
+        self.constant <= CONSTANT_LIMIT
+            && self.maxerror <= ERROR_LIMIT
+            && self.esterror <= ERROR_LIMIT
+            && 9_000 <= self.tick
+            && self.tick <= 11_000
+            && self.reftime < 1 << 63
+    }
+}
+
+/// Returns whether an offset, a frequency and a phase of `hz` parts of a second are in their ranges.
+#[tactic(auto, unfolding(crate::specs::Restored::are_short))]
+fn are_short(hz: u32, offset: i64, frequency: i64, phase: i64) -> bool
+    requires { 0 < hz }
+    ensures { result ≡ are_short hz offset frequency phase }
+{
+    let longest = MAX_PHASE / u64::from(hz);
+    let gained = MOST_GAINED / u64::from(hz);
+    let (offset, frequency, phase) = (
+        offset.unsigned_abs(),
+        frequency.unsigned_abs(),
+        phase.unsigned_abs(),
+    );
+    offset <= longest && frequency <= MOST_GAINED && phase <= longest + gained
 }

@@ -13,7 +13,9 @@ pub(crate) const FREQUENCY_UNIT: i64 = 65_536_000;
 pub(crate) const ERROR_LIMIT: u32 = 16_000_000;
 
 /// The greatest time constant (`MAXTC`).
-const GREATEST_CONSTANT: i64 = 10;
+pub(crate) const CONSTANT_LIMIT: u32 = 10;
+
+const GREATEST_CONSTANT: i64 = CONSTANT_LIMIT as i64;
 
 /// The greatest TAI offset, in seconds (`MAX_TAI_OFFSET`).
 pub(crate) const TAI_OFFSET_LIMIT: u32 = 100_000;

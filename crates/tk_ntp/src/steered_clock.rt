@@ -1,8 +1,9 @@
-ghost use Rattle.std.specs.Prelude.{◌≡◌, ◌≤ℤ◌, IfOk, MatchResult, MatchOption, Some, None, IsTrue, ◌↔◌, pos};
+ghost use Rattle.std.specs.Prelude.{◌≡◌, ◌≤◌, ◌*ℤ◌, ◌≤ℤ◌, IfOk, MatchResult, MatchOption, Some, None, IsTrue, ◌↔◌, pos, unsigned_abs};
 
 mod advancing;
 mod asking;
 mod commanding;
+mod following;
 mod late;
 mod numbers;
 mod staging;
@@ -48,10 +49,11 @@ impl Model for SteeredClock {
       mark = a.mark;
     } };
 
-    // `IsMarked` isn't part of it, although each public call but `begin_due`, `command` and `request`
-    // keeps it. Those three and the private calls take any reading, and `begin_next`, `account` and
-    // `restart` move the mark before the clocks get their command. The invariant would hold after each
-    // of these only if all of them required a reading that is in order and that no second is due
+    // `IsMarked` isn't part of it, although each public call except `begin_due`, `begin_late`,
+    // `command`, `request` and `catch_up` keeps it (of `advance_late` no clause states it).
+    // Those five and the private calls take any reading, and `begin_next`, `account` and `restart`
+    // move the mark before the clocks get their command. The invariant would hold after each of
+    // these only if all of them required a reading that is in order and that no second is due
     // before, so tk_steered would owe that too.
     ghost invariant = { λ a. a.next ≤ clock_end + 1 };
 
@@ -66,13 +68,15 @@ impl Model for SteeredClock {
 impl SteeredClock {
     ghost use Rattle.tk_clock.specs.declared.clock_id.ClockId.TheVariants.{Realtime};
     ghost use Rattle.tk_clock.specs.Further.{IsFurther};
+    ghost use Rattle.tk_clock.specs.Limits.{clock_end};
     ghost use Rattle.tk_clock.specs.Reach.{IsFirstReached, IsNeverReached};
     ghost use Rattle.tk_clock.specs.Time.{nanoseconds};
     ghost use Rattle.tk_counter.specs.Counter.{least_tick, greatest_tick};
     ghost use Rattle.tk_ntp.specs.Account.{owed, IsMarked};
     ghost use Rattle.tk_ntp.specs.Change.{multiplier_at};
-    ghost use Rattle.tk_ntp.specs.Rate.{IsNearUsual};
-    ghost use Rattle.tk_ntp.specs.SteeredClock.{steered_refusal, steered_opened, rate_in_force};
+    ghost use Rattle.tk_ntp.specs.Ntp.{second_length};
+    ghost use Rattle.tk_ntp.specs.Rate.{IsNearUsual, nominal};
+    ghost use Rattle.tk_ntp.specs.SteeredClock.{steered_by, steered_refusal, steered_opened, rate_in_force};
     ghost use Rattle.tk_ntp.specs.Advance.{second_time};
 
     /// Opens the clocks of the counter `desc` at `reading`, in cycles, with a fresh discipline.
@@ -103,12 +107,23 @@ impl SteeredClock {
         let Some(ntp) = Discipline::new(hz) else {
             return Err(Refusal::Invalid);
         };
-        Ok(SteeredClock {
+        Ok(SteeredClock::fresh(clock, ntp, reading, real))
+    }
+
+    /// Steers clocks that were opened at `reading`, when REALTIME was `real`, by a fresh discipline.
+    fn fresh(clock: Clock, ntp: Discipline, reading: u64, real: Timespec) -> SteeredClock
+        requires { unsigned_abs real.sec ≤ clock_end }
+        ensures value { result ≡ steered_by ntp reading real clock }
+        ensures marked { reading ≡ clock.base.last → IsMarked result }
+        ensures owes { reading ≡ clock.base.last →
+            owed result ≡ pos clock.base.amount *ℤ pos nominal }
+    {
+        SteeredClock {
             clock,
             steering: Steering::new(ntp),
             next: real.sec.unsigned_abs() + 1,
             mark: reading,
-        })
+        }
     }
 
     /// Returns the first reading, in cycles, at which the next second of REALTIME has begun: the
@@ -164,6 +179,13 @@ impl SteeredClock {
             frequency: self.clock.frequency(),
             tick: self.clock.tick(),
         }
+    }
+
+    /// Returns the length of the present second, in `2^-32` ns (`Discipline::second_length`).
+    pub fn second_length(&self) -> i64
+        ensures { result ≡ second_length self.now.steering.ntp }
+    {
+        self.steering.second_length()
     }
 
     /// Returns the clocks.

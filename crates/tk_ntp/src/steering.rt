@@ -1,4 +1,4 @@
-ghost use Rattle.std.specs.Prelude.{◌≡◌, ◌≤◌, ◌<◌, ◌^◌, pos, ◌+ℤ◌, ◌≤ℤ◌, false, unsigned_abs};
+ghost use Rattle.std.specs.Prelude.{◌≡◌, ◌≤◌, ◌<◌, ◌^◌, pos, ◌+ℤ◌, ◌≤ℤ◌, true, false, unsigned_abs};
 ghost use Rattle.tk_counter.specs.Counter.{least_tick, greatest_tick};
 
 use crate::change::Change;
@@ -19,24 +19,32 @@ use tk_counter::CounterDesc;
 pub struct Steering {
     ntp: Discipline,
     lag: Lag,
+    /// Contains the length of the present second, in `2^-32` ns (`tick_length`), so that an account
+    /// needs no division.
+    length: i64,
 }
 
 impl Model for Steering {
+    ghost use Rattle.std.specs.Prelude.{◌≡◌};
+    ghost use Rattle.tk_ntp.specs.Ntp.{second_length};
     ghost use Rattle.tk_ntp.specs.Steering.{Steered};
 
     ghost Value = { Steered };
 
     ghost view = { λ a. record { ntp = a.ntp; lag = a.lag } };
 
-    ghost inverse = { λ s. record { ntp = s.ntp; lag = s.lag } };
+    ghost invariant = { λ a. a.length ≡ second_length a.ntp };
+
+    ghost inverse = { λ s. record { ntp = s.ntp; lag = s.lag; length = second_length s.ntp } };
 }
 
 impl Steering {
     ghost use Rattle.tk_ntp.specs.Steering.{accounted, second_begun, needed, needed_rate, commands};
     ghost use Rattle.tk_ntp.specs.Fault.{is_faulty};
     ghost use Rattle.tk_ntp.specs.Modes.{asked};
-    ghost use Rattle.tk_ntp.specs.Ntp.{cleared};
-    ghost use Rattle.tk_ntp.specs.Numbers.{steering_numbers};
+    ghost use Rattle.tk_ntp.specs.Ntp.{cleared, second_length};
+    ghost use Rattle.tk_ntp.specs.Numbers.{discipline_numbers, lag_numbers, steering_numbers};
+    ghost use Rattle.tk_ntp.specs.Restored.{are_in_range, is_plan, is_lag, lag_of, steering_of};
     ghost use Rattle.tk_ntp.specs.Reply.{reply_to};
     ghost use Rattle.tk_ntp.specs.Second.{leap_at};
     ghost use Rattle.tk_ntp.specs.Change.{multiplier_at, changed};
@@ -49,6 +57,7 @@ impl Steering {
         Steering {
             ntp,
             lag: Lag::none(),
+            length: ntp.second_length(),
         }
     }
 
@@ -62,7 +71,13 @@ impl Steering {
         } }
         ensures reply { result ≡ reply_to request.now real tai self.old.ntp }
     {
-        self.ntp.adjtimex(request, real, tai)
+        if request.modes == 0 {
+            // it changes nothing
+            return self.ntp.adjtimex(request, real, tai);
+        }
+        let reply = self.ntp.adjtimex(request, real, tai);
+        self.length = self.ntp.second_length();
+        reply
     }
 
     /// Clears the discipline, as `Discipline::clear`, and sets the lag to 0, after REALTIME was set
@@ -72,15 +87,16 @@ impl Steering {
     {
         self.ntp.clear();
         self.lag = Lag::none();
+        self.length = self.ntp.second_length();
     }
 
     /// Accounts for some cycles of a counter at the multiplier `mult`. It must be called before the
     /// discipline or the multiplier changes, with the cycles since the last account.
+    #[inline(always)]
     pub fn account(&mut self, desc: CounterDesc, mult: u32, cycles: u64)
         ensures { self.new ≡ accounted desc mult cycles self.old }
     {
-        self.lag
-            .account(desc, self.ntp.second_length(), mult, cycles);
+        self.lag.account(desc, self.length, mult, cycles);
     }
 
     /// Lets the second `sec` of REALTIME begin, `cycles` after the last account, and returns what
@@ -91,7 +107,9 @@ impl Steering {
         ensures leap { result ≡ leap_at self.old.ntp sec }
     {
         self.account(desc, mult, cycles);
-        self.ntp.overflow(sec)
+        let leap = self.ntp.overflow(sec);
+        self.length = self.ntp.second_length();
+        leap
     }
 
     /// Returns the rate that the present second needs: for its length, and for what it makes up
@@ -110,12 +128,38 @@ impl Steering {
 
     /// Returns the numbers that the discipline and the lag are kept in.
     pub fn numbers(&self) -> SteeringNumbers
-        ensures { result ≡ steering_numbers self.now }
+        ensures value { result ≡ steering_numbers self.now }
+        ensures range { are_in_range (discipline_numbers self.now.ntp) ≡ true }
+        ensures lag { is_lag (lag_numbers self.now.lag) ≡ true }
+        ensures back { lag_of (lag_numbers self.now.lag) ≡ self.now.lag }
     {
         SteeringNumbers {
             ntp: self.ntp.numbers(),
             lag: self.lag.numbers(),
         }
+    }
+
+    /// Returns the discipline and the lag that are kept in these numbers.
+    pub(crate) fn of_numbers(numbers: SteeringNumbers) -> Steering
+        requires ranges { are_in_range numbers.ntp ≡ true }
+        requires plan { is_plan numbers.ntp.plan ≡ true }
+        requires lag { is_lag numbers.lag ≡ true }
+        ensures value { result ≡ steering_of numbers }
+        ensures again { steering_numbers result ≡ numbers }
+    {
+        let ntp = Discipline::of_numbers(numbers.ntp);
+        Steering {
+            ntp,
+            lag: Lag::of_words(numbers.lag.high, numbers.lag.low),
+            length: ntp.second_length(),
+        }
+    }
+
+    /// Returns the length of the present second, in `2^-32` ns, without what it makes up for.
+    pub fn second_length(&self) -> i64
+        ensures { result ≡ second_length self.now.ntp }
+    {
+        self.length
     }
 
     /// Returns the length that the present second needs, in `2^-32` ns.

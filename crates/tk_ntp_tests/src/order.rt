@@ -26,14 +26,21 @@ impl Order {
             });
         };
         let numbers = numbers_of(alloc, rest)?;
-        Ok(if word == "new" {
-            new_order(numbers.as_slice())
-        } else if word == "second" {
-            second_order(numbers.as_slice())
-        } else {
-            adjtimex_order(numbers.as_slice())
-        })
+        Ok(order_of(word, numbers.as_slice()))
     }
+}
+
+/// Returns the order of a word and its numbers.
+fn order_of(word: &str, numbers: &[i64]) -> Option<Order> {
+    Some(match (word, numbers) {
+        ("new", [hz]) => Order::New(u32::try_from(*hz).ok()?),
+        ("second", [sec]) => Order::Second(u64::try_from(*sec).ok()?),
+        ("adjtimex", [sec, nsec, request @ ..]) => {
+            let nsec = u32::try_from(*nsec).ok()?;
+            Order::Adjtimex(Timespec { sec: *sec, nsec }, timex_of(request)?)
+        }
+        _ => return None,
+    })
 }
 
 /// Returns the numbers of a line's fields. A field that isn't a number is left out.
@@ -45,31 +52,6 @@ pub fn numbers_of(alloc: Global, fields: &str) -> Result<Vec<i64>, AllocError> {
         }
     }
     Ok(numbers)
-}
-
-fn new_order(numbers: &[i64]) -> Option<Order> {
-    let [hz] = numbers else {
-        return None;
-    };
-    Some(Order::New(u32::try_from(*hz).ok()?))
-}
-
-fn second_order(numbers: &[i64]) -> Option<Order> {
-    let [sec] = numbers else {
-        return None;
-    };
-    Some(Order::Second(u64::try_from(*sec).ok()?))
-}
-
-fn adjtimex_order(numbers: &[i64]) -> Option<Order> {
-    let [sec, nsec, request @ ..] = numbers else {
-        return None;
-    };
-    let real = Timespec {
-        sec: *sec,
-        nsec: u32::try_from(*nsec).ok()?,
-    };
-    Some(Order::Adjtimex(real, timex_of(request)?))
 }
 
 /// Returns the request with these fields.

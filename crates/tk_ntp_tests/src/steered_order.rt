@@ -26,14 +26,25 @@ impl SteeredOrder {
             return Ok(None);
         };
         let numbers = numbers_of(alloc, rest)?;
-        Ok(if word == "open" {
-            open_order(numbers.as_slice())
-        } else if word == "ask" {
-            ask_order(numbers.as_slice())
-        } else {
-            reading_order(word, numbers.as_slice())
-        })
+        Ok(order_of(word, numbers.as_slice()))
     }
+}
+
+/// Returns the order of a word and its numbers.
+fn order_of(word: &str, numbers: &[i64]) -> Option<SteeredOrder> {
+    if word == "open" {
+        return open_order(numbers);
+    }
+    let [reading, rest @ ..] = numbers else {
+        return None;
+    };
+    let reading = u64::try_from(*reading).ok()?;
+    Some(match word {
+        "advance" => SteeredOrder::Advance(reading),
+        "late" => SteeredOrder::AdvanceLate(reading),
+        "ask" => SteeredOrder::Ask(reading, timex_of(rest)?),
+        _ => SteeredOrder::Apply(reading, command_of(word, rest)?),
+    })
 }
 
 fn open_order(numbers: &[i64]) -> Option<SteeredOrder> {
@@ -49,72 +60,20 @@ fn open_order(numbers: &[i64]) -> Option<SteeredOrder> {
     Some(SteeredOrder::Open(desc, reading, time_of(*sec, *nsec)?, hz))
 }
 
-fn ask_order(numbers: &[i64]) -> Option<SteeredOrder> {
-    let [reading, request @ ..] = numbers else {
-        return None;
-    };
-    let reading = u64::try_from(*reading).ok()?;
-    Some(SteeredOrder::Ask(reading, timex_of(request)?))
-}
-
-/// Reads an order that has a reading, and up to two more numbers.
-fn reading_order(word: &str, numbers: &[i64]) -> Option<SteeredOrder> {
-    let [reading, rest @ ..] = numbers else {
-        return None;
-    };
-    let reading = u64::try_from(*reading).ok()?;
-    if word == "advance" {
-        return Some(SteeredOrder::Advance(reading));
-    }
-    if word == "late" {
-        return Some(SteeredOrder::AdvanceLate(reading));
-    }
-    Some(SteeredOrder::Apply(reading, command_of(word, rest)?))
-}
-
 /// Returns the command of a word and its numbers.
 fn command_of(word: &str, numbers: &[i64]) -> Option<Command> {
-    match numbers {
-        [] => plain_command(word),
-        [number] => number_command(word, *number),
-        [by, tai] if word == "leap" => Some(Command::Leap { by: *by, tai: *tai }),
-        [sec, nsec] => time_command(word, time_of(*sec, *nsec)?),
-        _ => None,
-    }
-}
-
-fn plain_command(word: &str) -> Option<Command> {
-    if word == "update" {
-        Some(Command::Update)
-    } else if word == "suspend" {
-        Some(Command::Suspend)
-    } else {
-        None
-    }
-}
-
-fn number_command(word: &str, number: i64) -> Option<Command> {
-    if word == "freq" {
-        Some(Command::Freq(number))
-    } else if word == "tick" {
-        Some(Command::Tick(number))
-    } else if word == "tai" {
-        Some(Command::Tai(number))
-    } else {
-        None
-    }
-}
-
-fn time_command(word: &str, time: Timespec) -> Option<Command> {
-    if word == "set" {
-        Some(Command::SetTime(time))
-    } else if word == "step" {
-        Some(Command::Step(time))
-    } else if word == "resume" {
-        Some(Command::Resume(time))
-    } else {
-        None
-    }
+    Some(match (word, numbers) {
+        ("update", []) => Command::Update,
+        ("suspend", []) => Command::Suspend,
+        ("freq", [number]) => Command::Freq(*number),
+        ("tick", [number]) => Command::Tick(*number),
+        ("tai", [number]) => Command::Tai(*number),
+        ("leap", [by, tai]) => Command::Leap { by: *by, tai: *tai },
+        ("set", [sec, nsec]) => Command::SetTime(time_of(*sec, *nsec)?),
+        ("step", [sec, nsec]) => Command::Step(time_of(*sec, *nsec)?),
+        ("resume", [sec, nsec]) => Command::Resume(time_of(*sec, *nsec)?),
+        _ => return None,
+    })
 }
 
 fn time_of(sec: i64, nsec: i64) -> Option<Timespec> {

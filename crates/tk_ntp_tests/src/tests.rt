@@ -4,9 +4,11 @@ use std::test::Fail;
 use tk_clock::Timespec;
 use tk_ntp::{Discipline, Leap, Reply, TimeState, Timex};
 
+mod following;
 mod lags;
 mod leaps;
 mod loops;
+mod numbers;
 mod rates;
 mod readings;
 mod requests;

@@ -1,5 +1,5 @@
 //! Lets the seconds of REALTIME begin.
-ghost use Rattle.std.specs.Prelude.{◌≡◌, ◌<◌, ◌≤◌, nat_lt, true, MatchResult, MatchOption, IfOk, Some, None};
+ghost use Rattle.std.specs.Prelude.{◌≡◌, ◌<◌, ◌≤◌, ◌↔◌, nat_lt, true, IsTrue, MatchResult, MatchOption, IfOk, Some, None};
 ghost use Rattle.tk_counter.specs.Counter.{half, gap};
 ghost use Rattle.tk_clock.specs.Limits.{clock_end};
 ghost use Rattle.tk_ntp.specs.Second.{leap_at};
@@ -7,6 +7,7 @@ ghost use Rattle.tk_ntp.specs.SteeredClock.{reading_refusal};
 ghost use Rattle.tk_ntp.specs.Account.{IsMarked, IsAccounted};
 ghost use Rattle.tk_ntp.specs.History.{IsOffsetKept, IsTaiKept};
 ghost use Rattle.tk_ntp.specs.Often.{IsAtOnce};
+ghost use Rattle.tk_ntp.specs.Staged.{IsEarly};
 ghost use Rattle.tk_ntp.specs.Steady.{StaysSmall};
 ghost use Rattle.tk_ntp.specs.Advance.{leapt, with_next_second, second_begun_at, IsDue, IsNoneDue, IsAdvanced, seconds_left};
 
@@ -107,9 +108,13 @@ impl SteeredClock {
     /// no second is due. A read needs no division.
     #[inline(always)]
     pub(super) fn is_early(&self, reading: u64) -> bool
-        ensures { result ≡ true → IsNoneDue self.now reading }
+        ensures exact { IsTrue result ↔ IsEarly self.now reading }
+        ensures none { result ≡ true → IsNoneDue self.now reading }
     {
         let now = self.snapshot(0);
+        if now.asleep() {
+            return false;
+        }
         if now.desc().is_behind(now.desc().gap(now.last(), reading)) {
             return false;
         }

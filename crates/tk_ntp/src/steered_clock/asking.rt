@@ -100,7 +100,7 @@ impl SteeredClock {
         ensures { IsFollowed reading Command.Update self.old result self.new }
     {
         if self.is_settled(reading) {
-            return self.command(reading, Command::Update);
+            return self.update(reading);
         }
         self.apply_awake(reading, Command::Update)
     }
@@ -149,7 +149,7 @@ impl SteeredClock {
     /// Returns REALTIME at a reading. The error is `Invalid` above the mask, and `Range` if
     /// REALTIME is past its limit.
     #[tactic(auto, using(crate::proofs::Real::timespec_of_value))]
-    fn real(&self, reading: u64) -> Result<Timespec, Refusal>
+    pub(super) fn real(&self, reading: u64) -> Result<Timespec, Refusal>
         ensures { MatchResult result
             (λ real. (real_refusal reading self.now.clock ≡ None)
             × (real ≡ real_at reading self.now.clock) × (pos 0 ≤ℤ real.sec))
@@ -183,7 +183,7 @@ impl SteeredClock {
     }
 
     /// Lets the discipline do what a request asks for.
-    fn ask_discipline(&mut self, request: &Timex, real: Timespec, tai: u32) -> Reply
+    pub(super) fn ask_discipline(&mut self, request: &Timex, real: Timespec, tai: u32) -> Reply
         requires sound { is_faulty request.now ≡ false }
         requires since { pos 0 ≤ℤ real.sec }
         ensures state { self.new ≡ with_asked request.now real self.old }

@@ -5,7 +5,7 @@ ghost use Rattle.tk_clock.specs.Limits.{clock_end};
 ghost use Rattle.tk_clock.specs.Refusal.{state_refusal};
 ghost use Rattle.tk_clock.specs.State.{State};
 ghost use Rattle.tk_ntp.specs.Asked.{given_tai, tai_refusal, second_after, restarted, after_command, IsCommanded};
-ghost use Rattle.tk_ntp.specs.SteeredClock.{accounted_to, given, given_any, given_change, steered_at};
+ghost use Rattle.tk_ntp.specs.SteeredClock.{accounted_to, caught_up, given, given_any, given_change, steered_at};
 
 use super::SteeredClock;
 use crate::change::Change;
@@ -14,6 +14,7 @@ use tk_counter::{CounterDesc, NANOS_PER_SECOND};
 
 impl SteeredClock {
     /// Accounts for the cycles up to a reading, in cycles.
+    #[inline(always)]
     pub(super) fn account(&mut self, reading: u64)
         ensures { self.new ≡ accounted_to reading self.old }
     {
@@ -27,7 +28,7 @@ impl SteeredClock {
     pub(super) fn steer(&mut self, reading: u64)
         ensures { self.new ≡ steered_at reading self.old }
     {
-        let change = self.steering.commands(self.desc(), self.rate());
+        let change = self.needed_change();
         self.change(reading, change);
     }
 
@@ -79,8 +80,8 @@ impl SteeredClock {
     }
 
     /// Applies a command that is neither `Freq` nor `Tick`, after the seconds up to its reading
-    /// have begun (`begin_due`). It is the part of `apply` that lets no second begin, and public for
-    /// owners of a journal, such as tk_steered. Otherwise call `apply`.
+    /// have begun (`begin_due`). It is the part of `apply` that lets no second begin, and public
+    /// for owners of a journal, such as tk_steered. Otherwise call `apply`.
     ///
     /// The clocks get the command, and then the tick and the frequency at the same reading, if
     /// `rate` changed.
@@ -95,6 +96,27 @@ impl SteeredClock {
         self.clock.apply(reading, cmd)?;
         self.follow(reading, cmd, desc, mult);
         Ok(())
+    }
+
+    /// Applies an update, as `command` does.
+    #[inline(always)]
+    pub(super) fn update(&mut self, reading: u64) -> Result<(), Refusal>
+        ensures { IsCommanded reading Command.Update self.old result self.new }
+    {
+        self.clock.apply(reading, Command::Update)?;
+        self.account(reading);
+        Ok(())
+    }
+
+    /// Takes over clocks that updates have left, and accounts for the cycles up to their last
+    /// reading. If a single update has left them, it leaves what `command` leaves after that
+    /// update. It is for owners of a journal, such as tk_steered, whose keeper applies the updates
+    /// to the same clocks.
+    pub fn catch_up(&mut self, clock: &Clock)
+        ensures { self.new ≡ caught_up clock.now self.old }
+    {
+        self.account(clock.snapshot(0).last());
+        self.clock = *clock;
     }
 
     /// Follows an accepted command, before which the clocks ran at the multiplier `mult`.

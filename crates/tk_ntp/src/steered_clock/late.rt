@@ -13,7 +13,7 @@ use tk_clock::Refusal;
 impl SteeredClock {
     /// Lets each second of REALTIME up to `reading` begin, as `advance` does, but gives the clocks
     /// all commands at `reading`. It is for clocks that others have read meanwhile: no command is
-    /// in the past of a read, so MONOTONIC never goes back.
+    /// in the past of a read, so MONOTONIC doesn't go back for reads up to `reading`.
     ///
     /// The discipline's second begins at its own reading, and the lag counts the cycles since then,
     /// so later seconds make up for them. If further seconds are due, they begin at `reading`, and

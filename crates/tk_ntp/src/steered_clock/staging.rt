@@ -1,7 +1,7 @@
 //! Lets single seconds of REALTIME begin, for owners who record each command in a journal.
-ghost use Rattle.std.specs.Prelude.{◌≡◌, ◌+◌, ◌<◌, ◌≤◌, ◌^◌, true, MatchOption};
+ghost use Rattle.std.specs.Prelude.{◌≡◌, ◌+◌, ◌<◌, ◌^◌, ◌↔◌, true, IsTrue, MatchOption};
 ghost use Rattle.tk_ntp.specs.Advance.{seconds_left};
-ghost use Rattle.tk_ntp.specs.Staged.{leap_between, IsDueIf, IsOneBegun, IsSettled};
+ghost use Rattle.tk_ntp.specs.Staged.{leap_between, IsDueIf, IsEarly, IsInOrder, IsOneBegun, IsSettled};
 
 use super::SteeredClock;
 use crate::begun_second::BegunSecond;
@@ -16,10 +16,14 @@ impl SteeredClock {
         self.due(reading).is_some()
     }
 
-    /// Returns whether it is known without a search that `advance` to `reading` changes nothing,
-    /// and refuses the reading only if the clocks refuse an update there.
+    /// Returns whether the clocks are awake, and a read shows that REALTIME is before the next
+    /// second at `reading`, which is behind neither the last command nor the last account. Then
+    /// `advance` to it changes nothing, and refuses it only if the clocks refuse an update there.
+    /// No reading is searched for.
+    #[inline(always)]
     pub fn is_settled(&self, reading: u64) -> bool
-        ensures { result ≡ true → IsSettled self.now reading }
+        ensures exact { IsTrue result ↔ (IsEarly self.now reading × IsInOrder self.now reading) }
+        ensures settled { result ≡ true → IsSettled self.now reading }
     {
         self.is_early(reading) && !self.is_behind(reading)
     }

@@ -7,13 +7,12 @@ ghost use Rattle.tk_ntp.specs.Uptime.{steered_running_refusal, steered_running};
 
 use super::SteeredClock;
 use crate::discipline::Discipline;
-use crate::steering::Steering;
 use tk_clock::{Clock, Refusal, Timespec};
 use tk_counter::CounterDesc;
 
 impl SteeredClock {
-    /// Opens the clocks of the counter `desc` at `reading`, in cycles, as `open` does, but as clocks
-    /// that have run for `uptime`: MONOTONIC, MONOTONIC_RAW and BOOTTIME are `uptime`.
+    /// Opens the clocks of the counter `desc` at `reading`, in cycles, as `open` does, but as
+    /// clocks that have run for `uptime`: MONOTONIC, MONOTONIC_RAW and BOOTTIME are `uptime`.
     ///
     /// # Errors
     ///
@@ -41,11 +40,6 @@ impl SteeredClock {
         let Some(ntp) = Discipline::new(hz) else {
             return Err(Refusal::Invalid);
         };
-        Ok(SteeredClock {
-            clock,
-            steering: Steering::new(ntp),
-            next: real.sec.unsigned_abs() + 1,
-            mark: reading,
-        })
+        Ok(SteeredClock::fresh(clock, ntp, reading, real))
     }
 }

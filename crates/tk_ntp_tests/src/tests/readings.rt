@@ -76,3 +76,15 @@ fn a_call_that_changes_nothing_refuses_no_reading(rt: HostRuntime) -> Result<(),
     refuses(&rt, &mut steered, 1997);
     Ok(())
 }
+
+#[test]
+fn sleeping_clocks_refuse_an_update(rt: HostRuntime) -> Result<(), Fail> {
+    let mut steered = opened()?;
+    assert_eq!(rt; steered.is_settled(1000), true);
+    assert_eq!(rt; steered.apply(1000, Command::Suspend), Ok(()));
+    assert_eq!(rt; steered.is_settled(2000), false);
+    let found = steered.apply(2000, Command::Update);
+    assert_eq!(rt; found, Err(Refusal::Asleep));
+    assert_eq!(rt; steered.snapshot(0).last(), 1000);
+    Ok(())
+}

@@ -16,7 +16,7 @@ fn nanosecond_counter() -> Result<CounterDesc, Fail> {
     Ok(CounterDesc::new(64, 8_388_608, 23).or(Err("a counter of 1 GHz"))?)
 }
 
-/// Opens clocks at the reading 9, at the beginning of a second, that have run for an hour and a bit.
+/// Opens clocks at the reading 9, at the beginning of a second, that have run for 3,600.25 s.
 fn opened(sec: i64) -> Result<SteeredClock, Fail> {
     let desc = nanosecond_counter()?;
     let opened = SteeredClock::open_at(desc, 9, time(sec, 0), time(3_600, 250_000_000), 250);

@@ -1,14 +1,16 @@
+use Rattle.tk_ntp.specs.Advance.{second_begun_at}
 use Rattle.tk_ntp.proofs.Accepted.{awake_at}
 use Rattle.tk_ntp.proofs.Account.{accounted_for}
 use Rattle.tk_ntp.proofs.History.{offset_kept}
-use Rattle.tk_ntp.proofs.Often.{at_once, none_due}
+use Rattle.tk_ntp.proofs.Often.{at_once, none_left}
 use Rattle.tk_ntp.proofs.Steady.{stays_small}
 use Rattle.tk_ntp.proofs.TaiKept.{tai_kept}
 use Rattle.tk_ntp.proofs.steered_clock.SteeredClock.advance.Goals as goal
 
 pub returns-clause-none : goal.returns-clause-none
 returns-clause-none c =
-    none_due c.args.reading c.args.self.now c.begin_seconds.new.self c.begin_seconds.ensures
+    none_left second_begun_at c.args.reading c.args.self.now c.begin_seconds.new.self
+    c.begin_seconds.ensures
 
 pub returns-clause-at_once : goal.returns-clause-at_once
 returns-clause-at_once c = λ before earlier first order.

@@ -1,4 +1,5 @@
 use Rattle.tk_clock.specs.Command.{is_resume}
+use Rattle.tk_ntp.proofs.Acting.{acting}
 use Rattle.tk_ntp.proofs.Called.{plain_small, request_small}
 use Rattle.tk_ntp.proofs.Marked.{plain-marked}
 use Rattle.tk_ntp.proofs.Settled.{plain_balanced, request_balanced, woken_owed}
@@ -22,7 +23,8 @@ returns-in-None-clause-woken c = λ marked resumes.
 pub returns-in-Some-clause-sum : goal.returns-in-Some-clause-sum
 returns-in-Some-clause-sum c = λ marked awake.
     request_balanced c.args.reading c.args.cmd c.in-Some.request c.args.self.now
-    c.adjtimex.new.self c.in-Some.ensures (c.adjtimex.ensures.sum marked)
+    c.adjtimex.new.self (acting c.args.cmd c.in-Some.request c.in-Some.ensures)
+    (c.adjtimex.ensures.sum marked)
 
 pub returns-in-None-clause-small : goal.returns-in-None-clause-small
 returns-in-None-clause-small c = λ awake.
@@ -32,4 +34,5 @@ returns-in-None-clause-small c = λ awake.
 pub returns-in-Some-clause-small : goal.returns-in-Some-clause-small
 returns-in-Some-clause-small c = λ awake.
     request_small c.args.reading c.args.cmd c.in-Some.request c.args.self.now
-    c.adjtimex.new.self c.in-Some.ensures c.adjtimex.ensures.small
+    c.adjtimex.new.self (acting c.args.cmd c.in-Some.request c.in-Some.ensures)
+    c.adjtimex.ensures.small

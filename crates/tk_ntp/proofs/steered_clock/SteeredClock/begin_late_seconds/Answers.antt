@@ -1,5 +1,6 @@
 use Rattle.std.proofs.Common.{sym, subst}
-use Rattle.tk_ntp.specs.Late.{IsAdvancedLate, Arrived, Begins}
+use Rattle.tk_ntp.specs.Advance.{Arrived, Begins}
+use Rattle.tk_ntp.specs.Late.{IsAdvancedLate}
 use Rattle.tk_ntp.proofs.steered_clock.SteeredClock.begin_late_seconds.Goals as goal
 
 pub seconds-preserved : goal.seconds-preserved

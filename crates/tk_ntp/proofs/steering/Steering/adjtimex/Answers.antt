@@ -11,9 +11,9 @@ returns-clause-state c =
     let now = unsigned_abs c.args.real.sec in
     let with_ntp : Ntp → Steered = λ ntp. record { ntp = ntp; lag = c.self.inside.lag } in
     let asked_of : Steered → Steered = λ s. record { ntp = asked request now s.ntp; lag = s.lag } in
-    ap with_ntp c.adjtimex.ensures.state ∙ ap asked_of c.self.view_is
+    ap with_ntp c.adjtimex-reply.ensures.state ∙ ap asked_of c.self.view_is
 
 pub returns-clause-reply : goal.returns-clause-reply
 returns-clause-reply c =
-    c.adjtimex.ensures.reply
+    c.adjtimex-reply.ensures.reply
     ∙ ap (λ (s : Steered). reply_to c.args.request.now c.args.real c.args.tai s.ntp) c.self.view_is

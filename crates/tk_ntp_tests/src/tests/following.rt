@@ -1,0 +1,143 @@
+//! Steered clocks that follow commands one by one, through an inserted second. The numbers are
+//! those of `Steered` in tests/model/steered_clock.py, whose `account`, `ntp.overflow`, `command`
+//! and `rate_for` were called in this order.
+use super::request;
+use std::process::Abort;
+use std::test::Fail;
+use tk_clock::{Command, Refusal, Timespec};
+use tk_counter::CounterDesc;
+use tk_ntp::{Change, Leap, SteeredClock, TimeState, Timex};
+
+/// The state that a step leaves.
+#[derive(Clone, Copy)]
+struct Left {
+    /// The multiplier.
+    mult: u32,
+    /// REALTIME minus MONOTONIC, in seconds.
+    real_offset_sec: u64,
+    /// The TAI offset, in seconds.
+    tai: u32,
+    /// The second that begins next, since 1970.
+    next: u64,
+    /// The reading at which it begins.
+    at: u64,
+    /// The reading of the last account.
+    mark: u64,
+    /// The lag, in two words.
+    lag: (u64, u64),
+}
+
+/// Checks the state.
+fn leaves(rt: &impl Abort, steered: &SteeredClock, left: Left) {
+    let now = steered.snapshot(0);
+    let numbers = steered.numbers();
+    assert_eq!(rt; now.mult(), left.mult);
+    assert_eq!(rt; now.real_offset() / 1_000_000_000, left.real_offset_sec);
+    assert_eq!(rt; now.tai(), left.tai);
+    assert_eq!(rt; numbers.next, left.next);
+    assert_eq!(rt; steered.next_second(), Some(left.at));
+    assert_eq!(rt; numbers.mark, left.mark);
+    let lag = numbers.steering.lag;
+    assert_eq!(rt; (lag.high, lag.low), left.lag);
+}
+
+/// Opens clocks of a counter of 1 GHz at the reading 0, two seconds before a day ends.
+fn opened() -> Result<SteeredClock, Fail> {
+    let desc = CounterDesc::new(64, 8_388_608, 23).or(Err("a counter of 1 GHz"))?;
+    let real = Timespec {
+        sec: 1_483_228_798,
+        nsec: 0,
+    };
+    Ok(SteeredClock::open(desc, 0, real, 250).or(Err("a time of REALTIME"))?)
+}
+
+/// Opens them with a frequency of 33 ppm, and an inserted second as the day ends.
+fn announced(rt: &impl Abort) -> Result<SteeredClock, Fail> {
+    let mut steered = opened()?;
+    let asked = Timex {
+        freq: 33 * 65_536 + 7,
+        status: 0x10,
+        ..request(0x12)
+    };
+    if asked.is_faulty() {
+        return Err(Fail::from("a fault"));
+    }
+    let reply = steered.ask_alone(&asked).or(Err("no fault"))?;
+    assert_eq!(rt; reply.state, TimeState::Ok);
+    assert_eq!(rt;
+        (reply.timex.sec, reply.timex.sub, reply.timex.freq),
+        (1_483_228_798, 0, 2_162_695)
+    );
+    // the clocks got no command
+    assert_eq!(rt; steered.snapshot(0).mult(), 8_388_608);
+    Ok(steered)
+}
+
+/// Returns a change of the frequency.
+fn frequency(frequency: i64) -> Change {
+    Change {
+        tick: None,
+        frequency: Some(frequency),
+    }
+}
+
+#[test]
+fn clocks_follow_commands_through_an_inserted_second(rt: HostRuntime) -> Result<(), Fail> {
+    let mut steered = announced(&rt)?;
+    assert_eq!(rt; steered.needed_change(), frequency(2_162_695));
+    assert_eq!(rt; steered.begin_alone(999_999_999), None);
+    assert_eq!(rt; steered.begin_alone(1_000_500_000), Some(Leap::None));
+    assert_eq!(rt;
+        steered.follow_command(1_000_500_000, Command::Update),
+        Ok(())
+    );
+    assert_eq!(rt; steered.needed_change(), frequency(4_326_471));
+    let faster = Command::Freq(4_326_471);
+    assert_eq!(rt; steered.follow_command(1_000_502_000, faster), Ok(()));
+    leaves(
+        &rt,
+        &steered,
+        Left {
+            mult: 8_389_161,
+            real_offset_sec: 1_483_228_798,
+            tai: 0,
+            next: 1_483_228_800,
+            at: 1_999_934_115,
+            mark: 1_000_502_000,
+            lag: (1_152_921_569_092_536_165, 13_504_395_326_391_320_576),
+        },
+    );
+    let Some(leap) = steered.begin_alone(2_000_300_000) else {
+        return Err(Fail::from("the second is due"));
+    };
+    assert_eq!(rt; steered.follow_leap(2_000_301_000, leap), Ok(()));
+    assert_eq!(rt; steered.needed_change(), frequency(2_169_291));
+    let slower = Command::Freq(2_169_291);
+    assert_eq!(rt; steered.follow_command(2_000_303_000, slower), Ok(()));
+    leaves(
+        &rt,
+        &steered,
+        Left {
+            mult: 8_388_885,
+            real_offset_sec: 1_483_228_797,
+            tai: 1,
+            next: 1_483_228_800,
+            at: 2_999_901_083,
+            mark: 2_000_303_000,
+            lag: (1_152_921_504_803_319_941, 15_706_039_817_663_938_560),
+        },
+    );
+    Ok(())
+}
+
+#[test]
+fn a_refused_command_is_not_followed(rt: HostRuntime) -> Result<(), Fail> {
+    let mut steered = opened()?;
+    assert_eq!(rt; steered.follow_command(1_000, Command::Update), Ok(()));
+    let behind = Err(Refusal::Behind);
+    assert_eq!(rt; steered.follow_command(999, Command::Update), behind);
+    let numbers = steered.numbers();
+    assert_eq!(rt; (numbers.next, numbers.mark), (1_483_228_799, 1_000));
+    assert_eq!(rt; steered.snapshot(0).tai(), 0);
+    Ok(())
+}
