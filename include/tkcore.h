@@ -44,7 +44,7 @@
  *     one of them. The front is 0 after tkc_clock_open and tkc_clock_open_at. Clocks whose front is
  *     2^63 - 1 or more refuse every command with TKC_FULL. The front of a tkc_ntp is the number of
  *     accepted calls. Only words can make clocks with a front above 2^63 - 1
- *     (tkc_clock_from_words, tkc_clock_load).
+ *     (tkc_clock_from_words, tkc_clock_load, tkc_ntp_load).
  *   - A reading is behind the last command's reading if it is more than half of 2^bits - 1 cycles
  *     ahead of it (clocksource_delta in kernel/time/timekeeping_internal.h). So apply at least one
  *     command, usually an UPDATE, in each half of the counter's range.
@@ -63,9 +63,9 @@
  *   call must be, byte for byte, a value that a call of this header made. All other arguments may
  *   be any numbers.
  *   A tkc_clock or a tkc_snapshot can be stored as ten 64-bit words, for a shared page or a file.
- *   These words are meaningless without their counter; tkc_clock_save stores both.
- *   tkc_snapshot_from_words, tkc_clock_from_words and tkc_clock_load validate words, so later calls
- *   need no test.
+ *   These words are meaningless without their counter; tkc_clock_save stores both, and tkc_ntp_save
+ *   does for a tkc_ntp. tkc_snapshot_from_words, tkc_clock_from_words, tkc_clock_load and
+ *   tkc_ntp_load validate words, so later calls need no test.
  *
  * Several commands
  *   To apply a group of commands as a whole, apply it to a copy of the clocks. If all are accepted,
@@ -80,14 +80,16 @@
  *
  * Contexts
  *   No call waits, takes a lock, allocates, calls back, ends the process or keeps state between
- *   calls. Each call uses less than 1.2 kB of stack. So a process, a softirq, an interrupt, an NMI
- *   or a signal handler may make any call, if the archive's code may run there. In a process it
- *   always may. A kernel module must follow the list in docs/C.md, "In the Linux kernel". In short:
+ *   calls. Each call uses less than 1.4 kB of stack, and tkc_ntp_load less than 1.8 kB. So a
+ *   process, a softirq, an interrupt, an NMI or a signal handler may make any call, if the
+ *   archive's code may run there. In a process it always may. A kernel module must follow the list
+ *   in docs/C.md, "In the Linux kernel". In short:
  *     - Link the archive of `tools/build_c --backend rattle`. The archive of LLVM uses the red zone
  *       below the stack pointer, and requires a stack that is aligned to 16 bytes.
- *     - tkc_snapshot_convert, tkc_ntp_open, tkc_ntp_open_at, tkc_ntp_advance, tkc_ntp_apply and
- *       tkc_adjtimex use SSE registers: call them between kernel_fpu_begin() and kernel_fpu_end(),
- *       and only if irq_fpu_usable(). All other calls may then be made in any context.
+ *     - tkc_snapshot_convert, tkc_ntp_open, tkc_ntp_open_at, tkc_ntp_advance, tkc_ntp_apply,
+ *       tkc_adjtimex, tkc_ntp_save and tkc_ntp_load use SSE registers: call them between
+ *       kernel_fpu_begin() and kernel_fpu_end(), and only if irq_fpu_usable(). All other calls may
+ *       then be made in any context.
  *   Two threads must not write one value at the same time, and no thread may write a value while
  *   another reads it. The caller's lock must prevent both (as timekeeper_lock does, and tk_core.seq
  *   for readers). tkcore_page.h contains a page for such readers. A reader in an NMI must not wait
@@ -150,6 +152,9 @@ extern "C" {
 /* The number of 64-bit words that clocks are saved as, with their counter. */
 #define TKC_SAVED_WORDS 15
 
+/* The number of 64-bit words that steered clocks are saved as, with their counter. */
+#define TKC_NTP_SAVED_WORDS 33
+
 /* The codes that calls return. The numbers 48 to 63 are kept for tkcore_page.h. */
 enum tkc_code {
 	/* The call is done. */
@@ -194,8 +199,8 @@ enum tkc_code {
 	TKC_BAD_COMMAND = 16,
 	/* No clock has this number (enum tkc_clock_id). */
 	TKC_BAD_CLOCK = 17,
-	/* The words represent no snapshot of the counter, or no running clocks of this frequency
-	 * and tick. */
+	/* The words represent no snapshot of the counter, no running clocks of this frequency and
+	 * tick, or no steered clocks. */
 	TKC_BAD_WORDS = 18,
 	/* `out` has fewer elements than `stamps`. */
 	TKC_BAD_ROOM = 19,
@@ -300,7 +305,7 @@ struct tkc_time {
 /* Clocks that a discipline steers, with their front (struct timekeeper, and the variables of
  * kernel/time/ntp.c). */
 struct tkc_ntp {
-	uint64_t tkc_private[27];
+	uint64_t tkc_private[28];
 };
 
 /* A request of tkc_adjtimex, and its reply (struct timex in include/uapi/linux/timex.h). It has
@@ -833,6 +838,46 @@ enum tkc_code tkc_ntp_next_second(uint64_t *out, const struct tkc_ntp *ntp);
 /* Makes a snapshot of the steered clocks for readers, as tkc_clock_snapshot does. Use it for
  * readings up to the beginning of the next second, or the next call. */
 TKC_NONNULL void tkc_ntp_snapshot(struct tkc_snapshot *out, const struct tkc_ntp *ntp);
+
+/*
+ * Stores steered clocks with their counter as 33 64-bit words, from which tkc_ntp_load makes the
+ * same steered clocks. A length is in 2^-32 ns, and S and F are the lengths of half a second and of
+ * 500 us. Numbers that may be negative are stored as an int64_t.
+ *   0 to 14   the words of tkc_clock_save for the clocks; word 0 is the front of the steered clocks
+ *   15        hz: 1 to 1024
+ *   16        the status: any 32 bits (enum tkc_sta)
+ *   17        the state: TKC_TIME_OK to TKC_TIME_WAIT, 0 to 4
+ *   18, 19    1, and the second of REALTIME whose beginning is the leap; or 0 and 0 if none is due
+ *   20        the phase still to give in each of the hz parts of a second: a length from -(S / hz)
+ *             to S / hz
+ *   21        the time constant: 0 to 10
+ *   22, 23    the greatest and the estimated error: 0 to 16000000 us
+ *   24        the tick that was asked for: 9000 to 11000 us
+ *   25        what each second gains by the frequency that was asked for: a length from -F to F
+ *   26        the second of REALTIME of the last offset: below 2^63
+ *   27        the rest of adjtime, in us: any number
+ *   28        the phase of the present second, in each of its hz parts: a length up to
+ *             S / hz + F / hz in either direction
+ *   29, 30    what MONOTONIC lags behind, a length times 10^9 * 2^shift: word 29 * 2^64 + word 30
+ *             - 2^124, up to 2^123 in either direction
+ *   31        the second of REALTIME that begins next: 0 to 9223372037
+ *   32        the reading up to which words 29 and 30 account for the cycles: any number
+ * All divisions round down.
+ */
+TKC_NONNULL
+void tkc_ntp_save(uint64_t words[TKC_NTP_SAVED_WORDS], const struct tkc_ntp *ntp);
+
+/*
+ * Makes the steered clocks that 33 words represent. The words may have any values. Returns
+ * TKC_BAD_WORDS if tkc_clock_load refuses words 0 to 14, or if another word is out of the range
+ * that tkc_ntp_save documents.
+ *
+ * If word 31 is long before REALTIME, the next call that lets seconds begin takes long: all seconds
+ * from word 31 on begin, one after the other, and 86400 of them take about 10 ms. Test the word
+ * before the call if the words come from a source that may be hostile.
+ */
+TKC_MUST_CHECK
+enum tkc_code tkc_ntp_load(struct tkc_ntp *out, const uint64_t words[TKC_NTP_SAVED_WORDS]);
 
 /* A parser that reads only declarations, such as cffi's, is given TKC_NO_INLINE. */
 #ifndef TKC_NO_INLINE

@@ -1,8 +1,6 @@
 /* SPDX-License-Identifier: MIT OR Apache-2.0 */
 #include "script.h"
 
-#include "record.h"
-
 #include <stdlib.h>
 
 enum { FIRST_ROOM = 1024 };
@@ -66,7 +64,7 @@ static const struct {
 };
 
 /* The most commands that running clocks may have accepted. */
-static const uint64_t FRONT_MOST = UINT64_C(1) << 62;
+static const uint64_t FRONT_MOST = (uint64_t)1 << 62;
 
 /* `counter` is bits, mult and shift, or bits, hz and maxsec. The numbers of running clocks are
  * those of tkc_clock_words. */
@@ -125,8 +123,7 @@ static const struct shape *find_shape(const struct field *word)
 	return NULL;
 }
 
-/* Parses a record. Returns its fault, or NULL. */
-static const char *parse_row(const struct record *record, struct row *row)
+const char *script_row(const struct record *record, struct row *row)
 {
 	const struct shape *shape = find_shape(&record->fields[0]);
 	const char *wrong = NULL;
@@ -223,6 +220,14 @@ static const char *open_clocks(const struct opening *opening,
 	return code ? NO_OPENING : NULL;
 }
 
+const char *script_open(struct script *script, const struct record *record)
+{
+	struct opening opening;
+	const char *wrong = parse_opening(record, &opening);
+
+	return wrong ? wrong : open_clocks(&opening, script);
+}
+
 /* Makes room for one more row. Returns false if memory is refused. */
 static bool reserve_row(struct script *script, size_t *room)
 {
@@ -246,7 +251,7 @@ static const char *parse_rows(struct script *script, struct reader *reader,
 	while (!wrong && read_record(reader, record)) {
 		if (!reserve_row(script, &room))
 			return NO_MEMORY;
-		wrong = parse_row(record, &script->rows[script->count]);
+		wrong = script_row(record, &script->rows[script->count]);
 		script->count += !wrong;
 	}
 	return wrong;
@@ -257,7 +262,6 @@ bool script_parse(struct script *script, char *text, size_t length,
 {
 	struct reader reader = { text, text + length };
 	struct record record = { 0 };
-	struct opening opening;
 	const char *wrong;
 
 	*script = (struct script){ 0 };
@@ -266,9 +270,7 @@ bool script_parse(struct script *script, char *text, size_t length,
 	else if (!read_record(&reader, &record))
 		wrong = "no record";
 	else
-		wrong = parse_opening(&record, &opening);
-	if (!wrong)
-		wrong = open_clocks(&opening, script);
+		wrong = script_open(script, &record);
 	if (!wrong)
 		wrong = parse_rows(script, &reader, &record);
 	if (!wrong)

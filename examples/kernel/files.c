@@ -109,7 +109,6 @@ static bool is_different(const struct entry *entry)
 static void show_answers(struct seq_file *file, struct script *script)
 {
 	struct tkc_snapshot snapshot;
-	u64 front = 0;
 
 	tkc_clock_snapshot(&snapshot, &script->clock);
 	print_opening(file, &script->counter);
@@ -124,7 +123,7 @@ static void show_answers(struct seq_file *file, struct script *script)
 						     row->number, row->nsec);
 		if (!row->is_read && !entry.code) {
 			tkc_clock_snapshot(&snapshot, &script->clock);
-			entry.front = ++front;
+			entry.front = tkc_snapshot_front(&snapshot);
 		}
 		if (!entry.code)
 			entry.code = tkc_snapshot_get(&entry.time, &snapshot,

@@ -49,6 +49,7 @@ static void do_round(void)
 	try_reads(&snapshot);
 	try_words(&clock, &counter);
 	try_saved(&clock);
+	try_saved_ntp(&clock);
 }
 
 /* Prints the codes that were met. */

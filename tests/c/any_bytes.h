@@ -35,6 +35,10 @@ void try_words(const struct tkc_clock *of, const struct tkc_counter *counter);
 /* Checks that saved clocks are loaded, and tries changed words. */
 void try_saved(const struct tkc_clock *of);
 
+/* Checks that steered clocks of these clocks and random numbers are loaded exactly if
+ * the numbers are in their ranges. */
+void try_saved_ntp(const struct tkc_clock *of);
+
 /* Opens clocks, applies commands to them, changes their counter, and takes a
  * snapshot of them. */
 void try_clocks(struct tkc_clock *clock, struct tkc_counter *counter,

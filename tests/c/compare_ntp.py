@@ -44,8 +44,7 @@ class Session:
     def with_words(self, line):
         if self.steered is None:
             return line
-        words = self.steered.clock.words(self.steered.front)
-        return ",".join(map(str, [line, *words]))
+        return ",".join(map(str, [line, *self.steered.saved()]))
 
     def open(self, bits, mult, shift, reading, sec, nsec, hz):
         if reading >= 2**bits or not is_settable(sec, nsec) or not 1 <= hz <= 1024:

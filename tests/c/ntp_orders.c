@@ -1,8 +1,10 @@
 /* SPDX-License-Identifier: MIT OR Apache-2.0 */
 /*
- * Answers the records of its input (ntp_records.h), each by a line, with the
- * ten words of the clocks' snapshot after them. compare_ntp.py runs it.
+ * Answers the records of its input (ntp_records.h), each by a line, with the 33
+ * words of the steered clocks after them. The next record is about the clocks that
+ * these words represent. compare_ntp.py runs it.
  */
+#include "check.h"
 #include "ntp_records.h"
 
 #include <inttypes.h>
@@ -11,16 +13,19 @@
 #include <stdlib.h>
 #include <string.h>
 
-static void print_words(const struct tkc_ntp *ntp)
+/* Prints the words of steered clocks, and loads them. */
+static void print_words(struct tkc_ntp *ntp)
 {
-	struct tkc_snapshot snapshot;
-	uint64_t words[TKC_WORDS];
+	uint64_t words[TKC_NTP_SAVED_WORDS], again[TKC_NTP_SAVED_WORDS];
 
-	tkc_ntp_snapshot(&snapshot, ntp);
-	tkc_snapshot_words(words, &snapshot);
-	for (int i = 0; i < TKC_WORDS; i++)
+	tkc_ntp_save(words, ntp);
+	for (int i = 0; i < TKC_NTP_SAVED_WORDS; i++)
 		printf(",%" PRIu64, words[i]);
 	putchar('\n');
+	memset(ntp, 7, sizeof(*ntp));
+	check(!tkc_ntp_load(ntp, words));
+	tkc_ntp_save(again, ntp);
+	check(!memcmp(again, words, sizeof(words)));
 }
 
 int main(void)

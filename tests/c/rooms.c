@@ -32,8 +32,8 @@ void make_rooms(void)
 {
 	struct room *all[] = {
 		&rooms.counter, &rooms.clock, &rooms.snapshot, &rooms.other,
-		&rooms.words, &rooms.time, &rooms.frequency, &rooms.tick,
-		&rooms.stamps, &rooms.out, &rooms.done,
+		&rooms.ntp, &rooms.words, &rooms.time, &rooms.frequency,
+		&rooms.tick, &rooms.stamps, &rooms.out, &rooms.done,
 	};
 
 	page_size = (size_t)sysconf(_SC_PAGESIZE);

@@ -14,7 +14,7 @@ struct room {
 
 /* A room for each argument of a call. */
 struct rooms {
-	struct room counter, clock, snapshot, other;
+	struct room counter, clock, snapshot, other, ntp;
 	struct room words, time, frequency, tick;
 	struct room stamps, out, done;
 };

@@ -200,6 +200,7 @@ int main(void)
 	try_words();
 	try_saved();
 	try_ntp();
+	try_saved_ntp();
 	puts("worked_rows: each row has its code and its values");
 	return EXIT_SUCCESS;
 }

@@ -92,5 +92,6 @@ void try_readings(void);
 void try_words(void);
 void try_saved(void);
 void try_ntp(void);
+void try_saved_ntp(void);
 
 #endif

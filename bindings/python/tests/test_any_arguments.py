@@ -44,6 +44,7 @@ class Arguments:
             lambda: (tkcore.Clock.from_words, self.clock.counter, self.words(), some(), some()),
             lambda: (tkcore.Snapshot.from_words, self.clock.counter, self.words()),
             lambda: (tkcore.SteeredClock, self.steered.counter, near(), some(), number()),
+            lambda: (tkcore.SteeredClock.load, self.saved()),
             lambda: (self.steered.advance, near()),
             lambda: (self.steered.apply, near(), number(), some(), some()),
             lambda: (self.steered.step, near(), some()),
@@ -69,6 +70,13 @@ class Arguments:
 
     def words(self):
         return [self.some() for _ in range(self.rng.choice([9, 10, 10, 11, 15]))]
+
+    def saved(self):
+        """Returns the words of the steered clocks, of which some are changed."""
+        words = list(self.steered.save())
+        for _ in range(self.rng.randrange(3)):
+            words[self.rng.randrange(len(words))] = self.some()
+        return words
 
     def request(self):
         modes, *others = (self.some() for _ in range(10))

@@ -2,12 +2,14 @@
 """Steered clocks: the tables of tests/c/worked_ntp.c, random requests against the definitions in
 Python, and arguments that no clock takes."""
 import copy
+import pickle
 import re
 import sys
 import unittest
 
 import tkcore
-from support import CALLS, ROOT, seeded
+from support import CALLS, ROOT, nanosecond_counter, raises, seeded
+from support import rows as rows_of
 from tkcore import Mode, Status, SteeredClock, TimeState, Timex
 
 sys.path.insert(0, str(ROOT / "tests" / "c"))
@@ -98,8 +100,35 @@ class Model(unittest.TestCase):
         for record, wanted in records:
             found = session.answer(record)
             if session.clock is not None:
-                found = ",".join(map(str, [found, *session.clock.snapshot().words()]))
+                found = ",".join(map(str, [found, *session.clock.save()]))
             self.assertEqual(found, wanted, record)
+
+
+class Saved(unittest.TestCase):
+    """The saved clocks of worked_saved_ntp.c."""
+
+    def setUp(self):
+        self.clock = SteeredClock(nanosecond_counter(), 7, 1_700_000_000_000_000_005)
+        self.clock.advance(9)
+
+    def test_saved_words(self):
+        saved = rows_of("worked_saved_ntp.c", "steered_words")
+        self.assertEqual(self.clock.save(), saved)
+        for place, word, code in rows_of("worked_saved_ntp.c", "saved_ntp_words"):
+            changed = (*saved[:place], word, *saved[place + 1:])
+            clock = raises(self, code, lambda: SteeredClock.load(changed))
+            if code == "OK":
+                self.assertEqual(clock.save(), changed)
+        with self.assertRaises(tkcore.BadWords):
+            SteeredClock.load(saved[:15])
+
+    def test_loaded_clocks_go_on(self):
+        self.clock.adjtimex(10, Timex(Mode.OFFSET | Mode.STATUS, offset=1000, status=Status.PLL))
+        loaded, pickled = SteeredClock.load(self.clock.save()), pickle.loads(pickle.dumps(self.clock))
+        for clock in (self.clock, loaded, pickled):
+            clock.advance(2_000_000_000)
+        self.assertEqual((loaded.save(), loaded.counter), (self.clock.save(), self.clock.counter))
+        self.assertEqual(pickled.save(), loaded.save())
 
 
 class Arguments(unittest.TestCase):

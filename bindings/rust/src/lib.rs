@@ -53,7 +53,7 @@ pub use clock::{Clock, ClockWords, SAVED_WORDS};
 pub use command::Command;
 pub use counter::Counter;
 pub use latch::{Latch, LATCH_WORDS};
-pub use ntp::{mode, status, Reply, SteeredClock, TimeState, Timex};
+pub use ntp::{mode, status, Reply, SteeredClock, TimeState, Timex, NTP_SAVED_WORDS};
 pub use page::{Page, Publish, PAGE_WORDS};
 pub use refusal::{Refusal, Unconverted};
 pub use request::{OutOfRange, Unsteered};

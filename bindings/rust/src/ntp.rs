@@ -123,12 +123,14 @@ pub struct Reply {
     pub timex: Timex,
 }
 
+/// The number of 64-bit words that represent steered clocks with their counter.
+pub const NTP_SAVED_WORDS: usize = 33;
+
 /// The running clocks of a counter, steered by a discipline as the kernel's are by adjtimex(2).
 ///
-/// Every call except [`next_second`](SteeredClock::next_second) and
-/// [`snapshot`](SteeredClock::snapshot) first lets the seconds of REALTIME up to its reading begin,
-/// each at its own reading, with its leap second and its rate. So calling often or seldom leaves
-/// the same clocks.
+/// Every call with a reading first lets the seconds of REALTIME up to this reading begin, each at
+/// its own reading, with its leap second and its rate. So calling often or seldom leaves the same
+/// clocks.
 ///
 /// ```
 /// use tkcore::{mode, status, Counter, Refusal, SteeredClock, TimeState, Timespec, Timex};
@@ -189,6 +191,25 @@ impl SteeredClock {
         let value = sys::ntp_open_at(&counter.value, reading, start, uptime, hz)
             .map_err(Refusal::of_code)?;
         Ok(SteeredClock { value, counter: *counter })
+    }
+
+    /// Makes the steered clocks that the result of [`save`](SteeredClock::save) represents.
+    ///
+    /// # Errors
+    ///
+    /// `OtherVersion`, and then `BadWords` if no steered clocks of any counter have these words.
+    pub fn load(words: &[u64; NTP_SAVED_WORDS]) -> Result<SteeredClock, Refusal> {
+        sys::check_version()?;
+        let value = sys::ntp_load(words).map_err(Refusal::of_code)?;
+        let counter = Counter::of_snapshot(&sys::ntp_snapshot(&value));
+        Ok(SteeredClock { value, counter })
+    }
+
+    /// Returns the words that represent the steered clocks with their counter, as `tkc_ntp_save` of
+    /// tkcore.h lists them.
+    #[must_use]
+    pub fn save(&self) -> [u64; NTP_SAVED_WORDS] {
+        sys::ntp_save(&self.value)
     }
 
     /// Lets each second of REALTIME up to a reading begin.

@@ -15,8 +15,8 @@ use crate::{ClockWords, Refusal, Timespec, SAVED_WORDS, WORDS};
 mod ntp;
 
 pub(crate) use ntp::{
-    adjtimex, ntp_advance, ntp_apply, ntp_next_second, ntp_open, ntp_open_at, ntp_snapshot,
-    NtpValue,
+    adjtimex, ntp_advance, ntp_apply, ntp_load, ntp_next_second, ntp_open, ntp_open_at, ntp_save,
+    ntp_snapshot, NtpValue,
 };
 
 /// The version of the header that these declarations follow, as `TKC_VERSION`.

@@ -5,9 +5,9 @@ mod support;
 
 use std::fs;
 
-use support::{calls, some_command, Random, START};
+use support::{calls, nanosecond_counter, of, some_command, table, Random, START};
 use tkcore::{mode, status, ClockId, Command, Counter, OutOfRange, Refusal, Reply, SteeredClock};
-use tkcore::{Timespec, Timex, Unsteered};
+use tkcore::{Timespec, Timex, Unsteered, NTP_SAVED_WORDS};
 
 /// Returns the records and the answers of all tables, in their order.
 fn rows() -> Vec<(String, String)> {
@@ -105,6 +105,42 @@ fn worked_rows() {
     for (record, wanted) in rows {
         let found = answer(&mut clock, &record).unwrap_or_else(name);
         assert_eq!(found, wanted, "{record}");
+    }
+}
+
+/// The saved clocks of worked_saved_ntp.c.
+#[test]
+fn saved_clocks() {
+    let start = Timespec { sec: 1_700_000_000, nsec: 5 };
+    let mut clock = SteeredClock::open(&nanosecond_counter(), 7, start, 250).unwrap();
+    clock.advance(9).unwrap();
+    let saved = clock.save();
+    let wanted = table("worked_saved_ntp.c", "steered_words");
+    assert!(wanted.iter().map(|item| item.number::<u64>()).eq(saved));
+    for row in table("worked_saved_ntp.c", "saved_ntp_words") {
+        let row = row.list();
+        let mut words = saved;
+        words[row[0].number::<usize>()] = row[1].number();
+        let made = SteeredClock::load(&words);
+        assert_eq!(of(&made), row[2].refusal(), "{row:?}");
+        assert!(made.map_or(true, |clock| clock.save() == words));
+    }
+}
+
+/// Loaded clocks go on as the saved ones do.
+#[test]
+fn any_saved_clocks() {
+    let counter = Counter::from_hz(64, 1_000_000_000, 600).unwrap();
+    let mut clock = SteeredClock::open(&counter, 0, START, 250).unwrap();
+    let (mut random, mut reading) = (Random(3), 0);
+    for _ in 0..calls() / 10 {
+        let saved: [u64; NTP_SAVED_WORDS] = clock.save();
+        let mut loaded = SteeredClock::load(&saved).unwrap();
+        assert_eq!((loaded.counter(), loaded.save()), (&counter, saved));
+        reading += random.below(3_000_000_000);
+        let request = some_request(&mut random);
+        assert_eq!(loaded.adjtimex(reading, &request), clock.adjtimex(reading, &request));
+        assert_eq!(loaded.save(), clock.save());
     }
 }
 

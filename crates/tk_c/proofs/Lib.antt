@@ -1,4 +1,7 @@
 mod Halves
 mod Loading
+mod LoadingNtp
+mod Narrow
 mod NoStamps
+mod Restoring
 mod Stored

@@ -27,13 +27,13 @@ module _ (counted : CountedClock)
   tick_fits : FitsSigned w64 counted.clock.tick
   tick_fits = search rules
 
-  same_frequency : saved_frequency (saved counted) ≡ counted.clock.frequency
+  pub same_frequency : saved_frequency (saved counted) ≡ counted.clock.frequency
   same_frequency = to_z-of_z w64 _ frequency_fits
 
-  same_tick : saved_tick (saved counted) ≡ counted.clock.tick
+  pub same_tick : saved_tick (saved counted) ≡ counted.clock.tick
   same_tick = to_z-of_z w64 _ tick_fits
 
-  same_counter : IsCounter counted.clock.base.counter
+  pub same_counter : IsCounter counted.clock.base.counter
       → counter_of_words (saved counted) ≡ Some counted.clock.base.counter
   same_counter is = rw (no_fault counted.clock.base.counter is) refl
 

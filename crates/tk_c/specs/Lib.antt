@@ -9,6 +9,7 @@ pub mod Read
 pub mod Reached
 pub mod Restored
 pub mod Saved
+pub mod SavedNtp
 pub mod Version
 pub mod Lists
 pub mod Timex

@@ -6,7 +6,7 @@
 //! | `tkc_counter_*` | make counters from numbers or from a rate, store a counter's numbers, compute with its cycles |
 //! | `tkc_clock_*` | open the running clocks, apply commands, change the counter, return the frequency and the tick, convert clocks to and from words, with their counter or without |
 //! | `tkc_snapshot_*` | read one time or a list of times, find the reading of a time, return a snapshot's numbers, convert snapshots to and from words |
-//! | `tkc_ntp_*`, `tkc_adjtimex` | open steered clocks, advance them, apply commands, answer requests |
+//! | `tkc_ntp_*`, `tkc_adjtimex` | open steered clocks, advance them, apply commands, answer requests, convert them to and from words with their counter |
 //! | `tkc_version` | returns the archive's version |
 //! | `CountedClock` | the clocks with their count of commands, `struct tkc_clock` in C |
 //! | `CountedNtp`, `NtpStorage` | steered clocks with their count of calls, `struct tkc_ntp` in C |
@@ -29,9 +29,11 @@ mod general_registers;
 mod named;
 mod ntp;
 mod ntp_storage;
+mod number_words;
 mod parts;
 mod reached;
 mod saved;
+mod saved_ntp;
 mod snapshots;
 mod storage;
 mod timex;
@@ -58,6 +60,7 @@ pub use parts::{
 };
 pub use reached::tkc_snapshot_reading;
 pub use saved::{SAVED_WORDS, tkc_clock_load, tkc_clock_save};
+pub use saved_ntp::{NTP_SAVED_WORDS, tkc_ntp_load, tkc_ntp_save};
 pub use snapshots::{tkc_snapshot_convert, tkc_snapshot_get};
 pub use storage::{BaseStorage, ClockStorage, CounterStorage, SnapshotStorage, TimeStorage};
 pub use timex::KernelTimex;

@@ -58,8 +58,8 @@ pub extern "C" fn tkc_ntp_open(
 /// Opens steered clocks with an uptime at a reading of the counter, and writes them to `out`
 /// (`SteeredClock::open_at`).
 ///
-/// They are as by `tkc_ntp_open`, except that MONOTONIC, MONOTONIC_RAW and BOOTTIME are `uptime_sec`
-/// s, 0 to 946,079,999, plus `uptime_nsec` ns, 0 to 999,999,999, at the reading.
+/// They are as by `tkc_ntp_open`, except that MONOTONIC, MONOTONIC_RAW and BOOTTIME are
+/// `uptime_sec` s, 0 to 946,079,999, plus `uptime_nsec` ns, 0 to 999,999,999, at the reading.
 ///
 /// # Errors
 ///

@@ -1,12 +1,14 @@
 //! Converts clocks to words that contain their counter, and such words back to clocks.
-ghost use Rattle.std.specs.Prelude.{◌≡◌};
-ghost use Rattle.tk_c.specs.Saved.{saved, counter_of_words, IsLoaded, LoadsAs};
+ghost use Rattle.std.specs.Prelude.{◌≡◌, None, Some, take, MatchOption};
+ghost use Rattle.tk_clock.specs.Words.{words_of, restored};
+ghost use Rattle.tk_c.specs.Counted.{counted_snapshot};
+ghost use Rattle.tk_c.specs.Restored.{IsClockOf};
+ghost use Rattle.tk_c.specs.Saved.{saved, counter_of_words, saved_frequency, saved_tick, IsLoaded, LoadsAs};
 
-use crate::code::Code;
 use crate::counted::CountedClock;
 use crate::general_registers::{first_ten, store_saved};
 use crate::storage::ClockStorage;
-use crate::words::restore;
+use crate::words::{running_clock, write_clock};
 use tk_counter::CounterDesc;
 
 /// The number of 64-bit words of clocks with their counter.
@@ -18,6 +20,8 @@ pub const SAVED_WORDS: usize = 15;
 #[unsafe(no_mangle)]
 pub extern "C" fn tkc_clock_save(words: &mut [u64; SAVED_WORDS], clock: &CountedClock)
     ensures value { words.new ≡ saved clock.now }
+    ensures snapshot { restored clock.now.clock.base.counter (words_of (counted_snapshot clock.now))
+        ≡ Some (counted_snapshot clock.now) }
     ensures back { LoadsAs words.new clock.now }
 {
     let snapshot = clock.clock.snapshot(clock.front);
@@ -43,12 +47,20 @@ pub extern "C" fn tkc_clock_save(words: &mut [u64; SAVED_WORDS], clock: &Counted
 pub extern "C" fn tkc_clock_load(out: &mut ClockStorage, words: &[u64; SAVED_WORDS]) -> u32
     ensures { IsLoaded words.now out.old out.new result }
 {
-    let Some(counter) = counter_of_words(words) else {
-        return Code::BadWords.number();
-    };
+    write_clock(out, clock_of_words(words))
+}
+
+/// Returns the clocks that the words of `tkc_clock_save` represent, or `None` if they represent
+/// none.
+pub(crate) fn clock_of_words(words: &[u64; SAVED_WORDS]) -> Option<CountedClock>
+    ensures { MatchOption (counter_of_words words.now) (result ≡ None)
+        (λ counter. IsClockOf (restored counter (take 10 words.now)) (saved_frequency words.now)
+        (saved_tick words.now) result) }
+{
+    let counter = counter_of_words(words)?;
     let frequency = words[13].cast_signed();
     let tick = words[14].cast_signed();
-    restore(out, counter, &first_ten(words), frequency, tick)
+    running_clock(counter, &first_ten(words), frequency, tick)
 }
 
 /// Returns the counter that words 10 to 12 describe, or `None` if they describe none.

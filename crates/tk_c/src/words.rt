@@ -6,7 +6,7 @@ ghost use Rattle.tk_clock.specs.Words.{words_of, restored};
 ghost use Rattle.tk_c.specs.Codes.{number_of};
 ghost use Rattle.tk_c.specs.declared.code.Code.TheVariants.{Done, BadWords};
 ghost use Rattle.tk_c.specs.Counted.{counted_snapshot};
-ghost use Rattle.tk_c.specs.Restored.{IsClockRestored};
+ghost use Rattle.tk_c.specs.Restored.{IsClockRestored, IsClockOf, IsClockWritten};
 ghost use Rattle.tk_c.specs.Storage.{snapshot_storage};
 
 use crate::code::Code;
@@ -90,31 +90,42 @@ pub extern "C" fn tkc_clock_from_words(
         ((result ≡ number_of BadWords) × (out.new ≡ out.old))
         (λ snapshot. IsClockRestored snapshot frequency tick out.old out.new result) }
 {
-    restore(out, *counter, words, frequency, tick)
+    write_clock(out, running_clock(*counter, words, frequency, tick))
 }
 
-/// Writes the clocks that ten words of a counter, a frequency and a tick represent to `out`, as
-/// `tkc_clock_from_words` does.
-pub(crate) fn restore(
-    out: &mut ClockStorage,
+/// Writes the clocks that words represent to `out`, or returns `Code::BadWords` if they represent
+/// none.
+pub(crate) fn write_clock(out: &mut ClockStorage, found: Option<CountedClock>) -> u32
+    ensures { IsClockWritten found out.old out.new result }
+{
+    match found {
+        Some(counted) => {
+            *out = ClockStorage::from(counted);
+            Code::Done.number()
+        }
+        None => Code::BadWords.number(),
+    }
+}
+
+/// Returns the clocks that ten words of a counter, a frequency in `2^-16` ppm and a tick in
+/// microseconds represent, or `None` if they represent none.
+#[inline(always)]
+pub(crate) fn running_clock(
     counter: CounterDesc,
     words: &[u64; SNAPSHOT_WORDS],
     frequency: i64,
     tick: i64,
-) -> u32
-    ensures { MatchOption (restored counter words.now)
-        ((result ≡ number_of BadWords) × (out.new ≡ out.old))
-        (λ snapshot. IsClockRestored snapshot frequency tick out.old out.new result) }
+) -> Option<CountedClock>
+    ensures { IsClockOf (restored counter words.now) frequency tick result }
 {
     let Some(snapshot) = Snapshot::from_words(counter, loaded(words)) else {
-        return Code::BadWords.number();
+        return None;
     };
     let Some(clock) = Clock::from_snapshot(snapshot, frequency, tick) else {
-        return Code::BadWords.number();
+        return None;
     };
-    *out = ClockStorage::from(CountedClock {
+    Some(CountedClock {
         clock,
         front: snapshot.front(),
-    });
-    Code::Done.number()
+    })
 }

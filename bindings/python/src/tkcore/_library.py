@@ -14,7 +14,7 @@ from typing import Any, Optional, Tuple, Type
 from .errors import BY_CODE, Error, OtherVersion
 
 VERSION = "0.2.0"
-WORDS, SAVED_WORDS = 10, 15
+WORDS, SAVED_WORDS, NTP_SAVED_WORDS = 10, 15, 33
 NANOS = 10**9
 U32 = (0, 2**32 - 1)
 U64 = (0, 2**64 - 1)
@@ -36,7 +36,7 @@ class ClockValue(ctypes.Structure):
 class NtpValue(ctypes.Structure):
     """`struct tkc_ntp`."""
 
-    _fields_ = [("tkc_private", c_uint64 * 27)]
+    _fields_ = [("tkc_private", c_uint64 * 28)]
 
 
 class TimexValue(ctypes.Structure):
@@ -68,6 +68,7 @@ LATCH_SIZE = 8 * (2 + 2 * (WORDS + 3))
 PAGE_LAYOUT, LATCH_LAYOUT = 0x746b_6370_6167_6502, 0x746b_636c_6174_6302
 Words = c_uint64 * WORDS
 SavedWords = c_uint64 * SAVED_WORDS
+NtpSavedWords = c_uint64 * NTP_SAVED_WORDS
 ReadCounter = ctypes.CFUNCTYPE(c_uint64, c_void_p)
 
 _COUNTER, _CLOCK, _SNAPSHOT = map(POINTER, (CounterValue, ClockValue, SnapshotValue))
@@ -112,6 +113,8 @@ _CALLS = {
     "tkc_adjtimex": (c_uint32, [POINTER(TimexValue), _NUMBER, _NTP, c_uint64]),
     "tkc_ntp_next_second": (c_uint32, [_WORDS, _NTP]),
     "tkc_ntp_snapshot": (None, [_SNAPSHOT, _NTP]),
+    "tkc_ntp_save": (None, [_WORDS, _NTP]),
+    "tkc_ntp_load": (c_uint32, [_NTP, _WORDS]),
     "tkcp_layout": (None, [_WORDS]),
     "tkcp_page_init": (None, [c_void_p, _SNAPSHOT]),
     "tkcp_page_init_clock": (None, [c_void_p, _CLOCK]),

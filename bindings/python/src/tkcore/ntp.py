@@ -5,15 +5,15 @@ from __future__ import annotations
 import enum
 from ctypes import byref, c_uint32, c_uint64
 from dataclasses import dataclass
-from typing import NoReturn
+from typing import Any, Iterable, NoReturn, Tuple
 
-from ._library import (CALLS, I64, NANOS, U32, U64, NtpValue, SnapshotValue, TimexValue, fit,
-                       raise_code)
+from ._library import (CALLS, I64, NANOS, U32, U64, NtpSavedWords, NtpValue, SnapshotValue,
+                       TimexValue, fit, raise_code)
 from .clock import raise_opening, split_uptime
 from .commands import SETTABLE, TICKS, Commanded, split
 from .counter import Counter
 from .errors import BY_CODE, Behind, Invalid
-from .snapshot import Snapshot
+from .snapshot import Snapshot, words_of
 
 
 class Mode(enum.IntFlag):
@@ -109,15 +109,21 @@ def _check_request(request: Timex) -> None:
         fit(request.freq, _FREQS, Invalid, "freq")
 
 
+def _snapshot_of(value: NtpValue) -> SnapshotValue:
+    snapshot = SnapshotValue()
+    CALLS.tkc_ntp_snapshot(byref(snapshot), byref(value))
+    return snapshot
+
+
 class SteeredClock(Commanded):
     """The running clocks of a counter, opened at a reading with REALTIME at `realtime` ns since
     1970, and steered by a fresh discipline. MONOTONIC, MONOTONIC_RAW and BOOTTIME are `uptime` ns
     there, 0 if it isn't given.
 
     Phases are divided into `hz` parts of a second, 1 to 1024: with the kernel's HZ, replies are the
-    kernel's to the last digit. Every call except `next_second`, `snapshot` and `resume` first lets
-    the seconds of REALTIME up to its reading begin, each at its own reading, with its leap second
-    and its rate. A refused command or step leaves clocks that have only advanced. FREQ and TICK are
+    kernel's to the last digit. Every call with a reading, except `resume`, first lets the seconds
+    of REALTIME up to this reading begin, each at its own reading, with its leap second and its
+    rate. A refused command or step leaves clocks that have only advanced. FREQ and TICK are
     requests to the discipline. `update` the clocks at least once in each half of the counter's
     range.
 
@@ -144,6 +150,30 @@ class SteeredClock(Commanded):
             fit(hz, (1, 1024), Invalid, "hz")
         raise_opening(code, counter, reading, realtime, uptime)
         self._value, self.counter = value, counter
+
+    @classmethod
+    def load(cls, words: Iterable[int]) -> SteeredClock:
+        """Returns the steered clocks that the result of `save` represents.
+
+        Raises BadWords if no steered clocks of any counter have these words.
+        """
+        value = NtpValue()
+        code = CALLS.tkc_ntp_load(byref(value), words_of(words, NtpSavedWords))
+        raise_code(code, "the words represent no steered clocks")
+        return cls._of_value(value, Counter._of_snapshot(_snapshot_of(value)))
+
+    @classmethod
+    def _of_value(cls, value: NtpValue, counter: Counter) -> SteeredClock:
+        clock = cls.__new__(cls)
+        clock._value, clock.counter = value, counter
+        return clock
+
+    def save(self) -> Tuple[int, ...]:
+        """Returns the 33 numbers that represent the steered clocks with their counter, as
+        `tkc_ntp_save` of tkcore.h lists them; negative numbers are modulo 2^64."""
+        words = NtpSavedWords()
+        CALLS.tkc_ntp_save(words, byref(self._value))
+        return tuple(words)
 
     def advance(self, reading: int) -> None:
         """Lets each second of REALTIME up to a reading begin.
@@ -188,9 +218,7 @@ class SteeredClock(Commanded):
 
     def snapshot(self) -> Snapshot:
         """Returns a snapshot of the clocks, for reads up to the beginning of the next second."""
-        value = SnapshotValue()
-        CALLS.tkc_ntp_snapshot(byref(value), byref(self._value))
-        return Snapshot._of_value(value, self.counter)
+        return Snapshot._of_value(_snapshot_of(self._value), self.counter)
 
     def _reading(self, reading: int) -> int:
         return fit(reading, U64, Invalid, "reading", (0, self.counter.max_reading))
@@ -225,13 +253,10 @@ class SteeredClock(Commanded):
         return CALLS.tkc_ntp_apply(byref(self._value), reading, command, number, nsec)
 
     def __copy__(self) -> SteeredClock:
-        clock = SteeredClock.__new__(SteeredClock)
-        clock._value = NtpValue.from_buffer_copy(self._value)
-        clock.counter = self.counter
-        return clock
+        return SteeredClock._of_value(NtpValue.from_buffer_copy(self._value), self.counter)
 
-    def __reduce__(self) -> NoReturn:
-        raise TypeError("a SteeredClock can't be pickled: it has no words")
+    def __reduce__(self) -> Any:
+        return SteeredClock.load, (self.save(),)
 
     def __repr__(self) -> str:
         return f"<SteeredClock of {self.counter!r}, {self.snapshot()!r}>"

@@ -4,12 +4,12 @@
 use core::mem::MaybeUninit;
 
 use super::{made, CounterValue, SnapshotValue};
-use crate::{Reply, TimeState, Timespec, Timex};
+use crate::{Reply, TimeState, Timespec, Timex, NTP_SAVED_WORDS};
 
 /// `struct tkc_ntp`
 #[repr(C)]
 #[derive(Clone, Copy)]
-pub(crate) struct NtpValue([u64; 27]);
+pub(crate) struct NtpValue([u64; 28]);
 
 /// `struct tkc_timex`
 #[repr(C)]
@@ -66,6 +66,8 @@ extern "C" {
     ) -> u32;
     fn tkc_ntp_next_second(out: *mut u64, ntp: *const NtpValue) -> u32;
     fn tkc_ntp_snapshot(out: *mut SnapshotValue, ntp: *const NtpValue);
+    fn tkc_ntp_save(words: *mut u64, ntp: *const NtpValue);
+    fn tkc_ntp_load(out: *mut NtpValue, words: *const u64) -> u32;
 }
 
 /// Returns the code of a call, unless it is 0.
@@ -166,4 +168,16 @@ pub(crate) fn ntp_snapshot(ntp: &NtpValue) -> SnapshotValue {
         tkc_ntp_snapshot(out.as_mut_ptr(), ntp);
         out.assume_init()
     }
+}
+
+pub(crate) fn ntp_save(ntp: &NtpValue) -> [u64; NTP_SAVED_WORDS] {
+    let mut words = [0; NTP_SAVED_WORDS];
+    // SAFETY: the call writes 33 words, and the clocks are a value.
+    unsafe { tkc_ntp_save(words.as_mut_ptr(), ntp) };
+    words
+}
+
+pub(crate) fn ntp_load(words: &[u64; NTP_SAVED_WORDS]) -> Result<NtpValue, u32> {
+    // SAFETY: `out` is valid for a write, and there are 33 words.
+    made(|out| unsafe { tkc_ntp_load(out, words.as_ptr()) })
 }

@@ -1,6 +1,6 @@
-use Rattle.std.proofs.Common.{inl, inr, refl, w64}
+use Rattle.std.proofs.Common.{refl, w64}
 use Rattle.std.proofs.lemmas.Int.{to_z-of_z}
-use Rattle.tk_c.proofs.words.restore.Goals as goal
+use Rattle.tk_c.proofs.words.running_clock.Goals as goal
 
 pub returns-in_default-from_snapshot : goal.returns-in_default-from_snapshot
 returns-in_default-from_snapshot c =
@@ -9,11 +9,7 @@ returns-in_default-from_snapshot c =
       to_z-of_z w64 c.args.tick c.ranges.tick,
     )
     at c.in_default-from_snapshot.ensures in
-    rw (← (rw (c.loaded.ensures) at c.in-Some.ensures.value)) (inr record {
-      not_running = refused;
-      unchanged = refl;
-      refused = c.number-in_default-from_snapshot.ensures;
-    })
+    rw (← (rw (c.loaded.ensures) at c.in-Some.ensures.value)) refused
 
 pub returns : goal.returns
 returns c =
@@ -22,8 +18,4 @@ returns c =
       to_z-of_z w64 c.args.tick c.ranges.tick,
     )
     at c.in-Some-from_snapshot.ensures in
-    rw (← (rw (c.loaded.ensures) at c.in-Some.ensures.value)) (inl record {
-      running = stated.0;
-      written = rw (stated.1, c.front.ensures) at c.from.ensures;
-      done = c.number-2.ensures;
-    })
+    rw (← (rw (c.loaded.ensures) at c.in-Some.ensures.value)) (stated.0, rw (stated.1, c.front.ensures) refl)

@@ -1,0 +1,165 @@
+/* SPDX-License-Identifier: MIT OR Apache-2.0 */
+/* Saves steered clocks as words with their counter, and loads them. */
+#include "worked_rows.h"
+
+/* A word of saved steered clocks, in its place, and the code of a load. */
+struct saved_word {
+	size_t place;
+	uint64_t word;
+	uint32_t code;
+};
+
+/* The steered clocks of `steered`, whose hz is 250. Each number is at the ends of
+ * its range and just past them; and as it was, plus 2^32, if it has fewer bits. */
+static const struct saved_word saved_ntp_words[] = {
+	{ 0, UINT64_MAX, TKC_OK },
+	{ 2, 16777217, TKC_BAD_WORDS },
+	{ 7, 200002, TKC_BAD_WORDS },
+	{ 10, 65, TKC_BAD_WORDS },
+	{ 14, 10001, TKC_BAD_WORDS },
+	/* hz: at 1, each number stays in its range */
+	{ 15, 0, TKC_BAD_WORDS },
+	{ 15, 1, TKC_OK },
+	{ 15, 1025, TKC_BAD_WORDS },
+	{ 15, 4294967546, TKC_BAD_WORDS },
+	/* the status: any 32 bits */
+	{ 16, 0, TKC_OK },
+	{ 16, 4294967295, TKC_OK },
+	{ 16, 4294967296, TKC_BAD_WORDS },
+	/* the state of the leap second, and whether and when it is due */
+	{ 17, 4, TKC_OK },
+	{ 17, 5, TKC_BAD_WORDS },
+	{ 17, 4294967296, TKC_BAD_WORDS },
+	{ 18, 1, TKC_OK },
+	{ 18, 2, TKC_BAD_WORDS },
+	{ 18, 256, TKC_BAD_WORDS },
+	{ 19, 1, TKC_BAD_WORDS },
+	/* the offset: half a second of 2^-32 ns, divided by 250 */
+	{ 20, 8589934592000000, TKC_OK },
+	{ 20, 8589934592000001, TKC_BAD_WORDS },
+	{ 20, 18438154139117551616U, TKC_OK },
+	{ 20, 18438154139117551615U, TKC_BAD_WORDS },
+	{ 20, 9223372036854775808U, TKC_BAD_WORDS },
+	{ 21, 0, TKC_OK },
+	{ 21, 10, TKC_OK },
+	{ 21, 11, TKC_BAD_WORDS },
+	{ 21, 4294967298, TKC_BAD_WORDS },
+	{ 22, 0, TKC_OK },
+	{ 22, 16000000, TKC_OK },
+	{ 22, 16000001, TKC_BAD_WORDS },
+	{ 22, 4310967296, TKC_BAD_WORDS },
+	{ 23, 16000000, TKC_OK },
+	{ 23, 16000001, TKC_BAD_WORDS },
+	{ 23, 4294967296, TKC_BAD_WORDS },
+	{ 24, 8999, TKC_BAD_WORDS },
+	{ 24, 9000, TKC_OK },
+	{ 24, 11000, TKC_OK },
+	{ 24, 11001, TKC_BAD_WORDS },
+	{ 24, 4294977296, TKC_BAD_WORDS },
+	/* the frequency: 500 us of 2^-32 ns */
+	{ 25, 2147483648000000, TKC_OK },
+	{ 25, 2147483648000001, TKC_BAD_WORDS },
+	{ 25, 18444596590061551616U, TKC_OK },
+	{ 25, 18444596590061551615U, TKC_BAD_WORDS },
+	{ 26, 9223372036854775807, TKC_OK },
+	{ 26, 9223372036854775808U, TKC_BAD_WORDS },
+	/* the rest of adjtime: any number */
+	{ 27, 9223372036854775807, TKC_OK },
+	{ 27, 9223372036854775808U, TKC_OK },
+	/* the phase: half a second and 500 us, both divided by 250 */
+	{ 28, 8598524526592000, TKC_OK },
+	{ 28, 8598524526592001, TKC_BAD_WORDS },
+	{ 28, 18438145549182959616U, TKC_OK },
+	{ 28, 18438145549182959615U, TKC_BAD_WORDS },
+	/* the lag, plus 2^124: 2^60 in the upper word, at most half of it away */
+	{ 29, 576460752303423487, TKC_BAD_WORDS },
+	{ 29, 576460752303423488, TKC_OK },
+	{ 29, 1729382256910270463, TKC_OK },
+	{ 29, 1729382256910270464, TKC_OK },
+	{ 29, 1729382256910270465, TKC_BAD_WORDS },
+	{ 30, UINT64_MAX, TKC_OK },
+	{ 31, 0, TKC_OK },
+	{ 31, 9223372037, TKC_OK },
+	{ 31, 9223372038, TKC_BAD_WORDS },
+	{ 32, UINT64_MAX, TKC_OK },
+};
+
+/* Returns steered clocks over a counter of a nanosecond a cycle, which were opened at
+ * the reading 7 and have advanced once. */
+static struct tkc_ntp steered(void)
+{
+	struct tkc_counter counter = nanosecond_counter();
+	struct tkc_ntp ntp;
+
+	check(!tkc_ntp_open(&ntp, &counter, 7, 1700000000, 5, 250));
+	check(!tkc_ntp_advance(&ntp, 9));
+	return ntp;
+}
+
+/* The words of `steered`. */
+static const uint64_t steered_words[] = {
+	1, 7, 16777216, 0, 0, 1700000000000000005, 0, 0, 0, 0,
+	32, 16777216, 24, 0, 10000,
+	250, 64, 0, 0, 0, 0, 2, 16000000, 16000000, 10000, 0, 0, 0, 0,
+	1152921504606846976, 0, 1700000001, 7,
+};
+
+/* Loads words, which must give steered clocks with the same words, or leave the memory
+ * as it was. */
+static void load(const uint64_t words[TKC_NTP_SAVED_WORDS], uint32_t code)
+{
+	uint64_t found[TKC_NTP_SAVED_WORDS];
+	struct tkc_ntp out;
+
+	make_old(&out);
+	check(tkc_ntp_load(&out, words) == code);
+	if (code) {
+		check(is_old(&out));
+		return;
+	}
+	make_old(&found);
+	tkc_ntp_save(found, &out);
+	check(!memcmp(found, words, sizeof(found)));
+}
+
+static void try_saved_word(const struct saved_word *row)
+{
+	uint64_t words[TKC_NTP_SAVED_WORDS];
+
+	memcpy(words, steered_words, sizeof(words));
+	words[row->place] = row->word;
+	load(words, row->code);
+}
+
+/* The numbers whose ranges depend on another one. */
+static void try_pairs(void)
+{
+	uint64_t words[TKC_NTP_SAVED_WORDS];
+
+	memcpy(words, steered_words, sizeof(words));
+	words[18] = 1;
+	words[19] = UINT64_MAX; /* a leap that is due */
+	load(words, TKC_OK);
+	words[20] = 8589934592000000;
+	words[15] = 251; /* more parts, which are shorter */
+	load(words, TKC_BAD_WORDS);
+	words[20] = 0;
+	words[29] = 1729382256910270464;
+	words[30] = 1; /* one more than 3 * 2^123 */
+	load(words, TKC_BAD_WORDS);
+	words[29] = 576460752303423488;
+	load(words, TKC_OK);
+}
+
+void try_saved_ntp(void)
+{
+	struct tkc_ntp ntp = steered();
+	uint64_t words[TKC_NTP_SAVED_WORDS];
+
+	make_old(&words);
+	tkc_ntp_save(words, &ntp);
+	check(!memcmp(words, steered_words, sizeof(words)));
+	load(words, TKC_OK);
+	try_each(saved_ntp_words, try_saved_word);
+	try_pairs();
+}
