@@ -51,6 +51,25 @@ accepted-shown journal clock after reading counter first running stated =
     × (after ≡ changed s reading counter first))
     running stated
 
+-- a change that the running clocks accept gives the journal that is stated
+pub changed-shown : (folded spare : ℕ) (start clock : State) (entries : List Entry)
+    (keeper : Keeper) →
+    record { journal = journal_from folded start entries; spare = spare } ≡ keeper →
+    IsKept (journal_from folded start entries) clock →
+    (after : State) (reading : ℕ) (counter : Counter) (first : ℕ) (journal : Journal) →
+    (change_refusal clock reading counter first ≡ None)
+    × (after ≡ changed clock reading counter first) →
+    journal ≡ journal_from (accepted_count keeper.journal + 1) after [] →
+    (change_refusal (state_of keeper.journal) reading counter first ≡ None)
+    × (journal ≡ changed_by keeper.journal reading counter first)
+changed-shown folded spare start clock entries keeper shows held after reading counter first journal
+    stated begun =
+    let shown = accepted-shown keeper.journal clock after reading counter first
+    (running-shown folded spare start clock entries keeper shows held) stated in (
+      shown.0,
+      begun ∙ ap (λ (s : State). journal_from (accepted_count keeper.journal + 1) s []) shown.1,
+    )
+
 -- a journal that may count one more command refuses a change as its clocks do
 pub counter_refusal-room : (journal : Journal) (reading : ℕ) (counter : Counter) (first : ℕ) →
     accepted_count journal < counted_most →

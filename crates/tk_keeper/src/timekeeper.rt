@@ -87,6 +87,7 @@ impl<A: Allocator + Copy> Timekeeper<A> {
     ghost use Rattle.tk_clock.specs.Legal.{IsLegal};
     ghost use Rattle.tk_clock.specs.Limits.{counted_most};
     ghost use Rattle.tk_clock.specs.Snapshot.{snapshot_of};
+    ghost use Rattle.tk_clock.specs.State.{state_of};
     ghost use Rattle.tk_keeper.specs.Keeper.{entry_at, ReadsAs, CountsTrue};
     ghost use Rattle.tk_keeper.specs.Read.{IsRead};
 
@@ -121,6 +122,13 @@ impl<A: Allocator + Copy> Timekeeper<A> {
         let kept = self.kept.spare();
         let until_kept = KEPT_EVERY - 1 - self.len() % KEPT_EVERY;
         places.min(kept.saturating_mul(KEPT_EVERY).saturating_add(until_kept))
+    }
+
+    /// Returns the running clocks.
+    pub fn clock(&self) -> &Clock
+        ensures { result.now ≡ state_of self.now.journal }
+    {
+        &self.clock
     }
 
     /// Returns the snapshot for readers: it gives every clock the journal's value at every reading.

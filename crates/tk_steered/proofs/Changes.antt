@@ -37,14 +37,11 @@ record IsShown (reading : ℕ) (before after : State) (shown : Option Command) :
   accepted : Accepts reading shown before
   obeys : obeyed reading shown before ≡ after
 
-record IsTicked (reading : ℕ) (before after : State) : Type 0 where
-  shown : IsShown reading before after (option_map Tick (unless_same before.tick after.tick))
-  frequency : after.frequency ≡ before.frequency
-
-record IsTuned (reading : ℕ) (before after : State) : Type 0 where
-  shown :
-      IsShown reading before after (option_map Freq (unless_same before.frequency after.frequency))
-  tick : after.tick ≡ before.tick
+-- what the command of a change for one number does, which keeps the other one
+record IsPut (command : ℤ → Command) (own other : State → ℤ) (reading : ℕ)
+    (before after : State) : Type 0 where
+  shown : IsShown reading before after (option_map command (unless_same (own before) (own after)))
+  kept : other after ≡ other before
 
 shown-none : (reading : ℕ) (clock : State) (shown : Option Command) → shown ≡ None →
     IsShown reading clock clock shown
@@ -58,53 +55,51 @@ shown-some reading clock cmd shown accepted e =
     subst (IsShown reading clock (effect clock reading cmd)) (sym e)
     (record { accepted = accepted; obeys = refl })
 
-ticked-still : (reading : ℕ) (clock : State) → IsTicked reading clock clock
-ticked-still reading clock = record {
-  shown = shown-none reading clock _ (ap (option_map Tick) (unless_same-self clock.tick));
-  frequency = refl;
-}
-
-tuned-still : (reading : ℕ) (clock : State) → IsTuned reading clock clock
-tuned-still reading clock = record {
-  shown = shown-none reading clock _ (ap (option_map Freq) (unless_same-self clock.frequency));
-  tick = refl;
-}
-
 set_to_other : (in_force wanted : ℤ) → int_eq in_force wanted ≡ false →
     unless_same in_force wanted ≡ Some wanted
 set_to_other in_force wanted e = ap (λ (b : Bool). if b then None else Some wanted) e
 
-ticked-by : (reading : ℕ) (clock : State) (wanted : ℤ) (refusal : Option Refusal) →
-    int_eq clock.tick wanted ≡ false → state_refusal clock reading (Tick wanted) ≡ refusal →
-    IsTicked reading clock (after_or refusal (effect clock reading (Tick wanted)) clock)
-ticked-by reading clock wanted None other e = record {
-  shown = shown-some reading clock (Tick wanted) _ e
-      (ap (option_map Tick) (set_to_other clock.tick wanted other));
-  frequency = refl;
-}
-ticked-by reading clock wanted (Some refusal) other e = ticked-still reading clock
+module _ (command : ℤ → Command) (own other : State → ℤ) (reading : ℕ) (clock : State) where
+  put-still : IsPut command own other reading clock clock
+  put-still = record {
+    shown = shown-none reading clock _ (ap (option_map command) (unless_same-self (own clock)));
+    kept = refl;
+  }
 
-tuned-by : (reading : ℕ) (clock : State) (wanted : ℤ) (refusal : Option Refusal) →
-    int_eq clock.frequency wanted ≡ false → state_refusal clock reading (Freq wanted) ≡ refusal →
-    IsTuned reading clock (after_or refusal (effect clock reading (Freq wanted)) clock)
-tuned-by reading clock wanted None other e = record {
-  shown = shown-some reading clock (Freq wanted) _ e
-      (ap (option_map Freq) (set_to_other clock.frequency wanted other));
-  tick = refl;
-}
-tuned-by reading clock wanted (Some refusal) other e = tuned-still reading clock
+  put-by : (wanted : ℤ) (refusal : Option Refusal) →
+      own (effect clock reading (command wanted)) ≡ wanted →
+      other (effect clock reading (command wanted)) ≡ other clock →
+      int_eq (own clock) wanted ≡ false → state_refusal clock reading (command wanted) ≡ refusal →
+      IsPut command own other reading clock
+      (after_or refusal (effect clock reading (command wanted)) clock)
+  put-by wanted None put kept fresh e = record {
+    shown = shown-some reading clock (command wanted) _ e
+        (ap (option_map command)
+        (ap (unless_same (own clock)) put ∙ set_to_other (own clock) wanted fresh));
+    kept = kept;
+  }
+  put-by wanted (Some refusal) put kept fresh e = put-still
 
-ticked : (reading : ℕ) (clock : State) (tick : Option ℤ) → IsFresh clock.tick tick →
-    IsTicked reading clock (given_any reading (option_map Tick tick) clock)
-ticked reading clock None is = ticked-still reading clock
-ticked reading clock (Some wanted) is =
-    ticked-by reading clock wanted (state_refusal clock reading (Tick wanted)) is refl
+  put-any : (wanted : Option ℤ) → IsFresh (own clock) wanted →
+      ((n : ℤ) → own (effect clock reading (command n)) ≡ n) →
+      ((n : ℤ) → other (effect clock reading (command n)) ≡ other clock) →
+      IsPut command own other reading clock (given_any reading (option_map command wanted) clock)
+  put-any None fresh put kept = put-still
+  put-any (Some wanted) fresh put kept =
+      put-by wanted (state_refusal clock reading (command wanted)) (put wanted) (kept wanted) fresh
+      refl
 
-tuned : (reading : ℕ) (clock : State) (frequency : Option ℤ) → IsFresh clock.frequency frequency →
-    IsTuned reading clock (given_any reading (option_map Freq frequency) clock)
-tuned reading clock None is = tuned-still reading clock
-tuned reading clock (Some wanted) is =
-    tuned-by reading clock wanted (state_refusal clock reading (Freq wanted)) is refl
+abbrev tick_of : State → ℤ
+tick_of clock = clock.tick
+
+abbrev frequency_of : State → ℤ
+frequency_of clock = clock.frequency
+
+abbrev IsTicked : ℕ → State → State → Type 0
+IsTicked reading before after = IsPut Tick tick_of frequency_of reading before after
+
+abbrev IsTuned : ℕ → State → State → Type 0
+IsTuned reading before after = IsPut Freq frequency_of tick_of reading before after
 
 -- a change from the rate in force
 record IsFreshChange (clock : State) (change : Change) : Type 0 where
@@ -137,10 +132,10 @@ lead-on reading first before led ticked after accepted led_is tick_is frequency_
     let tick_shown : option_map Tick (unless_same led.tick ticked.tick)
     ≡ option_map Tick (unless_same before.tick after.tick) =
     ap (λ x. option_map Tick (unless_same x ticked.tick)) tick_is
-    ∙ ap (λ x. option_map Tick (unless_same before.tick x)) (sym f.tick) in
+    ∙ ap (λ x. option_map Tick (unless_same before.tick x)) (sym f.kept) in
     let frequency_shown : option_map Freq (unless_same ticked.frequency after.frequency)
     ≡ option_map Freq (unless_same before.frequency after.frequency) =
-    ap (λ x. option_map Freq (unless_same x after.frequency)) (t.frequency ∙ frequency_is) in
+    ap (λ x. option_map Freq (unless_same x after.frequency)) (t.kept ∙ frequency_is) in
     let first_tick = subst (IsShown reading led ticked) tick_shown t.shown in
     let then_frequency = subst (IsShown reading ticked after) frequency_shown f.shown in
     let tick_obeyed = ap (obeyed reading (option_map Tick (unless_same before.tick after.tick)))
@@ -168,11 +163,12 @@ lead-change reading first before led counter wanted accepted led_is tick_is freq
     let change = change_of counter (rate_in_force led) wanted in
     let is = fresh_change counter led wanted in
     let middle = given_any reading (tick_command change) led in
-    let t = ticked reading led change.tick is.tick in
+    let t : IsTicked reading led middle =
+    put-any Tick tick_of frequency_of reading led change.tick is.tick (λ n. refl) (λ n. refl) in
     lead-on reading first before led middle
     (given_any reading (frequency_command change) middle) accepted led_is tick_is frequency_is t
-    (tuned reading middle change.frequency
-    (subst (λ x. IsFresh x change.frequency) (sym t.frequency) is.frequency))
+    (put-any Freq frequency_of tick_of reading middle change.frequency
+    (subst (λ x. IsFresh x change.frequency) (sym t.kept) is.frequency) (λ n. refl) (λ n. refl))
 
 -- a first command without a change
 pub lead-first : (reading : ℕ) (first : Option Command) (before led : State) →
@@ -181,33 +177,25 @@ pub lead-first : (reading : ℕ) (first : Option Command) (before led : State) �
     Lead reading (commands_between first before led) before led
 lead-first reading first before led accepted led_is tick_is frequency_is =
     lead-on reading first before led led led accepted led_is tick_is frequency_is
-    (ticked-still reading led) (tuned-still reading led)
+    (put-still Tick tick_of frequency_of reading led)
+    (put-still Freq frequency_of tick_of reading led)
 
-tick-tai : (reading : ℕ) (refusal : Option Refusal) (wanted : ℤ) (clock : State) →
-    (after_or refusal (effect clock reading (Tick wanted)) clock).base.tai ≡ clock.base.tai
-tick-tai reading None wanted clock = refl
-tick-tai reading (Some refusal) wanted clock = refl
+after_or-tai : (refusal : Option Refusal) (after before : State) →
+    after.base.tai ≡ before.base.tai → (after_or refusal after before).base.tai ≡ before.base.tai
+after_or-tai None after before h = h
+after_or-tai (Some refusal) after before h = refl
 
-frequency-tai : (reading : ℕ) (refusal : Option Refusal) (wanted : ℤ) (clock : State) →
-    (after_or refusal (effect clock reading (Freq wanted)) clock).base.tai ≡ clock.base.tai
-frequency-tai reading None wanted clock = refl
-frequency-tai reading (Some refusal) wanted clock = refl
-
-given_tick-tai : (reading : ℕ) (tick : Option ℤ) (clock : State) →
-    (given_any reading (option_map Tick tick) clock).base.tai ≡ clock.base.tai
-given_tick-tai reading None clock = refl
-given_tick-tai reading (Some wanted) clock =
-    tick-tai reading (state_refusal clock reading (Tick wanted)) wanted clock
-
-given_frequency-tai : (reading : ℕ) (frequency : Option ℤ) (clock : State) →
-    (given_any reading (option_map Freq frequency) clock).base.tai ≡ clock.base.tai
-given_frequency-tai reading None clock = refl
-given_frequency-tai reading (Some wanted) clock =
-    frequency-tai reading (state_refusal clock reading (Freq wanted)) wanted clock
+put-tai : (command : ℤ → Command) (reading : ℕ) (wanted : Option ℤ) (clock : State) →
+    ((n : ℤ) → (effect clock reading (command n)).base.tai ≡ clock.base.tai) →
+    (given_any reading (option_map command wanted) clock).base.tai ≡ clock.base.tai
+put-tai command reading None clock h = refl
+put-tai command reading (Some wanted) clock h =
+    after_or-tai (state_refusal clock reading (command wanted))
+    (effect clock reading (command wanted)) clock (h wanted)
 
 -- a change of the rate keeps the TAI offset
 pub change-tai : (reading : ℕ) (change : Change) (clock : State) →
     (given_change reading change clock).base.tai ≡ clock.base.tai
 change-tai reading change clock =
-    given_frequency-tai reading change.frequency (given_any reading (tick_command change) clock)
-    ∙ given_tick-tai reading change.tick clock
+    put-tai Freq reading change.frequency (given_any reading (tick_command change) clock) (λ n. refl)
+    ∙ put-tai Tick reading change.tick clock (λ n. refl)

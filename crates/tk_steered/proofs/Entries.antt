@@ -5,18 +5,20 @@ use Rattle.std.proofs.lemmas.Cmp.{int_eq_equiv}
 use Rattle.std.proofs.lemmas.Grind.{common_steps}
 use Rattle.std.proofs.lemmas.List.{length_push}
 use Rattle.tk_clock.specs.declared.command.Command.{Command}
-use Rattle.tk_clock.specs.declared.command.Command.TheVariants.{Tai}
+use Rattle.tk_clock.specs.declared.command.Command.TheVariants.{Tai, Update}
 use Rattle.tk_clock.specs.declared.command.Entry.{Entry}
 use Rattle.tk_clock.specs.declared.refusal.Refusal.{Refusal}
 use Rattle.tk_clock.specs.declared.refusal.Refusal.TheVariants.{Full, Asleep, Awake, Invalid, Behind, Range, Memory}
 use Rattle.tk_clock.specs.Journal.{Journal, accepted_count, followed_by}
 use Rattle.tk_clock.specs.Limits.{listed_most, counted_most}
 use Rattle.tk_clock.specs.Refusal.{first_refusal, is_full, state_refusal, IsRefusal}
-use Rattle.tk_clock.specs.State.{State, state_of}
+use Rattle.tk_clock.specs.State.{State, effect, state_of}
 use Rattle.tk_clock.proofs.Legal.{first_refusal-state, state_of-followed_by}
 use Rattle.tk_keeper.specs.Keeper.{Keeper}
+use Rattle.tk_ntp.specs.Asked.{after_command}
 use Rattle.tk_ntp.specs.Change.{frequency_command, tick_command, unless_same}
 use Rattle.tk_ntp.specs.SteeredClock.{SteeredClock}
+use Rattle.tk_steered.specs.Answered.{IsCommandedBy}
 use Rattle.tk_steered.specs.Commands.{Accepts, Commands, Lead, all_entered, commands_between, entered, obeyed, rate_change, tai_command}
 use Rattle.tk_steered.proofs.Changes.{unless_same-self}
 use Rattle.tk_steered.specs.Logged.{IsShort, IsOut, Logged, has_room, moved}
@@ -155,6 +157,19 @@ room-less count more journal low e =
     let room = room-of more journal e in
     has-room count journal (omega (arith, room.0, low)) (omega (arith, room.1, low))
 
+-- a journal with room for three entries isn't full
+pub three-not-full : (journal : Journal) → has_room 3 journal ≡ true → is_full journal ≡ false
+three-not-full journal e = not-full journal (room-less 1 3 journal (omega arith) e)
+
+-- the refusal of an update by a journal with room is its clocks' refusal
+pub update-refusal : (who reading : ℕ) (clock : State) (journal : Journal) →
+    clock ≡ state_of journal → has_room 3 journal ≡ true →
+    first_refusal journal (record { who = who; reading = reading; cmd = Update })
+    ≡ state_refusal clock reading Update
+update-refusal who reading clock journal is room =
+    first_refusal-state journal clock who reading Update (state_refusal clock reading Update) is
+    (three-not-full journal room) refl
+
 -- room whose memory was asked for
 pub room-reserved : (count : ℕ) (before after : Journal) (clock : SteeredClock) (spare : ℕ)
     (result : Result ⊤ Refusal) → has_room count before ≡ true → after ≡ before →
@@ -180,6 +195,39 @@ none-entered : (who reading : ℕ) (first : Option Command) (clock : State) (jou
     unless_same clock.frequency clock.frequency ≡ None →
     all_entered who reading (commands_between first clock clock) journal ≡ journal
 none-entered who reading first clock journal e tick frequency = rw (e, tick, frequency) refl
+
+-- commands that leave the tick and the frequency make the entry of the first one only
+once-entered : (who reading : ℕ) (first : Option Command) (before after : State)
+    (journal : Journal) → unless_same before.tick after.tick ≡ None →
+    unless_same before.frequency after.frequency ≡ None →
+    all_entered who reading (commands_between first before after) journal
+    ≡ entered who reading first journal
+once-entered who reading first before after journal tick frequency = rw (tick, frequency) refl
+
+-- an accepted update makes its own entry only
+pub update-moves : (who reading : ℕ) (clock next : SteeredClock) (journal after : Journal) →
+    next ≡ after_command reading Update (effect clock.clock reading Update) clock →
+    after ≡ entered who reading (Some Update) journal →
+    let logged : Logged = record { journal = journal; clock = clock } in
+    let end : Logged = record { journal = after; clock = next } in
+    end ≡ moved who reading (Some Update) next logged
+update-moves who reading clock next journal after is entry =
+    let led = after_command reading Update (effect clock.clock reading Update) clock in
+    ap (λ (j : Journal). record { journal = j; clock = next })
+    (entry
+    ∙ sym (once-entered who reading (Some Update) clock.clock led.clock journal
+    (unless_same-self clock.clock.tick) (unless_same-self clock.clock.frequency))
+    ∙ ap (λ (n : SteeredClock).
+    all_entered who reading (commands_between (Some Update) clock.clock n.clock) journal) (sym is))
+
+-- a refused update changes nothing
+pub update-refused : (who reading : ℕ) (logged after : Logged) (result : Result ⊤ Refusal)
+    (refusal : Refusal) → result ≡ Err refusal →
+    state_refusal logged.clock.clock reading Update ≡ Some refusal → after ≡ logged →
+    IsCommandedBy who reading Update logged result after
+update-refused who reading logged after result refusal is refused same =
+    subst (λ (r : Result ⊤ Refusal). IsCommandedBy who reading Update logged r after) (sym is)
+    (record { answer = (refused, ap (λ (l : Logged). l.clock) same); entries = same })
 
 -- clocks that stay make no entry
 pub unmoved : (who reading : ℕ) (logged : Logged) →

@@ -14,15 +14,16 @@ use Rattle.tk_ntp.specs.declared.leap.Leap.{Leap}
 use Rattle.tk_ntp.specs.declared.leap.Leap.TheVariants.{None as NoLeap, Insert, Delete}
 use Rattle.tk_ntp.specs.declared.reply.Reply.{Reply}
 use Rattle.tk_ntp.specs.declared.timex.Timex.{Timex}
-use Rattle.tk_ntp.specs.Advance.{leap_of_clock, leapt, leapt_unless, second_begun_at, tai_of_clock, with_next_second}
+use Rattle.tk_ntp.specs.Advance.{leap_of_clock, leapt, leapt_unless, tai_of_clock, with_next_second}
 use Rattle.tk_ntp.specs.Applied.{request_of}
 use Rattle.tk_ntp.specs.Asked.{IsRequested, accounted_if, acts, after_command, changes_rate, forgotten, given_tai, real_at, real_refusal, steered_if, tai_asked, tai_refusal, with_asked}
-use Rattle.tk_ntp.specs.Late.{second_begun_late, with_late_second}
+use Rattle.tk_ntp.specs.Late.{with_late_second}
+use Rattle.tk_ntp.specs.Leap.{is_leap}
 use Rattle.tk_ntp.specs.Second.{leap_at}
 use Rattle.tk_ntp.specs.Staged.{leap_made, unless_refused}
 use Rattle.tk_ntp.specs.Steering.{Steered, commands, needed_rate}
-use Rattle.tk_ntp.specs.SteeredClock.{SteeredClock, after_or, given, given_change, rate_in_force}
-use Rattle.tk_steered.specs.Begun.{command_of, leap_command_at}
+use Rattle.tk_ntp.specs.SteeredClock.{SteeredClock, after_or, given, given_change, rate_in_force, steered_at}
+use Rattle.tk_steered.specs.Begun.{clock_begun, command_of, given_at}
 use Rattle.tk_steered.specs.Commands.{Accepts, Lead, commands_between, obeyed, tai_command}
 use Rattle.tk_steered.proofs.Changes.{lead-change, lead-first, change-tai}
 
@@ -62,19 +63,13 @@ leap-rate reading true by tai step clock e =
 leap-rate reading false by tai step clock e =
     record { accepted = e; obeys = refl; tick = refl; frequency = refl }
 
-insert-led : (reading : ℕ) (refusal : Option Refusal) (steered : SteeredClock) →
-    state_refusal steered.clock reading (leap_of_clock Insert steered.clock) ≡ refusal →
-    IsLed reading (command_of (unless_refused refusal Insert) steered) steered.clock
-    (leapt_unless refusal reading Insert steered).clock
-insert-led reading None steered e = leap-rate reading _ _ _ _ steered.clock e
-insert-led reading (Some refusal) steered e = unled reading steered.clock _ refl
-
-delete-led : (reading : ℕ) (refusal : Option Refusal) (steered : SteeredClock) →
-    state_refusal steered.clock reading (leap_of_clock Delete steered.clock) ≡ refusal →
-    IsLed reading (command_of (unless_refused refusal Delete) steered) steered.clock
-    (leapt_unless refusal reading Delete steered).clock
-delete-led reading None steered e = leap-rate reading _ _ _ _ steered.clock e
-delete-led reading (Some refusal) steered e = unled reading steered.clock _ refl
+real-led : (reading : ℕ) (leap : Leap) (refusal : Option Refusal) (steered : SteeredClock) →
+    is_leap leap ≡ true →
+    state_refusal steered.clock reading (leap_of_clock leap steered.clock) ≡ refusal →
+    IsLed reading (command_of (unless_refused refusal leap) steered) steered.clock
+    (leapt_unless refusal reading leap steered).clock
+real-led reading leap None steered is e = rw is (leap-rate reading _ _ _ _ steered.clock e)
+real-led reading leap (Some refusal) steered is e = unled reading steered.clock _ refl
 
 leap-led : (reading : ℕ) (leap : Leap) (steered : SteeredClock) →
     IsLed reading
@@ -82,41 +77,36 @@ leap-led : (reading : ℕ) (leap : Leap) (steered : SteeredClock) →
     (leap_of_clock leap steered.clock)) leap) steered)
     steered.clock (leapt reading leap steered).clock
 leap-led reading NoLeap steered = unled reading steered.clock _ (no_leap _ steered)
-leap-led reading Insert steered = insert-led reading _ steered refl
-leap-led reading Delete steered = delete-led reading _ steered refl
+leap-led reading Insert steered = real-led reading Insert _ steered refl refl
+leap-led reading Delete steered = real-led reading Delete _ steered refl refl
 
--- the commands as the next second begins
-pub second-leads : (reading : ℕ) (steered : SteeredClock) →
-    let after = second_begun_at reading steered in
+-- the commands as the next second begins, after any account: its leap, and the rate that it needs
+begun-leads : (reading next mark : ℕ) (steering : Steered) (steered : SteeredClock) →
+    let leap = leap_at steered.steering.ntp steered.next in
+    let begun : SteeredClock = record steered { steering = steering; next = next; mark = mark } in
+    let after = steered_at reading (leapt reading leap begun) in
     Lead reading
     (commands_between (command_of (leap_made reading steered) steered) steered.clock after.clock)
     steered.clock after.clock
-second-leads reading steered =
+begun-leads reading next mark steering steered =
     let leap = leap_at steered.steering.ntp steered.next in
-    let begun = with_next_second reading steered in
+    let begun : SteeredClock = record steered { steering = steering; next = next; mark = mark } in
     let led = leapt reading leap begun in
     lead-steered reading (command_of (leap_made reading steered) steered) steered.clock led.clock
     led.steering (leap-led reading leap begun)
 
--- the first command of a second is the one of its leap
-pub first_is : (at tai : ℕ) (clock : SteeredClock) (leap : Leap) (cmd : Option Command) →
-    cmd ≡ leap_command_at leap tai → leap ≡ leap_made at clock → tai ≡ tai_of_clock clock.clock →
-    cmd ≡ command_of (leap_made at clock) clock
-first_is at tai clock leap cmd is made same =
-    is ∙ ap (λ l. leap_command_at l tai) made ∙ ap (leap_command_at (leap_made at clock)) same
-
--- the commands as the next second begins late
-pub late-leads : (at reading : ℕ) (steered : SteeredClock) →
-    let after = second_begun_late at reading steered in
-    Lead reading
-    (commands_between (command_of (leap_made reading steered) steered) steered.clock after.clock)
+pub second-leads : (is_late : Bool) (reading at : ℕ) (steered : SteeredClock) →
+    let given = given_at is_late reading at in
+    let after = clock_begun is_late reading at steered in
+    Lead given
+    (commands_between (command_of (leap_made given steered) steered) steered.clock after.clock)
     steered.clock after.clock
-late-leads at reading steered =
-    let leap = leap_at steered.steering.ntp steered.next in
+second-leads true reading at steered =
     let begun = with_late_second at reading steered in
-    let led = leapt reading leap begun in
-    lead-steered reading (command_of (leap_made reading steered) steered) steered.clock led.clock
-    led.steering (leap-led reading leap begun)
+    begun-leads reading begun.next begun.mark begun.steering steered
+second-leads false reading at steered =
+    let begun = with_next_second at steered in
+    begun-leads at begun.next begun.mark begun.steering steered
 
 direct : (reading : ℕ) (cmd : Command) (clock : State) →
     state_refusal clock reading cmd ≡ None →

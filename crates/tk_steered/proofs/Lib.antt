@@ -1,7 +1,10 @@
 pub mod Changes
 pub mod Leads
 pub mod Entries
+pub mod Lags
+pub mod Early
 pub mod Advances
-pub mod Lateness
 pub mod Folds
 pub mod Clocks
+pub mod Updates
+pub mod Continued

@@ -1,6 +1,6 @@
 -- Commands and requests, after the seconds up to their reading have begun, with the entries of the
 -- commands that they give.
-use Rattle.std.specs.Prelude.{◌≡◌, ◌⊎◌, ℕ, ⊤, Option, Some, None, Result, Err, MatchOption, MatchResult, true}
+use Rattle.std.specs.Prelude.{◌≡◌, ◌⊎◌, ℕ, ⊤, Option, Some, None, Result, Err, MatchOption, MatchResult, true, false}
 use Rattle.tk_clock.specs.declared.command.Command.{Command}
 use Rattle.tk_clock.specs.declared.command.Command.TheVariants.{Step}
 use Rattle.tk_clock.specs.declared.refusal.Refusal.{Refusal}
@@ -46,8 +46,8 @@ IsAskedBy who reading request before result after =
 -- a call isn't made, because the entries of a second or of the call itself can't be made
 abbrev pub IsUnmade : ℕ → ℕ → ℕ → SteeredKeeper → Refusal → SteeredKeeper → Type 0
 IsUnmade count who reading before refusal after =
-    IsStopped who reading before.logged refusal after
-    ⊎ (HasArrived who reading before.logged after.logged × IsShort count after refusal)
+    IsStopped false who reading before.logged refusal after
+    ⊎ (HasArrived false who reading before.logged after.logged × IsShort count after refusal)
 
 -- the result of a call before which the seconds up to its reading begin, and the state after it.
 -- `Makes` says what the call does after these seconds, for which `count` entries must fit
@@ -55,7 +55,7 @@ abbrev pub IsFollowing : {R : Type 0} → ℕ → ℕ → ℕ → (Logged → Ty
     Result R Refusal → SteeredKeeper → Type 0
 IsFollowing count who reading Makes before result after =
     MatchResult result (λ _. ⊥) (λ refusal. IsUnmade count who reading before refusal after)
-    ⊎ ((middle : Logged) × HasArrived who reading before.logged middle
+    ⊎ ((middle : Logged) × HasArrived false who reading before.logged middle
     × (has_room count middle.journal ≡ true) × Makes middle)
 
 -- the result of a request, and the state after it: the seconds up to the reading begin first

@@ -1,6 +1,6 @@
 pub mod Commands
+pub mod Early
 pub mod Logged
 pub mod Begun
-pub mod Late
 pub mod Answered
 pub mod Applied

@@ -1,9 +1,12 @@
 -- Steered clocks with the journal of the commands that they were given.
-use Rattle.std.specs.Prelude.{◌≡◌, ℕ, ◌+◌, ◌<◌, nat_le, ◌&&◌, Bool, true, false, length, Option}
+use Rattle.std.specs.Prelude.{◌≡◌, ℕ, ◌+◌, ◌<◌, nat_le, ◌&&◌, Bool, true, false, List, [], ◌++◌, length, Option}
+use Rattle.std.specs.List.{All}
 use Rattle.tk_clock.specs.declared.command.Command.{Command}
+use Rattle.tk_clock.specs.declared.command.Entry.{Entry}
 use Rattle.tk_clock.specs.declared.refusal.Refusal.{Refusal}
 use Rattle.tk_clock.specs.declared.refusal.Refusal.TheVariants.{Full, Memory}
 use Rattle.tk_clock.specs.declared.timespec.Timespec.{Timespec}
+use Rattle.tk_clock.specs.Folding.{journal_from}
 use Rattle.tk_clock.specs.Journal.{Journal, accepted_count, opened}
 use Rattle.tk_clock.specs.Limits.{listed_most, counted_most}
 use Rattle.tk_counter.specs.Counter.{Counter}
@@ -25,6 +28,13 @@ abbrev pub logged_opened : Counter → ℕ → Timespec → ℕ → Logged
 logged_opened counter reading real hz = record {
   journal = opened counter reading real;
   clock = steered_opened counter reading real hz;
+}
+
+-- steered clocks that run already and have accepted this many commands before, with an empty journal
+abbrev pub logged_from : ℕ → SteeredClock → Logged
+logged_from front steered = record {
+  journal = journal_from front steered.clock [];
+  clock = steered;
 }
 
 -- the state after a caller's commands at a reading, which left the clocks as `after`: the first
@@ -51,6 +61,13 @@ abbrev pub has_room : ℕ → Journal → Bool
 has_room count journal =
     nat_le (length journal.entries + count) listed_most
     && nat_le (accepted_count journal + count) counted_most
+
+-- a journal has the entries of an earlier one, and then entries of a caller at one reading
+pub record IsContinuedAt (who reading : ℕ) (before after : Journal) : Type 0 where
+  pub opening : after.opening ≡ before.opening
+  pub added : List Entry
+  pub entries : after.entries ≡ before.entries ++ added
+  pub each : All (λ (entry : Entry). (entry.who ≡ who) × (entry.reading ≡ reading)) added
 
 -- why this many more entries can't be made: they don't fit the journal, or memory is missing for
 -- them

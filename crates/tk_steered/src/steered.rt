@@ -1,10 +1,11 @@
-ghost use Rattle.std.specs.Prelude.{◌≡◌, ◌+◌, ◌≤◌, MatchResult, MatchOption, Some, None, true};
+ghost use Rattle.std.specs.Prelude.{◌≡◌, ◌+◌, ◌<◌, ◌≤◌, MatchResult, MatchOption, Some, None, true};
 
 mod advancing;
 mod asking;
 mod entering;
 mod folding;
 mod late;
+mod updating;
 
 use std::alloc::{Allocator, Global};
 use std::marker::Model;
@@ -30,34 +31,44 @@ pub const REQUEST_ENTRIES_LIMIT: usize = 6;
 pub struct Steered<A: Allocator = Global> {
     /// Contains the clocks and their journal.
     keeper: Timekeeper<A>,
-    /// Contains the same clocks with their discipline.
+    /// Contains the same clocks with their discipline. If `early` is above 0, they haven't taken
+    /// over the updates since the keeper's clocks were the same: `current` returns them up to date.
     clock: SteeredClock,
+    /// Contains a number of cycles. At a reading that is fewer cycles after the last one, the next
+    /// second hasn't begun, so only the keeper's clocks need an update there. 0 says nothing.
+    early: u64,
 }
 
 impl<A: Allocator> Model for Steered<A> {
     ghost use Rattle.std.specs.Prelude.{◌≡◌};
     ghost use Rattle.tk_clock.specs.State.{state_of};
+    ghost use Rattle.tk_steered.specs.Early.{IsCurrent, current};
     ghost use Rattle.tk_steered.specs.Logged.{SteeredKeeper};
 
     ghost Value = { SteeredKeeper };
 
     ghost view = { λ a. record {
-      logged = record { journal = a.keeper.journal; clock = a.clock };
+      logged = record {
+        journal = a.keeper.journal;
+        clock = current a.early (state_of a.keeper.journal) a.clock;
+      };
       spare = a.keeper.spare;
     } };
 
-    ghost invariant = { λ a. a.clock.clock ≡ state_of a.keeper.journal };
+    ghost invariant = { λ a. IsCurrent a.early (state_of a.keeper.journal) a.clock };
 }
 
 impl<A: Allocator + Copy> Steered<A> {
     ghost use Rattle.tk_clock.specs.declared.clock_id.ClockId.TheVariants.{Realtime};
     ghost use Rattle.tk_clock.specs.Legal.{IsLegal};
+    ghost use Rattle.tk_clock.specs.Limits.{counted_most};
+    ghost use Rattle.tk_clock.specs.declared.refusal.Refusal.TheVariants.{Invalid};
     ghost use Rattle.tk_clock.specs.Reach.{IsFirstReached, IsNeverReached};
     ghost use Rattle.tk_clock.specs.State.{state_of};
     ghost use Rattle.tk_clock.specs.Time.{nanoseconds};
     ghost use Rattle.tk_ntp.specs.Advance.{second_time};
     ghost use Rattle.tk_ntp.specs.SteeredClock.{steered_refusal};
-    ghost use Rattle.tk_steered.specs.Logged.{logged_opened};
+    ghost use Rattle.tk_steered.specs.Logged.{logged_opened, logged_from};
 
     /// Opens the clocks of the counter `desc` at `reading`, in cycles, with an empty journal and a
     /// fresh discipline. They are awake and at their usual rate, MONOTONIC is 0 and REALTIME is
@@ -83,7 +94,36 @@ impl<A: Allocator + Copy> Steered<A> {
     {
         let keeper = Timekeeper::open(alloc, desc, reading, real)?;
         let clock = SteeredClock::open(desc, reading, real, hz)?;
-        Ok(Steered { keeper, clock })
+        Ok(Steered {
+            keeper,
+            clock,
+            early: 0,
+        })
+    }
+
+    /// Opens a keeper for steered clocks that run already, with an empty journal. `front` is the
+    /// number of commands that are counted as accepted before: the next command has the number
+    /// `front + 1`. The clocks and their discipline stay as they are. Later calls allocate from
+    /// `alloc`.
+    ///
+    /// The clocks may come from `SteeredClock::from_numbers`, for example, or from
+    /// `SteeredClock::open_at`.
+    ///
+    /// # Errors
+    ///
+    /// `Refusal::Invalid` if `front` is above `2^63 - 1`.
+    pub fn open_from(alloc: A, steered: SteeredClock, front: u64) -> Result<Steered<A>, Refusal>
+        ensures { MatchResult result
+            (λ opened. (front ≤ counted_most) × (opened.logged ≡ logged_from front steered)
+            × (opened.spare ≡ 0))
+            (λ refusal. (counted_most < front) × (refusal ≡ Invalid)) }
+    {
+        let keeper = Timekeeper::open_from(alloc, steered.clock(), front)?;
+        Ok(Steered {
+            keeper,
+            clock: steered,
+            early: 0,
+        })
     }
 
     /// Returns the clocks with their journal: `get`, `snapshot`, `snapshot_at`, `trace`, `entry`
@@ -120,7 +160,20 @@ impl<A: Allocator + Copy> Steered<A> {
         // they are the clocks of the journal
         ensures running { result.clock ≡ state_of self.now.logged.journal }
     {
-        self.clock
+        self.current()
+    }
+
+    /// Returns the clocks with their discipline, up to date.
+    fn current(&self) -> SteeredClock
+        ensures value { result ≡ self.now.logged.clock }
+        ensures running { result.clock ≡ state_of self.now.logged.journal }
+    {
+        if self.early == 0 {
+            return self.clock;
+        }
+        let mut now = self.clock;
+        now.catch_up(self.keeper.clock());
+        now
     }
 
     /// Returns the first reading, in cycles, at which the next second of REALTIME has begun: the
@@ -131,6 +184,6 @@ impl<A: Allocator + Copy> Steered<A> {
             (IsNeverReached self.now.logged.clock.clock.base Realtime nanos)
             (λ reading. IsFirstReached self.now.logged.clock.clock.base Realtime nanos reading) }
     {
-        self.clock.next_second()
+        self.current().next_second()
     }
 }

@@ -2,6 +2,8 @@
 
 mod memory;
 mod orders;
+mod running;
+mod updates;
 
 use std::alloc::Allocator;
 use std::fmt::Debug;

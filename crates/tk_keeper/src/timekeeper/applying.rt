@@ -90,12 +90,16 @@ impl<A: Allocator + Copy> Timekeeper<A> {
         Ok(())
     }
 
-    /// Applies a command and adds it to the journal, which has the capacity for it. Returns its
-    /// number.
+    /// Applies a command as `apply` does, for a journal that isn't full and has the memory for its
+    /// entry: `spare()` is above 0. It doesn't test them again.
     ///
     /// It changes the clocks in place. A refused command doesn't change them.
+    ///
+    /// # Errors
+    ///
+    /// The errors of `apply`, except `Full` and `Memory`.
     #[inline(always)]
-    fn enter(&mut self, entry: Entry) -> Result<u64, Refusal>
+    pub fn enter(&mut self, entry: Entry) -> Result<u64, Refusal>
         requires room { 0 < self.old.spare }
         requires free { is_full self.old.journal ≡ false }
         ensures answer { MatchResult result

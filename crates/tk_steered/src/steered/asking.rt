@@ -11,7 +11,6 @@ ghost use Rattle.tk_steered.specs.Applied.{IsAppliedBy, IsDirect, IsFollowedBy, 
 ghost use Rattle.tk_steered.specs.Commands.{tai_command};
 ghost use Rattle.tk_steered.specs.Logged.{has_room};
 
-use super::entering::enter_all;
 use super::{REQUEST_ENTRIES_LIMIT, SECOND_ENTRIES_LIMIT, Steered};
 use std::alloc::Allocator;
 use tk_clock::{Command, Refusal};
@@ -94,6 +93,7 @@ impl<A: Allocator + Copy> Steered<A> {
     }
 
     /// Applies a command that is neither `Freq` nor `Tick`.
+    #[inline(always)]
     fn apply_plain(&mut self, who: u32, reading: u64, cmd: Command) -> Result<(), Refusal>
         requires plain { request_of cmd ≡ None }
         ensures { IsPlainBy (is_resume cmd) who reading cmd self.old result self.new }
@@ -114,19 +114,15 @@ impl<A: Allocator + Copy> Steered<A> {
         self.command(who, reading, cmd)
     }
 
-    /// Applies an update after the seconds up to its reading have begun. Mostly none is due, and
-    /// then the update is the test of its reading.
-    fn apply_update(&mut self, who: u32, reading: u64) -> Result<(), Refusal>
-        ensures { IsFollowedBy who reading Command.Update self.old result self.new }
-    {
-        if self.clock.is_settled(reading) && self.is_ready(SECOND_ENTRIES_LIMIT) {
-            return self.command(who, reading, Command::Update);
-        }
-        self.apply_awake(who, reading, Command::Update)
-    }
-
-    /// Applies a command after the seconds up to its reading have begun.
-    fn apply_awake(&mut self, who: u32, reading: u64, cmd: Command) -> Result<(), Refusal>
+    /// Applies a command after the seconds up to its reading have begun. It is out of line, so that
+    /// most updates don't reserve its stack.
+    #[inline(never)]
+    pub(super) fn apply_awake(
+        &mut self,
+        who: u32,
+        reading: u64,
+        cmd: Command,
+    ) -> Result<(), Refusal>
         requires plain { request_of cmd ≡ None }
         ensures { IsFollowedBy who reading cmd self.old result self.new }
     {
@@ -160,16 +156,9 @@ impl<A: Allocator + Copy> Steered<A> {
         ensures room { has_room 6 self.old.logged.journal ≡ true →
             has_room 3 self.new.logged.journal ≡ true }
     {
-        let before = self.clock.rate();
-        self.clock.command(reading, cmd)?;
-        enter_all(
-            &mut self.keeper,
-            who,
-            reading,
-            Some(cmd),
-            before,
-            &self.clock,
-        );
+        let mut next = self.current();
+        next.command(reading, cmd)?;
+        self.take(who, reading, Some(cmd), next);
         Ok(())
     }
 
@@ -180,9 +169,10 @@ impl<A: Allocator + Copy> Steered<A> {
         requires spare { 3 ≤ self.old.spare }
         ensures { IsRequestedBy who reading request.now self.old.logged result self.new.logged }
     {
-        let mut next = self.clock;
+        let now = self.current();
+        let mut next = now;
         let reply = next.request(reading, request)?;
-        let first = tai_command(&self.clock, &next);
+        let first = tai_command(&now, &next);
         self.take(who, reading, first, next);
         Ok(reply)
     }

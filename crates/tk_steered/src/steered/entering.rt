@@ -28,9 +28,10 @@ impl<A: Allocator + Copy> Steered<A> {
         ensures logged { self.new.logged ≡ moved who reading first next self.old.logged }
         ensures spare { self.old.spare ≤ self.new.spare + 3 }
     {
-        let before = self.clock.rate();
+        let before = self.current().rate();
         enter_all(&mut self.keeper, who, reading, first, before, &next);
         self.clock = next;
+        self.early = 0;
     }
 
     /// Reserves memory for the entries of a call, unless the memory for them is there.
@@ -77,7 +78,7 @@ impl<A: Allocator + Copy> Steered<A> {
 
 /// Enters the commands at a reading that left the steered clocks `next`: the first one, and those
 /// for the tick and the frequency, if they changed from those of the rate `before`.
-pub(super) fn enter_all<A: Allocator + Copy>(
+fn enter_all<A: Allocator + Copy>(
     keeper: &mut Timekeeper<A>,
     who: u32,
     reading: u64,

@@ -57,7 +57,7 @@ fn command(seed: u64) -> Command {
 }
 
 /// Gives both clocks an order at a reading, and compares the answers.
-fn give<A: Allocator + Copy>(
+pub(super) fn give<A: Allocator + Copy>(
     rt: &impl Abort,
     steered: &mut Steered<A>,
     plain: &mut SteeredClock,

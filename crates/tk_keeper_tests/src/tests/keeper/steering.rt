@@ -35,3 +35,12 @@ fn a_tick_steers_monotonic_and_not_the_raw_clock(rt: HostRuntime) {
     answers(&rt, &mut keeper, &[(0, Command::Tick(11_000), Ok(1))]);
     speeds_up(&rt, &mut keeper);
 }
+
+#[test]
+fn the_running_clocks_have_the_rate_in_force(rt: HostRuntime) {
+    let mut keeper = opened(&rt, rt.alloc());
+    answers(&rt, &mut keeper, &[(0, Command::Tick(11_000), Ok(1))]);
+    let clock = *keeper.clock();
+    assert_same(&rt, &(clock.tick(), clock.frequency()), &(11_000, 0));
+    assert_same(&rt, &clock.snapshot(1).words(), &keeper.snapshot().words());
+}

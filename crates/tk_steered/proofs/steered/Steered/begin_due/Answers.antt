@@ -1,79 +1,65 @@
-use Rattle.std.proofs.Common.{◌≡◌, ◌∙◌, ap, sym, subst, ℕ, Option, true}
-use Rattle.std.specs.Prelude.{unsigned_abs}
+use Rattle.std.proofs.Common.{◌≡◌, ◌∙◌, ap, refl, sym, subst, ℕ, Bool, Option, true}
 use Rattle.std.proofs.lemmas.Result.{err_from_is_err_and}
 use Rattle.tk_clock.specs.declared.command.Command.{Command}
-use Rattle.tk_clock.specs.Snapshot.{Snapshot}
-use Rattle.tk_ntp.specs.Advance.{IsDue, second_begun_at, tai_of_clock}
-use Rattle.tk_ntp.specs.Staged.{leap_made}
+use Rattle.tk_ntp.specs.declared.begun_second.BegunSecond.{BegunSecond}
+use Rattle.tk_ntp.specs.Advance.{IsDue}
 use Rattle.tk_ntp.specs.SteeredClock.{SteeredClock}
-use Rattle.tk_steered.specs.Begun.{command_of, second_logged}
+use Rattle.tk_steered.specs.Begun.{IsSecondBegun, command_of, second_logged}
 use Rattle.tk_steered.specs.Commands.{Lead, commands_between}
-use Rattle.tk_steered.specs.Logged.{Logged, SteeredKeeper, has_room, moved}
-use Rattle.tk_steered.proofs.Leads.{first_is, second-leads}
+use Rattle.tk_steered.specs.Logged.{Logged, has_room, moved}
+use Rattle.tk_steered.proofs.Leads.{second-leads}
 use Rattle.tk_steered.proofs.steered.Steered.begin_due.Goals as goal
 
-second-lead : (at : ℕ) (clock next : SteeredClock) (cmd : Option Command) (logged : Logged) →
-    cmd ≡ command_of (leap_made at clock) clock → next ≡ second_begun_at at clock →
-    clock ≡ logged.clock →
-    Lead at (commands_between cmd logged.clock.clock next.clock) logged.clock.clock next.clock
-second-lead at clock next cmd logged is begun same =
-    subst (λ (s : SteeredClock). Lead at (commands_between cmd s.clock next.clock) s.clock next.clock)
-    same
-    (subst (λ (n : SteeredClock). Lead at (commands_between cmd clock.clock n.clock) clock.clock
-    n.clock) (sym begun)
-    (subst (λ c. Lead at (commands_between c clock.clock (second_begun_at at clock).clock)
-    clock.clock (second_begun_at at clock).clock) (sym is)
-    (second-leads at clock)))
+-- the commands of a second that began
+module _ (is_late : Bool) (reading at : ℕ) (second : BegunSecond) (next : SteeredClock)
+    (cmd : Option Command) (logged : Logged)
+    (begun : IsSecondBegun is_late reading at logged.clock second next)
+    (first : cmd ≡ command_of second.leap logged.clock) where
+  leads : Lead second.reading (commands_between cmd logged.clock.clock next.clock)
+      logged.clock.clock next.clock
+  leads = rw (first, begun.given, begun.leap, begun.clock)
+      (second-leads is_late reading at logged.clock)
 
-second-moved : (who at : ℕ) (clock next : SteeredClock) (cmd : Option Command)
-    (before logged : Logged) →
-    cmd ≡ command_of (leap_made at clock) clock → next ≡ second_begun_at at clock →
-    clock ≡ before.clock → logged ≡ before →
-    moved who at cmd next logged ≡ second_logged who at before
-second-moved who at clock next cmd before logged is begun same kept =
-    ap (moved who at cmd next) kept
-    ∙ ap (λ (n : SteeredClock). moved who at cmd n before) begun
-    ∙ ap (λ c. moved who at c (second_begun_at at clock) before) is
-    ∙ ap (λ (s : SteeredClock). moved who at (command_of (leap_made at s) s)
-    (second_begun_at at s) before) same
+  enters : (who : ℕ) →
+      moved who second.reading cmd next logged ≡ second_logged is_late who reading at logged
+  enters who = rw (first, begun.given, begun.leap, begun.clock) refl
 
 pub returns-in_err-make_room-clause-begun : goal.returns-in_err-make_room-clause-begun
 returns-in_err-make_room-clause-begun g c =
     let p = err_from_is_err_and c.from_residual.result c.from_residual.ensures.1 in
-    let due = subst (λ (k : SteeredKeeper). IsDue k.logged.clock c.args.reading
-    c.in-Some.second.reading) c.self.view_is c.in-Some.ensures.begun.0 in
-    rw (p.1, p.2)
-    (c.make_room.ensures.logged, (c.in-Some.second.reading, due), c.in_err-make_room.ensures.answer)
+    let begun = c.in-Some.ensures.begun in
+    let due = subst (λ (s : SteeredClock). IsDue s c.args.reading begun.0)
+    c.current-now.ensures.value begun.1.due in
+    rw (p.1, p.2) (c.make_room.ensures.logged, (begun.0, due), c.in_err-make_room.ensures.answer)
 
 pub take-requires-clause-lead : goal.take-requires-clause-lead
 take-requires-clause-lead g c =
-    let clock = c.self.inside.clock in
-    let at = c.in-Some.second.reading in
-    let tai : c.tai.result ≡ tai_of_clock clock.clock = ap unsigned_abs c.tai.ensures
-    ∙ ap (λ (s : Snapshot). unsigned_abs s.base.tai) c.snapshot.ensures in
-    let first = first_is at c.tai.result clock c.in-Some.second.leap c.leap_command-first.result
-    c.leap_command-first.ensures c.in-Some.ensures.begun.1 tai in
-    second-lead at clock c.begin_due.new.self c.leap_command-first.result
-    c.make_room.new.self.logged first c.in-Some.ensures.begun.2
-    (ap (λ (k : SteeredKeeper). k.logged.clock) c.self.view_is
-    ∙ ap (λ (l : Logged). l.clock) (sym c.make_room.ensures.logged))
+    let logged = c.make_room.new.self.logged in
+    let begun = c.in-Some.ensures.begun in
+    let same = c.current-now.ensures.value
+    ∙ ap (λ (l : Logged). l.clock) (sym c.make_room.ensures.logged) in
+    leads c.args.is_late c.args.reading begun.0 c.in-Some.second c.begin.new.clock
+    c.leap_command-first.result logged
+    (subst (λ (s : SteeredClock). IsSecondBegun c.args.is_late c.args.reading begun.0 s
+    c.in-Some.second c.begin.new.clock) same begun.1)
+    (c.leap_command-first.ensures ∙ ap (command_of c.in-Some.second.leap) same)
 
 pub returns-clause-begun : goal.returns-clause-begun
 returns-clause-begun g c =
-    let clock = c.self.inside.clock in
-    let at = c.in-Some.second.reading in
-    let tai : c.tai.result ≡ tai_of_clock clock.clock = ap unsigned_abs c.tai.ensures
-    ∙ ap (λ (s : Snapshot). unsigned_abs s.base.tai) c.snapshot.ensures in
-    let first = first_is at c.tai.result clock c.in-Some.second.leap c.leap_command-first.result
-    c.leap_command-first.ensures c.in-Some.ensures.begun.1 tai in (
-      at,
-      subst (λ (k : SteeredKeeper). IsDue k.logged.clock c.args.reading at) c.self.view_is
-          c.in-Some.ensures.begun.0,
-      subst (λ (l : Logged). has_room 3 l.journal ≡ true) c.make_room.ensures.logged
+    let before = c.args.self.now.logged in
+    let begun = c.in-Some.ensures.begun in
+    let is = subst (λ (s : SteeredClock). IsSecondBegun c.args.is_late c.args.reading begun.0 s
+    c.in-Some.second c.begin.new.clock) c.current-now.ensures.value begun.1 in
+    let kept = c.make_room.ensures.logged in
+    let first = c.leap_command-first.ensures
+    ∙ ap (command_of c.in-Some.second.leap) c.current-now.ensures.value in (
+      begun.0,
+      is.due,
+      subst (λ (l : Logged). has_room 3 l.journal ≡ true) kept
           c.in_ok-make_room.ensures.answer.0,
       c.take.ensures.logged
-          ∙ second-moved c.args.who at clock c.begin_due.new.self c.leap_command-first.result
-          c.args.self.now.logged c.make_room.new.self.logged first c.in-Some.ensures.begun.2
-          (ap (λ (k : SteeredKeeper). k.logged.clock) c.self.view_is)
-          c.make_room.ensures.logged,
+          ∙ ap (moved c.args.who c.in-Some.second.reading c.leap_command-first.result
+          c.begin.new.clock) kept
+          ∙ enters c.args.is_late c.args.reading begun.0 c.in-Some.second c.begin.new.clock
+          c.leap_command-first.result before is first c.args.who,
     )

@@ -8,7 +8,7 @@ use Rattle.tk_ntp.specs.Advance.{tai_of_clock}
 use Rattle.tk_ntp.specs.Asked.{IsRequested, request_refusal}
 use Rattle.tk_ntp.specs.SteeredClock.{SteeredClock}
 use Rattle.tk_steered.specs.Commands.{Lead, commands_between, tai_command}
-use Rattle.tk_steered.specs.Logged.{Logged, SteeredKeeper, moved}
+use Rattle.tk_steered.specs.Logged.{Logged, moved}
 use Rattle.tk_steered.proofs.Entries.{unmoved}
 use Rattle.tk_steered.proofs.Leads.{request-leads}
 use Rattle.tk_steered.proofs.steered.Steered.request.Goals as goal
@@ -36,10 +36,9 @@ request-moved who reading request clock next cmd logged is same =
 pub returns-in_err-reply : goal.returns-in_err-reply
 returns-in_err-reply g c =
     let p = err_from_is_err_and c.from_residual.result c.from_residual.ensures.1 in
-    let refused = subst (λ (k : SteeredKeeper).
-    request_refusal c.args.reading c.args.request.now k.logged.clock
-    ≡ Some c.in_err-reply.field-0.0) c.self.view_is
-    c.in_err-reply.ensures.0 in
+    let refused = subst (λ (s : SteeredClock).
+    request_refusal c.args.reading c.args.request.now s ≡ Some c.in_err-reply.field-0.0)
+    c.current-now.ensures.value c.in_err-reply.ensures.0 in
     rw (p.1, p.2) (record {
       answer = (refused, refl);
       entries = unmoved c.args.who c.args.reading c.args.self.now.logged;
@@ -47,21 +46,21 @@ returns-in_err-reply g c =
 
 pub take-requires-clause-lead : goal.take-requires-clause-lead
 take-requires-clause-lead g c =
-    request-lead c.args.reading c.args.request.now c.self.inside.clock c.request.new.self
+    request-lead c.args.reading c.args.request.now c.current-now.result c.request.new.self
     c.tai_command-first.result c.in_ok-reply.reply c.args.self.now.logged
     c.tai_command-first.ensures.value c.tai_command-first.ensures.some c.in_ok-reply.ensures
-    (ap (λ (k : SteeredKeeper). k.logged.clock) c.self.view_is)
+    c.current-now.ensures.value
 
 pub returns : goal.returns
 returns g c =
     let logged = c.args.self.now.logged in
-    let clock_is = ap (λ (k : SteeredKeeper). k.logged.clock) c.self.view_is in
+    let clock_is = c.current-now.ensures.value in
     let asked = subst (λ (s : SteeredClock). IsRequested c.args.reading c.args.request.now s
     (Ok c.in_ok-reply.reply) c.request.new.self) clock_is c.in_ok-reply.ensures in
     let next_is : c.take.new.self.logged.clock ≡ c.request.new.self =
     ap (λ (l : Logged). l.clock) c.take.ensures.logged in
     let entries = c.take.ensures.logged
-    ∙ request-moved c.args.who c.args.reading c.args.request.now c.self.inside.clock
+    ∙ request-moved c.args.who c.args.reading c.args.request.now c.current-now.result
     c.request.new.self c.tai_command-first.result logged c.tai_command-first.ensures.value clock_is
     in
     record {

@@ -1,10 +1,11 @@
 use Rattle.std.proofs.Common.{◌∙◌, ap, sym, subst, Option, ℕ}
 use Rattle.tk_clock.specs.declared.command.Command.{Command}
 use Rattle.tk_clock.specs.Journal.{Journal}
-use Rattle.tk_clock.specs.State.{State}
+use Rattle.tk_clock.specs.State.{State, state_of}
 use Rattle.tk_ntp.specs.SteeredClock.{SteeredClock, rate_in_force}
 use Rattle.tk_steered.specs.Commands.{Lead, all_entered, commands_between}
 use Rattle.tk_steered.specs.Logged.{Logged, SteeredKeeper, moved}
+use Rattle.tk_steered.proofs.Early.{current-clock}
 use Rattle.tk_steered.proofs.steered.Steered.take.Goals as goal
 
 abbrev Leads : ℕ → Option Command → SteeredClock → State → Type 0
@@ -13,11 +14,15 @@ Leads reading first next before =
 
 pub enter_all-requires-clause-rate : goal.enter_all-requires-clause-rate
 enter_all-requires-clause-rate g c =
-    c.rate-before.ensures.value ∙ ap rate_in_force c.self.invariant
+    c.rate-before.ensures.value
+    ∙ ap rate_in_force (c.current.ensures.running
+    ∙ ap (λ (k : SteeredKeeper). state_of k.logged.journal) (sym c.self.view_is))
 
 pub enter_all-requires-clause-lead : goal.enter_all-requires-clause-lead
 enter_all-requires-clause-lead g c =
-    subst (Leads c.args.reading c.args.first c.args.next) c.self.invariant
+    let inside = c.self.inside in
+    subst (Leads c.args.reading c.args.first c.args.next)
+    (current-clock inside.early (state_of inside.keeper.journal) inside.clock c.self.invariant)
     (subst (λ (k : SteeredKeeper). Leads c.args.reading c.args.first c.args.next
     k.logged.clock.clock) (sym c.self.view_is) c.requires.lead)
 
@@ -31,6 +36,7 @@ returns-clause-logged g c =
     ap logged (c.enter_all.ensures.journal
     ∙ ap (λ (s : State). all_entered c.args.who c.args.reading
     (commands_between c.args.first s c.args.next.clock) inside.keeper.journal)
-    (sym c.self.invariant))
+    (sym (current-clock inside.early (state_of inside.keeper.journal) inside.clock
+    c.self.invariant)))
     ∙ ap (λ (k : SteeredKeeper). moved c.args.who c.args.reading c.args.first c.args.next k.logged)
     c.self.view_is
