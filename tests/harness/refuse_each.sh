@@ -3,13 +3,14 @@
 #
 #     tests/harness/refuse_each.sh PROGRAM
 #
-# The runs are reports of four scripts with and without `--keep 1`, short traces and one that several
-# threads convert, races of one, two and three actors, and the reports of two scripts by `many`. With
-# one request refused, the program must end with `out of memory` and nothing written, or write the
-# whole output. A report by `many` may also be the line `fault,out of memory`. If its threads are
-# refused from the Nth on, a race or `many` must end with status 1 and one line, or write the whole
-# output, and a trace must write the whole output. N counts up from 1 until a run meets no refusal. A
-# refused request for memory is reported as a thread that can't be started once for each thread.
+# The runs are reports of four scripts with and without `--keep 1`, reports of steered clocks that a
+# script opens and continues, a trace of steered clocks, short traces and one that several threads
+# convert, races of one, two and three actors, and the reports of two scripts by `many`. With one
+# request refused, the program must end with `out of memory` and nothing written, or write the whole
+# output. A report by `many` may also be the line `fault,out of memory`. If its threads are refused
+# from the Nth on, a race or `many` must end with status 1 and one line, or write the whole output,
+# and a trace must write the whole output. N counts up from 1 until a run meets no refusal. A refused
+# request for memory is reported as a thread that can't be started once for each thread.
 #
 # It ends with status 1 at the first run that does anything else. It needs gcc and glibc.
 set -u
@@ -20,6 +21,8 @@ trap 'rm -rf "$work"' EXIT
 gcc -shared -fPIC -O1 -o "$work/refuse.so" refuse_malloc.c || exit 1
 cp ../../crates/tk_examples/data/01-updates.csv "$work/1.csv"
 cp ../../crates/tk_examples/data/12-leap-days.csv "$work/2.csv"
+cp ../../crates/tk_examples/data/29-adjtime.csv "$work/steered.csv"
+cp ../../crates/tk_examples/data/30-a-discipline-continued.csv "$work/continued.csv"
 cd "$work" || exit 1
 
 # more requests than any run makes: a loop that gets there has gone wrong
@@ -93,6 +96,9 @@ seq 0 99 | sed 's/.*/1,&\n3,&/' >short
 seq 0 199999 | sed 's/.*/2,&/' >long
 each REFUSE "$memory" /dev/null trace tai 4.csv short
 each REFUSE "$memory" /dev/null trace realtime 3.csv short
+each REFUSE "$memory" steered.csv replay
+each REFUSE "$memory" continued.csv replay
+each REFUSE "$memory" /dev/null trace realtime steered.csv short
 seq 0 99 | sed 's/.*/"2",&/' >quoted
 each REFUSE "$memory" /dev/null trace tai quoted.csv quoted
 each REFUSE "$memory" /dev/null trace tai 4.csv long

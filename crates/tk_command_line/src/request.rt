@@ -6,7 +6,8 @@ pub enum Request<'a> {
     /// `replay`, or no argument: the report of the script on standard input.
     Replay {
         /// The N of `--keep N`, from 1 to 524,288: the number of entries that a full journal is
-        /// folded to. `None` means that a full journal refuses commands.
+        /// folded to. `None` means that a full journal refuses commands. The journal of clocks that
+        /// a discipline steers is never folded.
         keep: Option<u64>,
     },
     /// `trace CLOCK SCRIPT STAMPS`: the value of a clock at each stamp of a file.

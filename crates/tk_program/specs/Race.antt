@@ -5,10 +5,11 @@ use Rattle.std.specs.List.{All, AllZip, list_any}
 use Rattle.tk_clock.specs.Journal.{Journal, accepted_count}
 use Rattle.tk_clock.specs.Refusal.{opening_refusal}
 use Rattle.tk_clock.specs.State.{State}
+use Rattle.tk_ntp.specs.SteeredClock.{SteeredClock}
 use Rattle.tk_script.specs.declared.row.Row.{Row}
 use Rattle.tk_script.specs.declared.row.Row.TheVariants as rows
 use Rattle.tk_script.specs.declared.opening.Opening.{Opening}
-use Rattle.tk_script.specs.declared.opening.Start.TheVariants.{Opened, Steered, Running}
+use Rattle.tk_script.specs.declared.opening.Start.TheVariants.{Opened, Steered, Running, Continued}
 use Rattle.tk_script.specs.declared.script_error.ScriptError.{ScriptError}
 use Rattle.tk_script.specs.Grammar.{Fails, Parse, parse_of}
 use Rattle.tk_report.specs.declared.fault.Fault.{Fault}
@@ -69,8 +70,8 @@ IsOpenable script =
 abbrev pub OpensAs : Racer → Racer → Type 0
 OpensAs first other = AreSameOpenings first.opening other.opening
 
--- the content of a script that opens its clocks, of one that begins from running clocks, and of one
--- that opens steered clocks
+-- the content of a script that opens its clocks, of one that begins from running clocks, of one that
+-- opens steered clocks, and of one that continues running clocks with their discipline
 abbrev pub parse : Racer → Parse
 parse script = record { start = Opened script.opening; rows = script.rows.items }
 
@@ -79,6 +80,9 @@ running_parse clock front rows = record { start = Running clock front; rows = ro
 
 abbrev pub steered_parse : Opening → ℕ → List Row → Parse
 steered_parse opening hz rows = record { start = Steered opening hz; rows = rows }
+
+abbrev pub continued_parse : SteeredClock → ℕ → List Row → Parse
+continued_parse clock front rows = record { start = Continued clock front; rows = rows }
 
 -- of a folder and its files: the result of opening each name, the bytes of a file that are known,
 -- and the results of its reads
@@ -102,7 +106,7 @@ module _ {D F : Type 0} (open_gives : D → List ℕ → Option F → Type 0)
 
   -- why the file at this place gives no script that can race: it couldn't be read, its bytes have
   -- this fault, an allocation failed, or its script begins from running clocks, changes its
-  -- counter, opens steered clocks or contains a request
+  -- counter, opens or continues steered clocks or contains a request
   abbrev pub StopsScript : ℕ → List ℕ → Ending → Type 0
   StopsScript place name ending =
       ((fault : Fault) × (ending ≡ endings.Fault fault)
@@ -115,6 +119,8 @@ module _ {D F : Type 0} (open_gives : D → List ℕ → Option F → Type 0)
       × (changes_counter script ≡ true))
       ⊎ ((opening : Opening) × (hz : ℕ) × (rows : List Row) × (ending ≡ endings.Steered place)
       × IsParsedFrom name (steered_parse opening hz rows))
+      ⊎ ((clock : SteeredClock) × (front : ℕ) × (rows : List Row) × (ending ≡ endings.Steered place)
+      × IsParsedFrom name (continued_parse clock front rows))
       ⊎ ((script : Racer) × (ending ≡ endings.Steered place) × IsParsedFrom name (parse script)
       × (changes_counter script ≡ false) × (asks script ≡ true))
 

@@ -34,7 +34,7 @@ pub enum Ending {
         /// The script's first fault.
         error: ScriptError,
     },
-    /// The script of a race's file begins from running clocks: status 1.
+    /// The script of a race's file begins from running clocks that nothing steers: status 1.
     Running {
         /// The file's index, from 0.
         index: usize,
@@ -44,8 +44,8 @@ pub enum Ending {
         /// The file's index, from 0.
         index: usize,
     },
-    /// The script of a race's file opens steered clocks, or contains a request to steer them:
-    /// status 1.
+    /// The script of a race's file opens steered clocks, continues running ones, or contains a
+    /// request to steer them: status 1.
     Steered {
         /// The file's index, from 0.
         index: usize,

@@ -1,6 +1,6 @@
 //! Reads scripts by the names of their files.
 ghost use Rattle.std.specs.Prelude.{◌≡◌, IfErr, IfOk};
-ghost use Rattle.tk_program.specs.Race.{AreScriptsFrom, IsScriptFrom, StopsScript, StopsScripts, asks, changes_counter, is_change, is_request};
+ghost use Rattle.tk_program.specs.Race.{AreScriptsFrom, IsScriptFrom, StopsScript, StopsScripts, asks, changes_counter};
 
 use crate::ending::Ending;
 use crate::files::read_file;
@@ -17,8 +17,8 @@ use tk_script::{Row, Script, Start};
 /// Returns the first fault; `Fault::Memory` may replace any other result:
 /// - `Ending::Fault` with `Fault::Read`: a file can't be opened or read
 /// - `Ending::File`: its script has a fault
-/// - `Ending::Running`: its script begins from running clocks
-/// - `Ending::Steered`: its script opens steered clocks
+/// - `Ending::Running`: its script begins from running clocks that nothing steers
+/// - `Ending::Steered`: its script opens steered clocks, or continues running ones
 /// - `Ending::Counter`: its script changes its counter
 /// - `Ending::Steered`: its script contains a request
 /// - `Ending::Fault` with `Fault::Memory`: an allocation failed
@@ -65,6 +65,7 @@ fn read_script<D: Folder>(
         Start::Opened(opening) => opening,
         Start::Running { .. } => return Err(Ending::Running { index: place }),
         Start::Steered { .. } => return Err(Ending::Steered { index: place }),
+        Start::Continued { .. } => return Err(Ending::Steered { index: place }),
     };
     let racer = Racer { opening, rows };
     if has_change(&racer) {
@@ -80,26 +81,14 @@ fn read_script<D: Folder>(
 fn has_change(racer: &Racer) -> bool
     ensures { result ≡ changes_counter racer.now }
 {
-    racer.rows.iter().any(|row| is_change_row(row))
-}
-
-/// Returns whether a row changes the counter.
-fn is_change_row(row: &Row) -> bool
-    ensures { result ≡ is_change row.now }
-{
-    matches!(row, Row::Change { .. })
+    let mut rows = racer.rows.iter();
+    rows.any(|row| matches!(row, Row::Change { .. }))
 }
 
 /// Returns whether a script contains a request.
 fn has_request(racer: &Racer) -> bool
     ensures { result ≡ asks racer.now }
 {
-    racer.rows.iter().any(|row| is_request_row(row))
-}
-
-/// Returns whether a row contains a request.
-fn is_request_row(row: &Row) -> bool
-    ensures { result ≡ is_request row.now }
-{
-    matches!(row, Row::Ask { .. })
+    let mut rows = racer.rows.iter();
+    rows.any(|row| matches!(row, Row::Ask { .. }))
 }

@@ -1,5 +1,5 @@
 -- The journal with which a script begins has no entries.
-use Rattle.std.proofs.Common.{◌≡◌, ◌≤◌, ℕ, refl, arith}
+use Rattle.std.proofs.Common.{◌≡◌, ◌∙◌, ◌≤◌, ℕ, refl, ap, arith}
 use Rattle.std.specs.Prelude.{Option, Some, None}
 use Rattle.tk_counter.specs.Counter.{Counter}
 use Rattle.tk_clock.specs.declared.refusal.Refusal.{Refusal}
@@ -7,21 +7,24 @@ use Rattle.tk_clock.specs.declared.timespec.Timespec.{Timespec}
 use Rattle.tk_clock.specs.Journal.{accepted_count}
 use Rattle.tk_clock.specs.Refusal.{first_of, opening_refusal}
 use Rattle.tk_ntp.specs.SteeredClock.{steered_refusal}
+use Rattle.tk_steered.specs.Logged.{Logged, SteeredKeeper}
 use Rattle.tk_script.specs.Start.{IsOpenable, journal_at, most_front}
 use Rattle.tk_script.specs.declared.opening.Start.{Start}
-use Rattle.tk_script.specs.declared.opening.Start.TheVariants.{Opened, Steered, Running}
+use Rattle.tk_script.specs.declared.opening.Start.TheVariants.{Opened, Steered, Running, Continued}
 
 -- it counts the commands before the script
 pub count-at : (start : Start) → accepted_count (journal_at start) ≡ (journal_at start).opening.count
 count-at (Opened opening) = omega arith
 count-at (Steered opening hz) = omega arith
 count-at (Running clock front) = omega arith
+count-at (Continued clock front) = omega arith
 
 -- these are at most 2^62
 pub few-at : (start : Start) → IsOpenable start → accepted_count (journal_at start) ≤ most_front
 few-at (Opened opening) opens = omega arith
 few-at (Steered opening hz) opens = omega arith
 few-at (Running clock front) opens = omega (arith, opens)
+few-at (Continued clock front) opens = omega (arith, opens)
 
 first_none : (first later : Option Refusal) → first_of first later ≡ None → first ≡ None
 first_none None later none = refl
@@ -32,3 +35,10 @@ pub opens-unsteered : (counter : Counter) (reading : ℕ) (real : Timespec) (hz 
     steered_refusal counter reading real hz ≡ None → opening_refusal counter reading real ≡ None
 opens-unsteered counter reading real hz opens =
     first_none (opening_refusal counter reading real) _ opens
+
+-- steered clocks with this journal and without spare memory
+pub steered-made : (keeper : SteeredKeeper) (logged : Logged) → keeper.logged ≡ logged →
+    keeper.spare ≡ 0 → keeper ≡ record { logged = logged; spare = 0 }
+steered-made keeper logged same spare =
+    let made : Logged → ℕ → SteeredKeeper = λ l s. record { logged = l; spare = s } in
+    ap (λ (l : Logged). made l keeper.spare) same ∙ ap (made logged) spare

@@ -7,11 +7,10 @@ use Rattle.tk_clock.specs.declared.refusal.Refusal.{Refusal}
 use Rattle.tk_clock.specs.State.{base_value}
 use Rattle.tk_ntp.specs.declared.reply.Reply.{Reply}
 use Rattle.tk_ntp.specs.declared.timex.Timex.{Timex}
-use Rattle.tk_ntp.specs.Advance.{IsAdvanced, tai_of_clock}
+use Rattle.tk_ntp.specs.Advance.{IsAdvanced}
 use Rattle.tk_ntp.specs.Asked.{IsAnswered, IsAsked, IsRequested, first_fault, real_at, step_refusal, stepped}
 use Rattle.tk_ntp.specs.Bits.{has, sta_nano}
 use Rattle.tk_ntp.specs.Modes.{asked}
-use Rattle.tk_ntp.specs.Reply.{reply_to}
 use Rattle.tk_ntp.specs.Request.{step_of}
 use Rattle.tk_ntp.specs.SteeredClock.{SteeredClock}
 use Rattle.tk_script.specs.AdjLine.{IsAdjWritable}

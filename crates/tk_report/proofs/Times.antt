@@ -1,8 +1,7 @@
 -- A clock's value has exactly one time in seconds and nanoseconds.
-use Rattle.std.proofs.Common.{◌≡◌, ◌∙◌, ℕ, ◌+◌, ◌*◌, ◌%◌, ◌^◌, ◌<◌, refl, sym, ap, arith, Bool, true, false}
+use Rattle.std.proofs.Common.{◌≡◌, ◌∙◌, ℕ, ◌+◌, ◌*◌, ◌^◌, ◌<◌, refl, sym, arith, Bool, true, false}
 use Rattle.std.specs.Prelude.{ℤ, pos, negsuc, ◌+ℤ◌, ◌*ℤ◌, ◌≤ℤ◌, ◌<ℤ◌, int_lt, unsigned_abs, not, Some, None, if◌then◌else◌}
 use Rattle.std.proofs.lemmas.Int.{ints}
-use Rattle.std.proofs.lemmas.Nat.{div-mul-add, mod-mul-add}
 use Rattle.tk_clock.specs.declared.timespec.Timespec.{Timespec}
 use Rattle.tk_clock.specs.declared.clock_id.ClockId.{ClockId}
 use Rattle.tk_clock.specs.declared.clock_id.ClockId.TheVariants.{Realtime, Monotonic, Boottime, Tai, RealtimeCoarse, MonotonicCoarse, MonotonicRaw}
@@ -10,19 +9,12 @@ use Rattle.tk_clock.specs.declared.refusal.ReadError.TheVariants.{Invalid, Range
 use Rattle.tk_clock.specs.Clocks.{clock_value}
 use Rattle.tk_clock.specs.Journal.{Journal}
 use Rattle.tk_clock.specs.Limits.{limit, clock_end}
-use Rattle.tk_clock.specs.Time.{nanoseconds, timespec_of}
+use Rattle.tk_clock.specs.Time.{nanoseconds}
 use Rattle.tk_clock.proofs.Settings.{below-of}
 use Rattle.tk_keeper.specs.Read.{IsTimeOf, read_fault}
+use Rattle.tk_ntp.proofs.Real.{timespec_of-parts}
 use Rattle.tk_script.specs.Lines.{IsWritable}
 use Rattle.tk_report.specs.Report.{IsTimeAt}
-
--- splitting nanoseconds returns the seconds and nanoseconds from which they were made
-timespec_of-parts : (sec nsec : ℕ) → nsec < 10 ^ 9 →
-    timespec_of (sec * 10 ^ 9 + nsec) ≡ record { sec = pos sec; nsec = nsec }
-timespec_of-parts sec nsec low =
-    let from_parts : ℕ → ℕ → Timespec = λ s n. record { sec = pos s; nsec = n } in
-    ap (λ s. from_parts s ((sec * 10 ^ 9 + nsec) % 10 ^ 9)) (div-mul-add sec (10 ^ 9) nsec low)
-    ∙ ap (from_parts sec) (mod-mul-add sec (10 ^ 9) nsec low)
 
 is_time_at : (journal : Journal) (clock : ClockId) (reading : ℕ) (sec : ℤ) (nsec : ℕ) →
     sec *ℤ pos (10 ^ 9) +ℤ pos nsec ≡ clock_value journal clock reading → nsec < 10 ^ 9 →

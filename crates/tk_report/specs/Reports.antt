@@ -2,14 +2,14 @@
 use Rattle.std.specs.Prelude.{◌≡◌, ℕ, List, Result, Ok}
 use Rattle.tk_clock.specs.Refusal.{clock_refusal, first_refusal}
 use Rattle.tk_script.specs.declared.opening.Start.{Start}
-use Rattle.tk_script.specs.declared.opening.Start.TheVariants.{Opened, Steered, Running}
+use Rattle.tk_script.specs.declared.opening.Start.TheVariants.{Opened, Steered, Running, Continued}
 use Rattle.tk_script.specs.declared.row.Row.{Row}
 use Rattle.tk_script.specs.declared.script_error.ScriptError.{ScriptError}
 use Rattle.tk_script.specs.Coming.{opened_with}
 use Rattle.tk_script.specs.Grammar.{Parse, parse_of}
 use Rattle.tk_script.specs.Start.{journal_at}
 use Rattle.tk_report.specs.Report.{Rule, IsPlainReport, differences}
-use Rattle.tk_report.specs.SteeredReport.{IsSteeredReport}
+use Rattle.tk_report.specs.SteeredReport.{IsSteeredReport, continued_from, steered_from}
 
 -- the report of a parsed script whose clocks nothing steers, and the number of its differences
 abbrev pub IsPlainReportWith : Rule → Parse → List ℕ → ℕ → Type 0
@@ -23,7 +23,9 @@ abbrev pub IsReportFrom : Start → Rule → Parse → List ℕ → ℕ → Type
 IsReportFrom (Opened opening) rule parse text found = IsPlainReportWith rule parse text found
 IsReportFrom (Running clock front) rule parse text found = IsPlainReportWith rule parse text found
 IsReportFrom (Steered opening hz) rule parse text found =
-    IsSteeredReport opening hz parse.rows text found
+    IsSteeredReport (steered_from opening hz) parse.rows text found
+IsReportFrom (Continued clock front) rule parse text found =
+    IsSteeredReport (continued_from clock front) parse.rows text found
 
 abbrev pub IsReportOf : Rule → Parse → List ℕ → ℕ → Type 0
 IsReportOf rule parse text found = IsReportFrom parse.start rule parse text found

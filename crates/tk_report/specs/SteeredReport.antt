@@ -1,12 +1,12 @@
 -- The report of a script whose clocks a discipline steers: a line for its opening and one for each
 -- record after it. The seconds of REALTIME up to a record's reading begin first, and the journal
 -- lists the commands that they give.
-use Rattle.std.specs.Prelude.{◌≡◌, ℕ, ◌+◌, ⊤, List, [], ◌∷◌, ◌++◌, Option, Some, None, Result, Ok, Err}
+use Rattle.std.specs.Prelude.{◌≡◌, ◌≢◌, ℕ, ◌+◌, ⊤, List, [], ◌∷◌, ◌++◌, Option, Some, None, Result, Ok, Err}
 use Rattle.tk_clock.specs.declared.clock_id.ClockId.{ClockId}
 use Rattle.tk_clock.specs.declared.clock_id.ClockId.TheVariants.{Monotonic}
 use Rattle.tk_clock.specs.declared.command.Command.{Command}
 use Rattle.tk_clock.specs.declared.refusal.Refusal.{Refusal}
-use Rattle.tk_clock.specs.declared.refusal.Refusal.TheVariants.{Invalid}
+use Rattle.tk_clock.specs.declared.refusal.Refusal.TheVariants.{Invalid, Memory}
 use Rattle.tk_clock.specs.declared.refusal.ReadError.{ReadError}
 use Rattle.tk_clock.specs.declared.timespec.Timespec.{Timespec}
 use Rattle.tk_clock.specs.Journal.{Journal, accepted_count}
@@ -14,6 +14,7 @@ use Rattle.tk_clock.specs.Refusal.{refusal_of}
 use Rattle.tk_keeper.specs.Read.{read_fault}
 use Rattle.tk_ntp.specs.declared.reply.Reply.{Reply}
 use Rattle.tk_ntp.specs.declared.timex.Timex.{Timex}
+use Rattle.tk_ntp.specs.SteeredClock.{SteeredClock}
 use Rattle.tk_script.specs.declared.opening.Opening.{Opening}
 use Rattle.tk_script.specs.declared.row.Row.{Row}
 use Rattle.tk_script.specs.declared.row.Row.TheVariants.{Act, Look, Change, Ask}
@@ -23,7 +24,7 @@ use Rattle.tk_script.specs.Lines.{open_line, ok_line, no_line}
 use Rattle.tk_steered.specs.Answered.{IsAnsweredBy}
 use Rattle.tk_steered.specs.Applied.{IsAppliedBy}
 use Rattle.tk_steered.specs.Begun.{IsAdvancedTo}
-use Rattle.tk_steered.specs.Logged.{SteeredKeeper, logged_opened}
+use Rattle.tk_steered.specs.Logged.{SteeredKeeper, logged_from, logged_opened}
 use Rattle.tk_report.specs.Report.{IsLookLine, IsTimeAt, difference, differs_text, missed_at}
 
 -- the journal of the commands that the clocks were given
@@ -43,10 +44,11 @@ IsResultLine journal reading (Ok number) line =
     IsAcceptedLine journal reading number (read_fault journal Monotonic reading) line
 IsResultLine journal reading (Err refusal) line = line ≡ no_line refusal
 
--- the line of a command, and the clocks after it
+-- the line of a command, and the clocks after it; no line says that memory ran out
 abbrev pub IsReplyLine : SteeredKeeper → ℕ → Command → List ℕ → SteeredKeeper → Type 0
 IsReplyLine before reading cmd line after =
-    (result : Result ℕ Refusal) × IsAppliedBy 0 reading cmd before result after
+    (result : Result ℕ Refusal) × (result ≢ Err Memory)
+    × IsAppliedBy 0 reading cmd before result after
     × IsResultLine (journal_in after) reading result line
 
 -- the line of the result of a request
@@ -54,17 +56,19 @@ abbrev pub result_line : ℕ → Result Reply Refusal → List ℕ
 result_line number (Ok reply) = adj_line reply number
 result_line number (Err refusal) = no_line refusal
 
--- the line of a request, and the clocks after it
+-- the line of a request, and the clocks after it; no line says that memory ran out
 abbrev pub IsAnswerLine : SteeredKeeper → ℕ → Timex → List ℕ → SteeredKeeper → Type 0
 IsAnswerLine before reading request line after =
-    (result : Result Reply Refusal) × IsAnsweredBy 0 reading request before result after
+    (result : Result Reply Refusal) × (result ≢ Err Memory)
+    × IsAnsweredBy 0 reading request before result after
     × (line ≡ result_line (accepted_count (journal_in after)) result)
 
 -- the clocks before a read: the seconds up to its reading have begun, unless the reading is refused
--- or the journal is full
+-- or the journal is full; memory did not run out
 abbrev pub IsLookAt : SteeredKeeper → ℕ → SteeredKeeper → Type 0
 IsLookAt before reading after =
-    (result : Result ⊤ Refusal) × IsAdvancedTo 0 reading before result after
+    (result : Result ⊤ Refusal) × (result ≢ Err Memory)
+    × IsAdvancedTo 0 reading before result after
 
 -- the line of a record, and the clocks after it
 abbrev pub IsSteeredLine : SteeredKeeper → Row → List ℕ → SteeredKeeper → Type 0
@@ -95,12 +99,14 @@ IsSteeredLines row before (first ∷ rows) text differences =
     × (text ≡ line ++ (differs_text row (missed_after (journal_in after) first) ++ rest))
     × (differences ≡ difference (missed_after (journal_in after) first) + more)
 
--- the clocks after a record, when no line is made
+-- the clocks after a record, when no line is made; memory did not run out
 abbrev pub IsSteeredAfter : SteeredKeeper → Row → SteeredKeeper → Type 0
 IsSteeredAfter before (Act reading cmd) after =
-    (result : Result ℕ Refusal) × IsAppliedBy 0 reading cmd before result after
+    (result : Result ℕ Refusal) × (result ≢ Err Memory)
+    × IsAppliedBy 0 reading cmd before result after
 IsSteeredAfter before (Ask reading request) after =
-    (result : Result Reply Refusal) × IsAnsweredBy 0 reading request before result after
+    (result : Result Reply Refusal) × (result ≢ Err Memory)
+    × IsAnsweredBy 0 reading request before result after
 IsSteeredAfter before (Look reading clock expected) after = IsLookAt before reading after
 IsSteeredAfter before (Change reading counter first) after = after ≡ before
 
@@ -111,34 +117,37 @@ IsSteeredAfterAll before (row ∷ rows) after =
     (middle : SteeredKeeper) × IsSteeredAfter before row middle
     × IsSteeredAfterAll middle rows after
 
--- the clocks with which such a script begins
-abbrev pub steered_at : Opening → ℕ → SteeredKeeper
-steered_at opening hz = record {
+-- the clocks with which such a script begins: newly opened ones
+abbrev pub steered_from : Opening → ℕ → SteeredKeeper
+steered_from opening hz = record {
   logged = logged_opened opening.desc opening.reading opening.real hz;
   spare = 0;
 }
 
--- the report of an opening of steered clocks and of rows, and the number of its differences: the
--- opening is the record 1
-abbrev pub IsSteeredReport : Opening → ℕ → List Row → List ℕ → ℕ → Type 0
-IsSteeredReport opening hz rows text found =
-    (lines : List ℕ) × IsSteeredLines 2 (steered_at opening hz) rows lines found
-    × (text ≡ open_line opening.desc ++ lines)
+-- or running ones, with their discipline, which have accepted this many commands
+abbrev pub continued_from : SteeredClock → ℕ → SteeredKeeper
+continued_from clock front = record { logged = logged_from front clock; spare = 0 }
+
+-- the report of rows, if a script begins with these steered clocks, and the number of its
+-- differences: the opening is the record 1
+abbrev pub IsSteeredReport : SteeredKeeper → List Row → List ℕ → ℕ → Type 0
+IsSteeredReport first rows text found =
+    (lines : List ℕ) × IsSteeredLines 2 first rows lines found
+    × (text ≡ open_line (journal_in first).opening.counter ++ lines)
 
 -- the same for the rows of a reading without a fault
 abbrev pub IsSteeredReportOfRows :
-    Opening → ℕ → Result (List Row) ScriptError → List ℕ → ℕ → Type 0
-IsSteeredReportOfRows opening hz read text found =
-    (rows : List Row) × (read ≡ Ok rows) × IsSteeredReport opening hz rows text found
+    SteeredKeeper → Result (List Row) ScriptError → List ℕ → ℕ → Type 0
+IsSteeredReportOfRows first read text found =
+    (rows : List Row) × (read ≡ Ok rows) × IsSteeredReport first rows text found
 
 -- the journal of steered clocks after all records
-abbrev pub IsSteeredJournal : Opening → ℕ → List Row → Journal → Type 0
-IsSteeredJournal opening hz rows journal =
-    (after : SteeredKeeper) × IsSteeredAfterAll (steered_at opening hz) rows after
-    × (journal ≡ journal_in after)
+abbrev pub IsSteeredJournal : SteeredKeeper → List Row → Journal → Type 0
+IsSteeredJournal first rows journal =
+    (after : SteeredKeeper) × IsSteeredAfterAll first rows after × (journal ≡ journal_in after)
 
 -- the same after the rows of a reading without a fault
 abbrev pub IsSteeredJournalOfRows :
-    Opening → ℕ → Result (List Row) ScriptError → Journal → Type 0
-IsSteeredJournalOfRows opening hz read journal =
-    (rows : List Row) × (read ≡ Ok rows) × IsSteeredJournal opening hz rows journal
+    SteeredKeeper → Result (List Row) ScriptError → Journal → Type 0
+IsSteeredJournalOfRows first read journal =
+    (rows : List Row) × (read ≡ Ok rows) × IsSteeredJournal first rows journal

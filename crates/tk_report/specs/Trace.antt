@@ -7,7 +7,7 @@ use Rattle.tk_clock.specs.Refusal.{first_refusal}
 use Rattle.tk_keeper.specs.declared.trace_error.TraceError.{TraceError}
 use Rattle.tk_keeper.specs.Trace.{IsConverted, IsFirstFault}
 use Rattle.tk_script.specs.declared.opening.Start.{Start}
-use Rattle.tk_script.specs.declared.opening.Start.TheVariants.{Opened, Steered, Running}
+use Rattle.tk_script.specs.declared.opening.Start.TheVariants.{Opened, Steered, Running, Continued}
 use Rattle.tk_script.specs.declared.row.Row.{Row}
 use Rattle.tk_script.specs.declared.script_error.ScriptError.{ScriptError}
 use Rattle.tk_script.specs.declared.script_error.ScriptError.TheVariants as errors
@@ -19,7 +19,7 @@ use Rattle.tk_report.specs.declared.fault.Fault.TheVariants as faults
 use Rattle.tk_report.specs.Reading.{IsReadToEnd, IsReadWithin}
 use Rattle.tk_report.specs.Replay.{CameTo}
 use Rattle.tk_report.specs.Report.{after}
-use Rattle.tk_report.specs.SteeredReport.{IsSteeredJournal}
+use Rattle.tk_report.specs.SteeredReport.{IsSteeredJournal, continued_from, steered_from}
 
 -- the journal after all rows, each one applied to the journal after the rows before it
 abbrev pub after_all : Journal → List Row → Journal
@@ -40,7 +40,10 @@ IsJournalFrom (Opened opening) rows journal =
     journal ≡ after_all (journal_at (Opened opening)) rows
 IsJournalFrom (Running clock front) rows journal =
     journal ≡ after_all (journal_at (Running clock front)) rows
-IsJournalFrom (Steered opening hz) rows journal = IsSteeredJournal opening hz rows journal
+IsJournalFrom (Steered opening hz) rows journal =
+    IsSteeredJournal (steered_from opening hz) rows journal
+IsJournalFrom (Continued clock front) rows journal =
+    IsSteeredJournal (continued_from clock front) rows journal
 
 -- the journal after a script without a fault
 abbrev pub IsJournalOf : Result Parse ScriptError → Journal → Type 0

@@ -10,7 +10,7 @@ ghost use Rattle.tk_report.specs.Report.{after};
 ghost use Rattle.tk_report.specs.Trace.{IsJournalOf, journal_after};
 
 use crate::applying::CALLER;
-use crate::beginning::keeper_at;
+use crate::beginning::{continued_at, keeper_at, steered_at};
 use crate::steered_journaling::steered_after;
 use std::alloc::{Allocator, Global};
 use tk_clock::Refusal;
@@ -20,8 +20,9 @@ use tk_script::{Row, RowReader, ScriptError, Start};
 /// Begins the clocks of a script, applies its commands, and returns them with their journal.
 ///
 /// It skips refused commands and reads of clocks. It folds the journal only at a change of counter,
-/// so every command after 1,048,576 accepted ones over one counter is refused as `Full`. Reads let
-/// the seconds of steered clocks begin, and their journal also lists the commands of the discipline.
+/// so every command after 1,048,576 accepted ones over one counter is refused as `Full`. The
+/// journal of steered clocks isn't folded, and also lists the commands of the discipline. Reads let
+/// their seconds begin.
 ///
 /// # Errors
 ///
@@ -57,7 +58,8 @@ pub fn keeper_after<A: Allocator + Copy>(
         (λ error. Fails error (coming rows.old)) }
 {
     match start {
-        Start::Steered { opening, hz } => steered_after(alloc, opening, hz, rows),
+        Start::Steered { opening, hz } => steered_after(steered_at(alloc, opening, hz), rows),
+        Start::Continued { clock, front } => steered_after(continued_at(alloc, clock, front), rows),
         Start::Opened(_) | Start::Running { .. } => plain_after(alloc, start, rows),
     }
 }

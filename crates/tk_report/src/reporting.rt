@@ -53,7 +53,7 @@ pub fn report(alloc: Global, script: &[u8]) -> Result<Vec<u8>, ScriptError>
 }
 
 /// Makes the report of a script's bytes from a bounded journal, so that no command is refused as
-/// `Full`.
+/// `Full`, unless a discipline steers the clocks: their journal is never folded.
 ///
 /// A journal of 1,048,576 entries is folded to its last `keep` entries, from 1 to 524,288, before
 /// the next command. The lines are the same as from a journal that lists every command and is never
@@ -119,8 +119,9 @@ pub(crate) fn report_plain<A: Allocator + Copy>(
 }
 
 /// Applies a record's command, reads its clock, changes the counter, or refuses its request, and
-/// appends the line.
-/// Returns the expected value that the read does not give, in ns, if there is one.
+/// appends the line. Returns the expected value that the read does not give, in ns, if there is
+/// one.
+#[inline(always)]
 fn add_line<A: Allocator + Copy>(
     text: &mut Vec<u8, A>,
     calendar: &mut Calendar<A>,
@@ -171,6 +172,7 @@ fn add_line<A: Allocator + Copy>(
 
 /// Appends the line of an expected value that the record `row` does not give, if there is one.
 /// Returns the number of lines.
+#[inline(always)]
 pub(crate) fn add_difference<A: Allocator>(
     text: &mut Vec<u8, A>,
     row: u64,
@@ -219,6 +221,7 @@ fn add_reply<A: Allocator + Copy>(
 }
 
 /// Reads a clock and appends its line. Returns the expected value that the read does not give.
+#[inline(always)]
 pub(crate) fn add_look<A: Allocator + Copy>(
     text: &mut Vec<u8, A>,
     calendar: &mut Calendar<A>,

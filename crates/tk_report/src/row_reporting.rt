@@ -8,6 +8,7 @@ ghost use Rattle.tk_script.specs.Start.{IsOpenable};
 ghost use Rattle.tk_report.specs.Folding.{rule_of};
 ghost use Rattle.tk_report.specs.Reports.{IsReportOfRows};
 
+use crate::beginning::{continued_at, steered_at};
 use crate::checked_report::CheckedReport;
 use crate::reporting::report_plain;
 use crate::steered_reporting::report_steered;
@@ -19,8 +20,8 @@ use tk_script::{RowReader, ScriptError, Start};
 ///
 /// One call of `RowReader::open` must have returned `start` and `rows`. With `keep`, at most
 /// 524,288, a full journal is folded to its last `keep` entries, and no command is refused as
-/// `Full`. Report and journal are allocated from `alloc`; the reader of the rows allocates from its
-/// own allocator.
+/// `Full`, unless a discipline steers the clocks: their journal is never folded. Report and journal
+/// are allocated from `alloc`; the reader of the rows allocates from its own allocator.
 ///
 /// # Errors
 ///
@@ -40,7 +41,12 @@ pub fn report_rows<A: Allocator + Copy>(
         (λ error. Fails error (coming rows.old)) }
 {
     match start {
-        Start::Steered { opening, hz } => report_steered(alloc, opening, hz, rows),
+        Start::Steered { opening, hz } => {
+            report_steered(alloc, steered_at(alloc, opening, hz), rows)
+        }
+        Start::Continued { clock, front } => {
+            report_steered(alloc, continued_at(alloc, clock, front), rows)
+        }
         Start::Opened(_) | Start::Running { .. } => report_plain(alloc, start, rows, keep),
     }
 }

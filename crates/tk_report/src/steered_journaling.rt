@@ -1,6 +1,5 @@
 //! Makes the clocks after the commands of a script whose clocks a discipline steers.
-ghost use Rattle.std.specs.Prelude.{◌≡◌, IfErr, MatchResult, None, OnOk};
-ghost use Rattle.tk_ntp.specs.SteeredClock.{steered_refusal};
+ghost use Rattle.std.specs.Prelude.{◌≡◌, IfErr, MatchResult, OnOk};
 ghost use Rattle.tk_report.specs.SteeredReport.{IsSteeredAfter, IsSteeredJournalOfRows};
 ghost use Rattle.tk_script.specs.Coming.{IsReady, coming};
 ghost use Rattle.tk_script.specs.Grammar.{Fails};
@@ -10,24 +9,21 @@ use crate::steered_reporting::begin_seconds;
 use std::alloc::Allocator;
 use tk_clock::Refusal;
 use tk_keeper::Timekeeper;
-use tk_script::{Opening, Row, RowReader, ScriptError};
+use tk_script::{Row, RowReader, ScriptError};
 use tk_steered::Steered;
 
-/// Opens steered clocks with `opening` and `hz`, carries out the remaining records of `rows`, and
-/// returns the clocks with the journal of all commands that they were given.
+/// Carries out the remaining records of `rows` with the steered clocks `first`, and returns the
+/// clocks with the journal of all commands that they were given.
 pub(crate) fn steered_after<A: Allocator + Copy>(
-    alloc: A,
-    opening: Opening,
-    hz: u32,
+    first: Steered<A>,
     rows: &mut RowReader<'_>,
 ) -> Result<Timekeeper<A>, ScriptError>
-    requires opens { steered_refusal opening.desc opening.reading opening.real hz ≡ None }
-    requires ready { IsReady rows.old }
+    requires { IsReady rows.old }
     ensures { MatchResult result
-        (λ keeper. IsSteeredJournalOfRows opening hz (coming rows.old) keeper.journal)
+        (λ keeper. IsSteeredJournalOfRows first (coming rows.old) keeper.journal)
         (λ error. Fails error (coming rows.old)) }
 {
-    let mut clocks = Steered::open(alloc, opening.desc, opening.reading, opening.real, hz).unwrap();
+    let mut clocks = first;
     'rows: while let Some(row) = rows.next_row()? {
         obey(&mut clocks, row)?;
     }

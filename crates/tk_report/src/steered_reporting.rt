@@ -1,8 +1,7 @@
 //! Makes the report of a script whose clocks a discipline steers.
-ghost use Rattle.std.specs.Prelude.{◌≡◌, ◌++◌, List, ℕ, OnOk, IfOk, IfErr, MatchResult, None};
+ghost use Rattle.std.specs.Prelude.{◌≡◌, ◌++◌, List, ℕ, OnOk, IfOk, IfErr, MatchResult};
 ghost use Rattle.tk_clock.specs.declared.clock_id.ClockId.TheVariants.{Monotonic};
 ghost use Rattle.tk_keeper.specs.Read.{read_fault};
-ghost use Rattle.tk_ntp.specs.SteeredClock.{steered_refusal};
 ghost use Rattle.tk_report.specs.SteeredReport.{IsAcceptedLine, IsAnswerLine, IsLookAt, IsReplyLine, IsSteeredLine, IsSteeredReportOfRows, missed_after};
 ghost use Rattle.tk_script.specs.Coming.{IsReady, coming};
 ghost use Rattle.tk_script.specs.Grammar.{Fails};
@@ -14,31 +13,28 @@ use std::alloc::Allocator;
 use tk_clock::{ClockId, Command, Refusal};
 use tk_keeper::Timekeeper;
 use tk_ntp::Timex;
-use tk_script::{
-    Calendar, Opening, Row, RowReader, ScriptError, line_adj, line_no, line_ok, line_open,
-};
+use tk_script::{Calendar, Row, RowReader, ScriptError, line_adj, line_no, line_ok, line_open};
 use tk_steered::Steered;
 
-/// Makes the report of the opening of steered clocks and of the remaining rows of `rows`, and
-/// counts the reads that do not give the value that their record states.
+/// Makes the report of a script that begins with the steered clocks `first`, from the remaining rows
+/// of `rows`, and counts the reads that do not give the value that their record states.
 pub(crate) fn report_steered<A: Allocator + Copy>(
     alloc: A,
-    opening: Opening,
-    hz: u32,
+    first: Steered<A>,
     rows: &mut RowReader<'_>,
 ) -> Result<CheckedReport<A>, ScriptError>
-    requires opens { steered_refusal opening.desc opening.reading opening.real hz ≡ None }
-    requires ready { IsReady rows.old }
+    requires { IsReady rows.old }
     ensures { MatchResult result
-        (λ report. IsSteeredReportOfRows opening hz (coming rows.old) report.text.items
+        (λ report. IsSteeredReportOfRows first (coming rows.old) report.text.items
         report.differences)
         (λ error. Fails error (coming rows.old)) }
 {
-    let mut clocks = Steered::open(alloc, opening.desc, opening.reading, opening.real, hz).unwrap();
+    let mut clocks = first;
     let mut calendar = Calendar::new(alloc);
     let mut text = Vec::new(alloc);
     let (mut number, mut differences) = (1u64, 0u64);
-    line_open(&mut text, &opening.desc)?;
+    let desc = clocks.keeper().snapshot().desc();
+    line_open(&mut text, &desc)?;
     'rows: while let Some(row) = rows.next_row()? {
         number += 1;
         let missed = add_steered_line(&mut text, &mut calendar, &mut clocks, row)?;

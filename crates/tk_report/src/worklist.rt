@@ -165,7 +165,8 @@ impl<S: NamesScripts> Worklist<S> {
 
     /// Marks all scripts as taken.
     pub(crate) fn close(&mut self)
-        ensures { self.new.outcomes ≡ self.old.outcomes }
+        ensures taken { self.new.taken ≡ length S.scripts }
+        ensures outcomes { self.new.outcomes ≡ self.old.outcomes }
     {
         self.taken = self.outcomes.len();
     }

@@ -43,7 +43,8 @@ count-comma line i inside comma =
 pub count-other : (line : List ℕ) (i : ℕ) → i < length line → (slice_index line i ≡ 44 → ⊥) →
     length (cut_at_commas (drop i line)) ≡ length (cut_at_commas (drop (i + 1) line))
 count-other line i inside other =
-    ap (λ (t : List ℕ). length (cut_at_commas t)) (byte-first line i (slice_index line i) inside refl)
+    ap (λ (t : List ℕ). length (cut_at_commas t))
+    (byte-first line i (slice_index line i) inside refl)
     ∙ first-other (slice_index line i) (drop (i + 1) line) other
 
 -- no byte remains

@@ -2,6 +2,7 @@ pub mod ListLemmas
 pub mod RecordLemmas
 pub mod PlainLemmas
 pub mod CountLemmas
+pub mod LaterFields
 pub mod NumberLemmas
 pub mod FrequentLemmas
 pub mod CursorLemmas

@@ -1,20 +1,20 @@
 -- Running clocks by their words: the grammar's test decides whether running clocks can be in a state.
-use Rattle.std.proofs.Common.{◌≡◌, ◌≤◌, ◌^◌, ◌*◌, ℕ, List, Bool, true, false, ◌&&◌, if◌then◌else◌, Option, Some, None, Ok, Err, ℤ, pos, neg_ℤ, ◌≤ℤ◌, ◌<ℤ◌, int_le, nat_le, length, refl, ap, subst, arith}
+use Rattle.std.proofs.Common.{◌≡◌, ◌≤◌, ◌^◌, ◌*◌, ℕ, List, Bool, true, false, ◌&&◌, if◌then◌else◌, Option, Some, None, Result, Ok, Err, ℤ, pos, neg_ℤ, ◌≤ℤ◌, ◌<ℤ◌, int_le, nat_le, length, refl, ap, subst, arith}
 use Rattle.std.specs.Prelude.{unwrap_or}
 use Rattle.std.proofs.lemmas.Grind.{common_steps}
 use Rattle.std.proofs.lemmas.Bool.{le-leb, eq-eqb, eqb-true, leb-true}
 use Rattle.tk_counter.specs.Counter.{Counter, multiplier, least_tick, greatest_tick}
 use Rattle.tk_clock.specs.Running.{IsRunning, IsWithin, slowest}
 use Rattle.tk_clock.specs.Snapshot.{Snapshot}
-use Rattle.tk_clock.specs.State.{ReadBase}
+use Rattle.tk_clock.specs.State.{ReadBase, State}
 use Rattle.tk_clock.specs.Words.{are_in_range, is_within, restored, snapshot_of_words}
 use Rattle.tk_clock.proofs.Words.{is_within-stated}
 use Rattle.tk_script.specs.Counters.{counter_of}
 use Rattle.tk_script.specs.Field.{number32_at, signed_at}
-use Rattle.tk_script.specs.RunningClocks.{continued, is_running, running_of, words_of_fields}
+use Rattle.tk_script.specs.RunningClocks.{clocks_from, clocks_of, is_running, words_of_fields}
 use Rattle.tk_script.specs.Start.{most_front}
-use Rattle.tk_script.specs.declared.opening.Start.TheVariants.{Running}
 use Rattle.tk_script.specs.declared.opening.Telling.TheVariants as tellings
+use Rattle.tk_script.specs.declared.script_error.ScriptError.{ScriptError}
 use Rattle.tk_script.specs.declared.script_error.ScriptError.TheVariants as errors
 use Rattle.tk_script.proofs.PlainLemmas.{not-true}
 
@@ -88,21 +88,25 @@ is_running-false base frequency tick low high within not_running =
     not-true (is_running base frequency tick)
     (λ e. not_running (is_running-stated base frequency tick low high within e))
 
+-- clocks with the number of commands that they have accepted
+abbrev pub clocks_and : State → ℕ → Result (State × ℕ) ScriptError
+clocks_and clock front = Ok (clock, front)
+
 -- the clocks of words that restore a snapshot
-pub continued-some : (counter : Counter) (words : List ℕ) (frequency tick : ℤ)
+pub clocks-some : (counter : Counter) (words : List ℕ) (frequency tick : ℤ)
     (snapshot : Snapshot) →
     restored counter words ≡ Some snapshot → snapshot.front ≤ most_front →
     is_running snapshot.base frequency tick ≡ true →
-    continued counter words frequency tick ≡ Ok (Running
-    (record { base = snapshot.base; frequency = frequency; tick = tick }) snapshot.front)
-continued-some counter words frequency tick snapshot e few running =
+    clocks_from counter words frequency tick
+    ≡ clocks_and (record { base = snapshot.base; frequency = frequency; tick = tick }) snapshot.front
+clocks-some counter words frequency tick snapshot e few running =
     rw (e, le-leb snapshot.front most_front few, running) refl
 
-pub continued-none : (counter : Counter) (words : List ℕ) (frequency tick : ℤ)
+pub clocks-none : (counter : Counter) (words : List ℕ) (frequency tick : ℤ)
     (snapshot : Snapshot) →
     restored counter words ≡ Some snapshot → is_running snapshot.base frequency tick ≡ false →
-    continued counter words frequency tick ≡ Err (errors.Opening 1)
-continued-none counter words frequency tick snapshot e not_running =
+    clocks_from counter words frequency tick ≡ Err (errors.Opening 1)
+clocks-none counter words frequency tick snapshot e not_running =
     rw (
       e,
       and-false (nat_le snapshot.front most_front) (is_running snapshot.base frequency tick)
@@ -110,13 +114,13 @@ continued-none counter words frequency tick snapshot e not_running =
     ) refl
 
 -- the clocks in the fields of a record, by the values of its fields
-pub running-read : (fields : List (List ℕ)) (bits mult shift : ℕ) (words : List ℕ)
+pub clocks-read : (fields : List (List ℕ)) (bits mult shift : ℕ) (words : List ℕ)
     (frequency tick : ℤ) (counter : Counter) →
-    length fields ≡ 16 → number32_at 1 fields 1 ≡ Ok bits → number32_at 1 fields 2 ≡ Ok mult →
+    number32_at 1 fields 1 ≡ Ok bits → number32_at 1 fields 2 ≡ Ok mult →
     number32_at 1 fields 3 ≡ Ok shift → words_of_fields fields ≡ Ok words →
     signed_at 1 fields 14 ≡ Ok frequency → signed_at 1 fields 15 ≡ Ok tick →
     counter_of tellings.Scale bits mult shift ≡ Ok counter →
-    running_of fields ≡ continued counter words frequency tick
-unfolding running_of
-running-read fields bits mult shift words frequency tick counter many b m s w f t c =
-    rw (many, b, m, s, w, f, t, c) refl
+    clocks_of fields ≡ clocks_from counter words frequency tick
+unfolding clocks_of
+clocks-read fields bits mult shift words frequency tick counter b m s w f t c =
+    rw (b, m, s, w, f, t, c) refl

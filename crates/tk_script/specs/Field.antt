@@ -5,7 +5,7 @@ use Rattle.std.specs.Option.{ok_or}
 use Rattle.csv.specs.Records.{field_at}
 use Rattle.tk_clock.specs.declared.clock_id.ClockId.{ClockId}
 use Rattle.tk_clock.specs.declared.timespec.Timespec.{Timespec}
-use Rattle.tk_script.specs.Number.{number_of, number32_of, signed_of}
+use Rattle.tk_script.specs.Number.{number_of, number8_of, number32_of, signed_of}
 use Rattle.tk_script.specs.Word.{clock_of}
 use Rattle.tk_script.specs.declared.script_error.ScriptError.{ScriptError}
 use Rattle.tk_script.specs.declared.script_error.ScriptError.TheVariants as errors
@@ -24,6 +24,10 @@ field fields i = unwrap_or (field_at fields i) []
 -- a 64-bit number in field `i` of the record `row`
 abbrev pub number_at : ℕ → List (List ℕ) → ℕ → Result ℕ ScriptError
 number_at row fields i = ok_or (number_of (field fields i)) (errors.Number row)
+
+-- an 8-bit number in that field
+abbrev pub number8_at : ℕ → List (List ℕ) → ℕ → Result ℕ ScriptError
+number8_at row fields i = ok_or (number8_of (field fields i)) (errors.Number row)
 
 -- a 32-bit number in that field
 abbrev pub number32_at : ℕ → List (List ℕ) → ℕ → Result ℕ ScriptError

@@ -3,6 +3,7 @@ pub mod Word
 pub mod Field
 pub mod Start
 pub mod Counters
+pub mod DisciplineFields
 pub mod RunningClocks
 pub mod Opening
 pub mod Requests

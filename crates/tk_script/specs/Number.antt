@@ -18,6 +18,10 @@ number_up_to most field =
 abbrev pub number_of : List ℕ → Option ℕ
 number_of field = number_up_to (2 ^ 64 - 1) field
 
+-- the unsigned 8-bit number in a field
+abbrev pub number8_of : List ℕ → Option ℕ
+number8_of field = number_up_to (2 ^ 8 - 1) field
+
 -- the unsigned 32-bit number in a field
 abbrev pub number32_of : List ℕ → Option ℕ
 number32_of field = number_up_to (2 ^ 32 - 1) field

@@ -1,6 +1,6 @@
 -- The first record of a script: clocks that are opened at a reading of their counter (cycles), with
--- REALTIME at that reading, or running clocks. A discipline steers opened clocks if there is one more
--- field: the number of parts of a second, `hz`.
+-- REALTIME at that reading, or running clocks. A discipline steers opened clocks if there is one
+-- more field: the number of parts of a second, `hz`. It steers running clocks if its numbers follow.
 use Rattle.std.specs.Prelude.{ℕ, List, length, is_none, Option, Some, None, Result, Ok, Err, ◌==◌, ◌||◌, if◌then◌else◌, codes}
 use Rattle.tk_clock.specs.Refusal.{opening_refusal}
 use Rattle.tk_ntp.specs.SteeredClock.{steered_refusal}

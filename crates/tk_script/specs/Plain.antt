@@ -26,7 +26,8 @@ cut_after field (byte ∷ rest) =
 abbrev pub cut_at_commas : List ℕ → List (List ℕ)
 cut_at_commas line = cut_after [] line
 
--- the number of these fields, and the first sixteen of them, as many as the longest record has
+-- the number of these fields, and the first sixteen of them, as many as the longest record has,
+-- except `openwords` with a discipline
 pub record HasFields (fields : List (List ℕ)) (found : Fields) : Type 0 where
   pub count : found.count ≡ length fields
   pub places : length found.first ≡ 16

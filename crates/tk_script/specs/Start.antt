@@ -5,7 +5,7 @@ use Rattle.tk_clock.specs.Journal.{Journal, opened}
 use Rattle.tk_clock.specs.Refusal.{opening_refusal}
 use Rattle.tk_ntp.specs.SteeredClock.{steered_refusal}
 use Rattle.tk_script.specs.declared.opening.Start.{Start}
-use Rattle.tk_script.specs.declared.opening.Start.TheVariants.{Opened, Steered, Running}
+use Rattle.tk_script.specs.declared.opening.Start.TheVariants.{Opened, Steered, Running, Continued}
 
 -- the most commands that running clocks may have accepted before a script, so that all of its
 -- commands can be counted too
@@ -18,6 +18,7 @@ IsOpenable (Opened opening) = opening_refusal opening.desc opening.reading openi
 IsOpenable (Steered opening hz) =
     steered_refusal opening.desc opening.reading opening.real hz ≡ None
 IsOpenable (Running clock front) = front ≤ most_front
+IsOpenable (Continued clock front) = front ≤ most_front
 
 -- the journal with which they begin: the journal of newly opened clocks, or one into which all
 -- commands that the clocks have accepted are folded
@@ -25,3 +26,4 @@ abbrev pub journal_at : Start → Journal
 journal_at (Opened opening) = opened opening.desc opening.reading opening.real
 journal_at (Steered opening hz) = opened opening.desc opening.reading opening.real
 journal_at (Running clock front) = journal_from front clock []
+journal_at (Continued clock front) = journal_from front clock.clock []

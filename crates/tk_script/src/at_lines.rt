@@ -4,7 +4,6 @@ ghost use Rattle.tk_script.specs.Lines.{IsWritable, IsAtLine, at_text};
 
 use crate::calendar::{Calendar, day_and_second, time_of_day};
 use crate::line::Line;
-use crate::names::word_of_clock;
 use crate::script_error::ScriptError;
 use std::alloc::Allocator;
 use tk_clock::{ClockId, Timespec};
@@ -42,6 +41,7 @@ impl<A: Allocator + Copy> Calendar<A> {
     /// # Errors
     ///
     /// - `Memory`: an allocation failed; `out` is as it was
+    #[inline(always)]
     pub fn line_at(
         &mut self,
         out: &mut Vec<u8, A>,
@@ -72,6 +72,7 @@ impl<A: Allocator + Copy> Calendar<A> {
 }
 
 /// Appends the line of a clock's time without UTC text.
+#[inline(always)]
 fn line_at_plain<A: Allocator>(
     out: &mut Vec<u8, A>,
     clock: ClockId,
@@ -118,7 +119,13 @@ fn put_at(line: &mut Line, clock: ClockId, time: Timespec)
     ensures { line.new ≡ at_text clock time ++ line.old }
 {
     line.put_time(time);
-    line.put(b",");
-    line.put(word_of_clock(clock));
-    line.put(b"at,");
+    match clock {
+        ClockId::Realtime => line.put(b"at,realtime,"),
+        ClockId::Monotonic => line.put(b"at,monotonic,"),
+        ClockId::Boottime => line.put(b"at,boottime,"),
+        ClockId::Tai => line.put(b"at,tai,"),
+        ClockId::RealtimeCoarse => line.put(b"at,realtime_coarse,"),
+        ClockId::MonotonicCoarse => line.put(b"at,monotonic_coarse,"),
+        ClockId::MonotonicRaw => line.put(b"at,monotonic_raw,"),
+    }
 }

@@ -4,12 +4,13 @@ ghost use Rattle.tk_script.specs.Word.{is_word};
 ghost use Rattle.tk_script.specs.Field as spec;
 
 use crate::names::clock_word;
-use crate::numbers::{number, number32, signed};
+use crate::numbers::{number, number8, number32, signed};
 use crate::records::Records;
 use crate::script_error::ScriptError;
 use tk_clock::{ClockId, Timespec};
 
-/// The number of fields of the longest record, `openwords`.
+/// The number of fields of the longest record except `openwords` with a discipline: those that a
+/// plain line keeps.
 pub(crate) const MOST_FIELDS: usize = 16;
 
 /// Returns whether the bytes are this keyword. Most keywords differ in length. The compiler knows
@@ -21,10 +22,8 @@ pub(crate) fn has_word(bytes: &[u8], word: &[u8]) -> bool
     bytes.len() == word.len() && bytes == word
 }
 
-/// Returns the field at an index, or an empty field after the last one. All calls of this module
-/// take an index below `MOST_FIELDS`.
+/// Returns the field at an index, or an empty field after the last one.
 pub(crate) fn field<'a>(fields: &'a Records<'_>, i: usize) -> &'a [u8]
-    requires { i < 16 }
     ensures { result.now ≡ spec.field (fields_of fields.now) i }
 {
     fields.get(i).unwrap_or(&[])
@@ -32,15 +31,20 @@ pub(crate) fn field<'a>(fields: &'a Records<'_>, i: usize) -> &'a [u8]
 
 /// Parses an unsigned 64-bit number in the record `row`.
 pub(crate) fn number_at(row: u64, fields: &Records<'_>, i: usize) -> Result<u64, ScriptError>
-    requires { i < 16 }
     ensures { result ≡ spec.number_at row (fields_of fields.now) i }
 {
     number(field(fields, i)).ok_or(ScriptError::Number { row })
 }
 
+/// Parses an unsigned 8-bit number.
+pub(crate) fn number8_at(row: u64, fields: &Records<'_>, i: usize) -> Result<u8, ScriptError>
+    ensures { result ≡ spec.number8_at row (fields_of fields.now) i }
+{
+    number8(field(fields, i)).ok_or(ScriptError::Number { row })
+}
+
 /// Parses an unsigned 32-bit number.
 pub(crate) fn number32_at(row: u64, fields: &Records<'_>, i: usize) -> Result<u32, ScriptError>
-    requires { i < 16 }
     ensures { result ≡ spec.number32_at row (fields_of fields.now) i }
 {
     number32(field(fields, i)).ok_or(ScriptError::Number { row })
@@ -48,7 +52,6 @@ pub(crate) fn number32_at(row: u64, fields: &Records<'_>, i: usize) -> Result<u3
 
 /// Parses a signed 64-bit number.
 pub(crate) fn signed_at(row: u64, fields: &Records<'_>, i: usize) -> Result<i64, ScriptError>
-    requires { i < 16 }
     ensures { result ≡ spec.signed_at row (fields_of fields.now) i }
 {
     signed(field(fields, i)).ok_or(ScriptError::Number { row })
@@ -67,7 +70,6 @@ pub(crate) fn time_at(row: u64, fields: &Records<'_>, i: usize) -> Result<Timesp
 
 /// Parses a clock's name.
 pub(crate) fn clock_at(row: u64, fields: &Records<'_>, i: usize) -> Result<ClockId, ScriptError>
-    requires { i < 16 }
     ensures { result ≡ spec.clock_at row (fields_of fields.now) i }
 {
     clock_word(field(fields, i)).ok_or(ScriptError::Word { row })

@@ -13,6 +13,7 @@ use tk_clock::Command;
 
 /// Parses an update or a read at the beginning of a text, and returns its row and the text after
 /// its line. `None` means that the line has another form or a fault.
+#[inline(always)]
 pub(crate) fn leading_row(text: &[u8]) -> Option<(Row, &[u8])>
     ensures { IfSome result (λ found. FirstLineGives row_of text.now found.0 found.1.now) }
 {
@@ -23,6 +24,7 @@ pub(crate) fn leading_row(text: &[u8]) -> Option<(Row, &[u8])>
 }
 
 /// Parses an update, and returns its row and the text after its line.
+#[inline(always)]
 fn leading_update(text: &[u8]) -> Option<(Row, &[u8])>
     ensures { IfSome result (λ found. FirstLineGives row_of text.now found.0 found.1.now) }
 {
@@ -33,6 +35,7 @@ fn leading_update(text: &[u8]) -> Option<(Row, &[u8])>
 }
 
 /// Parses a read, and returns its row and the text after its line.
+#[inline(always)]
 fn leading_look(text: &[u8]) -> Option<(Row, &[u8])>
     ensures { IfSome result (λ found. FirstLineGives row_of text.now found.0 found.1.now) }
 {

@@ -4,7 +4,7 @@
 //! |---|---|
 //! | `Script`, `Row` | hold a parsed script: how the clocks begin, and its later records |
 //! | `RowReader` | reads a script one row at a time |
-//! | `Start`, `Opening` | say how clocks begin: opened with values, steered, or already running |
+//! | `Start`, `Opening` | say how clocks begin: opened with values, or already running; steered or not |
 //! | `Stamps` | holds a parsed stamp file: readings of the counter, each with its front |
 //! | `SIZE_LIMIT` | is the greatest size of a script or of a stamp file, in bytes |
 //! | `ScriptError` | names the first fault of a script or of a stamp file |
@@ -22,8 +22,10 @@ mod adj_line;
 mod at_lines;
 mod calendar;
 mod digits;
+mod discipline_fields;
 mod fields;
 mod frequent;
+mod later_fields;
 mod line;
 mod lines;
 mod names;

@@ -78,8 +78,8 @@ impl Line {
         self.put_seconds(time.sec as u64);
     }
 
-    /// Prepends seconds. Those of a time since 1970 mostly have ten digits, and the last nine need no
-    /// loop.
+    /// Prepends seconds. Those of a time since 1970 mostly have ten digits, and the last nine need
+    /// no loop.
     #[inline(always)]
     fn put_seconds(&mut self, sec: u64)
         requires below { sec < clock_end }

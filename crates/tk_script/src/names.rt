@@ -1,5 +1,5 @@
 ghost use Rattle.std.specs.Prelude.{◌≡◌, ◌≤◌, length};
-ghost use Rattle.tk_script.specs.Word.{clock_of, clock_name, refusal_name, state_name};
+ghost use Rattle.tk_script.specs.Word.{clock_of, refusal_name, state_name};
 
 use crate::fields::has_word;
 use tk_clock::{ClockId, Refusal};
@@ -26,22 +26,6 @@ pub fn clock_word(word: &[u8]) -> Option<ClockId>
         Some(ClockId::MonotonicRaw)
     } else {
         None
-    }
-}
-
-/// Returns a clock's name.
-pub(crate) fn word_of_clock(clock: ClockId) -> &'static [u8]
-    ensures name { result.now ≡ clock_name clock }
-    ensures short { length result.now ≤ 16 }
-{
-    match clock {
-        ClockId::Realtime => b"realtime",
-        ClockId::Monotonic => b"monotonic",
-        ClockId::Boottime => b"boottime",
-        ClockId::Tai => b"tai",
-        ClockId::RealtimeCoarse => b"realtime_coarse",
-        ClockId::MonotonicCoarse => b"monotonic_coarse",
-        ClockId::MonotonicRaw => b"monotonic_raw",
     }
 }
 

@@ -2,7 +2,7 @@ ghost use Rattle.std.specs.Prelude.{◌≡◌, ◌≤◌, ◌<◌, ◌-◌, ◌^
 ghost use Rattle.std.specs.List.{list_all};
 ghost use Rattle.std.specs.Char.{is_ascii_digit};
 ghost use Rattle.std.specs.Str.Parse.{digits_value};
-ghost use Rattle.tk_script.specs.Number.{is_numeral, number_up_to, number_of, number32_of, signed_of};
+ghost use Rattle.tk_script.specs.Number.{is_numeral, number_up_to, number_of, number8_of, number32_of, signed_of};
 
 /// The most digits that always fit in 64 bits.
 const SURE_DIGITS: usize = 19;
@@ -16,6 +16,14 @@ pub fn number(field: &[u8]) -> Option<u64>
     ensures { result ≡ number_of field.now }
 {
     number_at_most(field, u64::MAX)
+}
+
+/// Parses a field as an unsigned 8-bit number.
+pub(crate) fn number8(field: &[u8]) -> Option<u8>
+    ensures { result ≡ number8_of field.now }
+{
+    let value = number_at_most(field, 0xff)?;
+    Some(value as u8)
 }
 
 /// Parses a field as an unsigned 32-bit number.

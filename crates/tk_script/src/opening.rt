@@ -36,6 +36,9 @@ pub enum Start {
     Steered { opening: Opening, hz: u32 },
     /// Continues running clocks, which have accepted `front` commands, at most 2^62 (`openwords`).
     Running { clock: Clock, front: u64 },
+    /// Continues running clocks that a discipline steers, and the discipline (`openwords` with its
+    /// numbers).
+    Continued { clock: SteeredClock, front: u64 },
 }
 
 /// Names the two numbers that describe the counter, after its bits.

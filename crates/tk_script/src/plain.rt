@@ -12,14 +12,14 @@ ghost use Rattle.tk_script.specs.Stamps.{stamp_of};
 
 use crate::fields::MOST_FIELDS;
 use crate::frequent::{leading_row, leading_stamp};
+use crate::later_fields::field_in_line;
 use crate::row::Row;
 use memchr::{memchr, memchr2};
 
 /// The fields of a line.
 #[derive(Clone, Copy)]
 struct Fields<'a> {
-    /// The first of them, as many as the longest form of a record has; if there are fewer, then
-    /// empty ones.
+    /// The first `MOST_FIELDS` of them; if there are fewer, then empty ones.
     first: [&'a [u8]; MOST_FIELDS],
     /// Their number.
     count: usize,
@@ -89,6 +89,17 @@ impl<'a> Lines<'a> {
 
     /// Returns the field at an index of the line that was read last.
     pub(crate) fn get(&self, i: usize) -> Option<&'a [u8]>
+        ensures { option_map (λ s. s.now) result ≡ field_at (cut_at_commas self.now.line.now) i }
+    {
+        if i < MOST_FIELDS {
+            self.first_field(i)
+        } else {
+            field_in_line(self.line, i)
+        }
+    }
+
+    /// Returns the field at an index that is below `MOST_FIELDS`.
+    fn first_field(&self, i: usize) -> Option<&'a [u8]>
         requires { i < 16 }
         ensures { option_map (λ s. s.now) result ≡ field_at (cut_at_commas self.now.line.now) i }
     {
@@ -100,6 +111,7 @@ impl<'a> Lines<'a> {
     }
 
     /// Takes the row of the next line, if the line has a frequent form and no fault.
+    #[inline(always)]
     pub(crate) fn take_row(&mut self) -> Option<Row>
         ensures some { IfSome result
             (λ row. FirstLineGives row_of self.old.rest.now row self.new.rest.now) }
@@ -184,7 +196,7 @@ pub(crate) fn after_line(text: &[u8]) -> Option<&[u8]>
     }
 }
 
-/// Splits a line at its commas. The fields that no record has are only counted.
+/// Splits a line at its commas. The fields after the first ones are only counted.
 fn split_at_commas(line: &[u8]) -> Fields<'_>
     ensures { HasFields (cut_at_commas line.now) result }
 {

@@ -75,10 +75,8 @@ impl<'a> Records<'a> {
         }
     }
 
-    /// Returns the field at an index of the record that was read last. No form of a record has a
-    /// field at `MOST_FIELDS`.
+    /// Returns the field at an index of the record that was read last.
     pub(crate) fn get(&self, i: usize) -> Option<&[u8]>
-        requires { i < 16 }
         ensures { option_map (λ s. s.now) result ≡ field_at (fields_of self.now) i }
     {
         match self {
@@ -88,6 +86,7 @@ impl<'a> Records<'a> {
     }
 
     /// Takes the row of the next record, if the record has a frequent form and no fault.
+    #[inline(always)]
     pub(crate) fn take_row(&mut self) -> Option<Row>
         requires { IsCursor self.old }
         ensures some { IfSome result (λ row. TakesGiving row_of row self.old self.new) }

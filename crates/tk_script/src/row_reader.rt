@@ -55,6 +55,7 @@ impl<'a> RowReader<'a> {
     ///
     /// - `Word`, `Fields`, `Number`: the next record has a fault
     /// - `Memory`: an allocation failed; it may replace any other result
+    #[inline(always)]
     pub fn next_row(&mut self) -> Result<Option<Row>, ScriptError>
         requires { IsReady self.old }
         ensures { MatchResult result

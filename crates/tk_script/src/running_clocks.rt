@@ -1,29 +1,87 @@
 //! Parses the record `openwords`, by which a script begins from running clocks.
-ghost use Rattle.std.specs.Prelude.{◌≡◌, IfOk};
+ghost use Rattle.std.specs.Prelude.{◌≡◌, ◌≤◌, IfOk};
 ghost use Rattle.tk_script.specs.Cursor.{fields_of};
-ghost use Rattle.tk_script.specs.Start.{IsOpenable};
+ghost use Rattle.tk_script.specs.Start.{IsOpenable, most_front};
 ghost use Rattle.tk_script.specs.RunningClocks as spec;
 
-use crate::fields::{MOST_FIELDS, number_at, number32_at, signed_at};
+use crate::discipline_fields::read_numbers;
+use crate::fields::{number_at, number32_at, signed_at};
 use crate::opening::{Start, Telling, counter_of};
 use crate::records::Records;
 use crate::script_error::ScriptError;
 use tk_clock::{Clock, SNAPSHOT_WORDS, Snapshot};
 use tk_counter::CounterDesc;
+use tk_ntp::{SteeredClock, SteeredNumbers};
+
+/// The number of fields of the record without a discipline.
+const UNSTEERED_FIELDS: usize = 16;
+
+/// The number of fields of the record with the numbers of a discipline.
+const STEERED_FIELDS: usize = 34;
 
 /// The most commands that running clocks may have accepted at the beginning of a script. All
 /// records of a script can then be counted.
 const FRONT_LIMIT: u64 = 1 << 62;
 
-/// Parses bits, mult and shift, the ten words of a snapshot, a frequency and a tick.
+/// Parses running clocks, and the numbers of their discipline if there are more fields.
 #[tactic(auto, unfolding(crate::specs::RunningClocks::running_of))]
 pub(crate) fn read_running(fields: &Records<'_>) -> Result<Start, ScriptError>
     ensures value { result ≡ spec.running_of (fields_of fields.now) }
     ensures opens { IfOk result IsOpenable }
 {
-    if fields.len() != MOST_FIELDS {
-        return Err(ScriptError::Fields { row: 1 });
+    if fields.len() == UNSTEERED_FIELDS {
+        read_unsteered(fields)
+    } else if fields.len() == STEERED_FIELDS {
+        read_steered(fields)
+    } else {
+        Err(ScriptError::Fields { row: 1 })
     }
+}
+
+/// Parses running clocks that no discipline steers.
+#[tactic(auto, unfolding(crate::specs::RunningClocks::unsteered_of))]
+fn read_unsteered(fields: &Records<'_>) -> Result<Start, ScriptError>
+    ensures value { result ≡ spec.unsteered_of (fields_of fields.now) }
+    ensures opens { IfOk result IsOpenable }
+{
+    let (clock, front) = read_clocks(fields)?;
+    Ok(Start::Running { clock, front })
+}
+
+/// Parses running clocks and the numbers of their discipline. A field that isn't a number is the
+/// fault before clocks that can't run.
+#[tactic(auto, unfolding(crate::specs::RunningClocks::steered_of))]
+fn read_steered(fields: &Records<'_>) -> Result<Start, ScriptError>
+    ensures value { result ≡ spec.steered_of (fields_of fields.now) }
+    ensures opens { IfOk result IsOpenable }
+{
+    let numbers = read_numbers(fields)?;
+    let (clock, front) = read_clocks(fields)?;
+    continued(clock, front, numbers)
+}
+
+/// Continues these clocks with a discipline, if the numbers are those of one.
+fn continued(clock: Clock, front: u64, numbers: SteeredNumbers) -> Result<Start, ScriptError>
+    requires { front ≤ most_front }
+    ensures value { result ≡ spec.continued clock front numbers }
+    ensures opens { IfOk result IsOpenable }
+{
+    match SteeredClock::from_numbers(clock, numbers) {
+        Ok(steered) => Ok(Start::Continued {
+            clock: steered,
+            front,
+        }),
+        Err(_) => Err(ScriptError::Opening { row: 1 }),
+    }
+}
+
+/// Parses bits, mult and shift, the ten words of a snapshot, a frequency and a tick. Returns the
+/// clocks and the number of commands that they have accepted.
+#[tactic(auto, unfolding(crate::specs::RunningClocks::clocks_of))]
+fn read_clocks(fields: &Records<'_>) -> Result<(Clock, u64), ScriptError>
+    ensures value { result ≡ spec.clocks_of (fields_of fields.now) }
+    ensures few { IfOk result (λ found. found.1 ≤ most_front) }
+{
     let bits = number32_at(1, fields, 1)?;
     let mult = number32_at(1, fields, 2)?;
     let shift = number32_at(1, fields, 3)?;
@@ -31,7 +89,7 @@ pub(crate) fn read_running(fields: &Records<'_>) -> Result<Start, ScriptError>
     let frequency = signed_at(1, fields, 14)?;
     let tick = signed_at(1, fields, 15)?;
     let desc = counter_of(Telling::Scale, bits, mult, shift)?;
-    continued(desc, words, frequency, tick)
+    clocks_from(desc, words, frequency, tick)
 }
 
 /// Parses the ten words of a snapshot.
@@ -54,14 +112,14 @@ fn words_in(fields: &Records<'_>) -> Result<[u64; SNAPSHOT_WORDS], ScriptError>
 }
 
 /// Makes the clocks of these words, frequency and tick, if running clocks can be in this state.
-fn continued(
+fn clocks_from(
     desc: CounterDesc,
     words: [u64; SNAPSHOT_WORDS],
     frequency: i64,
     tick: i64,
-) -> Result<Start, ScriptError>
-    ensures value { result ≡ spec.continued desc words frequency tick }
-    ensures opens { IfOk result IsOpenable }
+) -> Result<(Clock, u64), ScriptError>
+    ensures value { result ≡ spec.clocks_from desc words frequency tick }
+    ensures few { IfOk result (λ found. found.1 ≤ most_front) }
 {
     let Some(snapshot) = Snapshot::from_words(desc, words) else {
         return Err(ScriptError::Opening { row: 1 });
@@ -73,5 +131,5 @@ fn continued(
     let Some(clock) = Clock::from_snapshot(snapshot, frequency, tick) else {
         return Err(ScriptError::Opening { row: 1 });
     };
-    Ok(Start::Running { clock, front })
+    Ok((clock, front))
 }

@@ -1,4 +1,5 @@
 mod commands;
+mod continued;
 mod dates;
 mod faults;
 mod lines;

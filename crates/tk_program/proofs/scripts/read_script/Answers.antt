@@ -43,6 +43,21 @@ returns-in-Steered-clause-err g c =
       (c.in-Ok.text.items, c.in-Ok.ensures.ok, parsed),
     )))))
 
+pub returns-in-Continued-clause-err : goal.returns-in-Continued-clause-err
+returns-in-Continued-clause-err g c =
+    let script = c.in-Ok-from_bytes.script in
+    let parsed =
+    ap parse_of (sym c.as_slice.ensures.value) ∙ c.in-Ok-from_bytes.ensures.gives
+    ∙ ap (λ (start : Start). let p : Parse = record { start = start; rows = script.rows.items } in
+    Ok p) c.in-Continued.is in
+    inr (inr (inr (inr (inr (inl (
+      _,
+      _,
+      script.rows.items,
+      refl,
+      (c.in-Ok.text.items, c.in-Ok.ensures.ok, parsed),
+    ))))))
+
 pub returns-then-has_request-clause-err : goal.returns-then-has_request-clause-err
 returns-then-has_request-clause-err g c =
     let script = c.in-Ok-from_bytes.script in
@@ -51,10 +66,10 @@ returns-then-has_request-clause-err g c =
     ap parse_of (sym c.as_slice.ensures.value) ∙ c.in-Ok-from_bytes.ensures.gives
     ∙ ap (λ (start : Start). let p : Parse = record { start = start; rows = script.rows.items } in
     Ok p) c.in-Opened.is in
-    inr (inr (inr (inr (inr (
+    inr (inr (inr (inr (inr (inr (
       racer,
       refl,
       (c.in-Ok.text.items, c.in-Ok.ensures.ok, parsed),
       sym c.has_change.ensures ∙ c.if-has_change.false,
       sym c.has_request.ensures ∙ c.if-has_request.true,
-    )))))
+    ))))))

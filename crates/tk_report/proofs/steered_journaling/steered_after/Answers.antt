@@ -19,17 +19,16 @@ rows-preserved g c =
     let step = rw c.in-Some.is at c.in_ok-row.ensures in
     record {
       ready = step.0;
-      run = IsSteeredRun-next c.args.opening c.args.hz (coming c.args.rows.now) c.rows.clocks
+      run = IsSteeredRun-next c.args.first (coming c.args.rows.now) c.rows.clocks
           c.obey.new.clocks c.in-Some.row (coming c.rows.rows) (coming c.next_row.new.self)
           c.rows.invariant.run step.2 c.in_ok-obey.ensures.after;
     }
 
 pub returns : goal.returns
 returns g c =
-    let opening = c.args.opening in
-    let hz = c.args.hz in
+    let first = c.args.first in
     let all = coming c.args.rows.now in
     let none : coming c.rows.rows ≡ Ok [] = search rules in
-    subst (λ (j : Journal). IsSteeredJournalOfRows opening hz all j)
+    subst (λ (j : Journal). IsSteeredJournalOfRows first all j)
     (sym c.into_keeper.ensures.journal)
-    (IsSteeredRun-end opening hz all c.rows.clocks (coming c.rows.rows) c.rows.invariant.run none)
+    (IsSteeredRun-end first all c.rows.clocks (coming c.rows.rows) c.rows.invariant.run none)

@@ -6,7 +6,7 @@ use Rattle.tk_report.proofs.steered_journaling.steered_after.Given as goal
 abbrev pub invariant-rows : goal.invariant-rows
 invariant-rows g l = record {
   ready : IsReady l.rows;
-  run : IsSteeredRun l.fn.opening l.fn.hz (coming l.fn.rows) l.clocks (coming l.rows);
+  run : IsSteeredRun l.fn.first (coming l.fn.rows) l.clocks (coming l.rows);
 }
 
 abbrev pub decreases-rows : goal.decreases-rows

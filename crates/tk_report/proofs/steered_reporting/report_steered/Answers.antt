@@ -3,28 +3,27 @@ use Rattle.std.proofs.lemmas.Result.{err_from_is_err_and}
 use Rattle.tk_script.specs.Coming.{coming}
 use Rattle.tk_script.specs.Lines.{open_line}
 use Rattle.tk_report.specs.Report.{difference, differs_text}
-use Rattle.tk_report.specs.SteeredReport.{journal_in, missed_after, steered_at}
-use Rattle.tk_steered.specs.Logged.{logged_opened}
+use Rattle.tk_report.specs.SteeredReport.{journal_in, missed_after}
+use Rattle.tk_clock.specs.Journal.{Journal}
+use Rattle.tk_clock.specs.Snapshot.{Snapshot}
 use Rattle.tk_report.proofs.Lines.{difference_most, Fails-from}
-use Rattle.tk_report.proofs.SteeredLines.{IsSteeredBegun, steered-opened, IsSteeredBegun-start, IsSteeredBegun-next, IsSteeredBegun-end}
+use Rattle.tk_report.proofs.SteeredLines.{IsSteeredBegun, IsSteeredBegun-start, IsSteeredBegun-next, IsSteeredBegun-end}
 use Rattle.tk_report.proofs.steered_reporting.report_steered.Goals as goal
 
 pub rows-init : goal.rows-init
 rows-init g c =
-    let opening = c.args.opening in
-    let hz = c.args.hz in
-    let clocks = c.unwrap-clocks.result in
-    let logged : clocks.logged ≡ logged_opened opening.desc opening.reading opening.real hz =
-    search rules in
-    let spare : clocks.spare ≡ 0 = search rules in
-    let opens : clocks ≡ steered_at opening hz = steered-opened opening hz clocks logged spare in
-    let written : c.line_open.new.out.items ≡ open_line opening.desc =
+    let first = c.args.first in
+    let counter = (journal_in first).opening.counter in
+    let written : c.line_open.new.out.items ≡ open_line counter =
     c.in_ok-line_open.ensures.ok
-    ∙ ap (λ (t : List ℕ). t ++ open_line opening.desc) c.new-text.ensures.items in
+    ∙ ap (λ (t : List ℕ). t ++ open_line c.desc-desc.result) c.new-text.ensures.items
+    ∙ ap open_line (c.desc-desc.ensures
+    ∙ ap (λ (s : Snapshot). s.base.counter) c.snapshot.ensures.value
+    ∙ ap (λ (j : Journal). j.opening.counter) c.keeper.ensures.journal) in
     record {
-      ready = c.requires.ready;
-      begun = rw (opens, written) (IsSteeredBegun-start opening hz (coming c.args.rows.now));
-      numbered = omega (arith, c.requires.ready.count);
+      ready = c.requires;
+      begun = rw written (IsSteeredBegun-start first (coming c.args.rows.now));
+      numbered = omega (arith, c.requires.count);
       found = omega arith;
     }
 
@@ -38,8 +37,7 @@ returns-in_err-row g c =
 
 pub rows-preserved : goal.rows-preserved
 rows-preserved g c =
-    let opening = c.args.opening in
-    let hz = c.args.hz in
+    let first = c.args.first in
     let all = coming c.args.rows.now in
     let row = c.in-Some.row in
     let number = c.rows.number + 1 in
@@ -59,9 +57,9 @@ rows-preserved g c =
     let more : c.in_ok-more.more ≡ difference missed =
     told.count ∙ ap difference added.missed in
     let Q : ℕ → List ℕ → Type 0 = λ found text.
-    IsSteeredBegun opening hz all (number + 1) (c.rows.differences + found) after
+    IsSteeredBegun first all (number + 1) (c.rows.differences + found) after
     (coming c.next_row.new.self) text in
-    let next = IsSteeredBegun-next opening hz all number c.rows.differences before after row
+    let next = IsSteeredBegun-next first all number c.rows.differences before after row
     (coming c.rows.rows) (coming c.next_row.new.self) so_far line c.rows.invariant.begun step.2
     added.line.1 in
     record {
@@ -75,6 +73,6 @@ rows-preserved g c =
 pub returns : goal.returns
 returns g c =
     let none : coming c.rows.rows ≡ Ok [] = search rules in
-    IsSteeredBegun-end c.args.opening c.args.hz (coming c.args.rows.now) (c.rows.number + 1)
+    IsSteeredBegun-end c.args.first (coming c.args.rows.now) (c.rows.number + 1)
     c.rows.differences c.rows.clocks (coming c.rows.rows)
     c.rows.text.items c.rows.invariant.begun none

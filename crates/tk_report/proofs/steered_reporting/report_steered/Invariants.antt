@@ -8,7 +8,7 @@ use Rattle.tk_report.proofs.steered_reporting.report_steered.Given as goal
 abbrev pub invariant-rows : goal.invariant-rows
 invariant-rows g l = record {
   ready : IsReady l.rows;
-  begun : IsSteeredBegun l.fn.opening l.fn.hz (coming l.fn.rows) (l.number + 1) l.differences
+  begun : IsSteeredBegun l.fn.first (coming l.fn.rows) (l.number + 1) l.differences
       l.clocks (coming l.rows) l.text.items;
   numbered : l.number + records_left l.rows ≤ 2 ^ 32;
   found : l.differences ≤ l.number;

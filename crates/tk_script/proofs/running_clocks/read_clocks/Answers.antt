@@ -1,8 +1,8 @@
 use Rattle.std.proofs.Common.{◌∙◌, sym, w64, FitsSigned}
 use Rattle.std.proofs.lemmas.Int.{to_z-of_z}
 use Rattle.tk_script.specs.Cursor.{fields_of}
-use Rattle.tk_script.proofs.RunningClocks.{running-read}
-use Rattle.tk_script.proofs.running_clocks.read_running.Goals as goal
+use Rattle.tk_script.proofs.RunningClocks.{clocks-read}
+use Rattle.tk_script.proofs.running_clocks.read_clocks.Goals as goal
 
 pub returns-clause-value : goal.returns-clause-value
 returns-clause-value c =
@@ -13,11 +13,11 @@ returns-clause-value c =
     let fit : FitsSigned w64 frequency = record { sfits = known.1.1.1.1.0.1 } in
     let fit_tick : FitsSigned w64 tick = record { sfits = known_tick.1.1.1.1.0.1 } in
     let made = rw (to_z-of_z w64 frequency fit, to_z-of_z w64 tick fit_tick) at
-    c.continued.ensures.value in
+    c.clocks_from.ensures.value in
     made
-    ∙ sym (running-read (fields_of c.args.fields.now) c.in_ok-bits.bits c.in_ok-mult.mult
+    ∙ sym (clocks-read (fields_of c.args.fields.now) c.in_ok-bits.bits c.in_ok-mult.mult
     c.in_ok-shift.shift c.in_ok-words.words frequency tick
-    c.in_ok-desc.desc (sym c.len.ensures ∙ c.if-len-ne-MOST_FIELDS.false)
+    c.in_ok-desc.desc
     (sym c.number32_at.ensures ∙ c.in_ok-bits.was)
     (sym c.number32_at-2.ensures ∙ c.in_ok-mult.was)
     (sym c.number32_at-3.ensures ∙ c.in_ok-shift.was)
