@@ -1,0 +1,4 @@
+pub mod Given
+pub mod Steps
+pub mod Taken
+pub mod Opened

@@ -1,0 +1,112 @@
+use Rattle.std.proofs.Common.{◌≡◌, ap, refl, sym, subst, ◌<◌, ◌≤◌}
+use Rattle.std.proofs.lemmas.Result.{err_from_is_err_and}
+use Rattle.std.specs.Prelude.{MatchOption}
+use Rattle.tk_clock.specs.declared.command.Command.TheVariants.{Update}
+use Rattle.tk_clock.specs.Limits.{clock_end}
+use Rattle.tk_clock.specs.State.{State, effect}
+use Rattle.tk_ntp.specs.Advance.{seconds_left}
+use Rattle.tk_ntp.specs.Followed.{LeadTo, followed, seconds_left_after}
+use Rattle.tk_ntp.specs.SteeredClock.{SteeredClock}
+use Rattle.tk_shared_steered.specs.Late.{IsTaken, IsUpdated}
+use Rattle.tk_shared_steered.specs.Owner.{IsFollowing, IsInStep, Owner, owner_of}
+use Rattle.tk_shared_steered.proofs.Steps.{still}
+use Rattle.tk_shared_steered.proofs.Taken.{done, in_step, same_clock, stopped, stopped_in_step, update_leads, updated}
+use Rattle.tk_shared_steered.proofs.shared_steering.SharedSteering.update.Given.{Over}
+use Rattle.tk_shared_steered.proofs.shared_steering.SharedSteering.update.Goals as goal
+
+pub invariant_of-self : goal.invariant_of-self
+invariant_of-self g c =
+    let inside = c.self.inside in
+    stopped_in_step Update c.in_err-reading.field-0.0
+    (owner_of inside.caller inside.clock inside.count) c.args.self.now c.give.new.caller
+    c.self.view_is c.self.invariant c.requires.known c.in_err-reading.ensures.answer
+
+pub returns-in_err-reading-clause-answer : goal.returns-in_err-reading-clause-answer
+returns-in_err-reading-clause-answer g c =
+    let inside = c.self.inside in
+    let p = err_from_is_err_and c.from_residual.result c.from_residual.ensures.1 in
+    rw (p.1, p.2) (stopped Update c.in_err-reading.field-0.0
+    (owner_of inside.caller inside.clock inside.count) c.args.self.now c.give.new.caller
+    c.self.view_is c.in_err-reading.ensures.answer)
+
+pub returns-in_err-reading-clause-known : goal.returns-in_err-reading-clause-known
+returns-in_err-reading-clause-known g c =
+    let p = err_from_is_err_and c.from_residual.result c.from_residual.ensures.1 in
+    rw p.1 tt
+
+pub returns-in_err-reading-clause-leads : goal.returns-in_err-reading-clause-leads
+returns-in_err-reading-clause-leads g c =
+    still c.args.self.now.clock c.self.inside.clock (ap (λ (o : Owner). o.clock) c.self.view_is)
+
+pub returns-in_err-reading-clause-next : goal.returns-in_err-reading-clause-next
+returns-in_err-reading-clause-next g c =
+    let p = err_from_is_err_and c.from_residual.result c.from_residual.ensures.1 in
+    rw p.1 tt
+
+pub returns-in_err-reading-clause-fewer : goal.returns-in_err-reading-clause-fewer
+returns-in_err-reading-clause-fewer g c =
+    let p = err_from_is_err_and c.from_residual.result c.from_residual.ensures.1 in
+    rw p.1 tt
+
+abbrev Here : (g : Over) → goal.After-self-1 g → Owner
+Here g c = owner_of c.self.inside.caller c.self.inside.clock c.self.inside.count
+
+step : (g : Over) (c : goal.After-self-1 g) → IsInStep (Here g c)
+step g c = c.self.invariant (subst IsFollowing (sym c.self.view_is) c.requires.known)
+
+abbrev New : (g : Over) → goal.After-self-1 g → Owner
+New g c = owner_of c.give.new.caller c.follow_command-accepted.new.self c.front-self-inside.result
+
+same : (g : Over) (c : goal.After-self-1 g) →
+    c.begin_alone-leap.new.self.clock ≡ c.self.inside.clock.clock
+same g c =
+    same_clock c.begin_alone-leap.result c.in_ok-reading.reading c.self.inside.clock
+    c.begin_alone-leap.new.self c.begin_alone-leap.ensures.begun
+
+given : (g : Over) (c : goal.After-self-1 g) →
+    IsTaken Update c.in_ok-reading.reading
+    (followed c.in_ok-reading.reading Update c.begin_alone-leap.new.self) (Here g c) (New g c)
+given g c =
+    let s = c.begin_alone-leap.new.self in
+    done Update c.in_ok-reading.reading (Here g c) c.give.new.caller s
+    (followed c.in_ok-reading.reading Update s) c.follow_command-accepted.new.self
+    c.front-self-inside.result c.follow_command-accepted.result (step g c) (same g c)
+    c.in_ok-reading.ensures.answer c.follow_command-accepted.ensures.answer
+    c.front-self-inside.ensures
+
+pub invariant_of-self-2 : goal.invariant_of-self-2
+invariant_of-self-2 g c = λ following.
+    in_step (Here g c) (New g c) Update c.in_ok-reading.reading
+    (followed c.in_ok-reading.reading Update c.begin_alone-leap.new.self) (step g c) (given g c)
+    (ap (λ (s : State). effect s c.in_ok-reading.reading Update) (same g c)) refl
+
+pub returns-clause-answer : goal.returns-clause-answer
+returns-clause-answer g c =
+    subst (λ (o : Owner). IsUpdated c.begin_alone-leap.result o (New g c)) c.self.view_is
+    (updated c.begin_alone-leap.result c.in_ok-reading.reading (Here g c) (New g c)
+    c.begin_alone-leap.new.self c.begin_alone-leap.ensures.begun (given g c))
+
+pub returns-clause-known : goal.returns-clause-known
+returns-clause-known g c = sym c.front-self-inside.ensures
+
+pub returns-clause-next : goal.returns-clause-next
+returns-clause-next g c =
+    subst (λ (n : SteeredClock). MatchOption c.begin_alone-leap.result (Unit {0})
+    (λ _. (0 < n.next) × (n.next ≤ clock_end))) (sym (given g c).clock)
+    c.begin_alone-leap.ensures.next
+
+pub returns-clause-leads : goal.returns-clause-leads
+returns-clause-leads g c =
+    subst (λ (o : Owner). LeadTo o.clock c.follow_command-accepted.new.self) c.self.view_is
+    (update_leads c.begin_alone-leap.result c.in_ok-reading.reading c.self.inside.clock
+    c.begin_alone-leap.new.self c.follow_command-accepted.new.self (step g c).mark
+    c.begin_alone-leap.ensures.begun (given g c).clock)
+
+pub returns-clause-fewer : goal.returns-clause-fewer
+returns-clause-fewer g c =
+    subst (λ (o : Owner). MatchOption c.begin_alone-leap.result (Unit {0})
+    (λ leap. seconds_left_after leap c.follow_command-accepted.new.self < seconds_left o.clock))
+    c.self.view_is
+    (subst (λ (n : SteeredClock). MatchOption c.begin_alone-leap.result (Unit {0})
+    (λ leap. seconds_left_after leap n < seconds_left c.self.inside.clock))
+    (sym (given g c).clock) c.begin_alone-leap.ensures.fewer)

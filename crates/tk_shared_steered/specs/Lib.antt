@@ -1,0 +1,6 @@
+pub mod Errors
+pub mod Given
+pub mod Owner
+pub mod Opened
+pub mod Asked
+pub mod Late

@@ -1,0 +1,61 @@
+-- The opening of a discipline over shared clocks.
+use Rattle.std.specs.Prelude.{◌≡◌, ℕ, ◌<◌, Option, Some, None, unsigned_abs}
+use Rattle.tk_counter.specs.Counter.{Counter}
+use Rattle.tk_clock.specs.declared.command.Command.TheVariants.{Update}
+use Rattle.tk_clock.specs.declared.refusal.Refusal.{Refusal}
+use Rattle.tk_clock.specs.declared.timespec.Timespec.{Timespec}
+use Rattle.tk_clock.specs.Journal.{followed_by, opened}
+use Rattle.tk_clock.specs.Snapshot.{Snapshot}
+use Rattle.tk_clock.specs.State.{ReadBase}
+use Rattle.tk_clock.specs.Time.{timespec_of}
+use Rattle.tk_ntp.specs.Followed.{followed}
+use Rattle.tk_ntp.specs.SteeredClock.{SteeredClock, steered_opened, steered_refusal}
+use Rattle.tk_shared.specs.Callers.{HasRead, Known, IsInformed, entry_of}
+use Rattle.tk_shared_steered.specs.declared.fault.SteeringFault.{SteeringFault}
+use Rattle.tk_shared_steered.specs.declared.fault.SteeringFault.TheVariants.{Refused, Foreign}
+use Rattle.tk_shared_steered.specs.Given.{IsNotGiven}
+use Rattle.tk_shared_steered.specs.Owner.{Owner, IsFollowing}
+
+-- the clocks of a caller, with a fresh discipline with this `hz`: its update is the first command
+-- since the clocks were opened
+pub record IsOpenedAs (hz : ℕ) (old new : Known) (clock : SteeredClock) : Type 0 where
+  pub counter : Counter
+  pub start : ℕ
+  pub real : Timespec
+  pub reading : ℕ
+  pub seen :
+      new.seen ≡ followed_by (opened counter start real) (entry_of old reading Update)
+  pub sound : steered_refusal counter start real hz ≡ None
+  pub clock_is : clock ≡ followed reading Update (steered_opened counter start real hz)
+  pub informed : IsInformed new
+  pub id : new.id ≡ old.id
+
+-- the owner of these clocks
+pub record HasOpened (hz : ℕ) (old : Known) (owner : Owner) : Type 0 where
+  pub clocks : IsOpenedAs hz old owner.caller owner.clock
+  pub following : IsFollowing owner
+
+-- why clocks can't be opened with a discipline as their first snapshot shows them: MONOTONIC is 0
+-- at its reading, so REALTIME there is its offset
+abbrev pub shown_refusal : ReadBase → ℕ → Option Refusal
+shown_refusal base hz =
+    steered_refusal base.counter base.last (timespec_of (unsigned_abs base.real_offset)) hz
+
+-- a caller read the page before any command was accepted
+pub record HasSeenNone (old new : Known) : Type 0 where
+  pub snapshot : Snapshot
+  pub read : HasRead old new snapshot
+  pub none : snapshot.front ≡ 0
+
+-- why no discipline was opened
+pub data IsUnopened (hz : ℕ) (old new : Known) : SteeringFault → Type 0 where
+  -- some command was accepted before the page was read. The caller gave none
+  Late : (snapshot : Snapshot) → HasRead old new snapshot → 0 < snapshot.front →
+      IsUnopened hz old new Foreign
+  -- the clocks with a discipline can't be opened as the page shows them. The caller gave no command
+  Unsound : (refusal : Refusal) (shown : HasSeenNone old new) →
+      shown_refusal shown.snapshot.base hz ≡ Some refusal → IsUnopened hz old new (Refused refusal)
+  -- they can, and the update was refused, or another caller's command was accepted with it
+  NotGiven : (fault : SteeringFault) (middle : Known) (shown : HasSeenNone old middle) →
+      shown_refusal shown.snapshot.base hz ≡ None → IsNotGiven Update fault middle new →
+      IsUnopened hz old new fault

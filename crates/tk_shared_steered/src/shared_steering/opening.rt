@@ -1,0 +1,92 @@
+//! Opens a discipline over the clocks of a shared keeper.
+ghost use Rattle.std.specs.Prelude.{◌≡◌, pos, MatchResult};
+ghost use Rattle.tk_clock.specs.Time.{nanoseconds, timespec_of};
+ghost use Rattle.tk_shared_steered.specs.Opened.{HasOpened, IsOpenedAs, IsUnopened};
+
+use super::SharedSteering;
+use crate::fault::{SteeringFault, Unsteered};
+use crate::giving::give;
+use std::sync::Wait;
+use tk_clock::{Command, Timespec};
+use tk_counter::NANOS_PER_SECOND;
+use tk_ntp::SteeredClock;
+use tk_shared::{Caller, Counter, Named, SharedKeeper};
+
+impl<L: Named> SharedSteering<L> {
+    /// Opens a fresh discipline over the clocks of a keeper, which were just opened: no command was
+    /// accepted yet. It gives an `Update` by the caller.
+    ///
+    /// `hz` is the number of parts of a second that phases are divided into, as in
+    /// `Discipline::new`.
+    ///
+    /// # Errors
+    ///
+    /// Returns an `Unsteered`, which contains the caller and the first fault that applies:
+    ///
+    /// - `Foreign`: a command was accepted before, or another caller's with the `Update`.
+    /// - `Refused`: `Invalid` if `hz` is not 1 to 1024; or the refusal of the `Update`.
+    pub fn open<C: Counter, R: Wait>(
+        rt: &R,
+        keeper: &SharedKeeper<L, C>,
+        caller: Caller<L>,
+        hz: u32,
+    ) -> Result<SharedSteering<L>, Unsteered<L>>
+        ensures answer { MatchResult result
+            (λ owner. HasOpened hz caller owner)
+            (λ unsteered. IsUnopened hz caller unsteered.caller unsteered.fault) }
+    {
+        let mut caller = caller;
+        match opened(rt, keeper, &mut caller, hz) {
+            Ok(clock) => {
+                let count = caller.front();
+                Ok(SharedSteering {
+                    caller,
+                    clock,
+                    count,
+                })
+            }
+            Err(fault) => Err(Unsteered { fault, caller }),
+        }
+    }
+}
+
+/// Opens the clocks of a keeper before any command, with a fresh discipline, and gives them an
+/// update.
+fn opened<L: Named, C: Counter, R: Wait>(
+    rt: &R,
+    keeper: &SharedKeeper<L, C>,
+    caller: &mut Caller<L>,
+    hz: u32,
+) -> Result<SteeredClock, SteeringFault>
+    ensures answer { MatchResult result
+        (λ clock. IsOpenedAs hz caller.old caller.new clock)
+        (λ fault. IsUnopened hz caller.old caller.new fault) }
+{
+    let now = keeper.read(rt, caller);
+    if now.front() != 0 {
+        return Err(SteeringFault::Foreign);
+    }
+    let mut clock = match SteeredClock::open(
+        now.desc(),
+        now.last(),
+        time_of(now.real_offset()),
+        hz,
+    ) {
+        Ok(clock) => clock,
+        Err(refusal) => return Err(SteeringFault::Refused(refusal)),
+    };
+    let reading = give(rt, keeper, caller, Command::Update)?;
+    let _accepted = clock.follow_command(reading, Command::Update);
+    Ok(clock)
+}
+
+/// Returns a number of nanoseconds as a time.
+fn time_of(nanos: u64) -> Timespec
+    ensures value { result ≡ timespec_of nanos }
+    ensures same { nanoseconds result ≡ pos nanos }
+{
+    Timespec {
+        sec: (nanos / NANOS_PER_SECOND) as i64,
+        nsec: (nanos % NANOS_PER_SECOND) as u32,
+    }
+}

@@ -1,0 +1,100 @@
+//! Tests values from outside the contracts, and threads.
+ghost use Rattle.std.specs.Prelude.{◌≡◌, IfOk};
+ghost use Rattle.tk_shared.specs.Opening.{IsNamed};
+
+mod alone;
+mod threads;
+
+use std::alloc::Global;
+use std::fmt::Debug;
+use std::process::Abort;
+use std::sync::Wait;
+use std::test::Fail;
+use tk_clock::Timespec;
+use tk_counter::CounterDesc;
+use tk_ntp::Timex;
+use tk_shared::{Caller, Counter, Named, Prepared, SharedKeeper, prepare};
+use tk_shared_steered::{SharedSteering, SteeringFault};
+
+/// Stops the test if `found` is not equal to `wanted`. It is a separate call to keep the proof of
+/// each test short.
+fn assert_same<T: PartialEq + Debug>(rt: &impl Abort, found: &T, wanted: &T) {
+    assert_eq!(rt; found, wanted);
+}
+
+/// Prepares a keeper of a counter of 1 GHz for this number of callers, two seconds before a day
+/// ends.
+fn ready<C: Counter, R: Wait>(
+    rt: &R,
+    alloc: Global,
+    counter: C,
+    callers: usize,
+) -> Result<Prepared<C>, Fail> {
+    let desc = CounterDesc::new(64, 8_388_608, 23).or(Err("a counter of 1 GHz"))?;
+    let real = Timespec {
+        sec: 1_483_228_798,
+        nsec: 0,
+    };
+    match prepare(alloc, rt, desc, real, counter, callers, 1_000) {
+        Ok(prepared) => Ok(prepared),
+        Err(_) => Err(Fail::from("not prepared")),
+    }
+}
+
+/// Opens the prepared keeper, with all its callers.
+fn opened<L: Named, C: Counter>(
+    alloc: Global,
+    prepared: Prepared<C>,
+) -> Result<(SharedKeeper<L, C>, Vec<Caller<L>>), Fail>
+    requires named { IsNamed prepared L.page L.latch L.notice L.name L.parts L.callers }
+{
+    match SharedKeeper::<L, C>::open(alloc, prepared) {
+        Ok(opened) => Ok(opened),
+        Err(_) => Err(Fail::from("not opened")),
+    }
+}
+
+/// Opens a discipline whose owner is this caller.
+fn steered<L: Named, C: Counter, R: Wait>(
+    rt: &R,
+    keeper: &SharedKeeper<L, C>,
+    caller: Caller<L>,
+) -> Result<SharedSteering<L>, Fail> {
+    match SharedSteering::open(rt, keeper, caller, 250) {
+        Ok(steering) => Ok(steering),
+        Err(_) => Err(Fail::from("no discipline")),
+    }
+}
+
+/// Asks for a frequency of 33 ppm, and for an inserted second as the day ends.
+fn announce<L: Named>(steering: &mut SharedSteering<L>) -> Result<(), Fail> {
+    let request = Timex {
+        modes: 0x12,
+        freq: 33 * 65_536 + 7,
+        status: 0x10,
+        ..Timex::default()
+    };
+    if request.is_faulty() {
+        return Err(Fail::from("a fault"));
+    }
+    let _ = steering.ask(&request).or(Err("an answer"))?;
+    Ok(())
+}
+
+/// Lets the next second begin late, if it is due. Tests need nothing of its contract.
+fn begins<L: Named, C: Counter, R: Wait>(
+    rt: &R,
+    keeper: &SharedKeeper<L, C>,
+    steering: &mut SharedSteering<L>,
+) -> Result<bool, SteeringFault> {
+    steering.begin_late(rt, keeper)
+}
+
+/// Lets all due seconds begin late, in the same way.
+fn advanced<L: Named, C: Counter, R: Wait>(
+    rt: &R,
+    keeper: &SharedKeeper<L, C>,
+    steering: &mut SharedSteering<L>,
+) -> Result<(), SteeringFault> {
+    steering.advance_late(rt, keeper)
+}

@@ -1,0 +1,179 @@
+//! Readers in other threads, by the page, by the latch and by `now`, while the owner of a
+//! discipline lets seconds begin, and inserts one. MONOTONIC never falls for them, and TAI never
+//! leaps.
+ghost use Rattle.std.specs.Prelude.{◌≡◌};
+ghost use Rattle.tk_shared.specs.Opening.{IsNamed};
+
+use super::{announce, assert_same, begins, opened, ready, steered};
+use std::alloc::Global;
+use std::marker::Brand;
+use std::process::Abort;
+use std::sync::Wait;
+use std::sync::atomic::{AtomicU64, Ordering};
+use std::test::Fail;
+use std::thread::{self, Threads};
+use tk_clock::{ClockId, Snapshot, Timespec};
+use tk_now::SharedTicker;
+use tk_shared::{Caller, Counter, Named, NowFault, Prepared, SharedKeeper, SharedReader};
+use tk_shared_steered::SharedSteering;
+
+/// The cycles from one reading to the next. A cycle is a nanosecond.
+const STEP: u64 = 50_000;
+
+/// The seconds that the owner lets begin: the second one is inserted.
+const SECONDS: u64 = 8;
+
+/// TAI minus MONOTONIC, in nanoseconds: the clocks are opened at this time, with the TAI offset 0.
+const TAI_OFFSET: u64 = 1_483_228_798_000_000_000;
+
+/// The shared state of the threads, in addition to the keeper.
+#[derive(Drop)]
+struct Board {
+    counter: SharedTicker,
+    /// The greatest answer of any thread, in nanoseconds.
+    greatest: AtomicU64,
+    /// 0 while the owner works.
+    ended: AtomicU64,
+    /// The number of answers below an earlier one, of snapshots in which TAI has leapt, and of
+    /// calls that failed.
+    faults: AtomicU64,
+}
+
+impl Board {
+    fn fails(&self) {
+        self.faults.fetch_add(1, Ordering::SeqCst);
+    }
+
+    /// Records an answer, and whether it is below one that some thread had when the call began.
+    fn notes(&self, before: u64, time: Timespec) {
+        let seconds = time.sec.unsigned_abs().wrapping_mul(1_000_000_000);
+        let answer = seconds.wrapping_add(u64::from(time.nsec));
+        if answer < before {
+            self.fails();
+        }
+        self.greatest.fetch_max(answer, Ordering::SeqCst);
+    }
+
+    /// Records whether TAI has leapt in a snapshot.
+    fn tests(&self, snapshot: Snapshot) {
+        let seconds = u64::from(snapshot.tai()).wrapping_mul(1_000_000_000);
+        if snapshot.real_offset().wrapping_add(seconds) != TAI_OFFSET {
+            self.fails();
+        }
+    }
+}
+
+/// Lets all seconds begin, and returns the number of calls that did so.
+fn owns<L: Named, C: Counter, R: Wait>(
+    rt: &R,
+    keeper: &SharedKeeper<L, C>,
+    mut steering: SharedSteering<L>,
+    board: &Board,
+) -> u64 {
+    let mut seconds = 0u64;
+    for _ in rt.forever() {
+        match begins(rt, keeper, &mut steering) {
+            Ok(true) => seconds = seconds.wrapping_add(1),
+            Ok(false) => thread::yield_now(),
+            Err(_) => {
+                board.fails();
+                break;
+            }
+        }
+        if seconds == SECONDS {
+            break;
+        }
+    }
+    board.ended.store(1, Ordering::SeqCst);
+    seconds
+}
+
+/// Reads in each way until the owner has ended.
+fn reads<L: Named, C: Counter, R: Wait>(
+    rt: &R,
+    keeper: &SharedKeeper<L, C>,
+    mut caller: Caller<L>,
+    board: &Board,
+) {
+    for _ in rt.forever() {
+        if board.ended.load(Ordering::SeqCst) != 0 {
+            break;
+        }
+        asks(rt, keeper, &mut caller, board);
+        board.tests(keeper.read(rt, &mut caller));
+        if let Ok(snapshot) = keeper.fast_read(&mut caller) {
+            board.tests(snapshot);
+        }
+    }
+}
+
+/// Asks for the time now by the page and by the latch.
+fn asks<L: Named, C: Counter, R: Wait>(
+    rt: &R,
+    keeper: &SharedKeeper<L, C>,
+    caller: &mut Caller<L>,
+    board: &Board,
+) {
+    let clock = ClockId::Monotonic;
+    let before = board.greatest.load(Ordering::SeqCst);
+    match keeper.now(rt, caller, &board.counter, clock) {
+        Ok(time) => board.notes(before, time),
+        Err(_) => board.fails(),
+    }
+    let before = board.greatest.load(Ordering::SeqCst);
+    match keeper.now_fast(caller, &board.counter, clock) {
+        Ok(time) => board.notes(before, time),
+        Err(NowFault::Refused(_)) => board.fails(),
+        Err(_) => {}
+    }
+}
+
+#[test]
+fn readers_see_no_time_fall_and_no_tai_leap(rt: HostRuntime) -> Result<(), Fail> {
+    let board = Board {
+        counter: SharedTicker::new(0, STEP),
+        greatest: AtomicU64::new(0),
+        ended: AtomicU64::new(0),
+        faults: AtomicU64::new(0),
+    };
+    let counter = SharedReader::new(rt.alloc(), &board.counter)?;
+    let prepared = ready(&rt, rt.alloc(), counter, 3)?;
+    all_act::<Brand, _, _>(&rt, rt.alloc(), prepared, &board)
+}
+
+/// The last callers of a list.
+fn last_three<L: Named>(mut callers: Vec<Caller<L>>) -> Option<(Caller<L>, Caller<L>, Caller<L>)> {
+    Some((callers.pop()?, callers.pop()?, callers.pop()?))
+}
+
+fn all_act<L: Named + Send + Sync, C: Counter, R: Threads + Wait + Abort + Sync>(
+    rt: &R,
+    alloc: Global,
+    prepared: Prepared<C>,
+    board: &Board,
+) -> Result<(), Fail>
+    requires named { IsNamed prepared L.page L.latch L.notice L.name L.parts L.callers }
+{
+    let (keeper, callers) = opened::<L, C>(alloc, prepared)?;
+    let (one, two, three) = last_three(callers).ok_or("three callers")?;
+    let mut steering = steered(rt, &keeper, one)?;
+    announce(&mut steering)?;
+    let keeper = &keeper;
+    let (seconds, _) = thread::join(
+        rt,
+        move || owns(rt, keeper, steering, board),
+        move || {
+            thread::join(
+                rt,
+                move || reads(rt, keeper, two, board),
+                move || reads(rt, keeper, three, board),
+            )
+        },
+    );
+    assert_same(
+        rt,
+        &(seconds, board.faults.load(Ordering::SeqCst)),
+        &(SECONDS, 0),
+    );
+    Ok(())
+}
