@@ -6,7 +6,8 @@ differs.
 
 Each script is replayed, without and with `--keep`. Another, mostly without a fault, is traced with stamps of its own,
 and races: alone, where the definitions have one answer, and as three actors, whose sums must agree. Each fifth time
-`many` makes the reports of the last five of these. Words that the program refuses are left out, and the last line
+`many` makes the reports of the last five of these, and the report of a steered script is compared with that of its
+later records, which continue the clocks. Words that the program refuses are left out, and the last line
 counts what was compared.
 """
 import os
@@ -17,6 +18,7 @@ import tempfile
 
 import model
 from steered import SteeredOrders
+from steered_clock import Steered
 
 COUNTERS = [(32, 16_777_216, 24), (8, 256, 0), (16, 16_777_216, 24), (64, 4_194_304, 0), (48, 699_050_667, 24),
             (64, 3_869_339_906, 0), (33, 259, 32), (64, 3_869_339_906, 32), (20, 1_000, 10)]
@@ -99,12 +101,25 @@ def expected(rng, journal, at, clock):
     return max(0, own + rng.choice([-1, 1])) if pick < 0.9 else rng.choice([0, rng.randrange(2**64)] + EDGES[:-1])
 
 
+def plain_text(lines):
+    """The bytes of records without quotes."""
+    return "\n".join(",".join(map(str, line)) for line in lines).encode()
+
+
 def parsed_lines(lines):
     """The journal at the opening and the rows of these records, or None where they have a fault."""
     try:
-        return model.parsed("\n".join(",".join(map(str, line)) for line in lines).encode())
+        return model.parsed(plain_text(lines))
     except model.Fault:
         return None
+
+
+def carry_out(session, word, at, fields):
+    """Carries out a record."""
+    if word == "get":
+        session.look(at)
+    else:
+        session.line(word, at, fields)
 
 
 def add_values(rng, lines):
@@ -115,11 +130,8 @@ def add_values(rng, lines):
     journal, rows = parsed
     session = model.session_of(journal)
     for line, (word, (at, *fields)) in zip(lines[1:], rows):
-        if word != "get":
-            session.line(word, at, fields)
-            continue
-        session.look(at)
-        if rng.random() < 0.5:
+        carry_out(session, word, at, fields)
+        if word == "get" and rng.random() < 0.5:
             line.append(expected(rng, session.journal, at, fields[0]))
 
 
@@ -151,9 +163,7 @@ def records(rng, has_changes, has_values=True, may_run=False):
         last = at % 2**bits
     if has_values and rng.random() < 0.5:
         add_values(rng, lines)
-    if rng.random() < 0.05:
-        spoil(rng, lines)
-    return lines
+    return with_fault(rng, lines) if rng.random() < 0.05 else lines
 
 
 class ScriptOrders(SteeredOrders):
@@ -163,30 +173,88 @@ class ScriptOrders(SteeredOrders):
         return min(super().gap(), 100 * self.second)
 
 
-def steered_records(rng):
-    """The records of a script whose clocks are steered, some of them with a fault."""
+def is_record(line):
+    """Whether a script may have these fields after its first record."""
+    try:
+        model.read_record(2, list(map(str, line)))
+    except model.Fault:
+        return False
+    return True
+
+
+def steered_lines(rng):
+    """The records of a script whose clocks are steered."""
     orders = ScriptOrders(rng.random())
     lines = [orders.opening().split(",")]
     for _ in range(rng.randrange(40)):
         word, *fields = orders.later().split(",")
-        if word == "advance":
-            lines.append(["get", *fields, rng.choice(model.CLOCKS)])
+        if word in ("advance", "late"):
+            line = ["get", *fields, rng.choice(model.CLOCKS)]
         else:
-            lines.append(["adjtimex" if word == "ask" else word, *fields])
+            line = ["adjtimex" if word == "ask" else word, *fields]
+        lines += filter(is_record, [line])                  # an order may have a greater number, or be a leap
         if rng.random() < 0.02:
-            lines.append(change(rng, fields[0]))
+            lines += filter(is_record, [change(rng, fields[0])])
+    return lines
+
+
+def cut(lines, place):
+    """The record by which a script continues the clocks after the first records of a steered script, and the later
+    records. The first `place` records after the opening are left out."""
+    journal, rows = parsed_lines(lines)
+    session = model.session_of(journal)
+    for word, (at, *fields) in rows[:place]:
+        carry_out(session, word, at, fields)
+    return [session.first_record()] + lines[place + 1:]
+
+
+# numbers at and beyond the bounds of a discipline's
+STEERING_EDGES = [-1, 0, 1, 4, 5, 10, 11, 256, 1_024, 1_025, 8_999, 9_000, 11_000, 11_001, 16_000_000, 16_000_001,
+                  500_000 * 2**32, 500_000 * 2**32 + 1, 500_000_000 * 2**32, 2**59 - 1, 2**59, 3 * 2**59, 2**63 - 1,
+                  2**63, 9_223_372_037, 9_223_372_038]
+
+
+def steered_records(rng):
+    """The records of a script whose clocks are steered, some of them with a fault. Some continue clocks that run."""
+    lines = steered_lines(rng)
+    if rng.random() < 0.3:
+        lines = cut(lines, rng.randrange(len(lines)))
+        if rng.random() < 0.3:
+            lines = with_other_number(rng, lines)
+    elif rng.random() < 0.05:
+        lines[0][-1] = rng.choice([0, 1024, 1025, 2**32, "x", ""])
     if rng.random() < 0.5:
         add_values(rng, lines)
-    if rng.random() < 0.05:
-        lines[0][-1] = rng.choice([0, 1024, 1025, 2**32, "x", ""])
     return with_fault(rng, lines) if rng.random() < 0.05 else lines
 
 
+def with_other_number(rng, lines):
+    """The records with another number of the discipline that they continue."""
+    numbers, place = list(lines[0]), rng.randrange(16, 34)
+    numbers[place] = rng.choice([numbers[place] + 1, numbers[place] - 1, rng.choice(STEERING_EDGES)])
+    changed = [numbers] + lines[1:]
+    return changed if begins_few_seconds(changed) else lines
+
+
 def with_fault(rng, lines):
-    """The records with a fault. Another reading would be no fault, but could be many years later."""
+    """The records with a fault, or with another reading."""
     spoiled = [list(line) for line in lines]
     spoil(rng, spoiled)
-    return lines if parsed_lines(spoiled) else spoiled
+    return spoiled if begins_few_seconds(spoiled) else lines
+
+
+def begins_few_seconds(lines):
+    """Whether steered clocks let at most 200 seconds begin at each of these records. The program and the definitions
+    let them begin one by one, and a second that was due at the epoch is followed by billions of others."""
+    parsed = parsed_lines(lines)
+    session = parsed and model.session_of(parsed[0])
+    if not isinstance(session, Steered):
+        return True
+    for word, (at, *fields) in parsed[1]:
+        if session.clock.value("realtime", at) // model.NANOS - session.next > 200:
+            return False
+        carry_out(session, word, at, fields)
+    return True
 
 
 def script(rng, has_changes=True):
@@ -196,9 +264,9 @@ def script(rng, has_changes=True):
 
 
 def is_steered(lines):
-    """Whether these records ask for a discipline: by a request, or by one more field of the opening."""
-    has_hz = lines[0][0] in ("open", "openhz") and len(lines[0]) == 8
-    return has_hz or any(line[0] == "adjtimex" for line in lines)
+    """Whether these records ask for a discipline: by a request, or by more fields of the first record."""
+    has_discipline = len(lines[0]) > (16 if lines[0][0] == "openwords" else 7)
+    return has_discipline or any(line[0] == "adjtimex" for line in lines)
 
 
 def unquoted_script(rng, may_run=False):
@@ -327,6 +395,14 @@ class Comparison:
         found = ran(self.program, ["replay", "--keep", str(entries)], text)
         self.check("keep", found, wanted(model.replay, text), str(entries).encode(), text)
 
+    def rest(self, lines):
+        """A script that continues steered clocks has the rest of the report of the script that they come from."""
+        place = self.rng.randrange(len(lines))
+        whole, rest = (plain_text(some) for some in (lines, cut(lines, place)))
+        status, report, fault = ran(self.program, [], whole)
+        first, *others = report.splitlines(True)
+        self.check("rest", ran(self.program, [], rest), (status, first + "".join(others[place:]), fault), whole, rest)
+
     def trace(self, text, journal):
         marks = stamps(self.rng, journal) if journal else b"0,0\n"
         clock = self.rng.choice(model.CLOCKS)
@@ -371,6 +447,8 @@ def main():
             both.replay(text)
             if has_keep:
                 both.keep(text)
+            if number % 5 == 0:
+                both.rest(steered_lines(both.rng))
             text, journal = sound(both.rng)
             both.trace(text, journal)
             last = last[-4:] + [text]

@@ -105,6 +105,8 @@ class Opening:
     count: int = 0
     # the parts of a second that phases are divided into, if a discipline steers the clocks
     hz: int | None = None
+    # the numbers of that discipline, if the clocks ran before
+    discipline: tuple | None = None
 
 
 @dataclass
@@ -302,18 +304,19 @@ def value_of(word, fields):
 
 
 # the fields of the records of a script, which has none for a leap second
-U32, U64, I64 = range(2**32), range(2**64), range(-2**63, 2**63)
+U8, U32, U64, I64 = range(2**8), range(2**32), range(2**64), range(-2**63, 2**63)
 FIELDS = {
     "open": [U32, U32, U32, U64, I64, U32, U32], "openhz": [U32, U32, U32, U64, I64, U32, U32],
-    "openwords": [U32, U32, U32] + 10 * [U64] + [I64, I64],
+    "openwords": [U32, U32, U32] + 10 * [U64] + [I64, I64]
+                 + [U32, U32, U32, U8, U64, I64, U32, U32, U32, U32, I64, U64, I64, I64, U64, U64, U64, U64],
     "update": [U64], "suspend": [U64], "freq": [U64, I64], "tick": [U64, I64], "tai": [U64, I64],
     "set": [U64, I64, U32], "step": [U64, I64, U32], "resume": [U64, I64, U32], "get": [U64, None, U64],
     "counter": [U64, U32, U32, U32, U64],
     "adjtimex": [U64, U32, I64, I64, I64, I64, U32, I64, I64, I64, I64],
 }
 
-# the fields at the end that a record may leave out
-OPTIONAL = {"get": 1, "open": 1, "openhz": 1}
+# the numbers of fields at the end that a record may leave out
+OPTIONAL = {"get": 1, "open": 1, "openhz": 1, "openwords": 18}
 
 
 def number(text, within):
@@ -328,7 +331,7 @@ def read_record(row, record):
     opens = word in ("open", "openhz", "openwords")
     if word not in FIELDS or opens != (row == 1):
         raise Fault(f"record {row}: " + ("not a valid opening" if row == 1 else "unknown word"))
-    if not 0 <= len(FIELDS[word]) - len(fields) <= OPTIONAL.get(word, 0):
+    if len(FIELDS[word]) - len(fields) not in (0, OPTIONAL.get(word, 0)):
         raise Fault(f"record {row}: wrong number of fields")
     read = []
     for text, within in zip(fields, FIELDS[word]):
@@ -366,11 +369,14 @@ def started(counter, reading, sec, nsec, hz=None):
 
 
 def running(counter, *numbers):
-    """Returns the clocks of ten words, a frequency and a tick, or None if no running clocks are in this state."""
-    front, last, mult, frac, sec, real_offset, boot_offset, tai, raw_frac, raw_sec, frequency, tick = numbers
+    """Returns the clocks of ten words, a frequency and a tick, or None if no running clocks are in this state.
+
+    With the numbers of a discipline, it steers them.
+    """
+    front, last, mult, frac, sec, real_offset, boot_offset, tai, raw_frac, raw_sec, frequency, tick, *more = numbers
     second = NANOS << counter.shift
     opening = Opening(counter, last, real_offset, boot_offset, tai // 2, sec * second + frac,
-                      raw_sec * second + raw_frac, frequency, tick, tai % 2 == 1, front)
+                      raw_sec * second + raw_frac, frequency, tick, tai % 2 == 1, front, *steering(more))
     slowest = counter.multiplier(LEAST_FREQUENCY, LEAST_TICK)
     is_running = (
         front <= FRONT_LIMIT and last < 2**counter.bits and frac < second and raw_frac < second
@@ -380,7 +386,20 @@ def running(counter, *numbers):
     tested = ["monotonic", "boottime", "realtime", "tai"]
     if not is_running or any(Journal(opening).value(clock, last) >= limit(clock) for clock in tested):
         return None
-    return opening
+    return opening if are_numbers(more) else None
+
+
+def steering(numbers):
+    """Returns the HZ and the numbers of a discipline, or None twice if there are none."""
+    return (numbers[0], tuple(numbers)) if numbers else (None, None)
+
+
+def are_numbers(numbers):
+    """Returns whether there are no numbers of a discipline, or each of them is in its range."""
+    if not numbers:
+        return True
+    from steered_clock import are_in_range
+    return are_in_range(*numbers)
 
 
 def numbers_of(journal):
@@ -591,10 +610,10 @@ def race(step, script):
     The counter is read at the opening, and then once for each command.
     """
     journal, rows = named("file 0", parsed, script)
-    if opens_running(script):
-        raise Fault("file 0: a race cannot begin from running clocks")
     if journal.opening.hz is not None:
         raise Fault("file 0: the clocks of a race cannot be steered")
+    if opens_running(script):
+        raise Fault("file 0: a race cannot begin from running clocks")
     if any(word == "counter" for word, _ in rows):
         raise Fault("file 0: the counter of a race cannot change")
     if any(word == "adjtimex" for word, _ in rows):

@@ -7,14 +7,16 @@ counter, and the length of each second becomes a tick and a frequency.
 from dataclasses import dataclass, replace
 
 from model import NANOS, TAI_LIMIT, Counter, is_bad_setting, is_settable, limit, value_of
-from ntp import (ADJTIME, FREQUENCY, MAX_FREQUENCY, NANO, OFFSET, ONE, PPM16, READONLY, SETOFFSET, TAI, TICK,
-                 Discipline, Timex, clamp)
+from ntp import (ADJTIME, ERROR_LIMIT, FREQUENCY, MAX_FREQUENCY, NANO, OFFSET, ONE, PPM16, READONLY, SETOFFSET, TAI,
+                 TICK, Discipline, Timex, clamp)
 
 NOMINAL = NANOS * ONE                               # the length of a nominal second
 TICK_RATE = 6_553_600                               # a tick of 1 us, in 2^-16 ppm
 FREQUENCY_LIMIT = 32_768_000
 SETTING = "set", "step", "leap"                     # the commands that set or step REALTIME
 RATES = 9_000 * TICK_RATE - FREQUENCY_LIMIT, 11_000 * TICK_RATE + FREQUENCY_LIMIT
+STATES = "Ok", "Ins", "Del", "Oop", "Wait"          # of a leap second, by their numbers
+LEAST_LAG = -2**124                                 # the lag whose two words are 0
 
 
 class Refused(Exception):
@@ -108,6 +110,17 @@ def rate_for(length, tick):
     return rate - tick * TICK_RATE, tick
 
 
+def are_in_range(hz, _status, state, is_due, due, offset, constant, maxerror, esterror, tick, frequency, reftime,
+                 _adjust, phase, high, low, following, _mark):
+    """Whether these are the numbers of a discipline, in the order of `Steered.numbers`."""
+    longest, gained = 500_000_000 * ONE, MAX_FREQUENCY
+    return (1 <= hz <= 1024 and state < len(STATES) and (is_due == 1 or is_due == due == 0)
+            and constant <= 10 and maxerror <= ERROR_LIMIT and esterror <= ERROR_LIMIT and 9_000 <= tick <= 11_000
+            and reftime < 2**63 and abs(offset) <= longest // hz and abs(frequency) <= gained
+            and abs(phase) <= longest // hz + gained // hz and abs(high * 2**64 + low + LEAST_LAG) <= 2**123
+            and following <= 9_223_372_037)
+
+
 class Steered:
     """Clocks and a discipline. `mark` is the reading that the lag was computed at, `next` the second of
     REALTIME that begins next, `front` the number of accepted calls."""
@@ -117,6 +130,31 @@ class Steered:
         self.clock = Clock(counter, reading, real - uptime, amount=units, raw_amount=units)
         self.ntp, self.front = Discipline(hz), 0
         self.lag, self.mark, self.next = 0, reading, real // NANOS + 1
+
+    def numbers(self):
+        """What the discipline, the lag, the next second and the mark are kept in."""
+        ntp = self.ntp
+        return [ntp.hz, ntp.status, STATES.index(ntp.state), int(ntp.due is not None), ntp.due or 0, ntp.offset,
+                ntp.constant, ntp.maxerror, ntp.esterror, ntp.tick, ntp.frequency, ntp.reftime, ntp.adjust,
+                ntp.length - ntp.base, *divmod(self.lag - LEAST_LAG, 2**64), self.next, self.mark]
+
+    def saved(self):
+        """The 33 words of the clocks with their counter; numbers with a sign are in two's complement."""
+        clock = self.clock
+        counter = [clock.counter.bits, clock.counter.mult, clock.counter.shift]
+        words = clock.words(self.front) + counter + [clock.frequency, clock.tick] + self.numbers()
+        return [number % 2**64 for number in words]
+
+    def restore(self, hz, status, state, is_due, due, offset, constant, maxerror, esterror, tick, frequency, reftime,
+                adjust, phase, high, low, following, mark):
+        """Continues from such numbers."""
+        self.ntp = Discipline(hz)
+        vars(self.ntp).update(status=status, state=STATES[state], due=due if is_due else None, offset=offset,
+                              constant=constant, maxerror=maxerror, esterror=esterror, tick=tick, frequency=frequency,
+                              reftime=reftime, adjust=adjust)
+        self.ntp.update_frequency()
+        self.ntp.length = self.ntp.base + phase
+        self.lag, self.next, self.mark = high * 2**64 + low + LEAST_LAG, following, mark
 
     def command(self, reading, word, *fields):
         refusal = self.clock.refusal(reading, word, fields)

@@ -1,8 +1,8 @@
-"""The clocks of a script whose opening has `hz`: a discipline steers them, and the journal lists the commands that
-they got."""
-from model import Journal, ok_line, value_of
+"""The clocks of a script whose first record has `hz` or the numbers of a discipline: it steers them, and the journal
+lists the commands that they got."""
+from model import Journal, numbers_of, ok_line, value_of
 from ntp import STA_NANO, Timex
-from steered_clock import Refused, Steered
+from steered_clock import Clock, Refused, Steered
 
 
 class SteeredSession(Steered):
@@ -11,7 +11,16 @@ class SteeredSession(Steered):
     def __init__(self, journal):
         opening = journal.opening
         super().__init__(opening.counter, opening.reading, opening.real_offset, opening.hz)
+        if opening.discipline:
+            self.clock = Clock(opening.counter, opening.reading, opening.real_offset, opening.units, opening.raw_units,
+                               opening.boot_offset, opening.tai, opening.frequency, opening.tick, opening.is_asleep)
+            self.restore(*opening.discipline)
         self.journal = Journal(opening)
+
+    def first_record(self):
+        """The record by which another script continues the clocks as they are."""
+        counter = self.clock.counter
+        return ["openwords", counter.bits, counter.mult, counter.shift, *numbers_of(self.journal), *self.numbers()]
 
     def command(self, reading, word, *fields):
         super().command(reading, word, *fields)
