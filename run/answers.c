@@ -16,7 +16,6 @@
 
 static struct machine *answered;
 static int answered_by, execs[2];
-static const char *answers_log; /* of --log, or NULL */
 
 int answer_put(const struct seccomp_notif *ask, uint64_t address,
 	       const void *value, size_t size)
@@ -82,12 +81,13 @@ static int read_second(struct machine *m, const struct seccomp_notif *ask,
 static struct logged_call asked_call(const struct seccomp_notif *ask,
 				     const char *name, int result)
 {
+	struct log *log = &answered->control->log;
 	char status[STATUS_BYTES];
 	int process = (int)ask->pid;
 
-	if (answers_log && status_read(process, status))
+	if (*log->path && status_read(process, status))
 		process = (int)status_number(status, "Tgid", 10);
-	return (struct logged_call){ answers_log, process, name, result };
+	return (struct logged_call){ log, process, name, result };
 }
 
 static int set_clock(struct machine *m, const struct seccomp_notif *ask)
@@ -228,7 +228,8 @@ void answer(struct machine *machine, int listener,
 	ioctl(listener, SECCOMP_IOCTL_NOTIF_SEND, &reply);
 }
 
-/* Only the thread that waits for a program's stop may follow it. */
+/* Only the thread that waits for a program's stop may follow it. If it is late, this one
+ * waits for room in the pipe. */
 static void pass_on(const struct seccomp_notif *ask)
 {
 	if (write(execs[1], ask, sizeof(*ask)) != sizeof(*ask))
@@ -249,14 +250,13 @@ static void *answer_all(void *unused)
 	return unused;
 }
 
-int answers_start(struct machine *machine, int listener, const char *log)
+int answers_start(struct machine *machine, int listener)
 {
 	pthread_t thread;
 
-	answers_log = log;
 	answered = machine;
 	answered_by = listener;
-	if (pipe2(execs, O_CLOEXEC | O_NONBLOCK) ||
+	if (pipe2(execs, O_CLOEXEC) || fcntl(execs[0], F_SETFL, O_NONBLOCK) ||
 	    pthread_create(&thread, NULL, answer_all, NULL))
 		return -1;
 	return execs[0];

@@ -4,7 +4,6 @@
 #include "tkrun.h"
 
 #include <fcntl.h>
-#include <signal.h>
 #include <stdlib.h>
 #include <unistd.h>
 
@@ -27,39 +26,4 @@ void hold_standard_files(void)
 	} while (file >= 0 && file <= STDERR_FILENO);
 	if (file >= 0)
 		close(file);
-}
-
-void block_signals(sigset_t *signals, sigset_t *before)
-{
-	sigset_t all;
-
-	sigemptyset(signals);
-	sigaddset(signals, SIGCHLD);
-	sigaddset(signals, SIGTERM);
-	sigaddset(signals, SIGHUP);
-	all = *signals;
-	sigaddset(&all, SIGINT);
-	sigaddset(&all, SIGQUIT);
-	sigprocmask(SIG_BLOCK, &all, before);
-}
-
-/* A blocked signal is pending also if it is ignored. */
-static bool is_ignored(int signal)
-{
-	struct sigaction action;
-
-	return !sigaction(signal, NULL, &action) &&
-	       action.sa_handler == SIG_IGN;
-}
-
-void end_by_signal(void)
-{
-	static const int ENDS[] = { SIGTERM, SIGHUP, SIGINT, SIGQUIT };
-	sigset_t pending;
-
-	sigpending(&pending);
-	for (size_t i = 0; i < sizeof(ENDS) / sizeof(*ENDS); i++) {
-		if (sigismember(&pending, ENDS[i]) && !is_ignored(ENDS[i]))
-			exit(128 + ENDS[i]);
-	}
 }

@@ -1,6 +1,6 @@
 /* SPDX-License-Identifier: MIT OR Apache-2.0 */
 #define _GNU_SOURCE
-#include "calls.h"
+#include "timers.h"
 
 #include <dlfcn.h>
 #include <stdlib.h>
@@ -28,9 +28,13 @@ void *real_call(const char *name)
 __attribute__((noinline, cold)) static void find_machine(void)
 {
 	const char *folder = getenv("TKRUN");
+	int error = errno; /* main begins with 0 */
+	bool is_attached;
 
 	host_gettime = real_call("clock_gettime");
-	if (!folder || !machine_attach(&own, folder)) {
+	is_attached = folder && machine_attach(&own, folder);
+	errno = error;
+	if (!is_attached) {
 		atomic_store(&state, 1);
 		return;
 	}
@@ -38,7 +42,10 @@ __attribute__((noinline, cold)) static void find_machine(void)
 		host_gettime = host_gettime_by_call;
 	if (own.control)
 		atomic_fetch_add(&own.control->attached, 1);
+	waiters_forget(&own, getpid()); /* the thread that has just begun */
+	timers_hook_forks();
 	atomic_store(&state, 2);
+	timers_resume(&own);
 }
 
 /* Other constructors may call before this one. */
@@ -72,8 +79,10 @@ int refuse(int error)
 
 struct logged_call this_call(const char *name, int result)
 {
-	return (struct logged_call){ getenv("TKRUN_LOG"), getpid(), name,
-				     result };
+	struct control *control = machine()->control;
+
+	return (struct logged_call){ control ? &control->log : NULL, getpid(),
+				     name, result };
 }
 
 void note_host(struct machine *m, enum host_wait wait)
@@ -94,14 +103,14 @@ void wait_begin(struct wait *wait, struct machine *m, int clock,
 	wait->machine = m;
 	wait->clock = clock;
 	wait->time = *time;
-	wait->waiter = waiter_enter(m, (uint32_t)clock, time->tv_sec,
+	wait->ticket = waiter_enter(m, (uint32_t)clock, time->tv_sec,
 				    (uint32_t)time->tv_nsec);
 	wait->is_reached = false;
 }
 
 void wait_end(struct wait *wait)
 {
-	waiter_leave(wait->waiter);
+	waiter_leave(&wait->ticket);
 }
 
 uint64_t wait_slice(struct wait *wait)

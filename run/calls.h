@@ -49,7 +49,7 @@ struct wait {
 	struct machine *machine;
 	int clock;
 	struct timespec time;
-	struct waiter *waiter;
+	struct ticket ticket;
 	bool is_reached; /* the time had come before the present slice */
 };
 

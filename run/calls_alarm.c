@@ -6,9 +6,13 @@
 #include <sys/time.h>
 #include <unistd.h>
 
+/* A wrong number of us becomes a wrong number of ns. */
 static struct timespec of_micros(const struct timeval *span)
 {
-	return (struct timespec){ span->tv_sec, span->tv_usec * 1000 };
+	bool is_wrong = span->tv_usec < 0 || span->tv_usec >= 1000000;
+
+	return (struct timespec){ span->tv_sec,
+				  is_wrong ? -1 : span->tv_usec * 1000 };
 }
 
 /* Rounds up, since 0 would mean that it isn't armed. */

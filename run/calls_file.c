@@ -7,9 +7,15 @@
 #include <mqueue.h>
 #include <poll.h>
 #include <signal.h>
+#include <string.h>
 #include <sys/epoll.h>
 #include <sys/select.h>
 #include <sys/sem.h>
+
+enum {
+	WORD_BITS = 8 * sizeof(long),
+	FILES_MOST = 1 << 17, /* of select: their copies take 48 KB of the stack */
+};
 
 /* Begins a wait for a span of MONOTONIC. Returns false if the host's call is
  * to be made once with it: it is no limit, nothing, or no span. */
@@ -61,27 +67,35 @@ EXPORT int poll(struct pollfd *files, nfds_t count, int millis)
 	return ppoll(files, count, millis < 0 ? NULL : &span, NULL);
 }
 
-/* The three sets of select, which each slice changes. */
-struct sets {
-	fd_set *sets[3], copies[3];
-};
-
-static void keep_sets(struct sets *sets, fd_set *in, fd_set *out, fd_set *other)
+/* Copies the three sets of select, which each slice changes, or copies them back. As
+ * for the kernel, a set has whole words, and may have more bits than an fd_set. */
+static void copy_sets(fd_set *const sets[3], char *copies, size_t size,
+		      bool is_back)
 {
-	fd_set *all[3] = { in, out, other };
-
-	for (int i = 0; i < 3; i++) {
-		sets->sets[i] = all[i];
-		if (all[i])
-			sets->copies[i] = *all[i];
+	for (int i = 0; i < 3; i++, copies += size) {
+		if (sets[i] && is_back)
+			memcpy(sets[i], copies, size);
+		else if (sets[i])
+			memcpy(copies, sets[i], size);
 	}
 }
 
-static void restore_sets(struct sets *sets)
+static int select_slices(struct wait *wait, int count, fd_set *const sets[3],
+			 const sigset_t *mask)
 {
-	for (int i = 0; i < 3; i++) {
-		if (sets->sets[i])
-			*sets->sets[i] = sets->copies[i];
+	size_t size = ((size_t)count + WORD_BITS - 1) / WORD_BITS * sizeof(long);
+	char copies[3 * size + 1];
+	struct timespec slice;
+	int ready;
+
+	copy_sets(sets, copies, size, false);
+	for (;;) {
+		slice = next_slice(wait);
+		ready = REAL(pselect)(count, sets[0], sets[1], sets[2], &slice,
+				      mask);
+		if (ready || wait->is_reached)
+			return ready;
+		copy_sets(sets, copies, size, true);
 	}
 }
 
@@ -89,21 +103,13 @@ EXPORT int pselect(int count, fd_set *restrict in, fd_set *restrict out,
 		   fd_set *restrict other, const struct timespec *restrict span,
 		   const sigset_t *restrict mask)
 {
-	struct timespec slice;
+	fd_set *const sets[3] = { in, out, other };
 	struct wait wait;
-	struct sets sets;
 	int ready;
 
-	if (!wait_span(&wait, span))
+	if (count < 0 || count > FILES_MOST || !wait_span(&wait, span))
 		return REAL(pselect)(count, in, out, other, span, mask);
-	keep_sets(&sets, in, out, other);
-	for (;;) {
-		slice = next_slice(&wait);
-		ready = REAL(pselect)(count, in, out, other, &slice, mask);
-		if (ready || wait.is_reached)
-			break;
-		restore_sets(&sets);
-	}
+	ready = select_slices(&wait, count, sets, mask);
 	wait_end(&wait);
 	return ready;
 }
@@ -149,14 +155,35 @@ EXPORT int epoll_pwait2(int file, struct epoll_event *events, int most,
 	return ready;
 }
 
+/* Linux has epoll_pwait2 only since 5.11. Here slices are whole ms, rounded up. */
+static int wait_millis(int file, struct epoll_event *events, int most,
+		       const struct timespec *span, const sigset_t *mask)
+{
+	struct wait wait;
+	int ready, slice;
+
+	if (!wait_span(&wait, span))
+		return refuse(EINVAL);
+	do {
+		slice = (int)((wait_slice(&wait) + 999999) / 1000000);
+		ready = REAL(epoll_pwait)(file, events, most, slice, mask);
+	} while (!ready && !wait.is_reached);
+	wait_end(&wait);
+	return ready;
+}
+
 EXPORT int epoll_pwait(int file, struct epoll_event *events, int most,
 		       int millis, const sigset_t *mask)
 {
 	struct timespec span = millis_span(millis);
+	int ready;
 
 	if (!machine() || millis <= 0)
 		return REAL(epoll_pwait)(file, events, most, millis, mask);
-	return epoll_pwait2(file, events, most, &span, mask);
+	ready = epoll_pwait2(file, events, most, &span, mask);
+	if (ready >= 0 || errno != ENOSYS)
+		return ready;
+	return wait_millis(file, events, most, &span, mask);
 }
 
 EXPORT int epoll_wait(int file, struct epoll_event *events, int most,

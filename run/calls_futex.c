@@ -13,6 +13,22 @@
 #define SYS_futex_waitv 449
 #endif
 
+/* Waits for a slice. Before Linux 5.14 the time for a lock is the host's REALTIME. */
+static long wait_slice_once(struct wait *wait, const long *a, long operation,
+			    long bits)
+{
+	struct timespec until = wait_slice_end(wait);
+	long result = host_call(SYS_futex, a[0], operation, a[2], (long)&until,
+				a[4], bits);
+
+	if (result != -ENOSYS || (operation & FUTEX_CMD_MASK) != FUTEX_LOCK_PI2)
+		return result;
+	until = span_of(wait_slice(wait) + host_nanos(CLOCK_REALTIME));
+	operation = FUTEX_LOCK_PI | (operation & FUTEX_PRIVATE_FLAG);
+	return host_call(SYS_futex, a[0], operation, a[2], (long)&until, a[4],
+			 bits);
+}
+
 /* A wait whose time is a span of MONOTONIC (FUTEX_WAIT), or a time of MONOTONIC
  * or REALTIME. */
 static long wait_until(struct machine *m, const long *a, int clock,
@@ -21,7 +37,7 @@ static long wait_until(struct machine *m, const long *a, int clock,
 	long bits = operation == FUTEX_WAIT_BITSET && is_span
 			    ? (long)FUTEX_BITSET_MATCH_ANY
 			    : a[5];
-	struct timespec time = *(const struct timespec *)a[3], until;
+	struct timespec time = *(const struct timespec *)a[3];
 	struct wait wait;
 	long result;
 
@@ -31,9 +47,7 @@ static long wait_until(struct machine *m, const long *a, int clock,
 	operation |= a[1] & FUTEX_PRIVATE_FLAG;
 	wait_begin(&wait, m, clock, &time);
 	do {
-		until = wait_slice_end(&wait);
-		result = host_call(SYS_futex, a[0], operation, a[2],
-				   (long)&until, a[4], bits);
+		result = wait_slice_once(&wait, a, operation, bits);
 	} while (result == -ETIMEDOUT && !wait.is_reached);
 	wait_end(&wait);
 	return result_of(result);
@@ -59,20 +73,30 @@ static long wait_several(struct machine *m, const long *a)
 	return result_of(result);
 }
 
+/* Returns whether an operation has one clock, so that the kernel refuses it with
+ * FUTEX_CLOCK_REALTIME (do_futex). From Linux 4.5 to 5.12, such a FUTEX_WAIT is over at
+ * once. */
+static bool has_own_clock(long operation)
+{
+	return operation == FUTEX_WAIT || operation == FUTEX_LOCK_PI;
+}
+
 bool make_futex(struct machine *m, long number, const long *a, long *result)
 {
-	int clock =
-		a[1] & FUTEX_CLOCK_REALTIME ? CLOCK_REALTIME : CLOCK_MONOTONIC;
+	bool is_real = a[1] & FUTEX_CLOCK_REALTIME;
+	int clock = is_real ? CLOCK_REALTIME : CLOCK_MONOTONIC;
 
 	if (number == SYS_futex_waitv && a[3]) {
 		*result = wait_several(m, a);
 		return true;
 	}
-	if (number != SYS_futex || !a[3])
+	if (number != SYS_futex || !a[3] ||
+	    (is_real && has_own_clock(a[1] & FUTEX_CMD_MASK)))
 		return false;
 	switch (a[1] & FUTEX_CMD_MASK) {
 	case FUTEX_WAIT:
-		*result = wait_until(m, a, clock, FUTEX_WAIT_BITSET, true);
+		*result = wait_until(m, a, CLOCK_MONOTONIC, FUTEX_WAIT_BITSET,
+				     true);
 		return true;
 	case FUTEX_WAIT_BITSET:
 		*result = wait_until(m, a, clock, FUTEX_WAIT_BITSET, false);

@@ -42,11 +42,18 @@ EXPORT int clock_adjtime(clockid_t clock, struct timex *tx)
 	return adjust("clock_adjtime", tx);
 }
 
-/* glibc's limits, within which an offset in us is 32 bits */
-static bool is_too_far(const struct timeval *span)
+/* Stores a span in us. Returns false beyond glibc's limits, within which that is 32
+ * bits. */
+static bool to_micros(const struct timeval *span, long *micros)
 {
-	return span->tv_sec > INT32_MAX / MICROS - 2 ||
-	       span->tv_sec < INT32_MIN / MICROS + 2;
+	long sec;
+
+	if (__builtin_add_overflow(span->tv_sec, span->tv_usec / MICROS,
+				   &sec) ||
+	    sec > INT32_MAX / MICROS - 2 || sec < INT32_MIN / MICROS + 2)
+		return false;
+	*micros = sec * MICROS + span->tv_usec % MICROS;
+	return true;
 }
 
 EXPORT int adjtime(const struct timeval *in, struct timeval *out)
@@ -56,10 +63,8 @@ EXPORT int adjtime(const struct timeval *in, struct timeval *out)
 
 	if (!machine())
 		return REAL(adjtime)(in, out);
-	if (in && is_too_far(in))
+	if (in && !to_micros(in, &tx.offset))
 		return refuse(EINVAL);
-	if (in)
-		tx.offset = in->tv_sec * MICROS + in->tv_usec;
 	if (adjust("adjtime", &tx) < 0)
 		return -1;
 	if (out)

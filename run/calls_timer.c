@@ -124,6 +124,8 @@ EXPORT int timer_delete(timer_t posix)
 	struct timer *timer;
 	sigset_t saved;
 
+	if (!machine())
+		return REAL(timer_delete)(posix);
 	timers_lock(&saved);
 	timer = timer_of_posix(posix);
 	if (timer)

@@ -6,6 +6,7 @@
  */
 #define _GNU_SOURCE
 #include "recording.h"
+#include "signals.h"
 
 #include <fcntl.h>
 #include <inttypes.h>
@@ -56,6 +57,7 @@ static void run_tkcore(const char *script, int output)
 		_exit(STATUS_FAILED);
 	dup2(input, 0);
 	dup2(output, 1);
+	signals_restore();
 	execl(tkcore, "tkcore", "replay", "--keep", "1000", NULL);
 	_exit(STATUS_NOT_FOUND);
 }
@@ -63,6 +65,7 @@ static void run_tkcore(const char *script, int output)
 /* Starts the replay of a part. Returns its report, or NULL. */
 static FILE *replay(const char *script, pid_t *child)
 {
+	FILE *lines;
 	int ends[2];
 
 	if (pipe2(ends, O_CLOEXEC))
@@ -76,7 +79,11 @@ static FILE *replay(const char *script, pid_t *child)
 	if (!*child)
 		run_tkcore(script, ends[1]);
 	close(ends[1]);
-	return fdopen(ends[0], "r");
+	signals_pass_to(*child);
+	lines = fdopen(ends[0], "r");
+	if (!lines)
+		close(ends[0]);
+	return lines;
 }
 
 static const char *refusal_word(uint32_t code)
@@ -215,9 +222,12 @@ static bool has_run(int status)
 	return WIFEXITED(status) && WEXITSTATUS(status) < STATUS_FAILED;
 }
 
-/* Compares the end of a report. Returns the differences of the part, or NOT_RUN. */
+/* Compares the end of a report, unless a signal has ended it. Returns the differences
+ * of the part, or NOT_RUN. */
 static uint64_t end_part(struct report *report, int status)
 {
+	if (signals_passed())
+		return report->differ;
 	if (!has_run(status)) {
 		fprintf(stderr, "tkrun: --check: tkcore can't be run on %s\n",
 			report->name);
@@ -241,6 +251,7 @@ static uint64_t check_part(const struct recording *recording, unsigned int part,
 				 .shown = shown };
 	int status = W_EXITCODE(STATUS_NOT_FOUND, 0);
 	pid_t child = -1;
+	siginfo_t end;
 	FILE *lines;
 
 	recording_part(recording, part, script, sizeof(script));
@@ -249,8 +260,12 @@ static uint64_t check_part(const struct recording *recording, unsigned int part,
 		compare(&report, lines);
 		fclose(lines);
 	}
-	if (child > 0)
+	if (child > 0) {
+		/* it keeps its number until no signal is passed on to it */
+		waitid(P_PID, (id_t)child, &end, WEXITED | WNOWAIT);
+		signals_pass_no_more();
 		waitpid(child, &status, 0);
+	}
 	return end_part(&report, status);
 }
 
@@ -263,6 +278,8 @@ uint64_t recording_check(const struct recording *recording)
 		if (more == NOT_RUN)
 			return differ ? differ : NOT_RUN;
 		differ += more;
+		if (signals_passed())
+			break;
 	}
 	return differ;
 }

@@ -102,6 +102,8 @@ void remove_files(const struct run *run)
 {
 	char path[PATH_MAX];
 
+	if (!*run->folder)
+		return; /* nothing was made */
 	snprintf(path, sizeof(path), "%s/page", run->folder);
 	unlink(path);
 	snprintf(path, sizeof(path), "%s/control", run->folder);

@@ -241,11 +241,13 @@ static void record_request(struct machine *machine, const struct timex *in,
 	rows_add_asked(machine, &row, &asked);
 }
 
-static enum tkc_code adjust(struct machine *machine, struct timex *timex,
-			    bool only_reads, uint32_t *state)
+/* A refused request has made no step: after one, TAI is far below its limit. */
+enum tkc_code machine_adjust(struct machine *machine, struct timex *timex,
+			     uint32_t *state)
 {
 	struct control *control = machine->control;
 	struct tkc_ntp changed = *present_clocks(control);
+	bool only_reads = request_only_reads(timex);
 	struct record_row row = { .kind = only_reads ? ROW_ASK : ROW_REQUEST };
 	struct timex in = *timex;
 
@@ -259,10 +261,11 @@ static enum tkc_code adjust(struct machine *machine, struct timex *timex,
 	if (!row.code && !only_reads)
 		switch_clocks(machine, &changed);
 	publish(machine);
-	if (!only_reads)
-		atomic_fetch_add(row.code ? &control->refused
-					  : &control->accepted,
-				 1);
+	if (only_reads)
+		return row.code;
+	atomic_fetch_add(row.code ? &control->refused : &control->accepted, 1);
+	if (!row.code)
+		machine_wake(machine);
 	return row.code;
 }
 
@@ -270,18 +273,16 @@ _Static_assert(sizeof(struct timex) == sizeof(struct tkc_timex), "layout");
 
 int machine_adjtimex(struct machine *machine, struct timex *timex)
 {
-	bool only_reads = request_only_reads(timex);
 	enum tkc_code code;
 	uint32_t state = 0;
 	sigset_t saved;
 
-	if (!machine->control || (!only_reads && machine_denies_set(machine)))
+	if (!machine->control ||
+	    (!request_only_reads(timex) && machine_denies_set(machine)))
 		return -EPERM;
 	machine_lock(machine, &saved);
-	code = adjust(machine, timex, only_reads, &state);
+	code = machine_adjust(machine, timex, &state);
 	machine_unlock(machine, &saved);
-	if (!code && !only_reads)
-		machine_wake(machine);
 	return code ? -machine_error(code) : (int)state;
 }
 

@@ -142,8 +142,7 @@ static bool has_library(const struct start *start)
 	       has_preload(start);
 }
 
-/* Replaces the vDSO of a program without the library by the image, or else by
- * none. */
+/* Replaces the vDSO of a program without the library by the image, or by none. */
 static void replace_vdso(pid_t process)
 {
 	struct start start;
@@ -293,7 +292,9 @@ void exec_stopped(pid_t thread, int status)
 {
 	int event = status >> 16, signal = WSTOPSIG(status);
 
-	if (event == PTRACE_EVENT_EXEC)
+	if (event == PTRACE_EVENT_EXEC) {
+		waiters_forget(clocks, thread);
 		replace_vdso(thread);
+	}
 	ptrace(PTRACE_DETACH, thread, 0, event ? 0 : signal);
 }

@@ -92,18 +92,18 @@ static void *follow(void *unused)
 	return NULL;
 }
 
-void follow_start(void)
+bool follow_start(void)
 {
 	pthread_attr_t attributes;
 	pthread_t thread;
 
-	timers_hook_forks();
 	if (is_following)
-		return;
+		return true;
 	pthread_attr_init(&attributes);
 	pthread_attr_setdetachstate(&attributes, PTHREAD_CREATE_DETACHED);
 	is_following = !pthread_create(&thread, &attributes, follow, NULL);
 	pthread_attr_destroy(&attributes);
+	return is_following;
 }
 
 void follow_no_more(void)

@@ -2,24 +2,75 @@
 #define _GNU_SOURCE
 #include "log.h"
 
-#include "machine.h"
-
 #include <errno.h>
 #include <fcntl.h>
+#include <signal.h>
 #include <stdarg.h>
 #include <stdio.h>
 #include <string.h>
-#include <unistd.h>
+#include <sys/syscall.h>
 
-/* Writes a line by one call, so that the lines of processes don't mix. */
+enum { SET_BYTES = 8 }; /* a set of signals, for the kernel */
+
+/* Writes to a file. If the file's size has reached its limit, the kernel sends
+ * SIGXFSZ to this thread, which is taken back. Returns the bytes, or minus an error. */
+static long write_all(long file, const char *line, size_t length)
+{
+	const struct timespec none = { 0, 0 };
+	sigset_t limit, saved, pending;
+	long result;
+
+	sigemptyset(&limit);
+	sigaddset(&limit, SIGXFSZ);
+	pthread_sigmask(SIG_BLOCK, &limit, &saved);
+	sigpending(&pending);
+	result = host_call(SYS_write, file, (long)line, (long)length, 0, 0, 0);
+	if (result == -EFBIG && !sigismember(&pending, SIGXFSZ))
+		host_call(SYS_rt_sigtimedwait, (long)&limit, 0, (long)&none,
+			  SET_BYTES, 0, 0);
+	pthread_sigmask(SIG_SETMASK, &saved, NULL);
+	return result;
+}
+
+/* Writes a line by one call, so that the lines of processes don't mix. Returns 0
+ * or an error. */
+static int write_line(const char *path, const char *line, size_t length)
+{
+	long file = host_call(SYS_open, (long)path,
+			      O_WRONLY | O_APPEND | O_CLOEXEC, 0, 0, 0, 0);
+	long result;
+
+	if (file < 0)
+		return (int)-file;
+	result = write_all(file, line, length);
+	host_call(SYS_close, file, 0, 0, 0, 0, 0);
+	if (result < 0)
+		return (int)-result;
+	return (size_t)result == length ? 0 : ENOSPC;
+}
+
+static void add_line(struct log *log, const char *line, size_t length)
+{
+	int error = atomic_load(&log->error);
+
+	if (!error)
+		error = write_line(log->path, line, length);
+	if (!error) {
+		atomic_fetch_add(&log->written, 1);
+		return;
+	}
+	atomic_store(&log->error, error);
+	atomic_fetch_add(&log->lost, 1);
+}
+
 __attribute__((format(printf, 2, 3))) static void
 put(const struct logged_call *call, const char *form, ...)
 {
-	int file, length, error = errno;
+	int length, error = errno;
 	char line[512];
 	va_list list;
 
-	if (!call->log)
+	if (!call->log || !*call->log->path)
 		return;
 	length = snprintf(line, sizeof(line), "%d %s ", call->process,
 			  call->name);
@@ -33,11 +84,7 @@ put(const struct logged_call *call, const char *form, ...)
 	else
 		length += snprintf(line + length, sizeof(line) - (size_t)length,
 				   " = %d\n", call->result);
-	file = open(call->log, O_WRONLY | O_APPEND | O_CLOEXEC);
-	if (file >= 0) {
-		(void)!write(file, line, (size_t)length);
-		close(file);
-	}
+	add_line(call->log, line, (size_t)length);
 	errno = error;
 }
 

@@ -3,20 +3,18 @@
 #ifndef LOG_H
 #define LOG_H
 
-#include <stdint.h>
-#include <sys/time.h>
-#include <sys/timex.h>
-#include <time.h>
+#include "machine.h"
 
 /* A call of a process, with its result: minus an errno if it has failed. */
 struct logged_call {
-	const char *log; /* the file, or NULL: there is no log */
+	struct log *log; /* NULL: a process of another user writes none */
 	int process;
 	const char *name;
 	int result;
 };
 
-/* Each of these writes a line with the call's arguments. errno stays. */
+/* Each of these writes a line with the call's arguments, or counts it as lost. errno
+ * stays, no thread is cancelled, and no limit of a file's size ends the process. */
 void log_time(struct logged_call call, int64_t sec, int64_t nsec);
 void log_micros(struct logged_call call, const struct timeval *time);
 void log_clock(struct logged_call call, clockid_t clock);

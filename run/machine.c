@@ -85,3 +85,23 @@ bool machine_is_asleep(const struct machine *machine)
 	return tkc_page_read(&machine->shared->page, &snapshot) ||
 	       tkc_snapshot_asleep(&snapshot);
 }
+
+int machine_clock(clockid_t clock)
+{
+	switch (clock) {
+	case CLOCK_REALTIME:
+	case CLOCK_MONOTONIC:
+	case CLOCK_MONOTONIC_RAW:
+	case CLOCK_REALTIME_COARSE:
+	case CLOCK_MONOTONIC_COARSE:
+	case CLOCK_BOOTTIME:
+	case CLOCK_TAI:
+		return clock;
+	case CLOCK_REALTIME_ALARM:
+		return CLOCK_REALTIME;
+	case CLOCK_BOOTTIME_ALARM:
+		return CLOCK_BOOTTIME;
+	default:
+		return -1;
+	}
+}

@@ -59,13 +59,25 @@ struct shared_page {
 	_Alignas(64) _Atomic uint32_t generation; /* who isn't listed looks again */
 };
 
-/* A thread that waits for a time of a clock. It is free if `thread` is 0. A
- * sleeper looks again when `changes` moves on. */
+/*
+ * An entry of a thread that waits for a time of a clock. The low half of `owner`
+ * is the thread, or minus the thread until the time is written, or 0 if the entry
+ * is free. The high half counts the waits that have had the entry, so no two of
+ * them have the same owner. A sleeper looks again when `changes` moves on.
+ */
 struct waiter {
-	_Atomic int32_t thread;
+	_Atomic uint64_t owner;
 	uint32_t clock, nsec;
 	int64_t sec;
 	_Atomic uint32_t changes;
+};
+
+/* The entry of a wait, or NULL if it isn't listed, and by which owner it is this
+ * wait's. After a fork, the tickets of a child are its parent's. */
+struct ticket {
+	struct waiter *waiter;
+	uint64_t owner;
+	uint32_t forks;
 };
 
 /* Waits that go by the host's time, of which tkrun warns. */
@@ -87,10 +99,15 @@ struct rows {
 	_Atomic uint32_t wanted;
 	atomic_bool is_full; /* no room will be made */
 	uint64_t every;	     /* 0: no record */
-	bool has_uptime;     /* the script opens by `openwords`, and can't be steered */
 	atomic_bool is_steered; /* a call or a script has asked the discipline */
-	atomic_bool is_over;	/* and the script can't be steered */
 	char path[4096];
+};
+
+/* The log, for log.c. It ends before the first line that can't be written. */
+struct log {
+	_Atomic uint64_t written, lost; /* lines */
+	_Atomic int32_t error; /* why the first lost line was, or 0 */
+	char path[4096];       /* of --log, or none */
 };
 
 struct control {
@@ -103,6 +120,7 @@ struct control {
 	_Atomic uint32_t host_waits;	/* a bit for each enum host_wait */
 	_Atomic uint32_t waiters_count; /* entries that were ever taken */
 	_Alignas(64) struct rows rows;
+	_Alignas(64) struct log log;
 	struct waiter waiters[WAITERS_MOST];
 };
 
@@ -191,8 +209,13 @@ static inline bool request_only_reads(const struct timex *request)
 	return !request->modes || request->modes == ADJ_OFFSET_SS_READ;
 }
 
-/* Does what a struct timex asks for, and stores the reply. Returns the state of
- * the clocks, or minus an errno. */
+/* Does what a struct timex asks for, and stores the reply and the state of the
+ * clocks, unless it is refused. The caller has the lock. */
+enum tkc_code machine_adjust(struct machine *machine, struct timex *timex,
+			     uint32_t *state);
+
+/* Takes the lock, and does the same for a process. Returns the state of the
+ * clocks, or minus an errno. */
 int machine_adjtimex(struct machine *machine, struct timex *timex);
 
 /* Returns whether the clocks are asleep after a SUSPEND. */
@@ -241,12 +264,29 @@ void machine_wake_unlisted(struct machine *machine);
 /* Wakes a waiter's sleeper. */
 void waiter_wake(struct waiter *waiter);
 
-/* List this thread, or another one, as waiting for a time, with COUNTER_SLEEPS.
- * Return NULL if it can't be listed. */
-struct waiter *waiter_enter(struct machine *machine, uint32_t clock,
-			    int64_t sec, uint32_t nsec);
-struct waiter *waiter_enter_for(struct machine *machine, int32_t thread,
-				uint32_t clock, int64_t sec, uint32_t nsec);
-void waiter_leave(struct waiter *waiter);
+/* Returns the thread of an owner, or minus the thread, or 0. */
+static inline int32_t owner_thread(uint64_t owner)
+{
+	return (int32_t)(uint32_t)owner;
+}
+
+/* Frees an entry, unless it isn't this owner's any more. */
+void waiter_free(struct waiter *waiter, uint64_t owner);
+
+/* List this thread, or another one, as waiting for a time, with COUNTER_SLEEPS. */
+struct ticket waiter_enter(struct machine *machine, uint32_t clock, int64_t sec,
+			   uint32_t nsec);
+struct ticket waiter_enter_for(struct machine *machine, int32_t thread,
+			       uint32_t clock, int64_t sec, uint32_t nsec);
+
+/* Frees the ticket's entry, unless it was freed before. */
+void waiter_leave(struct ticket *ticket);
+
+/* Notes in a new child that it has no entries. */
+void waiters_forked(void);
+
+/* Frees the entries of a thread, which has just executed a program: they are those of
+ * a thread that had its number before, or of a handler. */
+void waiters_forget(struct machine *machine, int32_t thread);
 
 #endif

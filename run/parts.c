@@ -2,7 +2,8 @@
 #define _GNU_SOURCE
 #include "parts.h"
 
-#include "script.h"
+#include "replayed.h"
+#include "steered.h"
 
 #include <errno.h>
 #include <inttypes.h>
@@ -35,11 +36,11 @@ static const struct {
 	[TKC_CMD_RESUME] = { "resume", 2 },
 };
 
-/* The script that is being written, and the clocks after its commands. */
+/* The script that is being written, and the clocks after its records. */
 struct script_file {
 	FILE *file;
 	size_t bytes;
-	struct tkc_clock clock;
+	struct replayed clocks;
 };
 
 /* A read that gave no time states no value: tkcore refuses it, too. */
@@ -111,24 +112,33 @@ static void put_opening(struct script_file *script, const struct plan *plan)
 		",%" PRIu32,
 		bits, mult, shift, plan->first, plan->open_sec,
 		plan->open_nsec);
+	if (script->clocks.is_steered)
+		script->bytes += (size_t)fprintf(script->file, ",%" PRIu32,
+						 plan->ticks);
 }
 
-/* Opens the clocks as they are now: after the former part, or with an uptime. */
-static void put_words(struct script_file *script)
+static void put_words(struct script_file *script, const uint64_t *words,
+		      int first, int end)
 {
-	uint64_t words[TKC_SAVED_WORDS];
+	for (int i = first; i < end; i++)
+		script->bytes += (size_t)fprintf(
+			script->file, is_signed_word(i) ? ",%" PRId64 : ",%" PRIu64,
+			words[i]);
+}
 
-	tkc_clock_save(words, &script->clock);
-	script->bytes += (size_t)fprintf(
-		script->file, "openwords,%" PRIu64 ",%" PRIu64 ",%" PRIu64,
-		words[TKC_WORDS], words[TKC_WORDS + 1], words[TKC_WORDS + 2]);
-	for (int i = 0; i < TKC_WORDS; i++)
-		script->bytes += (size_t)fprintf(script->file, ",%" PRIu64,
-						 words[i]);
-	script->bytes +=
-		(size_t)fprintf(script->file, ",%" PRId64 ",%" PRId64,
-				(int64_t)words[TKC_WORDS + 3],
-				(int64_t)words[TKC_WORDS + 4]);
+/* Opens the clocks as they are now: after the former part, or with an uptime. The
+ * counter comes before their words. */
+static void put_clocks(struct script_file *script)
+{
+	uint64_t words[TKC_NTP_SAVED_WORDS];
+
+	replayed_words(&script->clocks, words);
+	script->bytes += (size_t)fprintf(script->file, "openwords");
+	put_words(script, words, TKC_WORDS, TKC_WORDS + 3);
+	put_words(script, words, 0, TKC_WORDS);
+	put_words(script, words, TKC_WORDS + 3,
+		  script->clocks.is_steered ? TKC_NTP_SAVED_WORDS
+					    : TKC_SAVED_WORDS);
 }
 
 /* Adds a part that begins at a row. Returns NULL if memory is missing. */
@@ -163,24 +173,11 @@ static struct part *begin_part(struct recording *recording,
 	if (!script->file)
 		return NULL;
 	if (recording->part_count > 1 || plan->uptime_sec || plan->uptime_nsec)
-		put_words(script);
+		put_clocks(script);
 	else
 		put_opening(script, plan);
-	if (recording->is_steered)
-		script->bytes += (size_t)fprintf(script->file, ",%d", TICKS_HZ);
 	script->bytes += (size_t)fprintf(script->file, "\n");
 	return part;
-}
-
-/* Applies a command that the program's clocks accepted. If these clocks refuse it,
- * tkcore does too, and --check reports the difference. */
-static void follow_command(struct tkc_clock *clock,
-			   const struct record_row *row)
-{
-	enum tkc_code code = tkc_clock_apply(clock, row->reading, row->kind,
-					     row->number, row->nsec);
-
-	(void)code;
 }
 
 static void put_row(struct recording *recording, struct script_file *script,
@@ -191,13 +188,12 @@ static void put_row(struct recording *recording, struct script_file *script,
 		recording->commands++;
 	} else if (is_command(row)) {
 		put_command(script, row);
-		if (is_accepted(row))
-			follow_command(&script->clock, row);
 		recording->commands++;
 	} else {
 		put_read(script, row);
 		recording->reads++;
 	}
+	replayed_follow(&script->clocks, row);
 }
 
 /* The most bytes of a part. Tests make it smaller. */
@@ -216,16 +212,10 @@ int parts_write(struct recording *recording, const struct plan *plan)
 	struct part *part;
 	int error = 0;
 
-	plan_open_clock(plan, &script.clock);
+	replayed_open(&script.clocks, plan, recording->is_steered);
 	part = begin_part(recording, plan, 0, &script);
 
 	for (uint64_t i = 0; i < list->count && part; i++) {
-		if (script.bytes > part_most - LINE_MOST &&
-		    recording->is_steered) {
-			recording->missing = i;
-			recording->error = EFBIG;
-			break;
-		}
 		if (script.bytes > part_most - LINE_MOST) {
 			close_script(&script, &error);
 			part = begin_part(recording, plan, i, &script);

@@ -2,8 +2,10 @@
 #define _GNU_SOURCE
 #include "plan.h"
 
-#include "script.h"
+#include "rows.h"
+#include "steered.h"
 
+#include <errno.h>
 #include <math.h>
 #include <stdio.h>
 #include <stdlib.h>
@@ -12,14 +14,14 @@
 /* Reads a script's bytes, and ends tkrun if it can't. */
 static char *read_file(const char *path, size_t *length)
 {
-	FILE *file = fopen(path, "r");
 	char *text = malloc(SCRIPT_LIMIT + 1);
+	FILE *file = text ? fopen(path, "re") : NULL;
 
-	if (!file || !text)
-		fail(STATUS_WRONG, "--script: cannot read '%s'", path);
-	*length = fread(text, 1, SCRIPT_LIMIT + 1, file);
-	if (ferror(file))
-		fail(STATUS_WRONG, "--script: cannot read '%s'", path);
+	if (file)
+		*length = fread(text, 1, SCRIPT_LIMIT + 1, file);
+	if (!file || ferror(file))
+		fail(STATUS_WRONG, "--script: cannot read '%s': %s", path,
+		     strerror(errno));
 	fclose(file);
 	return text;
 }
@@ -30,23 +32,6 @@ static double rate_of(const struct tkc_counter *counter)
 
 	tkc_counter_numbers(&bits, &mult, &shift, counter);
 	return ldexp(1e9, (int)shift) / mult;
-}
-
-/* Takes the orders of a script. Its reads are left out. */
-static void take_orders(struct plan *plan, const struct script *script)
-{
-	plan->orders = calloc(script->count + 1, sizeof(*plan->orders));
-	if (!plan->orders)
-		fail(STATUS_FAILED, "out of memory");
-	for (size_t i = 0; i < script->count; i++) {
-		const struct row *row = &script->rows[i];
-
-		if (row->is_read)
-			continue;
-		plan->orders[plan->count++] =
-			(struct order){ row->reading, row->command, row->nsec,
-					row->number };
-	}
 }
 
 static bool open_clock(const struct plan *plan, struct tkc_clock *clock)
@@ -91,22 +76,48 @@ __attribute__((noreturn)) static void fail_script(const struct fault *fault)
 	     fault->text);
 }
 
+/* Opens the clocks with their discipline. Returns false if a number is refused. */
+static bool open_steered(struct plan *plan)
+{
+	return !tkc_ntp_open_at(&plan->clocks, &plan->counter, plan->first,
+				plan->open_sec, plan->open_nsec,
+				plan->uptime_sec, plan->uptime_nsec,
+				plan->ticks);
+}
+
+/* Returns whether the clocks have the discipline of a script's first record. */
+static bool has_discipline(const struct plan *plan,
+			   const struct steered_script *script)
+{
+	uint64_t words[TKC_NTP_SAVED_WORDS];
+
+	tkc_ntp_save(words, &plan->clocks);
+	return !script->has_numbers ||
+	       !memcmp(words + TKC_SAVED_WORDS, script->numbers,
+		       sizeof(script->numbers));
+}
+
 static void read_script(struct plan *plan, const char *path)
 {
-	struct script script;
+	struct steered_script script;
 	struct fault fault;
 	size_t length;
 	char *text = read_file(path, &length);
 
-	if (!script_parse(&script, text, length, &fault))
+	if (!steered_parse(&script, text, length, &fault))
 		fail_script(&fault);
 	plan->counter = script.counter;
 	plan->hz = rate_of(&plan->counter);
-	if (!find_opening(plan, &script.clock))
+	plan->is_steered = script.hz;
+	if (plan->is_steered)
+		plan->ticks = script.hz;
+	if (!find_opening(plan, &script.clock) || !open_steered(plan) ||
+	    !has_discipline(plan, &script))
 		fail(STATUS_WRONG,
 		     "--script: record 1: tkrun can't continue running clocks");
-	take_orders(plan, &script);
-	script_free(&script);
+	plan->orders = script.orders;
+	plan->count = script.count;
+	plan->requests = script.requests;
 	free(text);
 }
 
@@ -146,7 +157,8 @@ void plan_make(struct plan *plan, const struct options *options, double hz)
 	struct tkc_counter counter;
 
 	*plan = (struct plan){ .hz = options->hz ? (double)options->hz
-						 : round(hz) };
+						 : round(hz),
+			       .ticks = TICKS_HZ };
 	if (tkc_counter_from_hz(&counter, options->bits, (uint64_t)plan->hz,
 				options->maxsec))
 		fail(STATUS_WRONG,
@@ -160,9 +172,7 @@ void plan_make(struct plan *plan, const struct options *options, double hz)
 		     "--script opens another counter than the options describe");
 	if (!options->script)
 		set_start(plan, options);
-	if (tkc_ntp_open_at(&plan->clocks, &plan->counter, plan->first,
-			    plan->open_sec, plan->open_nsec, plan->uptime_sec,
-			    plan->uptime_nsec, TICKS_HZ))
+	if (!open_steered(plan))
 		fail(STATUS_WRONG, "the clocks can't start at second %lld",
 		     (long long)plan->open_sec);
 }
@@ -179,8 +189,20 @@ uint64_t plan_left(const struct plan *plan, const struct machine *machine)
 	return (due - reading) & machine->shared->mask;
 }
 
+/* Applies an order, or makes its request. */
+static void run_order(const struct plan *plan, const struct order *order,
+		      struct machine *machine)
+{
+	uint32_t state = 0;
+
+	if (order->command == ROW_REQUEST)
+		machine_adjust(machine, &plan->requests[order->number], &state);
+	else
+		machine_apply(machine, order, 1);
+}
+
 void plan_run(struct plan *plan, struct machine *machine)
 {
 	while (!plan_left(plan, machine))
-		machine_apply(machine, &plan->orders[plan->next++], 1);
+		run_order(plan, &plan->orders[plan->next++], machine);
 }

@@ -1,12 +1,12 @@
 /* SPDX-License-Identifier: MIT OR Apache-2.0 */
-/* plan.h - how the clocks are opened, and the commands of --script. */
+/* plan.h - how the clocks are opened, and the commands and requests of --script. */
 #ifndef PLAN_H
 #define PLAN_H
 
 #include "options.h"
 
-/* The parts of a second into which the discipline divides phases: those of
- * Debian's kernels. */
+/* The parts of a second into which the discipline divides phases, unless a script
+ * says it: those of Debian's kernels. */
 enum { TICKS_HZ = 250 };
 
 /* The opening of the clocks, and the orders that are still to come. */
@@ -17,7 +17,10 @@ struct plan {
 	uint64_t first;
 	int64_t open_sec, uptime_sec; /* REALTIME and MONOTONIC */
 	uint32_t open_nsec, uptime_nsec;
-	struct order *orders;
+	uint32_t ticks;	 /* the parts of a second */
+	bool is_steered; /* a script opens clocks that are steered */
+	struct order *orders; /* steered.h says how one is a request */
+	struct timex *requests;
 	size_t count, next;
 };
 

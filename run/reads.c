@@ -284,26 +284,6 @@ enum tkc_code machine_look(struct machine *machine, struct tkc_snapshot *out,
 	return code;
 }
 
-int machine_clock(clockid_t clock)
-{
-	switch (clock) {
-	case CLOCK_REALTIME:
-	case CLOCK_MONOTONIC:
-	case CLOCK_MONOTONIC_RAW:
-	case CLOCK_REALTIME_COARSE:
-	case CLOCK_MONOTONIC_COARSE:
-	case CLOCK_BOOTTIME:
-	case CLOCK_TAI:
-		return clock;
-	case CLOCK_REALTIME_ALARM:
-		return CLOCK_REALTIME;
-	case CLOCK_BOOTTIME_ALARM:
-		return CLOCK_BOOTTIME;
-	default:
-		return -1;
-	}
-}
-
 void machine_count_rest(struct machine *machine)
 {
 	atomic_fetch_add(&machine->control->reads, own_reads % READS_IN_COUNT);

@@ -49,8 +49,9 @@ bool recording_write(struct recording *recording, struct machine *machine,
 /* Finds tkcore in tkrun's folder or in PATH, and ends tkrun if there is none. */
 void find_tkcore(void);
 
-/* Replays all parts by tkcore. Returns the number of results that differ, and
- * prints the first of them. NOT_RUN means that tkcore can't be run. */
+/* Replays all parts by tkcore, and passes signals on to it, which end the replay.
+ * Returns the number of results that differ, and prints the first of them. NOT_RUN
+ * means that tkcore can't be run. */
 #define NOT_RUN UINT64_MAX
 uint64_t recording_check(const struct recording *recording);
 

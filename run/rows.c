@@ -5,28 +5,33 @@
 #include <fcntl.h>
 #include <string.h>
 #include <sys/mman.h>
-#include <unistd.h>
+#include <sys/syscall.h>
 
 enum { ROOM_WAIT = NANOS }; /* the longest wait for tkrun to make room */
 
 static _Atomic(struct record_row *) chunks[CHUNKS_MOST];
 
+/* The C library's calls would change errno, and a thread may be cancelled at some of
+ * them: neither happens where a program reads a clock. */
 static struct record_row *map_chunk(const struct rows *rows, uint64_t number)
 {
-	const size_t size = ROWS_IN_CHUNK * sizeof(struct record_row);
-	int file = open(rows->path, O_RDWR | O_CLOEXEC);
-	struct record_row *chunk, *other = NULL;
+	const long size = ROWS_IN_CHUNK * sizeof(struct record_row);
+	long file = host_call(SYS_open, (long)rows->path, O_RDWR | O_CLOEXEC, 0,
+			      0, 0, 0);
+	struct record_row *other = NULL;
+	long chunk;
 
 	if (file < 0)
 		return NULL;
-	chunk = mmap(NULL, size, PROT_READ | PROT_WRITE, MAP_SHARED, file,
-		     (off_t)(number * size));
-	close(file);
-	if (chunk == MAP_FAILED)
+	chunk = host_call(SYS_mmap, 0, size, PROT_READ | PROT_WRITE, MAP_SHARED,
+			  file, (long)number * size);
+	host_call(SYS_close, file, 0, 0, 0, 0, 0);
+	if (chunk < 0)
 		return NULL;
-	if (atomic_compare_exchange_strong(&chunks[number], &other, chunk))
-		return chunk;
-	munmap(chunk, size); /* another thread was faster */
+	if (atomic_compare_exchange_strong(&chunks[number], &other,
+					   (struct record_row *)chunk))
+		return (struct record_row *)chunk;
+	host_call(SYS_munmap, chunk, size, 0, 0, 0, 0); /* another was faster */
 	return other;
 }
 
@@ -73,17 +78,14 @@ static struct record_row *find_rows(struct rows *rows, uint64_t count)
 
 void rows_steer(struct rows *rows)
 {
-	atomic_store(rows->has_uptime ? &rows->is_over : &rows->is_steered,
-		     true);
+	atomic_store(&rows->is_steered, true);
 }
 
-/* Takes rows, or counts a lost one. After the end of the record there are none. */
+/* Takes rows, or counts a lost one. */
 static struct record_row *take_rows(struct rows *rows, uint64_t count)
 {
 	struct record_row *slot = NULL;
 
-	if (atomic_load_explicit(&rows->is_over, memory_order_relaxed))
-		return NULL;
 	if (!atomic_load_explicit(&rows->lost, memory_order_relaxed))
 		slot = find_rows(rows, count);
 	if (!slot)
@@ -122,10 +124,7 @@ void rows_add_asked(struct machine *machine, const struct record_row *row,
 	int64_t words[WORDS_ROWS][4] = { 0 };
 	struct record_row *slot;
 
-	if (rows->has_uptime)
-		return;
-	/* tkrun may read it as soon as it has counted the rows */
-	atomic_store(&rows->is_steered, true);
+	rows_steer(rows); /* tkrun may read it as soon as it has counted the rows */
 	slot = take_rows(rows, 1 + WORDS_ROWS);
 	if (!slot)
 		return;

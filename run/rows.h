@@ -50,11 +50,10 @@ struct asked_words {
 /* Adds a row to the record. If it can't be written, it is counted as lost. */
 void rows_add(struct machine *machine, const struct record_row *row);
 
-/* Says that the clocks are steered from now on. A script that opens with an uptime
- * ends before that: tkcore can't steer its clocks. */
+/* Says that the clocks are steered. */
 void rows_steer(struct rows *rows);
 
-/* Adds a request, if the script can be steered. */
+/* Adds a request, which steers the clocks. */
 void rows_add_asked(struct machine *machine, const struct record_row *row,
 		    const struct asked_words *asked);
 

@@ -4,8 +4,9 @@
 #include "machine.h"
 
 #include <errno.h>
-#include <stdlib.h>
 #include <sys/time.h>
+
+enum { ZONE_MOST = 15 * 60 }; /* minutes, of do_sys_settimeofday64 */
 
 int machine_error(enum tkc_code code)
 {
@@ -38,7 +39,8 @@ static int set_zone(struct machine *machine, const struct timezone *zone)
 {
 	if (machine_denies_set(machine))
 		return EPERM;
-	if (abs(zone->tz_minuteswest) > 15 * 60)
+	if (zone->tz_minuteswest > ZONE_MOST ||
+	    zone->tz_minuteswest < -ZONE_MOST)
 		return EINVAL;
 	machine->control->zone[0] = zone->tz_minuteswest;
 	machine->control->zone[1] = zone->tz_dsttime;

@@ -23,7 +23,7 @@ enum {
 struct sleeper {
 	struct sleeper *next;
 	struct sleep sleep;
-	struct waiter *waiter;
+	struct ticket ticket;
 	bool has_signal; /* of the process, when it was looked at */
 	bool is_stopped; /* its call has ended, and may go on after a stop */
 };
@@ -46,7 +46,7 @@ static void remove_sleeper(struct sleeper **link)
 	struct sleeper *sleeper = *link;
 
 	*link = sleeper->next;
-	waiter_leave(sleeper->waiter);
+	waiter_leave(&sleeper->ticket);
 	free(sleeper);
 }
 
@@ -93,13 +93,31 @@ bool sleepers_resume(const struct seccomp_notif *ask)
 	return is_resumed;
 }
 
-bool sleepers_has(int32_t thread)
+bool sleepers_has(int32_t thread, bool is_present)
+{
+	const struct sleeper *sleeper;
+	bool is_found;
+
+	pthread_mutex_lock(&sleepers_lock);
+	sleeper = sleepers;
+	while (sleeper && (int32_t)sleeper->sleep.ask.pid != thread)
+		sleeper = sleeper->next;
+	is_found = sleeper &&
+		   (!is_present ||
+		    (!sleeper->is_stopped &&
+		     filter_has_call(listener, sleeper->sleep.ask.id)));
+	pthread_mutex_unlock(&sleepers_lock);
+	return is_found;
+}
+
+bool sleepers_have(const struct waiter *waiter, uint64_t owner)
 {
 	struct sleeper *sleeper;
 
 	pthread_mutex_lock(&sleepers_lock);
 	sleeper = sleepers;
-	while (sleeper && (int32_t)sleeper->sleep.ask.pid != thread)
+	while (sleeper && (sleeper->ticket.waiter != waiter ||
+			   sleeper->ticket.owner != owner))
 		sleeper = sleeper->next;
 	pthread_mutex_unlock(&sleepers_lock);
 	return sleeper;
@@ -116,7 +134,7 @@ bool sleepers_add(const struct sleep *sleep)
 	stopped = find_stopped(sleep->ask.pid);
 	if (stopped)
 		remove_sleeper(stopped);
-	sleeper->waiter = waiter_enter_for(clocks, (int32_t)sleep->ask.pid,
+	sleeper->ticket = waiter_enter_for(clocks, (int32_t)sleep->ask.pid,
 					   (uint32_t)sleep->clock,
 					   sleep->end.tv_sec,
 					   (uint32_t)sleep->end.tv_nsec);
@@ -210,8 +228,7 @@ static bool is_over(struct sleeper *sleeper, bool looks_at_signals,
 	*left = machine_left(clocks, (uint32_t)sleep->clock, sleep->end.tv_sec,
 			     (uint32_t)sleep->end.tv_nsec);
 	if (sleeper->is_stopped && !*left) {
-		waiter_leave(sleeper->waiter);
-		sleeper->waiter = NULL;
+		waiter_leave(&sleeper->ticket);
 		*left = NEVER;
 	} else if (!*left) {
 		reply(sleeper, 0);

@@ -6,13 +6,36 @@
 #include <stdlib.h>
 #include <sys/syscall.h>
 
-static bool is_listed(const struct tree *tree, int32_t thread)
+/* tkrun ignores the time of a thread that hasn't run for PASS_NANOS, and was found so PASS_LOOKS
+ * times. A thread that waits for a time that has come runs at once, or after a slice of a
+ * millisecond. The host's time goes on while all are stopped, and tkrun's tests don't. */
+enum { PASS_NANOS = 1000000000, PASS_LOOKS = 16 };
+
+/* A waiter whose time has come, when tkrun first saw its thread not run since then. The
+ * thread may be stopped. Or it has left its wait by siglongjmp or execve, and waits for
+ * something else. */
+struct idle {
+	uint64_t owner, switches, since; /* since: the host's ns */
+	uint64_t looks;
+	bool is_passed;
+};
+
+static struct idle idles[WAITERS_MOST];
+
+/* Returns the state of a thread at the last scan, or NULL. */
+static const struct thread_state *find_thread(const struct tree *tree,
+					      int32_t thread)
 {
 	for (size_t i = 0; i < tree->count; i++) {
 		if (tree->threads[i].thread == thread)
-			return true;
+			return &tree->threads[i];
 	}
-	return false;
+	return NULL;
+}
+
+static bool is_listed(const struct tree *tree, int32_t thread)
+{
+	return find_thread(tree, thread);
 }
 
 /* Returns whether a thread has begun since the tree was scanned. */
@@ -21,13 +44,42 @@ static bool is_new(struct tree *tree, int32_t thread)
 	return !tree_scan(tree) || is_listed(tree, thread);
 }
 
-/* Returns the cycles until a waiter's time, or 0 if its thread is about to wait. */
-static uint64_t waiter_left(struct run *run, const struct waiter *waiter)
+static bool is_passed(uint32_t index, uint64_t owner)
 {
-	if (atomic_load(&waiter->thread) < 0)
+	return idles[index].is_passed && idles[index].owner == owner;
+}
+
+/* Passes over a waiter whose time has come if its thread, which was just scanned, hasn't
+ * run for some time. Returns false if the thread still may act. */
+static bool pass_over(const struct run *run, uint32_t index, uint64_t owner)
+{
+	const struct waiter *waiter = &run->machine.control->waiters[index];
+	const struct thread_state *state =
+		find_thread(&run->tree, abs(owner_thread(owner)));
+	struct idle *idle = &idles[index];
+	uint64_t now = host_nanos(CLOCK_MONOTONIC);
+
+	if (!state || !state->is_waiting || sleepers_have(waiter, owner))
+		return false;
+	if (owner != idle->owner || state->switches != idle->switches)
+		*idle = (struct idle){ owner, state->switches, now, 0, false };
+	idle->is_passed = ++idle->looks > PASS_LOOKS &&
+			  now - idle->since >= PASS_NANOS;
+	return idle->is_passed;
+}
+
+/* Returns the cycles until a waiter's time, or 0 if its thread is about to wait, or
+ * the entry isn't this owner's any more. */
+static uint64_t waiter_left(struct run *run, const struct waiter *waiter,
+			    uint64_t owner)
+{
+	uint64_t left;
+
+	if (owner_thread(owner) < 0)
 		return 0;
-	return machine_cycles_left(&run->machine, waiter->clock, waiter->sec,
+	left = machine_cycles_left(&run->machine, waiter->clock, waiter->sec,
 				   waiter->nsec);
+	return atomic_load(&waiter->owner) == owner ? left : 0;
 }
 
 /* Returns the cycles until the first of the waiting threads' times, and NEVER
@@ -40,17 +92,18 @@ static uint64_t first_waiter(struct run *run)
 
 	for (uint32_t i = 0; i < count; i++) {
 		struct waiter *waiter = &control->waiters[i];
-		int32_t thread = atomic_load(&waiter->thread);
+		uint64_t owner = atomic_load(&waiter->owner);
+		int32_t thread = abs(owner_thread(owner));
 
-		if (!thread)
+		if (!thread || is_passed(i, owner))
 			continue;
-		if (!is_listed(&run->tree, abs(thread))) {
-			if (is_new(&run->tree, abs(thread)))
+		if (!is_listed(&run->tree, thread)) {
+			if (is_new(&run->tree, thread))
 				return 0; /* not all wait any more */
-			atomic_store(&waiter->thread, 0);
+			waiter_free(waiter, owner);
 			continue;
 		}
-		left = waiter_left(run, waiter);
+		left = waiter_left(run, waiter, owner);
 		least = left < least ? left : least;
 	}
 	return least;
@@ -64,13 +117,16 @@ static bool has_reached(struct run *run)
 
 	for (uint32_t i = 0; i < count; i++) {
 		struct waiter *waiter = &control->waiters[i];
-		int32_t thread = atomic_load(&waiter->thread);
+		uint64_t owner = atomic_load(&waiter->owner);
+		int32_t thread = abs(owner_thread(owner));
 
-		if (!thread || waiter_left(run, waiter))
+		if (!thread || is_passed(i, owner) ||
+		    waiter_left(run, waiter, owner))
 			continue;
-		if (is_new(&run->tree, abs(thread)))
+		if (!is_new(&run->tree, thread))
+			waiter_free(waiter, owner);
+		else if (!pass_over(run, i, owner))
 			return true;
-		atomic_store(&waiter->thread, 0);
 	}
 	return false;
 }
@@ -84,22 +140,11 @@ static void wake_reached(struct machine *machine)
 	for (uint32_t i = 0; i < count; i++) {
 		struct waiter *waiter = &control->waiters[i];
 
-		if (atomic_load(&waiter->thread) > 0 &&
+		if (owner_thread(atomic_load(&waiter->owner)) > 0 &&
 		    !machine_cycles_left(machine, waiter->clock, waiter->sec,
 					 waiter->nsec))
 			waiter_wake(waiter);
 	}
-}
-
-static bool has_waiter(const struct control *control, int32_t thread)
-{
-	uint32_t count = atomic_load(&control->waiters_count);
-
-	for (uint32_t i = 0; i < count; i++) {
-		if (atomic_load(&control->waiters[i].thread) == thread)
-			return true;
-	}
-	return false;
 }
 
 /* Returns whether a thread's call is tkrun's to answer. A restarted one is the
@@ -107,7 +152,7 @@ static bool has_waiter(const struct control *control, int32_t thread)
 static bool is_asked(const struct thread_state *thread)
 {
 	if (thread->call == SYS_restart_syscall)
-		return sleepers_has(thread->thread);
+		return sleepers_has(thread->thread, false);
 	return filter_asks(thread->call);
 }
 
@@ -120,7 +165,7 @@ static bool has_unanswered(const struct run *run)
 
 		if (is_asked(thread) &&
 		    !(filter_asks_sleep(thread->call) &&
-		      has_waiter(run->machine.control, thread->thread)))
+		      sleepers_has(thread->thread, true)))
 			return true;
 	}
 	return false;

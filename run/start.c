@@ -39,17 +39,20 @@ static void find_library(char *path, size_t size)
 static void set_preload(const char *library)
 {
 	const char *others = getenv("LD_PRELOAD");
-	char list[4 * PATH_MAX], *copy = strdup(others ? others : ""), *name;
-	size_t length = (size_t)snprintf(list, sizeof(list), "%s", library);
+	char *copy = strdup(others ? others : ""), *end, *name;
+	char *list = malloc(strlen(library) + strlen(others ? others : "") + 2);
 
+	if (!copy || !list)
+		fail(STATUS_FAILED, "out of memory");
+	end = stpcpy(list, library);
 	for (name = strtok(copy, " :"); name; name = strtok(NULL, " :")) {
-		if (!strcmp(basename(name), "libtkrun.so") ||
-		    length + strlen(name) + 2 > sizeof(list))
-			continue;
-		length += (size_t)sprintf(list + length, ":%s", name);
+		if (strcmp(basename(name), "libtkrun.so"))
+			end += sprintf(end, ":%s", name);
 	}
+	if (setenv("LD_PRELOAD", list, 1))
+		fail(STATUS_FAILED, "out of memory");
+	free(list);
 	free(copy);
-	setenv("LD_PRELOAD", list, 1);
 }
 
 void preload_library(void)
@@ -141,16 +144,12 @@ static void become_program(const struct run *run, int socket, bool has_filter)
 {
 	char **program = run->options.program;
 
-	setenv("TKRUN", run->folder, 1);
-	if (run->options.log)
-		setenv("TKRUN_LOG", run->options.log, 1);
-	else
-		unsetenv("TKRUN_LOG");
 	if (has_filter)
 		install_filter(socket, run->options.is_static);
 	drop_sys_time();
-	signal(SIGXFSZ, run->on_limit);
-	execvp(*program, program);
+	signals_restore();
+	if (!setenv("TKRUN", run->folder, 1))
+		execvp(*program, program);
 	send_report(socket, errno, -1);
 	_exit(STATUS_NOT_FOUND);
 }
@@ -209,8 +208,7 @@ static void answer_calls(struct run *run)
 {
 	exec_start(&run->machine, run->folder);
 	if (sleepers_start(&run->machine, run->listener))
-		run->execs = answers_start(&run->machine, run->listener,
-					   run->options.log);
+		run->execs = answers_start(&run->machine, run->listener);
 	if (run->execs >= 0)
 		return;
 	stop_child(run);
@@ -250,7 +248,7 @@ static void check_start(struct run *run, int error)
 		     strerror(error));
 }
 
-void start_program(struct run *run, const sigset_t *signals)
+void start_program(struct run *run)
 {
 	bool has_filter = run->options.is_static ||
 			  is_static_program(*run->options.program);
@@ -261,10 +259,8 @@ void start_program(struct run *run, const sigset_t *signals)
 		fail(STATUS_FAILED, "cannot start a program: %s",
 		     strerror(errno));
 	run->child = fork();
-	if (!run->child) {
-		sigprocmask(SIG_SETMASK, signals, NULL);
+	if (!run->child)
 		become_program(run, ends[1], has_filter);
-	}
 	close(ends[1]);
 	if (run->child < 0)
 		error = errno;

@@ -66,16 +66,20 @@ bool sleepers_add(const struct sleep *sleep);
  * is the restart of another call. */
 bool sleepers_resume(const struct seccomp_notif *ask);
 
-/* Returns whether a thread has a sleep that isn't over. */
-bool sleepers_has(int32_t thread);
+/* Returns whether a thread has a sleep that isn't over, and with `is_present` whether the
+ * call in which the thread waits now is that sleep. */
+bool sleepers_has(int32_t thread, bool is_present);
+
+/* Returns whether a waiter with this owner is that of a sleep: tkrun ends it, and not its thread. */
+bool sleepers_have(const struct waiter *waiter, uint64_t owner);
 
 /* Starts the thread that answers sleeps. Returns false if it can't. */
 bool sleepers_start(struct machine *machine, int listener);
 
 /* Starts the thread that answers. It passes on what executes a program: tkrun
  * reads it from the file that this returns, when SIGCHLD comes. Returns -1 if
- * it can't. `log` is the file of --log, or NULL. */
-int answers_start(struct machine *machine, int listener, const char *log);
+ * it can't. */
+int answers_start(struct machine *machine, int listener);
 
 /* Lets the sleeps be looked at, since the counter has moved. */
 void sleepers_wake(void);

@@ -22,6 +22,22 @@ bool proc_read(const char *path, char *text, size_t size)
 	return length > 0;
 }
 
+char *proc_read_list(const char *path)
+{
+	FILE *file = fopen(path, "re");
+	char *text = NULL;
+	size_t size = 0;
+
+	if (!file)
+		return NULL;
+	if (getdelim(&text, &size, 0, file) <= 0) {
+		free(text);
+		text = NULL;
+	}
+	fclose(file);
+	return text;
+}
+
 bool status_read(int thread, char text[STATUS_BYTES])
 {
 	char path[64];

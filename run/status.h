@@ -7,10 +7,15 @@
 #include <stddef.h>
 #include <stdint.h>
 
-enum { STATUS_BYTES = 4096 };
+/* Enough for the longest line, which lists the groups of a process: 5,000 of them. */
+enum { STATUS_BYTES = 65536 };
 
-/* Reads a file of /proc as text. Returns false if it is gone. */
+/* Reads a file of /proc as text, by one call. Returns false if it is gone. */
 bool proc_read(const char *path, char *text, size_t size);
+
+/* Reads a list of /proc, of which one call returns at most a page. Returns its text,
+ * which the caller frees, or NULL if it is empty or gone, or memory is missing. */
+char *proc_read_list(const char *path);
 
 /* Reads the status of a thread or a process. Returns false if it is gone. */
 bool status_read(int thread, char text[STATUS_BYTES]);

@@ -50,6 +50,19 @@ void print_summary(const struct run *run)
 	print_host_waits(control);
 }
 
+void print_log(const struct run *run)
+{
+	const struct log *log = &run->machine.control->log;
+
+	if (!log->lost)
+		return;
+	fprintf(stderr,
+		"tkrun: the log ends before line %" PRIu64 ": %s\n"
+		"tkrun: %" PRIu64 " %s in the log\n",
+		log->written + 1, strerror(log->error), log->lost,
+		log->lost == 1 ? "line isn't" : "lines aren't");
+}
+
 void print_record(const struct run *run, bool is_written)
 {
 	const struct recording *recording = &run->recording;
@@ -71,9 +84,6 @@ void print_record(const struct run *run, bool is_written)
 			"tkrun: the record ends before command %" PRIu64
 			", which couldn't be recorded\n",
 			recording->gap);
-	if (rows->is_over)
-		fprintf(stderr,
-			"tkrun: the record ends before the first call that steered the clocks: a script can't steer clocks with an uptime\n");
 	if (rows->lost)
 		fprintf(stderr,
 			"tkrun: %" PRIu64

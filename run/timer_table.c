@@ -14,7 +14,7 @@ static struct timer alarm_timer = { .kind = TIMER_ALARM,
 				    .own_clock = CLOCK_MONOTONIC };
 static struct timer *all_timers = &alarm_timer;
 static pthread_mutex_t table_lock = PTHREAD_MUTEX_INITIALIZER;
-static bool has_fork_hooks;
+static sigset_t fork_mask; /* of a thread that forks, which has the lock */
 
 void timers_lock(sigset_t *saved)
 {
@@ -110,38 +110,43 @@ struct timer *timer_add(enum timer_kind kind, int clock)
 
 void timer_remove(struct timer *timer)
 {
-	waiter_leave(timer->waiter);
+	waiter_leave(&timer->ticket);
 	*timer = (struct timer){ .link = timer->link };
 }
 
+/* A thread that forks has the lock, so that a child finds a whole table, and nobody has
+ * the lock of the child. Its handlers would wait for the lock forever. */
 static void before_fork(void)
 {
-	pthread_mutex_lock(&table_lock);
+	sigset_t mask;
+
+	timers_lock(&mask);
+	fork_mask = mask;
 }
 
 static void after_fork(void)
 {
-	pthread_mutex_unlock(&table_lock);
+	sigset_t mask = fork_mask;
+
+	timers_unlock(&mask);
 }
 
-/* Only timers that are files live on in a child. The waiting places are the
- * parent's. */
+/* Only timers that are files live on in a child. */
 static void in_child(void)
 {
+	waiters_forked();
 	for (struct timer *timer = all_timers; timer; timer = timer->link) {
-		timer->waiter = NULL;
+		waiter_leave(&timer->ticket);
 		if (timer->kind == TIMER_ALARM)
 			timer->is_armed = false;
 		else if (timer->kind != TIMER_FILE)
 			timer_remove(timer);
 	}
 	follow_no_more();
-	pthread_mutex_unlock(&table_lock);
+	after_fork();
 }
 
 void timers_hook_forks(void)
 {
-	if (!has_fork_hooks)
-		pthread_atfork(before_fork, after_fork, in_child);
-	has_fork_hooks = true;
+	pthread_atfork(before_fork, after_fork, in_child);
 }

@@ -18,6 +18,8 @@ enum {
 	EXPIRY_MOST_NANOS = 1000000000, /* the longest wait until it has */
 };
 
+enum { HELD_SEC = INT32_MAX }; /* the host's, of an alarm that doesn't expire */
+
 /* No timer is set for more than 292 years. */
 static uint64_t nanos_of(const struct timespec *span)
 {
@@ -91,6 +93,12 @@ static uint64_t host_period(struct machine *m, uint64_t period)
 	return left > INT64_MAX ? 0 : left;
 }
 
+static bool has_reached(const struct tkc_time *now, const struct timespec *time)
+{
+	return now->sec > time->tv_sec ||
+	       (now->sec == time->tv_sec && (long)now->nsec >= time->tv_nsec);
+}
+
 /* Moves `next` to the first time that the clock hasn't reached, by whole
  * periods. Returns the number of times that it has reached. */
 static uint64_t skip_reached(struct machine *m, struct timer *timer)
@@ -99,12 +107,12 @@ static uint64_t skip_reached(struct machine *m, struct timer *timer)
 	uint64_t count = 1;
 	int64_t late;
 
-	if (machine_read(m, (uint32_t)timer->clock, &now))
+	if (machine_read(m, (uint32_t)timer->clock, &now) ||
+	    !has_reached(&now, &timer->next))
 		return 0;
+	/* no clock reaches 2^63 ns */
 	late = (now.sec - timer->next.tv_sec) * NANOS + (int64_t)now.nsec -
 	       timer->next.tv_nsec;
-	if (late < 0)
-		return 0;
 	if (timer->period) {
 		count = (uint64_t)late / timer->period + 1;
 		timer->next = later(timer->next, count * timer->period);
@@ -147,6 +155,35 @@ static void expire(const struct timer *timer, uint64_t count)
 		host_nap(EXPIRY_NAP_NANOS);
 }
 
+/* Keeps the host's timer from expiring. That of alarm outlives execve: so with a counter
+ * of sleeps its interval states the time, for timers_resume. */
+static int hold_host(struct machine *m, const struct timer *timer)
+{
+	struct itimerval host = { micros_of(&timer->next), { HELD_SEC, 0 } };
+
+	if (timer->kind != TIMER_ALARM || m->shared->kind != COUNTER_SLEEPS)
+		return set_host(timer, 0, 0);
+	return REAL(setitimer)(ITIMER_REAL, &host, NULL);
+}
+
+void timers_resume(struct machine *m)
+{
+	struct timer *timer = timer_of_alarm();
+	struct itimerval host;
+	sigset_t saved;
+
+	if (m->shared->kind != COUNTER_SLEEPS ||
+	    REAL(getitimer)(ITIMER_REAL, &host) ||
+	    host.it_value.tv_sec < HELD_SEC / 2)
+		return;
+	timers_lock(&saved);
+	timer->clock = CLOCK_MONOTONIC;
+	timer->next = (struct timespec){ host.it_interval.tv_sec,
+					 host.it_interval.tv_usec * 1000 };
+	timer->is_armed = follow_start();
+	timers_unlock(&saved);
+}
+
 /* Lets a timer expire if its time has come, with a counter of sleeps, and
  * lists the time that it waits for. The thread that follows calls it. */
 static void follow_sleeps(struct machine *m, struct timer *timer)
@@ -156,11 +193,12 @@ static void follow_sleeps(struct machine *m, struct timer *timer)
 	if (count) {
 		expire(timer, count);
 		timer->is_armed = timer->period;
-		waiter_leave(timer->waiter);
-		timer->waiter = NULL;
+		waiter_leave(&timer->ticket);
+		if (timer->is_armed && timer->kind == TIMER_ALARM)
+			hold_host(m, timer); /* a file would lose expiries */
 	}
-	if (timer->is_armed && !timer->waiter)
-		timer->waiter = waiter_enter(m, (uint32_t)timer->clock,
+	if (timer->is_armed && !timer->ticket.waiter)
+		timer->ticket = waiter_enter(m, (uint32_t)timer->clock,
 					     timer->next.tv_sec,
 					     (uint32_t)timer->next.tv_nsec);
 }
@@ -175,14 +213,27 @@ static int arm(struct machine *m, struct timer *timer)
 	timer->is_stale = false;
 	timer->is_held = left > INT64_MAX; /* asleep, or a counter of sleeps */
 	if (timer->is_held)
-		return set_host(timer, 0, 0);
+		return hold_host(m, timer);
 	return set_host(timer, left ? left : 1, host_period(m, timer->period));
+}
+
+/* Returns whether a timer's file was closed. Another file may have its number. */
+static bool is_closed(const struct timer *timer)
+{
+	struct itimerspec host;
+
+	return timer->kind == TIMER_FILE &&
+	       REAL(timerfd_gettime)(timer->file, &host);
 }
 
 void timer_follow(struct machine *m, struct timer *timer)
 {
 	if (!timer->is_armed)
 		return;
+	if (is_closed(timer)) {
+		timer_remove(timer);
+		return;
+	}
 	if (m->shared->kind == COUNTER_SLEEPS) {
 		follow_sleeps(m, timer);
 		return;
@@ -230,15 +281,17 @@ int timer_set(struct machine *m, struct timer *timer, bool is_absolute,
 	if (is_bad(&in->it_value) || is_bad(&in->it_interval) ||
 	    in->it_value.tv_sec < 0 || in->it_interval.tv_sec < 0)
 		return refuse(EINVAL);
-	waiter_leave(timer->waiter);
-	timer->waiter = NULL;
+	waiter_leave(&timer->ticket);
 	timer->is_armed = in->it_value.tv_sec || in->it_value.tv_nsec;
 	if (!timer->is_armed)
 		return set_host(timer, 0, 0);
 	if (!set_next(m, timer, is_absolute, &in->it_value))
 		return refuse(EINVAL);
 	timer->period = nanos_of(&in->it_interval);
-	follow_start();
+	if (!follow_start() && m->shared->kind == COUNTER_SLEEPS) {
+		timer->is_armed = false; /* nobody would let it expire */
+		return refuse(EAGAIN);
+	}
 	if (m->shared->kind == COUNTER_SLEEPS)
 		machine_wake_unlisted(m);
 	return arm(m, timer);

@@ -26,7 +26,7 @@ struct timer {
 	timer_t posix;
 	struct timespec next;
 	uint64_t period; /* ns; 0: it expires once */
-	struct waiter *waiter;
+	struct ticket ticket;
 };
 
 /* Take and give back the lock of the timers. A handler may set a timer, so
@@ -49,7 +49,7 @@ struct timer *timer_add(enum timer_kind kind, int clock);
 /* Makes an entry free. */
 void timer_remove(struct timer *timer);
 
-/* Prepares the table for the forks to come. */
+/* Prepares the table for all forks of the process. */
 void timers_hook_forks(void);
 
 /* Stores what is left of a timer, and its period. */
@@ -61,11 +61,16 @@ int timer_set(struct machine *m, struct timer *timer, bool is_absolute,
 	      const struct itimerspec *in);
 
 /* Arms the host's timer anew if it is stale. With a counter of sleeps, lets the
- * timer expire if its time has come. */
+ * timer expire if its time has come. Removes a timer whose file was closed. */
 void timer_follow(struct machine *m, struct timer *timer);
 
-/* Starts the thread that follows the clocks for all timers, if there is none. */
-void follow_start(void);
+/* Sets the alarm that the process has set before it executed this program, with a
+ * counter of sleeps. It expires once. */
+void timers_resume(struct machine *m);
+
+/* Starts the thread that follows the clocks for all timers, if there is none. Returns
+ * false if it can't. */
+bool follow_start(void);
 
 /* Notes in a new child that it has no such thread. */
 void follow_no_more(void);

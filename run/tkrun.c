@@ -107,19 +107,22 @@ static void drive(struct run *run, const sigset_t *signals)
 static bool is_complete(const struct run *run)
 {
 	return !run->recording.error && !run->recording.gap &&
-	       !run->machine.control->rows.lost &&
-	       !run->machine.control->rows.is_over;
+	       !run->machine.control->rows.lost;
 }
 
-/* Compares the record, if it was written. The status says if a value differs,
- * or else if not all values could be compared. */
+/* Compares the record, if it was written. The status says if a signal has ended
+ * that, or a value differs, or else if not all values could be compared. */
 static void check_record(struct run *run, bool is_written)
 {
 	const struct recording *recording = &run->recording;
 	uint64_t differ = is_written ? recording_check(recording) : 0;
 	uint64_t all = recording->reads + recording->commands;
 
-	if (differ == NOT_RUN) {
+	if (signals_passed()) {
+		fprintf(stderr, "tkrun: check: ended by a signal: %s\n",
+			strsignal(signals_passed()));
+		run->status = 128 + signals_passed();
+	} else if (differ == NOT_RUN) {
 		run->status = STATUS_UNCHECKED;
 	} else if (differ) {
 		fprintf(stderr,
@@ -173,9 +176,9 @@ static void start_record(struct run *run)
 		snprintf(path, sizeof(path), "%s/record", run->scratch);
 		run->recording.path = path;
 	}
-	run->machine.control->rows.has_uptime =
-		run->plan.uptime_sec || run->plan.uptime_nsec;
 	recording_start(&run->recording, run->machine.control, &run->options);
+	if (run->plan.is_steered)
+		rows_steer(&run->machine.control->rows);
 }
 
 static void end_run(struct run *run, bool is_recorded)
@@ -184,6 +187,7 @@ static void end_run(struct run *run, bool is_recorded)
 
 	if (!run->options.is_quiet)
 		print_summary(run);
+	print_log(run);
 	if (is_recorded) {
 		is_written = recording_write(&run->recording, &run->machine,
 					     &run->plan);
@@ -228,7 +232,7 @@ static void remove_all(void)
 
 int main(int count, char **words)
 {
-	sigset_t signals, before;
+	sigset_t signals;
 	bool is_recorded;
 
 	hold_standard_files();
@@ -240,21 +244,20 @@ int main(int count, char **words)
 		find_tkcore();
 	if (run.options.log)
 		start_log(&run.options);
-	/* a record at the limit of a file's size ends, and the program goes on */
-	run.on_limit = signal(SIGXFSZ, SIG_IGN);
-	block_signals(&signals, &before);
+	signals_block(&signals);
 	atexit(remove_all);
 	open_machine(&run);
+	if (run.options.log)
+		strcpy(run.machine.control->log.path, run.options.log);
 	if (is_recorded)
 		start_record(&run);
 	run_first_orders(&run);
 	prctl(PR_SET_CHILD_SUBREAPER, 1, 0, 0, 0);
-	end_by_signal();
+	signals_end_early();
 	run.started = host_nanos(CLOCK_MONOTONIC);
-	start_program(&run, &before);
-	signal(SIGINT, SIG_IGN);
-	signal(SIGQUIT, SIG_IGN);
-	signal(SIGPIPE, SIG_IGN); /* nobody reads the summary */
+	start_program(&run);
+	signals_ignore();
+	watch_lock(&run);
 	drive(&run, &signals);
 	end_run(&run, is_recorded);
 	return run.status;

@@ -4,6 +4,7 @@
 #define TKRUN_H
 
 #include "recording.h"
+#include "signals.h"
 #include "static.h"
 #include "tree.h"
 
@@ -20,7 +21,6 @@ struct run {
 	uint64_t started, warned;
 	pid_t child; /* the program, or 0 when it has ended */
 	int status;
-	void (*on_limit)(int); /* what SIGXFSZ did before tkrun ignored it */
 	int listener; /* by which the kernel asks, or -1 */
 	int execs;    /* from which programs to execute come, or -1 */
 	bool calls_host; /* the vDSO can't read the host's clocks */
@@ -38,13 +38,6 @@ void find_host_clock(struct run *run);
  * would be written to it. The program doesn't inherit these files. */
 void hold_standard_files(void);
 
-/* Blocks the signals that would end tkrun before it has removed its files. Stores
- * those that it waits for later. */
-void block_signals(sigset_t *signals, sigset_t *before);
-
-/* Ends tkrun if a signal came before there was a program to pass it on to. */
-void end_by_signal(void);
-
 /* Makes the clocks of the options. Ends tkrun if it can't. */
 void open_machine(struct run *run);
 
@@ -55,9 +48,8 @@ void remove_files(const struct run *run);
  * be preloaded. */
 void preload_library(void);
 
-/* Starts the program, with these signals blocked. If it can't be run, ends
- * tkrun as env(1) ends. */
-void start_program(struct run *run, const sigset_t *signals);
+/* Starts the program. If it can't be run, ends tkrun as env(1) ends. */
+void start_program(struct run *run);
 
 /* Lets programs be executed that wait for it. */
 void serve_execs(struct run *run);
@@ -66,8 +58,13 @@ void serve_execs(struct run *run);
  * or to the next order. Returns whether it moved. */
 bool move_counter(struct run *run);
 
-/* Print what became of the run, and of its record. */
+/* Starts the thread that names a process if it is stopped while it has the lock of the
+ * clocks. */
+void watch_lock(struct run *run);
+
+/* Print what became of the run, of its log and of its record. */
 void print_summary(const struct run *run);
+void print_log(const struct run *run);
 void print_record(const struct run *run, bool is_written);
 
 #endif

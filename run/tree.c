@@ -60,6 +60,13 @@ static bool is_asleep(const struct thread_state *thread, const char *status)
 	       !status_interruption(status, true);
 }
 
+/* tkrun itself stops a thread that executes a program, and lets it go on at once. */
+static bool is_followed(char state, const char *status)
+{
+	return state == 't' && status_number(status, "TracerPid", 10) ==
+				       (uint64_t)getpid();
+}
+
 static bool add_thread(struct tree *tree, const char *folder, int32_t thread)
 {
 	char path[128], status[STATUS_BYTES], state;
@@ -78,7 +85,8 @@ static bool add_thread(struct tree *tree, const char *folder, int32_t thread)
 		.switches =
 			status_number(status, "voluntary_ctxt_switches", 10) +
 			status_number(status, "nonvoluntary_ctxt_switches", 10),
-		.is_waiting = state && strchr("STtZXD", state),
+		.is_waiting = state && strchr("STtZXD", state) &&
+			      !is_followed(state, status),
 		.call = -1,
 	};
 	if (added->is_waiting)
@@ -93,18 +101,18 @@ static bool add_process(struct tree *tree, int32_t process, int depth);
 
 static bool add_children(struct tree *tree, const char *folder, int depth)
 {
-	char path[128], text[16384], *next = text, *end;
+	char path[128], *text, *next, *end;
+	bool is_done = true;
 	long child;
 
 	snprintf(path, sizeof(path), "%s/children", folder);
-	if (!proc_read(path, text, sizeof(text)))
-		return true;
-	while ((child = strtol(next, &end, 10)) > 0) {
-		if (!add_process(tree, (int32_t)child, depth + 1))
-			return false;
+	text = next = proc_read_list(path);
+	while (is_done && next && (child = strtol(next, &end, 10)) > 0) {
+		is_done = add_process(tree, (int32_t)child, depth + 1);
 		next = end;
 	}
-	return true;
+	free(text);
+	return is_done;
 }
 
 /* Adds a process with its threads, and all below it. Of tkrun itself, which is

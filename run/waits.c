@@ -19,7 +19,9 @@ static int64_t without_leap(const struct machine *machine, int64_t now,
 {
 	int64_t tomorrow = (now / DAY_SEC + 1) * DAY_SEC;
 
-	return sec < tomorrow ? sec : sec + atomic_load(&machine->shared->leap);
+	if (sec < tomorrow || sec == INT64_MAX)
+		return sec;
+	return sec + atomic_load(&machine->shared->leap);
 }
 
 bool machine_after(struct machine *machine, int clock,
@@ -114,7 +116,7 @@ void machine_wake(struct machine *machine)
 
 	machine_wake_unlisted(machine);
 	for (uint32_t i = 0; i < count; i++) {
-		if (atomic_load(&control->waiters[i].thread))
+		if (owner_thread(atomic_load(&control->waiters[i].owner)))
 			waiter_wake(&control->waiters[i]);
 	}
 }
@@ -125,9 +127,9 @@ void machine_wake(struct machine *machine)
 int machine_sleep(struct machine *machine, uint32_t clock, int64_t sec,
 		  uint32_t nsec)
 {
-	struct waiter *waiter = waiter_enter(machine, clock, sec, nsec);
-	_Atomic uint32_t *futex = waiter ? &waiter->changes
-					 : &machine->shared->generation;
+	struct ticket ticket = waiter_enter(machine, clock, sec, nsec);
+	_Atomic uint32_t *futex = ticket.waiter ? &ticket.waiter->changes
+						: &machine->shared->generation;
 	uint32_t seen;
 	uint64_t left;
 	int error = 0;
@@ -142,63 +144,113 @@ int machine_sleep(struct machine *machine, uint32_t clock, int64_t sec,
 		error = host_futex_wait(futex, seen,
 					host_nanos(CLOCK_MONOTONIC) + left);
 	}
-	waiter_leave(waiter);
+	waiter_leave(&ticket);
 	return error == EINTR ? EINTR : 0;
 }
 
-/* Takes a free entry for a thread: minus the thread, since the time isn't
- * written yet. Returns NULL if all are taken. */
-static struct waiter *take_waiter(struct control *control, int32_t thread)
+/* How often a process has forked since it is one of tkrun's. */
+static uint32_t forks;
+
+void waiters_forked(void)
 {
+	forks++;
+}
+
+/* Returns the same owner with another thread. */
+static uint64_t with_thread(uint64_t owner, int32_t thread)
+{
+	return (owner & ~(uint64_t)UINT32_MAX) | (uint32_t)thread;
+}
+
+/* Gives an entry from one owner to the next. Returns false if it isn't the first
+ * one's any more. */
+static bool pass_on(struct waiter *waiter, uint64_t owner, uint64_t next)
+{
+	return atomic_compare_exchange_strong(&waiter->owner, &owner, next);
+}
+
+void waiter_free(struct waiter *waiter, uint64_t owner)
+{
+	pass_on(waiter, owner, with_thread(owner, 0));
+}
+
+/* Takes a free entry for a thread: for minus the thread, since the time isn't
+ * written yet. */
+static struct ticket take_waiter(struct control *control, int32_t thread)
+{
+	struct ticket ticket = { .forks = forks };
+
 	for (uint32_t i = 0; i < WAITERS_MOST; i++) {
 		struct waiter *waiter = &control->waiters[i];
 		uint32_t count = atomic_load(&control->waiters_count);
-		int32_t none = 0;
+		uint64_t owner;
 
 		/* tkrun looks at this entry too, before it is taken */
 		while (count <= i &&
 		       !atomic_compare_exchange_weak(&control->waiters_count,
 						     &count, i + 1))
 			;
-		if (atomic_compare_exchange_strong(&waiter->thread, &none,
-						   -thread))
-			return waiter;
+		owner = atomic_load(&waiter->owner);
+		ticket.owner = with_thread(owner + (UINT64_C(1) << 32), -thread);
+		if (owner_thread(owner) || !pass_on(waiter, owner, ticket.owner))
+			continue;
+		ticket.waiter = waiter;
+		break;
 	}
-	return NULL;
+	return ticket;
 }
 
-struct waiter *waiter_enter_for(struct machine *machine, int32_t thread,
-				uint32_t clock, int64_t sec, uint32_t nsec)
+struct ticket waiter_enter_for(struct machine *machine, int32_t thread,
+			       uint32_t clock, int64_t sec, uint32_t nsec)
 {
-	struct waiter *waiter;
+	struct ticket ticket = { 0 };
+	uint64_t owner;
 
 	if (machine->shared->kind != COUNTER_SLEEPS || !machine->control)
-		return NULL;
-	waiter = take_waiter(machine->control, thread);
-	if (!waiter) {
+		return ticket;
+	ticket = take_waiter(machine->control, thread);
+	if (!ticket.waiter) {
 		atomic_fetch_or(&machine->control->host_waits,
 				1U << HOST_UNLISTED);
-		return NULL;
+		return ticket;
 	}
-	waiter->clock = clock;
-	waiter->sec = sec;
-	waiter->nsec = nsec;
-	atomic_store(&waiter->thread, thread);
-	return waiter;
+	ticket.waiter->clock = clock;
+	ticket.waiter->sec = sec;
+	ticket.waiter->nsec = nsec;
+	owner = with_thread(ticket.owner, thread);
+	if (pass_on(ticket.waiter, ticket.owner, owner))
+		ticket.owner = owner;
+	return ticket;
 }
 
-struct waiter *waiter_enter(struct machine *machine, uint32_t clock,
-			    int64_t sec, uint32_t nsec)
+struct ticket waiter_enter(struct machine *machine, uint32_t clock, int64_t sec,
+			   uint32_t nsec)
 {
 	if (machine->shared->kind != COUNTER_SLEEPS)
-		return NULL;
+		return (struct ticket){ 0 };
 	return waiter_enter_for(
 		machine, (int32_t)host_call(SYS_gettid, 0, 0, 0, 0, 0, 0),
 		clock, sec, nsec);
 }
 
-void waiter_leave(struct waiter *waiter)
+void waiters_forget(struct machine *machine, int32_t thread)
 {
-	if (waiter)
-		atomic_store(&waiter->thread, 0);
+	struct control *control = machine->control;
+	uint32_t count = control ? atomic_load(&control->waiters_count) : 0;
+
+	for (uint32_t i = 0; i < count; i++) {
+		struct waiter *waiter = &control->waiters[i];
+		uint64_t owner = atomic_load(&waiter->owner);
+		int32_t found = owner_thread(owner);
+
+		if (found == thread || found == -thread)
+			waiter_free(waiter, owner);
+	}
+}
+
+void waiter_leave(struct ticket *ticket)
+{
+	if (ticket->waiter && ticket->forks == forks)
+		waiter_free(ticket->waiter, ticket->owner);
+	ticket->waiter = NULL;
 }

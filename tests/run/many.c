@@ -2,11 +2,12 @@
 /*
  * Waits for more times than a table of fixed size would have.
  *
- *     many timers|threads
+ *     many timers|threads|processes
  *
- * Each of COUNT timers or threads waits for its time: a millisecond later than
- * the time of the GROUP before. Prints the number of those that ended, and of
- * those that ended before their time.
+ * Each of COUNT timers, threads or processes waits for its time: a millisecond later
+ * than the time of the GROUP before. Prints the number of those that ended, and of
+ * those that ended before their time. Of processes it prints also how many ended after
+ * their time.
  */
 #define _GNU_SOURCE
 #include <pthread.h>
@@ -16,11 +17,17 @@
 #include <stdint.h>
 #include <stdio.h>
 #include <string.h>
+#include <sys/mman.h>
+#include <sys/wait.h>
 #include <time.h>
+#include <unistd.h>
 
 enum { COUNT = 1500, GROUP = 150, STACK_BYTES = 65536, BEGIN_SEC = 10 };
 
-static atomic_int ended, early;
+/* What the processes count together. */
+static struct {
+	atomic_int ended, early, late;
+} *counts;
 
 static struct timespec time_of(int number)
 {
@@ -32,9 +39,11 @@ static void note_end(int number)
 	struct timespec now, due = time_of(number);
 
 	clock_gettime(CLOCK_MONOTONIC, &now);
-	ended++;
-	early += now.tv_sec < due.tv_sec ||
-		 (now.tv_sec == due.tv_sec && now.tv_nsec < due.tv_nsec);
+	counts->ended++;
+	counts->early += now.tv_sec < due.tv_sec ||
+			 (now.tv_sec == due.tv_sec && now.tv_nsec < due.tv_nsec);
+	counts->late += now.tv_sec > due.tv_sec ||
+			(now.tv_sec == due.tv_sec && now.tv_nsec > due.tv_nsec);
 }
 
 static bool set_timer(int number)
@@ -94,12 +103,38 @@ static bool wait_threads(void)
 	return true;
 }
 
+static bool wait_processes(void)
+{
+	for (int i = 0; i < COUNT; i++) {
+		pid_t child = fork();
+
+		if (child < 0)
+			return false;
+		if (!child) {
+			sleep_until((void *)(intptr_t)i);
+			_exit(0);
+		}
+	}
+	while (wait(NULL) > 0)
+		;
+	return true;
+}
+
 int main(int count, char **words)
 {
-	bool is_timers = count > 1 && !strcmp(words[1], "timers");
+	const char *word = count > 1 ? words[1] : "";
+	bool is_done;
 
-	if (!(is_timers ? wait_timers() : wait_threads()))
+	counts = mmap(NULL, sizeof(*counts), PROT_READ | PROT_WRITE,
+		      MAP_SHARED | MAP_ANONYMOUS, -1, 0);
+	is_done = !strcmp(word, "timers")    ? wait_timers()
+		  : !strcmp(word, "threads") ? wait_threads()
+					     : wait_processes();
+	if (!is_done)
 		perror("many");
-	printf("ended %d, early %d\n", ended, early);
+	printf("ended %d, early %d", counts->ended, counts->early);
+	if (!strcmp(word, "processes"))
+		printf(", late %d", counts->late);
+	puts("");
 	return 0;
 }

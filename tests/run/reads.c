@@ -8,6 +8,7 @@
 #include "faults.h"
 
 #include <dlfcn.h>
+#include <limits.h>
 #include <stdbool.h>
 #include <stdio.h>
 #include <string.h>
@@ -68,6 +69,8 @@ static void check_monotonic(void)
 	CHECK(!clock_getres(CLOCK_MONOTONIC, &time) && time.tv_nsec == 1);
 	CHECK(!clock_getres(CLOCK_MONOTONIC_COARSE, &time) && time.tv_nsec > 1);
 	CHECK(!clock_gettime(CLOCK_PROCESS_CPUTIME_ID, &time));
+	CHECK(!syscall(SYS_clock_getres, CLOCK_REALTIME, &time) &&
+	      !time.tv_sec && time.tv_nsec == 1);
 	CHECK(clock_gettime(77, &time) && errno == EINVAL);
 	CHECK(syscall(SYS_clock_gettime, 77, &time) == -1 && errno == EINVAL);
 }
@@ -95,9 +98,14 @@ static void check_sets(void)
 	check_reads(SET + 200);
 	CHECK(!set_old_time(&second));
 	check_reads(SET + 400);
+	CHECK(!syscall(SYS_settimeofday, &micros, NULL));
+	check_reads(SET + 200);
 	CHECK(!syscall(SYS_clock_settime, CLOCK_REALTIME, &time));
 	check_reads(SET);
 	CHECK(!settimeofday(NULL, &zone) && !gettimeofday(&micros, &got) &&
+	      got.tz_minuteswest == 60);
+	got.tz_minuteswest = 0;
+	CHECK(!syscall(SYS_gettimeofday, NULL, &got) &&
 	      got.tz_minuteswest == 60);
 }
 
@@ -106,14 +114,15 @@ static void check_refusals(void)
 	struct timespec bad = { SET, 1000000000 }, before = { -1, 0 };
 	struct timespec far = { 8277292036, 0 }, good = { SET, 0 };
 	struct timeval micros = { SET, 1000000 };
-	struct timezone zone = { 901, 0 };
+	struct timezone zones[] = { { 901, 0 }, { -901, 0 }, { INT_MIN, 0 } };
 
 	CHECK(clock_settime(CLOCK_REALTIME, &bad) && errno == EINVAL);
 	CHECK(clock_settime(CLOCK_REALTIME, &before) && errno == EINVAL);
 	CHECK(clock_settime(CLOCK_REALTIME, &far) && errno == EINVAL);
 	CHECK(clock_settime(CLOCK_MONOTONIC, &good) && errno == EINVAL);
 	CHECK(settimeofday(&micros, NULL) && errno == EINVAL);
-	CHECK(settimeofday(NULL, &zone) && errno == EINVAL);
+	for (size_t i = 0; i < sizeof(zones) / sizeof(*zones); i++)
+		CHECK(settimeofday(NULL, &zones[i]) && errno == EINVAL);
 	CHECK(clock_nanosleep(CLOCK_MONOTONIC, 0, &bad, NULL) == EINVAL);
 	CHECK(clock_nanosleep(CLOCK_MONOTONIC_COARSE, 0, &good, NULL) ==
 	      EOPNOTSUPP);

@@ -138,6 +138,8 @@ static void check_adjtime(void)
 	CHECK(!adjtime(NULL, &out) && !out.tv_sec && !out.tv_usec);
 	in.tv_sec = 3000;
 	CHECK(adjtime(&in, NULL) == -1 && errno == EINVAL);
+	in = (struct timeval){ 0, 3000000000 };
+	CHECK(adjtime(&in, NULL) == -1 && errno == EINVAL);
 }
 
 static void check_denied(void)

@@ -1,12 +1,11 @@
 /* SPDX-License-Identifier: MIT OR Apache-2.0 */
-/* Makes each timed wait that libtkrun.so answers for syscall(2). */
+/* Makes each timed wait that libtkrun.so answers for syscall(2), except for those that
+ * waits.c makes. */
 #define _GNU_SOURCE
 #include "timed.h"
 
 #include <errno.h>
-#include <fcntl.h>
 #include <linux/futex.h>
-#include <mqueue.h>
 #include <pthread.h>
 #include <sched.h>
 #include <signal.h>
@@ -124,35 +123,21 @@ static bool by_semtimedop(void)
 
 static bool by_mq_timedreceive(void)
 {
-	struct mq_attr attributes = { .mq_maxmsg = 1, .mq_msgsize = 1 };
 	struct timespec time = until(CLOCK_REALTIME);
-	char name[32], text[1];
-	mqd_t queue;
+	char text[1];
 
-	snprintf(name, sizeof(name), "/tkrun.%d", getpid());
-	queue = mq_open(name, O_RDWR | O_CREAT, 0600, &attributes);
-	mq_unlink(name);
-	return syscall(SYS_mq_timedreceive, queue, text, 1, NULL, &time) < 0 &&
+	return syscall(SYS_mq_timedreceive, open_queue(), text, 1, NULL,
+		       &time) < 0 &&
 	       errno == ETIMEDOUT;
 }
 
-static bool by_futex(void)
-{
-	uint32_t word = 0;
-
-	return syscall(SYS_futex, &word, FUTEX_WAIT_PRIVATE, 0, &SPAN, NULL,
-		       0) < 0 &&
-	       errno == ETIMEDOUT;
-}
-
-static bool by_futex_bitset(void)
+static bool by_mq_timedsend(void)
 {
 	struct timespec time = until(CLOCK_REALTIME);
-	uint32_t word = 0;
+	mqd_t queue = open_queue();
 
-	return syscall(SYS_futex, &word,
-		       FUTEX_WAIT_BITSET | FUTEX_CLOCK_REALTIME, 0, &time, NULL,
-		       FUTEX_BITSET_MATCH_ANY) < 0 &&
+	return !mq_send(queue, "a", 1, 0) &&
+	       syscall(SYS_mq_timedsend, queue, "b", 1, 0, &time) < 0 &&
 	       errno == ETIMEDOUT;
 }
 
@@ -242,11 +227,13 @@ static bool by_timer(void)
 
 static bool by_timerfd(void)
 {
-	struct itimerspec spec = { .it_value = SPAN };
+	struct itimerspec spec = { .it_value = SPAN }, left;
 	int file = (int)syscall(SYS_timerfd_create, CLOCK_MONOTONIC, 0);
 	uint64_t count = 0;
 
 	return !syscall(SYS_timerfd_settime, file, 0, &spec, NULL) &&
+	       !syscall(SYS_timerfd_gettime, file, &left) &&
+	       left.it_value.tv_sec >= 1 && left.it_value.tv_sec <= 2 &&
 	       read(file, &count, sizeof(count)) == sizeof(count) && count == 1;
 }
 
@@ -279,8 +266,7 @@ static const struct timed_wait WAITS[] = {
 	{ "rt_sigtimedwait", by_sigtimedwait },
 	{ "semtimedop", by_semtimedop },
 	{ "mq_timedreceive", by_mq_timedreceive },
-	{ "futex", by_futex },
-	{ "futex_bitset", by_futex_bitset },
+	{ "mq_timedsend", by_mq_timedsend },
 	{ "futex_lock_pi", by_lock_pi },
 	{ "futex_lock_pi2", by_lock_pi2 },
 	{ "futex_waitv", by_futex_waitv },

@@ -83,8 +83,9 @@ class Arguments(RunTest):
                      "openwords,32,16777216,24,1,0,16777216,0,0,5000000000,0,0,0,0,0,10000\n"]:
             self.assertIn("--script", self.refuse("--script", self.file("s", text)))
         self.assertEqual(self.refuse("--script", "/dev/null"), "tkrun: --script: no record")
-        self.assertIn("cannot read", self.refuse("--script", self.folder / "none"))
-        self.assertIn("cannot read", self.refuse("--script", self.folder))
+        for name, reason in [("none", "No such file or directory"), ("", "Is a directory")]:
+            self.assertRegex(self.refuse("--script", self.folder / name),
+                             f"cannot read '.*': {reason}$")
 
     def test_a_counter_that_wraps_too_fast(self):
         self.assertIn("wraps", self.refuse("--bits", "8"))
@@ -108,6 +109,19 @@ class Arguments(RunTest):
         shown = self.start("--quiet", "--check", "--", "bash", "-c", "echo $TKRUN").stdout.strip()
         self.assertIn("/tkrun.", shown)
         self.assertFalse(pathlib.Path(shown).exists())
+
+    @needs_mounts("makes another root")
+    def test_no_file_of_others_is_removed_if_nothing_runs(self):
+        # it ends before it has made its folder, whose files have these names
+        self.share()
+        for name in ("page", "control"):
+            self.file(name, "")
+        (self.folder / "proc").mkdir()
+        command = ("mount --rbind /proc $1/proc && "
+                   "exec chroot $1 /dist/bin/tkrun --script /none -- /true")
+        run = call(["unshare", "-m", "sh", "-c", command, "sh", self.folder])
+        self.assertEqual((run.returncode, len(run.stderr.splitlines())), (2, 1), run.stderr)
+        self.assertTrue((self.folder / "page").exists() and (self.folder / "control").exists())
 
     @needs_mounts("hides /dev/shm")
     def test_nothing_is_left_if_nothing_runs(self):

@@ -1,7 +1,9 @@
 """Runs side by side and inside of each other, signals, other users, and programs without the
 library."""
+import os
 import pathlib
 import shutil
+import signal
 import subprocess
 import time
 
@@ -25,6 +27,12 @@ class Around(RunTest):
     def test_the_status_is_the_programs(self):
         self.assertEqual(self.start("--", "bash", "-c", "exit 7").returncode, 7)
         self.assertEqual(self.start("--", "bash", "-c", "kill -KILL $$").returncode, 137)
+
+    def test_libraries_that_were_to_be_preloaded_still_are(self):
+        others = ":".join(["libm.so.6"] * 2000)
+        shown = call([TKRUN, "--quiet", "--", "bash", "-c", "echo $LD_PRELOAD"],
+                     env={**os.environ, "LD_PRELOAD": others}).stdout
+        self.assertRegex(shown, f"^/.*/libtkrun.so:{others}\n$")
 
     def test_a_summary_that_nobody_reads(self):
         # the program prints the folder, which is removed also if the summary can't be written
@@ -56,6 +64,43 @@ class Around(RunTest):
         run.terminate()
         self.assertEqual(run.wait(20), 7)
         run.stdout.close()
+
+    def start_check(self, *signals):
+        """Starts tkrun --check with a tkcore that waits. Returns its process, and tkcore's folder
+        in /proc. The test's folder contains the signals that tkcore blocks or ignores."""
+        up, temporary = self.folder / "up", self.folder / "tmp"
+        up.unlink(missing_ok=True)
+        temporary.mkdir(exist_ok=True)
+        run = subprocess.Popen(["env", *signals, self.folder / "dist/bin/tkrun", "--quiet",
+                                "--check", "--", "true"], stderr=subprocess.PIPE, text=True,
+                               env={**os.environ, "TMPDIR": str(temporary)})
+        while not up.exists() or not up.read_text():
+            time.sleep(0.01)
+        return run, pathlib.Path("/proc", up.read_text().strip())
+
+    def check_end(self, run, tkcore, number):
+        """Sends a signal, which ends tkrun and tkcore."""
+        run.send_signal(number)
+        self.assertEqual(run.wait(20), 128 + number)
+        self.assertEqual(run.communicate()[1],
+                         f"tkrun: check: ended by a signal: {signal.strsignal(number)}\n")
+        self.assertFalse(tkcore.exists())
+        self.assertEqual(list((self.folder / "tmp").iterdir()), [])
+
+    def test_a_signal_ends_the_check(self):
+        tkcore, up = self.share() / "bin/tkcore", self.folder / "up"
+        tkcore.write_text(f"#!/bin/sh\ngrep -E 'Sig(Blk|Ign)' /proc/self/status >{up}.signals\n"
+                          f"echo $$ >{up}\nexec sleep 100\n")
+        for number in [signal.SIGTERM, signal.SIGHUP, signal.SIGINT, signal.SIGQUIT]:
+            with self.subTest(number):
+                self.check_end(*self.start_check("--default-signal"), number)
+                signals = (self.folder / "up.signals").read_text()
+                self.assertEqual(signals, "SigBlk:\t0000000000000000\nSigIgn:\t0000000000000000\n")
+        run, started = self.start_check("--default-signal", "--ignore-signal=HUP")
+        run.send_signal(signal.SIGHUP)
+        time.sleep(0.3)
+        self.assertIsNone(run.poll())
+        self.check_end(run, started, signal.SIGTERM)
 
     @needs_mounts("empties /dev/shm")
     def test_a_signal_that_comes_before_the_program_leaves_no_file(self):
@@ -150,6 +195,13 @@ class Around(RunTest):
         self.assertEqual(run.stdout.splitlines()[0], "1000000000")
         self.assertIn("Operation not permitted", run.stderr)
         self.assertEqual(run.stdout.splitlines()[-1], "1000000000")
+
+    @needs_root("becomes another user")
+    def test_a_program_of_another_user_begins_without_an_error(self):
+        tkrun = self.share() / "bin/tkrun"
+        cancelled = shutil.copy(program("cancelled"), self.folder)
+        run = call([tkrun, "--quiet", "--", *OTHER, cancelled])
+        self.assertNotIn("!errno", run.stdout)
 
     def test_no_program_has_the_capability_to_set_the_hosts_clock(self):
         status = self.run_on("--", "grep", "-E", "Cap|NoNewPrivs", "/proc/self/status")

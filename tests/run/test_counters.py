@@ -1,5 +1,7 @@
 """Waits on counters that wrap, are slow, or run at another rate than the clocks believe."""
-from runs import RunTest
+import unittest
+
+from runs import CAN_FILTER, STILL, RunTest, program
 
 CODE = """use Time::HiRes qw(clock_gettime sleep CLOCK_MONOTONIC);
 $a = clock_gettime(CLOCK_MONOTONIC); sleep $ARGV[0];
@@ -65,6 +67,47 @@ class Counters(RunTest):
         run = self.start("--counter", "sleeps", *options, "--check", "--", "/usr/bin/perl", "-e",
                          code)
         self.assertEqual(run.returncode, 0, run.stderr)
+
+    def clock_after(self, code, *options):
+        """MONOTONIC after a command of the shell, in whole seconds, on a counter of sleeps."""
+        return int(self.run_on(*STILL, "--start", 0, *options, "--", "bash", "-c",
+                               f"{code}; date +%s").splitlines()[-1])
+
+    def test_a_sleep_that_a_handler_leaves(self):
+        self.assertEqual(self.clock_after(f"{program('left')} jump"), 102)
+
+    def test_a_sleep_that_a_child_leaves_during_the_next_one(self):
+        self.assertEqual(self.clock_after(f"{program('left')} fork"), 100)
+
+    def test_a_timer_whose_file_is_closed(self):
+        self.assertEqual(self.clock_after(f"{program('left')} file"), 3600)
+
+    def test_a_timer_that_no_thread_can_follow(self):
+        self.assertEqual(self.run_on(*STILL, "--", program("left"), "alone"), "")
+
+    def test_a_sleep_of_a_process_that_executes_a_program(self):
+        left = program("left")
+        self.assertEqual(self.clock_after(f"{left} exec sleep 20"), 21)
+        self.assertEqual(self.clock_after(f"{left} exec {left} exec sleep 20"), 22)
+
+    def test_an_alarm_of_a_process_that_executes_a_program(self):
+        alarm = "exec 2>/dev/null; /usr/bin/perl -e 'alarm 5; exec @ARGV' "
+        self.assertEqual(self.clock_after(alarm + "sleep 100"), 5)
+        code = alarm + "/usr/bin/perl -e 'exit(alarm(0) != 5 || sleep(100) != 100)' || exit"
+        self.assertEqual(self.clock_after(code), 100)
+        # a child has no alarm
+        self.assertEqual(self.clock_after(alarm + "bash -c '(sleep 20) & trap : ALRM; wait; wait'"),
+                         20)
+
+    @unittest.skipUnless(CAN_FILTER, "the kernel lets no filter ask tkrun")
+    def test_a_sleep_of_a_process_that_executes_a_static_program(self):
+        code = f"{program('left')} exec {program('static_waits')} sleep; sleep 20"
+        self.assertEqual(self.clock_after(code, "--static"), 23)
+
+    def test_a_stop_that_lasts_longer_than_a_sleep(self):
+        code = ("sleep 5 & process=$!; sleep 1; kill -STOP $process; sleep 10; "
+                "kill -CONT $process; wait $process")
+        self.assertEqual(self.clock_after(code), 11)
 
     def test_the_rest_of_adjtime_is_only_a_read(self):
         code = "syscall(159, my $t = pack('L x4 q25', 0xa001)); print 1"

@@ -10,6 +10,9 @@ sys.path.insert(0, str(ROOT / "tests/model"))
 
 # pylint: disable=wrong-import-position
 import model
+from ntp import Timex
+from steered_clock import Refused, Steered
+from steered_session import SteeredSession
 
 SET_TIME = 1  # TKC_CMD_SET_TIME of include/tkcore.h
 ASK = 60  # ROW_ASK of run/rows.h
@@ -68,6 +71,55 @@ class Records(RunTest):
                     journal, _ = model.done(journal, word, reading, fields, False)
             words = ["openwords", 64, 2147483648, 31, *model.numbers_of(journal)]
             self.assertEqual(part[0], ",".join(map(str, words)))
+
+    def follow(self, session, word, reading, fields):
+        """Carries out a record on steered clocks. A refused one may have let seconds begin."""
+        try:
+            if word == "get":
+                session.advance(reading)
+            elif word == "adjtimex":
+                session.adjtimex(reading, Timex(*fields))
+            else:
+                session.apply(reading, word, *fields)
+        except Refused:
+            pass
+
+    def opening_of(self, session):
+        """Returns the record that continues steered clocks."""
+        clock = session.clock
+        counter = clock.counter.bits, clock.counter.mult, clock.counter.shift
+        words = clock.words(session.journal.accepted_count())
+        numbers = [*counter, *words, clock.frequency, clock.tick, *session.numbers()]
+        return ",".join(map(str, ["openwords", *numbers]))
+
+    def opened_session(self, journal, uptime):
+        """Returns the steered clocks of a journal's opening, with an uptime in s."""
+        opening, session = journal.opening, SteeredSession(journal)
+        Steered.__init__(session, opening.counter, opening.reading, opening.real_offset,
+                         opening.hz, uptime * model.NANOS)
+        return session
+
+    def check_steered_parts(self, uptime):
+        """Each later part opens with the steered clocks of the model after the former ones."""
+        command = ["--start", 1000000000, "--uptime", uptime, "--", program("orders"), 300]
+        [whole] = self.rows(16777216, *command)
+        parts = self.rows(2000, *command)
+        self.assertGreater(len(parts), 10)
+        self.assertEqual([line for part in parts for line in part[1:]], whole[1:])
+        opening = "open,64,2147483648,31,0,1000000000,0,250"
+        journal, rows = model.parsed("\n".join([opening, *whole[1:]]).encode())
+        session, rows = self.opened_session(journal, uptime), iter(rows)
+        self.assertEqual(whole[0], self.opening_of(session) if uptime else opening)
+        for former, part in zip(parts, parts[1:]):
+            for word, (reading, *fields) in itertools.islice(rows, len(former) - 1):
+                self.follow(session, word, reading, fields)
+            self.assertEqual(part[0], self.opening_of(session))
+
+    def test_a_record_of_steered_clocks_in_parts(self):
+        self.check_steered_parts(0)
+
+    def test_a_record_of_steered_clocks_with_an_uptime_in_parts(self):
+        self.check_steered_parts(3600)
 
     def test_a_tkcore_that_cannot_be_run(self):
         copy = self.share() / "bin"
@@ -216,6 +268,28 @@ with open({str(rows)!r}, "r+b") as file:
         self.assertEqual(run.returncode, 0)
         self.assertIn("cannot write the record '/dev/full': No space left on device", run.stderr)
         self.assertNotIn("recorded", run.stderr)
+
+    def test_a_log_on_a_full_device(self):
+        for options, command, lost in [([], ["date", "-s", "@5"], "1 line isn't"),
+                                       (["--static"], [program("static_reads")], "8 lines aren't")]:
+            run = self.start("--quiet", "--start", 1000000000, *options, "--log", "/dev/full", "--",
+                             *command)
+            self.assertEqual(run.stderr.splitlines(), [
+                "tkrun: the log ends before line 1: No space left on device",
+                f"tkrun: {lost} in the log"], run.stdout)
+            self.assertEqual(run.returncode, 0)
+
+    def test_a_log_at_the_limit_of_a_files_size(self):
+        # the limit of 1,024 bytes would end a program that exceeds it
+        log = self.folder / "log"
+        run = self.start("--log", log, "--", "bash", "-c", "ulimit -f 1; for i in {1..30}; do "
+                         "date -u -s @$((2000000000 + i)) +%s; done")
+        self.assertEqual((run.returncode, run.stdout.splitlines()[-1]), (0, "2000000030"))
+        whole = log.read_text().count("\n")
+        self.assertGreater(whole, 15)
+        self.assertRegex(run.stderr, f"the log ends before line {whole + 1}: "
+                                     "(File too large|No space left on device)\n"
+                                     f"tkrun: {30 - whole} lines aren't in the log\n")
 
     def test_a_record_that_is_gone_is_not_checked(self):
         (self.folder / "gone").mkdir()

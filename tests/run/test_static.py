@@ -1,12 +1,14 @@
 """Programs that no library can be loaded into: static ones, in Go, and with a cleared environment."""
 import os
+import pathlib
 import re
 import shutil
 import subprocess
+import time
 import unittest
 
-from runs import (CAN_FILTER, CAN_TRACE, OTHER, STILL, TKRUN, RunTest, call, needs, needs_root,
-                  program)
+from runs import (CAN_FILTER, CAN_TRACE, LINUX, OTHER, STILL, TKRUN, RunTest, call, needs,
+                  needs_root, program)
 
 GO = """package main
 
@@ -111,24 +113,68 @@ class Static(RunTest):
     def test_addresses_that_cannot_be_written(self):
         self.assertEqual(self.run_on("--", program("static_addresses")), "")
 
+    def start_held(self, holds, *arguments, where=""):
+        """Starts tkrun with a program that prints "up". Then strace holds up these system calls of
+        all threads of tkrun, or of those that are in a system call with this number."""
+        run = subprocess.Popen([TKRUN, "--quiet", *map(str, arguments)], stdin=subprocess.PIPE,
+                               stdout=subprocess.PIPE, text=True)
+        self.assertEqual(run.stdout.readline(), "up\n")
+        threads = []
+        while not threads:
+            threads = [task.name for task in pathlib.Path(f"/proc/{run.pid}/task").iterdir()
+                       if (task / "syscall").read_text().startswith(where)]
+        self.trace = subprocess.Popen(["strace", "-o", self.folder / "calls", "-e",
+                                       f"inject={holds}",
+                                       *(f"--attach={thread}" for thread in threads)],
+                                      stderr=subprocess.PIPE, text=True)
+        self.addCleanup(self.trace.communicate)
+        self.addCleanup(self.trace.terminate)
+        for _ in threads:
+            self.assertIn("attached", self.trace.stderr.readline())
+        return run
+
     @needs("strace")
     @needs_root("chooses the number of a process")
     def test_a_thread_that_is_killed_before_its_answer_is_written(self):
-        # strace holds up each write of tkrun to another process
-        run = subprocess.Popen([TKRUN, "--quiet", "--", program("static_reused")],
-                               stdin=subprocess.PIPE, stdout=subprocess.PIPE, text=True)
-        self.assertEqual(run.stdout.readline(), "up\n")
-        threads = os.listdir(f"/proc/{run.pid}/task")
-        holds = "inject=pwrite64,process_vm_writev:delay_enter=1000ms"
-        trace = subprocess.Popen(["strace", "-o", self.folder / "calls", "-e", holds,
-                                  *(f"--attach={thread}" for thread in threads)],
-                                 stderr=subprocess.PIPE, text=True)
-        self.addCleanup(trace.communicate)
-        self.addCleanup(trace.terminate)
-        for _ in threads:
-            self.assertIn("attached", trace.stderr.readline())
+        # each write of tkrun to another process is held up
+        run = self.start_held("pwrite64,process_vm_writev:delay_enter=1000ms", "--",
+                              program("static_reused"))
         self.assertEqual(run.communicate("\n", 60)[0], "unwritten\n")
         self.assertRegex((self.folder / "calls").read_text(), "DELAYED")
+
+    @needs("strace")
+    @needs_root("traces tkrun")
+    def test_more_programs_than_tkrun_follows_at_once(self):
+        # tkrun is held up while most of a thousand programs wait to be executed
+        code = "echo up; read; for i in {1..1000}; do env -i /bin/date +%Y & done; wait"
+        run = self.start_held("rt_sigtimedwait:delay_enter=3s", "--static", "--start", 0, "--",
+                              "bash", "-c", code)
+        run.stdin.write("\n")
+        run.stdin.flush()
+        time.sleep(2)
+        self.trace.terminate()
+        years = run.communicate(timeout=100)[0].split()
+        self.assertEqual((len(years), set(years)), (1000, {"1970"}))
+
+    @needs("strace")
+    @needs_root("traces tkrun")
+    @unittest.skipIf(LINUX < (5, 19), "as in test_calls")
+    def test_sleeps_of_which_tkrun_hears_late(self):
+        code = f"echo up; read; exec {program('static_interrupted')}"
+        run = self.start_held("ioctl:delay_exit=20ms", "--static", *STILL, "--", "bash", "-c", code)
+        self.assertEqual((run.communicate("\n", 60)[0], run.returncode), ("", 0))
+
+    @needs("strace")
+    @needs_root("traces tkrun")
+    def test_a_sleep_of_a_killed_thread_that_ends_during_the_next_one(self):
+        # before tkrun sees that the main thread was killed, the program that its process has
+        # executed sleeps, and the counter can't move on, since a loop computes
+        loop = "i=0; while [ $i -lt 300000 ]; do i=$((i+1)); done"
+        code = (f"echo up; read; sleep 3600 & {program('static_left')} exec /usr/bin/env -i "
+                f"/bin/sh -c '{loop} & exec sleep 20'; date +%s; kill $! 2>/dev/null")
+        run = self.start_held("futex:delay_exit=200ms", "--static", *STILL, "--start", 0, "--",
+                              "bash", "-c", code, where="202 ")
+        self.assertEqual(run.communicate("\n", 60)[0], "21\n")
 
     def test_sleeps(self):
         for name in ["nanosleep", "clock_nanosleep", "absolute_sleep", "usleep", "sleep"]:
@@ -214,7 +260,7 @@ class Static(RunTest):
             "clock_settime -1.000000000 = EINVAL", "clock_settime 8277292036.000000000 = EINVAL",
             "clock_settime clock 1 = EINVAL", "clock_settime 2147483640.000000005 = 0",
             "clock_settime 2147483840.000000000 = 0", "clock_settime 2147484040.000000000 = 0",
-            "clock_settime 2147483640.000000005 = 0"])
+            "settimeofday 2147483840.000000 = 0", "clock_settime 2147483640.000000005 = 0"])
 
     def test_the_log_of_steering(self):
         # adjtime sets only these fields

@@ -3,12 +3,15 @@
 #ifndef TIMED_H
 #define TIMED_H
 
+#include <fcntl.h>
+#include <mqueue.h>
 #include <stdbool.h>
 #include <stddef.h>
 #include <stdint.h>
 #include <stdio.h>
 #include <string.h>
 #include <time.h>
+#include <unistd.h>
 
 static const struct timespec SPAN = { 2, 0 };
 
@@ -37,6 +40,19 @@ static inline struct timespec until(clockid_t clock)
 static inline int64_t nanos(struct timespec time)
 {
 	return time.tv_sec * INT64_C(1000000000) + time.tv_nsec;
+}
+
+/* Opens a queue that has a name only meanwhile, for one message of a byte. */
+static inline mqd_t open_queue(void)
+{
+	struct mq_attr attributes = { .mq_maxmsg = 1, .mq_msgsize = 1 };
+	char name[32];
+	mqd_t queue;
+
+	snprintf(name, sizeof(name), "/tkrun.%d", getpid());
+	queue = mq_open(name, O_RDWR | O_CREAT, 0600, &attributes);
+	mq_unlink(name);
+	return queue;
 }
 
 /*

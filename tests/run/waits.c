@@ -4,9 +4,7 @@
 #include "timed.h"
 
 #include <errno.h>
-#include <fcntl.h>
 #include <linux/futex.h>
-#include <mqueue.h>
 #include <poll.h>
 #include <pthread.h>
 #include <semaphore.h>
@@ -306,18 +304,6 @@ static bool by_semtimedop(void)
 		       errno == EAGAIN;
 
 	return !semctl(set, 0, IPC_RMID) && is_over;
-}
-
-static mqd_t open_queue(void)
-{
-	struct mq_attr attributes = { .mq_maxmsg = 1, .mq_msgsize = 1 };
-	mqd_t queue;
-	char name[32];
-
-	snprintf(name, sizeof(name), "/tkrun.%d", getpid());
-	queue = mq_open(name, O_RDWR | O_CREAT, 0600, &attributes);
-	mq_unlink(name);
-	return queue;
 }
 
 static bool by_mq_timedreceive(void)

@@ -1,0 +1,95 @@
+"""Scripts whose clocks are steered. The leap second is that of 2016; its times are by adjtimex(2)."""
+from runs import STILL, RunTest, program
+
+INS, STATUS, TAI = 0x10, 0x10, 0x80  # STA_INS, ADJ_STATUS and ADJ_TAI of adjtimex(2)
+OPENING = "openhz,64,1000000000,1,0,1483228700,0"
+
+
+def request(reading, modes, status=0, constant=0):
+    """A record that sets these numbers."""
+    return f"adjtimex,{reading},{modes},0,0,0,0,{status},{constant},0,0,0"
+
+
+LEAP = [request(1000000000, STATUS, status=INS), request(2000000000, TAI, constant=36)]
+
+
+def given(record):
+    """What a record has except for reads and updates."""
+    return [line for line in record.read_text().splitlines()[1:]
+            if not line.startswith(("get,", "update,"))]
+
+
+class Scripts(RunTest):
+    def test_a_leap_second_by_requests(self):
+        script = self.file("s", "\n".join([f"{OPENING},1000", *LEAP]))
+        code = ("use Time::HiRes qw(clock_gettime sleep); sleep 98;"
+                "for (1..4) { print time, ' ', clock_gettime(11) - clock_gettime(0), qq(\\n);"
+                "sleep 1 }")
+        record = self.folder / "r"
+        output = self.run_on(*STILL, "--script", script, "--record", record, "--check", "--",
+                             "/usr/bin/perl", "-e", code)
+        self.assertEqual(output.splitlines(), ["1483228798 36", "1483228799 36", "1483228799 37",
+                                               "1483228800 37"])
+        self.assertEqual(given(record), LEAP)
+        self.assertRegex(record.read_text(), "^open,64,[0-9,]+,1483228700,0,1000\n")
+
+    def test_requests_on_a_counter_that_runs(self):
+        script = self.file("s", "\n".join([f"{OPENING},250", *LEAP]))
+        output = self.run_on("--speed", 10, "--script", script, "--deny-set", "--check", "--",
+                             "/usr/bin/perl", "-MTime::HiRes=clock_gettime", "-e",
+                             "sleep 4; print int(clock_gettime(11) - clock_gettime(0) + 0.5)")
+        self.assertEqual(output, "36")
+
+    def test_a_record_of_steered_clocks_is_a_script(self):
+        for uptime in [0, 3600]:
+            first, second = self.folder / f"first{uptime}", self.folder / f"second{uptime}"
+            self.run_on(*STILL, "--start", 1000000000, "--uptime", uptime, "--record", first, "--",
+                        program("orders"), 300)
+            end = int(first.read_text().splitlines()[-1].split(",")[1]) // 10**9 + 1
+            self.run_on(*STILL, "--script", first, "--record", second, "--check", "--",
+                        "sleep", end)
+            self.assertEqual(given(second), given(first))
+            self.assertGreater(len(given(first)), 100)
+            self.assertEqual(*(path.read_text().split("\n")[0] for path in (first, second)))
+
+    def test_a_record_without_requests(self):
+        script = self.file("s", f"{OPENING},100\n")
+        record = self.folder / "r"
+        self.run_on(*STILL, "--script", script, "--record", record, "--check", "--", "date")
+        self.assertRegex(record.read_text(), "^open,64,[0-9,]+,1483228700,0,100\n")
+
+    def refuse(self, *lines):
+        """Returns why tkrun refuses a script of these records."""
+        run = self.start("--script", self.file("s", "\n".join(lines)), "--", "true")
+        self.assertEqual((run.returncode, run.stdout), (2, ""))
+        self.assertRegex(run.stderr, "^tkrun: --script: .*\n$")
+        return run.stderr.removeprefix("tkrun: --script: ").rstrip()
+
+    def test_faults(self):
+        first, second = "record 1: not a valid opening", "record 2: not a number in range"
+        steered = f"{OPENING},250"
+        for hz, fault in [(0, first), (1025, first), ("x", "record 1: not a number in range"),
+                          ("250,1", "record 1: wrong number of fields")]:
+            self.assertEqual(self.refuse(f"{OPENING},{hz}"), fault)
+        self.assertEqual(self.refuse(OPENING, LEAP[0]),
+                         "record 2: adjtimex, but HZ isn't in the first record")
+        self.assertEqual(self.refuse(steered, LEAP[0] + ",0"), "record 2: wrong number of fields")
+        self.assertEqual(self.refuse(steered, "adjtimex"), "record 2: wrong number of fields")
+        for place in range(1, 12):
+            for number in ["", "x", "18446744073709551616", "-"]:
+                fields = LEAP[0].split(",")
+                fields[place] = number
+                self.assertEqual(self.refuse(steered, ",".join(fields)), second)
+        self.assertEqual(self.refuse(steered, "counter,0,64,1,0,0"), "record 2: unknown word")
+
+    def test_a_discipline_that_has_steered(self):
+        record = self.folder / "r"
+        self.run_on(*STILL, "--start", 1000000000, "--uptime", 60, "--record", record, "--",
+                    program("steers"))
+        opening = record.read_text().splitlines()[0].split(",")
+        self.assertEqual((opening[0], len(opening)), ("openwords", 34))
+        for place in range(17, 34):
+            fields = [*opening]
+            fields[place] = str(int(fields[place]) + 1)
+            self.assertIn(self.refuse(",".join(fields)), [
+                "record 1: tkrun can't continue running clocks"])
