@@ -71,12 +71,10 @@ impl Steering {
         } }
         ensures reply { result ≡ reply_to request.now real tai self.old.ntp }
     {
-        if request.modes == 0 {
-            // it changes nothing
-            return self.ntp.adjtimex(request, real, tai);
-        }
         let reply = self.ntp.adjtimex(request, real, tai);
-        self.length = self.ntp.second_length();
+        if request.modes != 0 {
+            self.length = self.ntp.second_length();
+        }
         reply
     }
 
