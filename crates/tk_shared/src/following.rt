@@ -9,6 +9,7 @@ ghost use Rattle.tk_shared.specs.Opening.{AreNamed, AreWriters};
 
 use crate::caller::Caller;
 use crate::counter::Counter;
+use crate::lock::take;
 use crate::locked::Locked;
 use crate::named::Named;
 use crate::parts::{Shared, Writers};
@@ -34,7 +35,7 @@ impl<L: Named, C: Counter> SharedKeeper<L, C> {
         ensures accepted { (caller.new.accepted ≡ caller.old.accepted)
             × (other.new.accepted ≡ other.old.accepted) }
     {
-        self.locked.lock(rt).follow(rt, &self.shared, caller, other)
+        take(rt, &self.locked).follow(rt, &self.shared, caller, other)
     }
 }
 

@@ -28,6 +28,7 @@ mod closing;
 mod counter;
 mod fault;
 mod following;
+mod lock;
 mod locked;
 mod named;
 mod never_back;

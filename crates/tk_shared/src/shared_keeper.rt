@@ -12,6 +12,7 @@ ghost use Rattle.tk_shared.specs.Readings.{EndsAtReading, IsRefusedAtReading};
 use crate::caller::Caller;
 use crate::counter::Counter;
 use crate::fault::{OpenError, OpenFault};
+use crate::lock::take;
 use crate::locked::Locked;
 use crate::named::Named;
 use crate::parts::{Parts, Shared};
@@ -126,7 +127,7 @@ impl<L: Named, C: Counter> SharedKeeper<L, C> {
             (λ refusal. IsRefusedAtReading C.answers_after caller.old caller.new.seen cmd refusal) }
         ensures same { IsSameCaller caller.old caller.new }
     {
-        self.locked.lock(rt).command(rt, &self.shared, caller, cmd)
+        take(rt, &self.locked).command(rt, &self.shared, caller, cmd)
     }
 
     /// Returns the latest snapshot on the page, which is no older than any that this caller has
@@ -187,7 +188,7 @@ impl<L: Named, C: Counter> SharedKeeper<L, C> {
     pub fn fold<R: Wait>(&self, rt: &R, keep: u64) -> u64
         ensures counted { result ≤ counted_most }
     {
-        self.locked.lock(rt).fold(keep)
+        take(rt, &self.locked).fold(keep)
     }
 }
 
