@@ -2,7 +2,8 @@
 use std::process::Abort;
 use std::test::Fail;
 use tk_clock::Timespec;
-use tk_ntp::{Discipline, Leap, Reply, TimeState, Timex};
+use tk_counter::CounterDesc;
+use tk_ntp::{Discipline, Leap, Reply, SteeredClock, TimeState, Timex};
 
 mod following;
 mod lags;
@@ -92,6 +93,17 @@ impl Clock {
         assert_eq!(rt; self.reply(nsec, request)?, expected);
         Ok(())
     }
+}
+
+/// Makes a counter of 1 GHz.
+fn nanosecond_counter() -> Result<CounterDesc, Fail> {
+    Ok(CounterDesc::new(64, 8_388_608, 23).or(Err("a counter of 1 GHz"))?)
+}
+
+/// Opens steered clocks at the reading 0, as this second of REALTIME begins.
+fn opened_at(desc: CounterDesc, sec: i64) -> Result<SteeredClock, Fail> {
+    let real = Timespec { sec, nsec: 0 };
+    Ok(SteeredClock::open(desc, 0, real, 250).or(Err("a time of REALTIME"))?)
 }
 
 /// Returns a request that gives nothing but its modes.

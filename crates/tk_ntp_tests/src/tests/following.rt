@@ -1,11 +1,10 @@
 //! Steered clocks that follow commands one by one, through an inserted second. The numbers are
 //! those of `Steered` in tests/model/steered_clock.py, whose `account`, `ntp.overflow`, `command`
 //! and `rate_for` were called in this order.
-use super::request;
+use super::{nanosecond_counter, opened_at, request};
 use std::process::Abort;
 use std::test::Fail;
-use tk_clock::{Command, Refusal, Timespec};
-use tk_counter::CounterDesc;
+use tk_clock::{Command, Refusal};
 use tk_ntp::{Change, Leap, SteeredClock, TimeState, Timex};
 
 /// The state that a step leaves.
@@ -43,12 +42,7 @@ fn leaves(rt: &impl Abort, steered: &SteeredClock, left: Left) {
 
 /// Opens clocks of a counter of 1 GHz at the reading 0, two seconds before a day ends.
 fn opened() -> Result<SteeredClock, Fail> {
-    let desc = CounterDesc::new(64, 8_388_608, 23).or(Err("a counter of 1 GHz"))?;
-    let real = Timespec {
-        sec: 1_483_228_798,
-        nsec: 0,
-    };
-    Ok(SteeredClock::open(desc, 0, real, 250).or(Err("a time of REALTIME"))?)
+    opened_at(nanosecond_counter()?, 1_483_228_798)
 }
 
 /// Opens them with a frequency of 33 ppm, and an inserted second as the day ends.

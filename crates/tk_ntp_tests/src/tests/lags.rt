@@ -1,8 +1,8 @@
 //! The lag of steered clocks.
-use super::{pll, request};
+use super::{opened_at, pll, request};
 use std::process::Abort;
 use std::test::Fail;
-use tk_clock::{Command, Timespec};
+use tk_clock::Command;
 use tk_counter::CounterDesc;
 use tk_ntp::{SteeredClock, Timex};
 
@@ -94,11 +94,7 @@ fn call(steered: &mut SteeredClock, reading: u64, place: u64) -> Result<(), Fail
 /// Calls the clocks of a case at random readings, and checks their lag after each call.
 fn run(rt: &impl Abort, case: &Case) -> Result<(), Fail> {
     let desc = CounterDesc::new(64, case.mult, case.shift).or(Err("a counter"))?;
-    let real = Timespec {
-        sec: 1_700_000_000,
-        nsec: 0,
-    };
-    let mut steered = SteeredClock::open(desc, 0, real, 250).or(Err("a time of REALTIME"))?;
+    let mut steered = opened_at(desc, 1_700_000_000)?;
     let mut reading = 0u64;
     for place in 0..CALLS {
         let part = case.second.wrapping_mul(random(place)) >> 19;

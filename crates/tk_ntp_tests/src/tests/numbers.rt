@@ -1,9 +1,8 @@
 //! Steered clocks that are restored from their numbers.
-use super::{pll, request};
+use super::{nanosecond_counter, pll, request};
 use std::process::Abort;
 use std::test::Fail;
 use tk_clock::{Clock, Timespec};
-use tk_counter::CounterDesc;
 use tk_ntp::{
     DisciplineNumbers, LagNumbers, LeapNumbers, NumbersError, SteeredClock, SteeredNumbers,
     SteeringNumbers, Timex,
@@ -78,7 +77,7 @@ fn lagging(high: u64, low: u64) -> SteeredNumbers {
 
 /// Returns the clocks of a counter of 1 GHz, opened at the reading 9.
 fn clock() -> Result<Clock, Fail> {
-    let desc = CounterDesc::new(64, 8_388_608, 23).or(Err("a counter of 1 GHz"))?;
+    let desc = nanosecond_counter()?;
     Ok(Clock::open(desc, 9, OPENED).or(Err("a time of REALTIME"))?)
 }
 
@@ -144,7 +143,7 @@ fn refuses(rt: &impl Abort, numbers: SteeredNumbers, wanted: NumbersError) -> Re
 
 #[test]
 fn fresh_clocks_have_the_numbers_of_a_fresh_discipline(rt: HostRuntime) -> Result<(), Fail> {
-    let desc = CounterDesc::new(64, 8_388_608, 23).or(Err("a counter of 1 GHz"))?;
+    let desc = nanosecond_counter()?;
     let fresh = SteeredClock::open(desc, 9, OPENED, 250).or(Err("a time of REALTIME"))?;
     assert_same(&rt, &fresh.numbers(), &numbers(FRESH));
     accepts(&rt, numbers(FRESH))
@@ -288,7 +287,7 @@ fn inserting() -> Timex {
 
 #[test]
 fn restored_clocks_go_on_as_before(rt: HostRuntime) -> Result<(), Fail> {
-    let desc = CounterDesc::new(64, 8_388_608, 23).or(Err("a counter of 1 GHz"))?;
+    let desc = nanosecond_counter()?;
     let mut steered = SteeredClock::open(desc, 9, OPENED, 250).or(Err("a time of REALTIME"))?;
     let _ = steered
         .adjtimex(500, &pll(9_000_000, 1))

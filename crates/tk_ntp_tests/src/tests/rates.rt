@@ -1,8 +1,7 @@
 //! The frequency and the tick for the length of a second, and the lag.
-use super::request;
+use super::{nanosecond_counter, request};
 use std::test::Fail;
 use tk_clock::Timespec;
-use tk_counter::CounterDesc;
 use tk_ntp::{Change, Discipline, Lag, Leap, Rate, Steering, Timex};
 
 #[test]
@@ -28,7 +27,7 @@ fn a_rate_makes_a_second_so_long(rt: HostRuntime) {
 
 #[test]
 fn a_second_makes_up_for_the_lag(rt: HostRuntime) -> Result<(), Fail> {
-    let desc = CounterDesc::new(64, 8_388_608, 23).or(Err("a counter of 1 GHz"))?;
+    let desc = nanosecond_counter()?;
     let length = 4_295_396_792_729_600_000;
     let mut lag = Lag::none();
     assert_eq!(rt; lag.made_up(desc), 0);
@@ -55,7 +54,7 @@ fn a_second_makes_up_for_the_lag(rt: HostRuntime) -> Result<(), Fail> {
 
 #[test]
 fn only_a_new_multiplier_needs_commands(rt: HostRuntime) -> Result<(), Fail> {
-    let desc = CounterDesc::new(64, 8_388_608, 23).or(Err("a counter of 1 GHz"))?;
+    let desc = nanosecond_counter()?;
     let usual = Rate::of_length(4_294_967_296_000_000_000, 10_000);
     for (length, tick, set_tick, frequency) in [
         (4_295_396_792_729_600_000, 10_000, None, Some(6_553_600)),
@@ -82,7 +81,7 @@ fn only_a_new_multiplier_needs_commands(rt: HostRuntime) -> Result<(), Fail> {
 
 #[test]
 fn each_second_of_a_pll_gets_a_command(rt: HostRuntime) -> Result<(), Fail> {
-    let desc = CounterDesc::new(64, 8_388_608, 23).or(Err("a counter of 1 GHz"))?;
+    let desc = nanosecond_counter()?;
     let mut steering = Steering::new(Discipline::new(250).ok_or("250 is in range")?);
     let pll = Timex {
         offset: 100_000_000,

@@ -1,19 +1,13 @@
 //! Readings that go back on steered clocks.
-use super::request;
+use super::{nanosecond_counter, opened_at, request};
 use std::process::Abort;
 use std::test::Fail;
-use tk_clock::{Command, Refusal, Timespec};
-use tk_counter::CounterDesc;
+use tk_clock::{Command, Refusal};
 use tk_ntp::{SteeredClock, Timex};
 
 /// Opens clocks of a counter of 1 GHz at the reading 0, at the beginning of a second.
 fn opened() -> Result<SteeredClock, Fail> {
-    let desc = CounterDesc::new(64, 8_388_608, 23).or(Err("a counter of 1 GHz"))?;
-    let real = Timespec {
-        sec: 1_700_000_000,
-        nsec: 0,
-    };
-    Ok(SteeredClock::open(desc, 0, real, 250).or(Err("a time of REALTIME"))?)
+    opened_at(nanosecond_counter()?, 1_700_000_000)
 }
 
 /// Checks that no call accepts a reading.

@@ -1,19 +1,13 @@
 //! Steered clocks that are opened with an uptime.
-use super::request;
+use super::{nanosecond_counter, request};
 use std::process::Abort;
 use std::test::Fail;
 use tk_clock::ClockId::{Boottime, Monotonic, MonotonicRaw, Realtime, Tai};
 use tk_clock::{ClockId, Refusal, Timespec};
-use tk_counter::CounterDesc;
 use tk_ntp::{SteeredClock, TimeState, Timex};
 
 fn time(sec: i64, nsec: u32) -> Timespec {
     Timespec { sec, nsec }
-}
-
-/// Makes a counter of 1 GHz.
-fn nanosecond_counter() -> Result<CounterDesc, Fail> {
-    Ok(CounterDesc::new(64, 8_388_608, 23).or(Err("a counter of 1 GHz"))?)
 }
 
 /// Opens clocks at the reading 9, at the beginning of a second, that have run for 3,600.25 s.
